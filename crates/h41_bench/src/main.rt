@@ -1,7 +1,7 @@
 //! The HP-41 bench: runs decks of commands, assembles sources and lists words.
 #![tactic(auto)]
 
-ghost use Rattle.std.specs.Prelude.{◌≡◌, ◌≢◌, ◌∷◌, ◌≤◌, true, Err, IfOk, IfSome, IsSome, Ok, OnErr};
+ghost use Rattle.std.specs.Prelude.{◌≡◌, ◌≢◌, ◌∷◌, ◌≤◌, true, IfOk, IfSome, IsSome};
 ghost use Rattle.std.specs.Prelude.{codes, drop, map, string_bytes};
 ghost use Rattle.h41_bench.specs.ProgramWords.{behind_name};
 ghost use Rattle.h41_jobs.specs.CommandLine.{asks_help, asks_version, file_to_run, is_mistake};
@@ -55,9 +55,13 @@ fn run_words(rt: &HostRuntime, alloc: Global, words: &[String]) -> u8
     };
     match read_words(alloc, words.as_slice()) {
         Ok(job) if job.file == "-" => run_from(rt, alloc, job, rt.stdin()),
-        Ok(job) => match opened(File::open(rt, job.file)) {
+        Ok(job) => match File::open(rt, job.file) {
             Ok(file) => run_from(rt, alloc, job, file),
-            Err(fault) => tell(fault, &mut ToWrite::new(rt.stderr())),
+            Err(error) => {
+                let status = tell(Fault::ReadFault, &mut ToWrite::new(rt.stderr()));
+                tell_cause(rt, job.file, &error);
+                status
+            }
         },
         Err(ending) => end(rt, &ending),
     }
@@ -94,12 +98,9 @@ fn end(rt: &HostRuntime, ending: &Ending) -> u8
     }
 }
 
-/// The file, or the fault that it is where a file cannot be opened.
-fn opened(file: io::Result<File>) -> Result<File, Fault>
-    ensures file { IfOk file (λ given. result ≡ Ok given) }
-    ensures fault { OnErr file (result ≡ Err Fault.ReadFault) }
-{
-    file.map_err(|_| Fault::ReadFault)
+/// Tells what the system said of a file that cannot be read, behind the fault's line.
+fn tell_cause(rt: &HostRuntime, file: &str, error: &io::Error) {
+    let _ = eprintln!(rt; "{NAME}: {file}: {error}");
 }
 
 /// Does the job with what a reader gives, from there to standard output.
@@ -113,5 +114,9 @@ fn run_from<R: Read + Drop>(rt: &HostRuntime, alloc: Global, job: Job<'_>, reade
     let mut reader = FromRead::new(reader);
     let mut writer = ToWrite::new(output);
     let mut faults = ToWrite::new(rt.stderr());
-    serve(alloc, job, &mut reader, &mut writer, &mut faults)
+    let status = serve(alloc, job, &mut reader, &mut writer, &mut faults);
+    if let Some(error) = reader.error() {
+        tell_cause(rt, job.file, error);
+    }
+    status
 }

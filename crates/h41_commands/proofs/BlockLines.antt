@@ -1,13 +1,12 @@
 -- A block, line by line.
 use Rattle.std.proofs.Common.{◌≡◌, ℕ, suc, ◌+◌, Bool, true, false, cond, not, List, [], ◌∷◌, ◌++◌, length, Option, take, drop, refl, sym}
-use Rattle.std.proofs.Common.{◌∙◌, ap, arith, append_assoc, append-nil, subst}
+use Rattle.std.proofs.Common.{◌∙◌, ap, arith, subst}
 use Rattle.std.specs.List.{list_any, before_first, after_first, position_or_len}
-use Rattle.std.proofs.lemmas.Bool.{or_parts, or_left, or_right, or_from}
+use Rattle.std.proofs.lemmas.Bool.{or_parts, or_left, or_right}
 use Rattle.std.proofs.lemmas.Grind.{common_steps}
-use Rattle.std.proofs.lemmas.List.{drop_all}
 use Rattle.std.proofs.lemmas.List.Folds.{list_any-append}
 use Rattle.h41_commands.specs.declared.commands.BlockKind.{BlockKind}
-use Rattle.h41_commands.specs.Blocks.{TakenBlock, Takes}
+use Rattle.h41_commands.specs.Blocks.{TakenBlock}
 use Rattle.h41_commands.specs.Entries.{IsTaken}
 use Rattle.h41_commands.specs.DeckLines.{is_end}
 
@@ -59,32 +58,4 @@ ends_block kind line inside all rest block h e =
       ended = sym (ap (list_any is_end) h.parts ∙ any);
       taken = subst (λ lines. IsTaken kind lines block) (sym lines_are) h.taken;
       rest_is = sym (ap (after_first is_end) h.parts ∙ back inside rest line _ at);
-    }
-
--- at the deck's end
-pub record LacksEnd (all : List (List ℕ)) : Type 0 where
-  pub endless : false ≡ list_any is_end all
-  pub rest_is : [] ≡ after_first is_end all
-
-pub lacks_end : (kind : Option BlockKind) (inside all : List (List ℕ)) (block : TakenBlock) → ReadsBlock kind inside all [] block
-    → LacksEnd all
-lacks_end kind inside all block h =
-    let same : all ≡ inside = h.parts ∙ append-nil inside in
-    let none : list_any is_end all ≡ false = ap (list_any is_end) same ∙ h.endless in
-    let end : position_or_len is_end all ≡ length all = no_end all none in
-    record { endless = sym none; rest_is = sym (drop_all _ all (omega arith)) }
-
--- one more line that is no end
-pub reads_more : (kind : Option BlockKind) (line : List ℕ) (inside all rest : List (List ℕ)) (block next : TakenBlock)
-    → ReadsBlock kind inside all (line ∷ rest) block → is_end line ≡ false → Takes block line next
-    → ReadsBlock kind (inside ++ line ∷ []) all rest next
-reads_more kind line inside all rest block next h other takes =
-    let joined : (inside ++ line ∷ []) ++ rest ≡ inside ++ (line ∷ rest) = append_assoc inside (line ∷ []) rest in
-    record {
-      parts = h.parts ∙ sym joined;
-      endless = list_any-append is_end inside (line ∷ []) ∙ or_from _ _ h.endless (or_from _ _ other refl);
-      taken = record {
-        kind_is = takes.kind_is ∙ h.taken.kind_is;
-        lines_are = takes.more inside h.taken.lines_are;
-      };
     }

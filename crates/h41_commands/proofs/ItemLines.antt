@@ -1,26 +1,29 @@
 -- What the lines of an item spell, whatever lines follow.
-use Rattle.std.proofs.Common.{◌≡◌, ◌≢◌, ℕ, Bool, true, false, cond, if◌then◌else◌, List, [], ◌∷◌, ◌++◌, length, filter, not, Option, Some}
-use Rattle.std.proofs.Common.{None}
-use Rattle.std.proofs.Common.{Result, Ok, Err, refl, sym, subst, ap, ◌∙◌, append_assoc, append-nil, arith}
+use Rattle.std.proofs.Common.{◌≡◌, ℕ, Bool, true, false, if◌then◌else◌, List, [], ◌∷◌, ◌++◌, length, Option}
+use Rattle.std.proofs.Common.{Result, Ok, Err, refl, sym, ap, ◌∙◌, append_assoc, append-nil, arith}
 use Rattle.std.specs.List.{after_first, before_first, list_any, position_or_len}
 use Rattle.std.proofs.lemmas.Bool.{cond-true, cond-false, or_from}
 use Rattle.std.proofs.lemmas.List.{drop_all}
 use Rattle.std.proofs.lemmas.List.Folds.{list_any-append}
 use Rattle.h41_ends.specs.InputLines.{MayFollow}
+use Rattle.h41_ends.specs.declared.fault.LineFault.{LineFault}
+use Rattle.h41_ends.specs.declared.fault.LineFault.TheVariants as read
 use Rattle.h41_commands.specs.BlockReading.{AreTaken}
-use Rattle.h41_commands.specs.Blocks.{TakenBlock, Takes, block_values, judgement, said_by, short_lines, unless_long, whole_said}
+use Rattle.h41_commands.specs.Blocks.{TakenBlock, Takes, block_values, judgement, kept_of, said_by, short_lines, unless_long, whole_said}
 use Rattle.h41_commands.specs.Commands.{and_then, command_of, is_opening, kind_of}
 use Rattle.h41_commands.specs.DeckLines.{is_end, is_long, is_skipped}
 use Rattle.h41_commands.specs.Entries.{IsTaken}
 use Rattle.h41_commands.specs.ItemReading.{Spell, SpellNext, opened_by}
-use Rattle.h41_commands.specs.Items.{Spelled, commands, is_open, opened_block, spelled_by, with_values, without_open_block}
+use Rattle.h41_commands.specs.Items.{Spelled, commands, opened_block, opens_first, spelled_by, with_values, without_open_block}
 use Rattle.h41_commands.specs.declared.commands.BlockKind.{BlockKind}
 use Rattle.h41_commands.specs.declared.commands.Command.{Command}
+use Rattle.h41_commands.specs.Faults.{of_line}
 use Rattle.h41_commands.specs.declared.fault.ItemFault.{ItemFault}
 use Rattle.h41_commands.specs.declared.fault.ItemFault.TheVariants as fault
 use Rattle.h41_commands.specs.declared.refusal.LineRefusal.{LineRefusal}
 use Rattle.h41_commands.specs.declared.refusal.LineRefusal.TheVariants.{LineTooLong, NoEnd}
 use Rattle.h41_commands.proofs.BlockLines.{EndsBlock, ends_block, no_end}
+use Rattle.h41_commands.proofs.KeptBytes.{whole_kept}
 use Rattle.h41_commands.proofs.DeckItems.{commands-cons, commands-line, commands-long, commands-opening}
 use Rattle.h41_lines.specs.Words.{words_of}
 
@@ -81,10 +84,11 @@ spells_none lines nothing = ap without_open_block (ap commands (sym (append-nil 
 block_judged : (kind : Option BlockKind) (lines : List (List ℕ)) (block : TakenBlock) → IsTaken kind lines block
     → block_values kind lines ≡ judgement block
 block_judged kind lines block taken =
-    λ i. unless_long (sym taken.lines_are.long i) (whole_said (sym taken.kind_is i) (said i))
+    ap (unless_long (list_any is_long lines)) (sym (whole_kept kind (said_by kind (short_lines lines))))
+    ∙ (λ i. unless_long (sym taken.lines_are.long i) (whole_said (sym taken.kind_is i) (kept i)))
   where
-    said : said_by kind (short_lines lines) ≡ block.content
-    said = sym (taken.lines_are.content ∙ ap (λ (of : Option BlockKind). said_by of (short_lines lines)) taken.kind_is)
+    kept : kept_of kind (said_by kind (short_lines lines)) ≡ block.content
+    kept = sym (taken.lines_are.content ∙ ap (λ (of : Option BlockKind). kept_of of (said_by of (short_lines lines))) taken.kind_is)
 
 -- a block whose end was read
 block_ended : (kind : Option BlockKind) (lines : List (List ℕ)) (block : TakenBlock) (more : List (List ℕ)) → AreTaken kind lines block
@@ -154,16 +158,36 @@ endless_still lines before = ap (list_any is_end) (append-nil lines) ∙ before
 pub nothing_still : (lines : List (List ℕ)) → SpellNothing lines → SpellNothing (lines ++ [])
 nothing_still lines before more = ap (λ (all : List (List ℕ)). commands (all ++ more)) (append-nil lines) ∙ before more
 
+-- lines that spell nothing are passed over
+says_none : (long skipped opening : Bool) (refused block other : Spelled) (rest after : List Spelled)
+    → (if long then refused ∷ rest else (if skipped then rest else (if opening then block ∷ after else other ∷ rest))) ≡ []
+    → (long ≡ false) × (skipped ≡ true) × (rest ≡ [])
+says_none true skipped opening refused block other rest after e = cc
+says_none false true opening refused block other rest after e = (refl, refl, e)
+says_none false false true refused block other rest after e = cc
+says_none false false false refused block other rest after e = cc
+
+passed_over : (lines more : List (List ℕ)) → commands lines ≡ [] → opens_first (lines ++ more) ≡ opens_first more
+passed_over [] more e = refl
+passed_over (line ∷ lines) more e =
+    let none =
+    says_none (is_long line) (is_skipped line) (is_opening (words_of line)) _ _ _ _ _ (sym (commands-cons line lines) ∙ e) in
+    (λ i. if none.0 i then false else (if none.1 i then opens_first (lines ++ more) else is_opening (words_of line)))
+    ∙ passed_over lines more none.2
+
 -- a fault, before an item and in its block
-pub fault_before : (why : ItemFault) (at_end : Bool) (lines : List (List ℕ)) → SpellNothing lines → SpellNext (Err why) at_end lines
-fault_before fault.OutOfMemory at_end lines before = tt
-fault_before fault.ReadFault at_end lines before = spells_none lines before
-fault_before fault.WriteFault at_end lines before = tt
+pub fault_before : (why : LineFault) (at_end : Bool) (lines : List (List ℕ)) → SpellNothing lines
+    → SpellNext (Err (of_line why)) at_end lines
+fault_before read.ReadFault at_end lines before = spells_none lines before
+fault_before read.WriteFault at_end lines before = tt
 
 pub fault_inside : (why : ItemFault) (at_end : Bool) (lines inside : List (List ℕ)) (line : List ℕ) → SpellNothing lines
     → is_long line ≡ false → is_skipped line ≡ false → is_opening (words_of line) ≡ true → list_any is_end inside ≡ false
     → SpellNext (Err why) at_end ((lines ++ line ∷ []) ++ inside)
-fault_inside fault.OutOfMemory at_end lines inside line before short says opening endless = tt
+fault_inside fault.OutOfMemory at_end lines inside line before short says opening endless =
+    ap opens_first (append_assoc lines (line ∷ []) inside)
+    ∙ passed_over lines (line ∷ inside) (ap commands (sym (append-nil lines)) ∙ before [])
+    ∙ (λ i. if short i then false else (if says i then opens_first inside else opening i))
 fault_inside fault.ReadFault at_end lines inside line before short says opening endless =
     spells_open lines inside line before short says opening endless
 fault_inside fault.WriteFault at_end lines inside line before short says opening endless = tt

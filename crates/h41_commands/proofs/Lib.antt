@@ -4,6 +4,7 @@ pub mod ClosedBlocks
 pub mod DeckItems
 pub mod Filling
 pub mod ItemLines
+pub mod KeptBytes
 pub mod KeyWords
 pub mod KeysInCells
 pub mod ParsedCommands

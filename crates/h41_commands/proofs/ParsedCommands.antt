@@ -1,11 +1,9 @@
 -- A line's command is never refused as an open block.
-use Rattle.std.proofs.Common.{◌≡◌, ℕ, Bool, true, false, if◌then◌else◌, ◌&&◌, nat_le, nat_lt, List, [], ◌∷◌, Option, Some, None, Result, Ok}
+use Rattle.std.proofs.Common.{◌≡◌, ℕ, Bool, true, false, if◌then◌else◌, List, [], ◌∷◌, Option, Some, None, Result, Ok}
 use Rattle.std.proofs.Common.{Err, bytes_eq}
 use Rattle.std.proofs.Common.{codes, refl}
 use Rattle.std.specs.Option.{option_map_or}
 use Rattle.h41_breakpoints.specs.declared.location.Location.{Location}
-use Rattle.h41_breakpoints.specs.declared.location.Location.TheVariants.{Line, Word}
-use Rattle.h41_program.specs.declared.position.Position.TheVariants.{Memory}
 use Rattle.h41_keys.specs.Keyboard.{key_named}
 use Rattle.h41_commands.specs.Commands
 use Rattle.std.proofs.Common.{drop, length}

@@ -1,14 +1,14 @@
 -- What lines spell, by no more than the first 201 bytes of each.
-use Rattle.std.proofs.Common.{inl, inr, not, ◌≡◌, ℕ, zero, suc, ◌+◌, ◌≤◌, ◌&&◌, ◌||◌, Bool, true, false, cond, if◌then◌else◌, List, [], ◌∷◌}
-use Rattle.std.proofs.Common.{length, map, filter, take, drop, length-take, Option, Err, refl, sym, ap, ◌∙◌, arith}
+use Rattle.std.proofs.Common.{inl, inr, not, ◌≡◌, ℕ, zero, suc, ◌+◌, ◌≤◌, ◌&&◌, ◌||◌, Bool, false, cond, if◌then◌else◌, List, [], ◌∷◌}
+use Rattle.std.proofs.Common.{length, map, take, drop, length-take, Option, Err, refl, sym, ap, ◌∙◌, arith}
 use Rattle.std.specs.List.{after_first, before_first, list_any, position_or_len, take-map}
-use Rattle.std.proofs.lemmas.Bool.{cases_Bool, cases_lt, cond-true, cond-false, lt-ltb, le-ltb, ltb-false}
+use Rattle.std.proofs.lemmas.Bool.{cases_Bool, cases_lt, cond-true, lt-ltb, ltb-false}
 use Rattle.std.proofs.lemmas.List.{drop-map, length-map, take_all}
 use Rattle.h41_ends.specs.InputLines.{told_part}
 use Rattle.h41_commands.specs.Blocks.{block_values, content_of, short_lines, unless_long}
 use Rattle.h41_commands.specs.Commands.{and_then, command_of, is_opening, kind_of}
 use Rattle.h41_commands.specs.DeckLines.{is_end, is_long, is_only_end, is_skipped}
-use Rattle.h41_commands.specs.Items.{Spelled, commands, opened_block, spelled_by, spelled_within, with_values}
+use Rattle.h41_commands.specs.Items.{Spelled, opened_block, spelled_by, spelled_within, with_values}
 use Rattle.h41_commands.specs.LineLaws.{LongLinesAreAlike}
 use Rattle.h41_commands.specs.declared.commands.BlockKind.{BlockKind}
 use Rattle.h41_commands.specs.declared.refusal.LineRefusal.TheVariants.{LineTooLong, NoEnd}

@@ -41,7 +41,8 @@ and_then (Err refusal) next = Err refusal
 abbrev pub most_steps : ℕ
 most_steps = 9999999
 
--- the greatest number that size takes; one above 319 is refused as 17 when it is carried out
+-- the greatest number that size takes; one that main memory has not more registers than is refused
+-- as 17 when it is carried out
 abbrev pub most_registers : ℕ
 most_registers = 9999
 

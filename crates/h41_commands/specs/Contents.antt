@@ -1,7 +1,7 @@
 -- What the code's blocks hold, in the words of a deck. It only connects the code with the other
 -- definitions.
 use Rattle.std.specs.Prelude.{◌≡◌, ℕ, List, [], ◌∷◌, ◌++◌, Option, Some, None, Result, Ok, Err, Vec}
-use Rattle.std.specs.Prelude.{is_ok, false, if◌then◌else◌}
+use Rattle.std.specs.Prelude.{is_ok, false, if◌then◌else◌, take}
 use Rattle.std.specs.Global.{Global}
 use Rattle.h41_commands.specs.declared.refusal.LineRefusal.TheVariants.{BadNumber}
 use Rattle.h41_commands.specs.declared.blocks.Content.{Content}
@@ -13,11 +13,12 @@ use Rattle.h41_commands.specs.declared.commands.PageKind.TheVariants.{Words, Ima
 use Rattle.h41_commands.specs.declared.commands.ProgramKind.TheVariants.{Bytes, Text}
 use Rattle.h41_commands.specs.declared.refusal.LineRefusal.{LineRefusal}
 use Rattle.h41_commands.specs.declared.blocks.hex_bytes.HexBytes.{HexBytes}
+use Rattle.h41_commands.specs.declared.blocks.image_bytes.ImageBytes.{ImageBytes}
 use Rattle.h41_commands.specs.declared.blocks.source_text.SourceText.{SourceText}
 use Rattle.h41_commands.specs.declared.commands.PageKind.{PageKind}
 use Rattle.h41_commands.specs.declared.commands.ProgramKind.{ProgramKind}
 use Rattle.h41_commands.specs.Blocks.{TakenBlock, block_bytes, block_source, block_words, judgement}
-use Rattle.h41_commands.specs.Blocks.{line_bytes, word_values}
+use Rattle.h41_commands.specs.Blocks.{kept_bytes, line_bytes, most_kept, word_values}
 use Rattle.h41_commands.specs.PageBlocks.{Fills}
 use Rattle.h41_commands.specs.ProgramBlocks.{Means}
 
@@ -51,6 +52,21 @@ TakesBytes old line new =
     (lines : List (List ℕ)) → bytes_in old ≡ block_bytes lines
     → bytes_in new ≡ block_bytes (lines ++ line ∷ [])
 
+-- the bytes of an image that are kept of lines, or their fault
+abbrev pub image_in : ImageBytes → Result (List ℕ) LineRefusal
+image_in said = if said.is_wrong then Err BadNumber else Ok said.bytes.items
+
+-- whatever lines they were kept of, they are now kept of one line more
+abbrev pub TakesImage : ImageBytes → List ℕ → ImageBytes → Type 0
+TakesImage old line new =
+    (lines : List (List ℕ)) → image_in old ≡ kept_bytes (block_bytes lines)
+    → image_in new ≡ kept_bytes (block_bytes (lines ++ line ∷ []))
+
+-- more bytes stand behind those that are kept, as far as they are kept
+pub record KeepsMore (old : ImageBytes) (more : List ℕ) (new : ImageBytes) : Type 0 where
+  pub bytes : new.bytes.items ≡ take most_kept (old.bytes.items ++ more)
+  pub same : new.is_wrong ≡ old.is_wrong
+
 -- what was decoded of a line
 abbrev pub AreBytesOf : List ℕ → Option (Vec ℕ Global) → Type 0
 AreBytesOf line None = is_ok (line_bytes line) ≡ false
@@ -70,7 +86,7 @@ TakesSource old line new =
 abbrev pub content_in : Content → Result (List ℕ) LineRefusal
 content_in contents.Nothing = Ok []
 content_in (contents.Words words) = words_in words
-content_in (contents.Image bytes) = bytes_in bytes
+content_in (contents.Image bytes) = image_in bytes
 content_in (contents.Source source) = Ok (source_in source)
 content_in (contents.Bytes bytes) = bytes_in bytes
 content_in (contents.Text text) = Ok (source_in text)

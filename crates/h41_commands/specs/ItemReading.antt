@@ -13,7 +13,8 @@ use Rattle.h41_commands.specs.Blocks.{block_values}
 use Rattle.h41_commands.specs.Commands.{and_then, kind_of}
 use Rattle.h41_commands.specs.DeckLines.{is_end}
 use Rattle.h41_commands.specs.Entries.{what_is_spelled}
-use Rattle.h41_commands.specs.Items.{Spelled, commands, is_open, with_values, without_open_block}
+use Rattle.h41_commands.specs.Items.{Spelled, commands, is_open, opens_first, with_values}
+use Rattle.h41_commands.specs.Items.{without_open_block}
 use Rattle.h41_ends.specs.InputLines.{MayFollow, ReadsMore, most_left}
 use Rattle.h41_ends.specs.declared.input_lines.InputLines.{InputLines}
 
@@ -29,12 +30,12 @@ Spell at_end lines items =
     → commands (lines ++ more) ≡ items ++ commands more
 
 -- the lines that were told spell the item that is answered; where reading failed, none but a block
--- that is open
+-- that is open, and where memory was refused, they begin a block
 abbrev pub SpellNext : Result (Option Item) ItemFault → Bool → List (List ℕ) → Type 0
 SpellNext (Ok None) at_end lines = Spell at_end lines []
 SpellNext (Ok (Some item)) at_end lines = Spell at_end lines (what_is_spelled item ∷ [])
 SpellNext (Err fault.ReadFault) at_end lines = without_open_block (commands lines) ≡ []
-SpellNext (Err fault.OutOfMemory) at_end lines = Unit {0}
+SpellNext (Err fault.OutOfMemory) at_end lines = opens_first lines ≡ true
 SpellNext (Err fault.WriteFault) at_end lines = Unit {0}
 
 -- lines were read on, and are those of the item that is answered

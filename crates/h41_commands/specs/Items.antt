@@ -55,3 +55,10 @@ is_open (Ok given) = false
 -- what is spelled but for such a block
 abbrev pub without_open_block : List Spelled → List Spelled
 without_open_block items = filter (λ item. not (is_open item)) items
+
+-- whether the first of some lines that says something opens a block
+abbrev pub opens_first : List (List ℕ) → Bool
+opens_first [] = false
+opens_first (line ∷ rest) =
+    if is_long line then false
+    else (if is_skipped line then opens_first rest else is_opening (words_of line))

@@ -8,6 +8,7 @@ ghost use Rattle.h41_commands.specs.Commands.{kind_of};
 ghost use Rattle.h41_commands.specs.Contents.{FillsBy, IsForPage, IsForProgram, MeansBy};
 
 use crate::blocks::hex_bytes::HexBytes;
+use crate::blocks::image_bytes::ImageBytes;
 use crate::blocks::page_words::PageWords;
 use crate::blocks::source_text::SourceText;
 use crate::commands::{BlockKind, Command, PageKind, ProgramKind};
@@ -17,6 +18,7 @@ use std::alloc::{AllocError, Global};
 use std::marker::Model;
 
 pub mod hex_bytes;
+pub mod image_bytes;
 pub mod page_words;
 mod program_text;
 pub mod source_text;
@@ -36,7 +38,7 @@ enum Content {
     /// The words of a page.
     Words(PageWords),
     /// The bytes of a page's image.
-    Image(HexBytes),
+    Image(ImageBytes),
     /// The source of a page's words.
     Source(SourceText),
     /// The bytes of a program.
@@ -73,7 +75,7 @@ impl Block {
         let content = match kind {
             None => Content::Nothing,
             Some(BlockKind::Page(PageKind::Words)) => Content::Words(PageWords::new(alloc)),
-            Some(BlockKind::Page(PageKind::Image)) => Content::Image(HexBytes::new(alloc)),
+            Some(BlockKind::Page(PageKind::Image)) => Content::Image(ImageBytes::new(alloc)),
             Some(BlockKind::Page(PageKind::Asm)) => Content::Source(SourceText::new(alloc)),
             Some(BlockKind::Program(ProgramKind::Bytes)) => Content::Bytes(HexBytes::new(alloc)),
             Some(BlockKind::Program(ProgramKind::Text)) => Content::Text(SourceText::new(alloc)),
@@ -112,7 +114,7 @@ impl Block {
             _ if self.has_long => Some(LineRefusal::LineTooLong),
             Content::Nothing | Content::Source(_) | Content::Text(_) => None,
             Content::Words(words) => words.refusal(),
-            Content::Image(bytes) => bytes.image_refusal(),
+            Content::Image(bytes) => bytes.refusal(),
             Content::Bytes(bytes) => bytes.refusal(),
         }
     }

@@ -156,7 +156,7 @@ pub enum Command {
     Load(ProgramKind),
     /// `unplug P`: takes out all banks of page P, 0 to 15. Pages 0 to 3 are refused when it is carried out.
     Unplug(u8),
-    /// `size n`: gives memory n data registers, 0 to 9,999. 320 and above are refused when it is carried out.
+    /// `size n`: gives memory n data registers, 0 to 9,999. As many as main memory has, and more, are refused when it is carried out.
     Size(u16),
     /// `reset`: all as at the start, but for the pages, which stay plugged.
     Reset,

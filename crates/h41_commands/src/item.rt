@@ -26,14 +26,3 @@ pub enum Item {
     /// Lines that are no command.
     Refused(LineRefusal),
 }
-
-impl Item {
-    ghost use Rattle.h41_commands.specs.Entries.{what_is_spelled};
-
-    /// Whether this is a block whose end was not read.
-    pub fn is_open(&self) -> bool
-        ensures { result ≡ is_open (what_is_spelled self.now) }
-    {
-        matches!(self, Item::Refused(LineRefusal::NoEnd))
-    }
-}

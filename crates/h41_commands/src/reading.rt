@@ -1,20 +1,21 @@
 //! The items of a deck, one at a time, over lines that are read as they come.
 
 ghost use Rattle.std.specs.Prelude.{◌≡◌, ◌≢◌, ◌⊎◌, ◌≤◌, [], IfOk, OnOk, Err, Ok, true, false, None};
+ghost use Rattle.std.specs.Prelude.{length};
 ghost use Rattle.std.specs.Io.KnownBytes.{Keeps};
-ghost use Rattle.h41_ends.specs.InputLines.{IsStopped, IsTold, most_left};
+ghost use Rattle.h41_ends.specs.InputLines.{IsCounted, IsStopped, IsTold, most_left};
 ghost use Rattle.h41_commands.specs.BlockReading.{ReadsBlock, ReadsTaken};
 ghost use Rattle.h41_commands.specs.Blocks.{HasTaken};
 ghost use Rattle.h41_commands.specs.Entries.{what_is_spelled};
 ghost use Rattle.h41_commands.specs.ItemReading.{LeavesFewer, OpenAtEnd, ReadsNext, is_unended};
-ghost use Rattle.h41_commands.specs.Items.{is_open};
+ghost use Rattle.h41_commands.specs.DeckLines.{longest_line};
+ghost use Rattle.h41_commands.specs.Items.{is_open, spelled_by};
 
 use crate::blocks::Block;
 use crate::commands::Command;
 use crate::commands::parse::{is_opening, parse};
 use crate::fault::ItemFault;
 use crate::item::{GivenCommand, Item};
-use crate::items::line_item;
 use crate::line::{is_end, is_long, is_skipped};
 use crate::refusal::LineRefusal;
 use h41_ends::{InputLines, Sink, Source};
@@ -35,6 +36,7 @@ pub fn read_item<R: Source, W: Sink>(
 ) -> Result<Option<Item>, ItemFault>
     requires reader_clear { R.failed reader.old ≡ false }
     requires writer_clear { W.failed writer.old ≡ false }
+    requires counted { IsCounted input.old (R.given reader.old) }
     ensures item { ReadsNext result (R.remaining reader.old) (R.remaining reader.new)
         input.old input.new }
     ensures shorter { IfOk result (LeavesFewer input.old input.new) }
@@ -48,6 +50,7 @@ pub fn read_item<R: Source, W: Sink>(
     ensures flushed { result ≡ Err ItemFault.ReadFault → W.flushed writer.new ≡ true }
 
     ensures kept { Keeps (W.contents writer.old) (W.contents writer.new) }
+    ensures counted { IsCounted input.new (R.given reader.new) }
     ensures reader { result ≢ Err ItemFault.ReadFault → R.failed reader.new ≡ false }
     ensures writer { result ≢ Err ItemFault.WriteFault → W.failed writer.new ≡ false }
     ensures write_fault { result ≡ Err ItemFault.WriteFault → W.failed writer.new ≡ true }
@@ -69,6 +72,22 @@ pub fn read_item<R: Source, W: Sink>(
     Ok(None)
 }
 
+/// The command of one line.
+fn line_item(alloc: Global, line: &[u8]) -> Item
+    requires { length line.now ≤ longest_line }
+    ensures item { what_is_spelled result ≡ spelled_by line.now [] }
+    ensures shut { is_open (what_is_spelled result) ≡ false }
+{
+    match parse(line) {
+        Ok(command) => {
+            let held = command;
+            let block = Block::new(alloc, held);
+            Item::Given(GivenCommand { command, block })
+        }
+        Err(refusal) => Item::Refused(refusal),
+    }
+}
+
 /// The item of a block by what its first line spells; reads the block's other lines.
 fn read_block<R: Source, W: Sink>(
     alloc: Global,
@@ -79,6 +98,7 @@ fn read_block<R: Source, W: Sink>(
 ) -> Result<Item, ItemFault>
     requires reader_clear { R.failed reader.old ≡ false }
     requires writer_clear { W.failed writer.old ≡ false }
+    requires counted { IsCounted input.old (R.given reader.old) }
     requires shut { is_unended command ≡ false }
     ensures item { ReadsBlock result command (R.remaining reader.old) (R.remaining reader.new)
         input.old input.new }
@@ -90,6 +110,7 @@ fn read_block<R: Source, W: Sink>(
         → (R.failed reader.new ≡ true) ⊎ (input.new.is_over ≡ true) }
     ensures flushed { result ≡ Err ItemFault.ReadFault → W.flushed writer.new ≡ true }
     ensures kept { Keeps (W.contents writer.old) (W.contents writer.new) }
+    ensures counted { IsCounted input.new (R.given reader.new) }
     ensures reader { result ≢ Err ItemFault.ReadFault → R.failed reader.new ≡ false }
     ensures writer { result ≢ Err ItemFault.WriteFault → W.failed writer.new ≡ false }
     ensures write_fault { result ≡ Err ItemFault.WriteFault → W.failed writer.new ≡ true }
@@ -114,6 +135,7 @@ fn read_lines<R: Source, W: Sink>(
     requires empty { HasTaken block [] }
     requires reader_clear { R.failed reader.old ≡ false }
     requires writer_clear { W.failed writer.old ≡ false }
+    requires counted { IsCounted input.old (R.given reader.old) }
     ensures block { ReadsTaken result block.kind (R.remaining reader.old) (R.remaining reader.new)
         input.old input.new }
     ensures bound { OnOk result (most_left input.new ≤ most_left input.old) }
@@ -123,6 +145,7 @@ fn read_lines<R: Source, W: Sink>(
         → (R.failed reader.new ≡ true) ⊎ (input.new.is_over ≡ true) }
     ensures flushed { result ≡ Err ItemFault.ReadFault → W.flushed writer.new ≡ true }
     ensures kept { Keeps (W.contents writer.old) (W.contents writer.new) }
+    ensures counted { IsCounted input.new (R.given reader.new) }
     ensures reader { result ≢ Err ItemFault.ReadFault → R.failed reader.new ≡ false }
     ensures writer { result ≢ Err ItemFault.WriteFault → W.failed writer.new ≡ false }
     ensures write_fault { result ≡ Err ItemFault.WriteFault → W.failed writer.new ≡ true }

@@ -15,9 +15,12 @@ pub record BenchState : Type 0 where
   -- those that are set
   pub breakpoints : BreakpointSet
 
--- the calculator's start, and no breakpoints
-abbrev pub start : BenchState
-start = record { calculator = calculator.start; breakpoints = no_breakpoints }
+-- the calculator's start with so many registers of main memory, and no breakpoints
+abbrev pub start : ℕ → BenchState
+start registers = record {
+  calculator = calculator.start registers;
+  breakpoints = no_breakpoints;
+}
 
 -- the bench with another calculator
 abbrev pub with_calculator : CalculatorState → BenchState → BenchState

@@ -1,11 +1,12 @@
 -- How the bench lends its calculator.
-use Rattle.std.specs.Borrow.{Lends, MutBor, Fml}
+use Rattle.std.specs.Borrow.{Lends, MutBor, Fml, RattleType}
 use Rattle.h41_debug.specs.Bench.{BenchState, with_calculator}
 use Rattle.h41_debug.specs.contracts.bench.Bench.{the_row}
 use Rattle.h41_xrom.specs.Calculator.{CalculatorState}
 use Rattle.h41_xrom.specs.contracts.calculator.Calculator as lent
 
 -- the bench has the calculator that is left behind the loan, and all else of it stays
-abbrev pub LendsCalculator : MutBor BenchState → MutBor CalculatorState → Fml
-LendsCalculator s r =
-    Lends the_row lent.the_row s r (λ (left : CalculatorState). with_calculator left s.now)
+abbrev pub LendsCalculator : RattleType → MutBor BenchState → MutBor CalculatorState → Fml
+LendsCalculator registers s r =
+    Lends (the_row registers) (lent.the_row registers) s r
+    (λ (left : CalculatorState). with_calculator left s.now)

@@ -20,14 +20,14 @@ use h41_xrom::{Calculator, CalculatorRefusal, Caller, Mode};
 use std::alloc::{AllocError, Global};
 use std::marker::Model;
 
-/// The bench: the calculator, and what its user may do with it.
+/// The bench: the calculator, with `REGS` registers of main memory, 64 to 320, and what its user may do with it.
 #[derive(Drop)]
-pub struct Bench {
-    calculator: Calculator,
+pub struct Bench<const REGS: usize> {
+    calculator: Calculator<REGS>,
     breakpoints: Breakpoints,
 }
 
-impl Model for Bench {
+impl<const REGS: usize> Model for Bench<REGS> {
     ghost use Rattle.std.specs.Coded.{codes};
     ghost use Rattle.std.specs.FinSet as set;
     ghost use Rattle.h41_debug.specs.Bench.{BenchState};
@@ -42,12 +42,14 @@ impl Model for Bench {
         record { calculator = bench.calculator; breakpoints = bench.breakpoints } };
 }
 
-impl Bench {
+impl<const REGS: usize> Bench<REGS> {
     ghost use Rattle.h41_debug.specs.Lending.{LendsCalculator};
 
     /// Nothing is plugged, nothing runs, and no breakpoint is set. 21 where memory is refused.
     pub fn new(alloc: Global) -> Result<Self, AllocError>
-        ensures { IfOk result (λ bench. bench ≡ start) }
+        requires at_least { 64 ≤ REGS }
+        requires at_most { REGS ≤ 320 }
+        ensures { IfOk result (λ bench. bench ≡ start REGS) }
     {
         Ok(Bench {
             calculator: Calculator::new(alloc)?,
@@ -56,15 +58,15 @@ impl Bench {
     }
 
     /// The calculator, for reading.
-    pub fn calculator(&self) -> &Calculator
+    pub fn calculator(&self) -> &Calculator<REGS>
         ensures { result.now ≡ self.now.calculator }
     {
         &self.calculator
     }
 
     /// The calculator, for calls that change it.
-    pub fn calculator_mut(&mut self) -> &mut Calculator
-        ensures* writes_back { sem 𝓛 (LendsCalculator self.entry result) }
+    pub fn calculator_mut(&mut self) -> &mut Calculator<REGS>
+        ensures* writes_back { sem 𝓛 (LendsCalculator REGS.row self.entry result) }
         ensures value { result.now ≡ self.old.calculator }
     {
         &mut self.calculator

@@ -13,7 +13,7 @@ use h41_xrom::Mode;
 /// The most bytes of a position's text: `Micro`, a blank, and four digits.
 const CAPACITY: usize = 10;
 
-impl Bench {
+impl<const REGS: usize> Bench<REGS> {
     /// `Micro` and the address of the next word while a function runs, else `Run` or `Idle` and the position in program memory.
     pub fn position(&self) -> ArrayString<CAPACITY>
         ensures { result.bytes ≡ spec.position_text self.now }

@@ -1,6 +1,6 @@
 //! Runs: single steps up to a reason to stop.
 
-ghost use Rattle.std.specs.Prelude.{◌≡◌, ◌<◌, ◌≤◌, false, nat_lt, None};
+ghost use Rattle.std.specs.Prelude.{◌≡◌, ◌<◌, ◌≤◌, ◌+◌, false, if◌then◌else◌, nat_lt, None};
 ghost use Rattle.std.specs.FinSet.{len};
 ghost use Rattle.h41_debug.specs.private.Advancing.{Advances, EndsFor, IfRunning};
 ghost use Rattle.h41_debug.specs.Bench.{Steps};
@@ -25,7 +25,7 @@ pub enum Stop {
     Refused(CalculatorRefusal),
 }
 
-impl Bench {
+impl<const REGS: usize> Bench<REGS> {
     /// Single steps, at most `limit`, up to the first reason to stop, which are asked for in this order: nothing runs, a breakpoint is set
     /// where the calculator then is, `limit` steps were made, the next step is refused. Tells how many steps were made, and the
     /// reason. A breakpoint where the run begins does not stop it; a step that is refused changes nothing.
@@ -96,14 +96,19 @@ impl Bench {
         ensures { Advances limit from self.old result.0 self.new result.1 }
     {
         step_is_determined();
-        for made in from..limit {
-            match self.step_word(caller) {
-                Ok(true) => {}
-                Ok(false) => return (made + 1, None),
-                Err(refusal) => return (made, Some(refusal)),
+        let mut made = from;
+        while made < limit {
+            let until = next_look(made, limit, watched);
+            for word in made..until {
+                match self.step_word(caller) {
+                    Ok(true) => {}
+                    Ok(false) => return (word + 1, None),
+                    Err(refusal) => return (word, Some(refusal)),
+                }
             }
+            made = until;
             if watched && self.has_breakpoint(self.location()) {
-                return (made + 1, None);
+                return (made, None);
             }
         }
         (limit, None)
@@ -166,4 +171,15 @@ impl Bench {
             None
         }
     }
+}
+
+/// Where breakpoints are asked for next: behind one step more where a run is watched, and else behind its last.
+#[inline(always)]
+fn next_look(made: u32, limit: u32, watched: bool) -> u32
+    requires { made < limit }
+    ensures look { result ≡ (if watched then made + 1 else limit) }
+    ensures behind { made < result }
+    ensures most { result ≤ limit }
+{
+    if watched { made + 1 } else { limit }
 }

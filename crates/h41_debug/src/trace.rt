@@ -13,7 +13,7 @@ use h41_program::{Position, line_at};
 use h41_ram::Ram;
 use h41_text::write_line;
 use h41_words::{Word, length};
-use h41_xrom::{Calculator, REGISTERS};
+use h41_xrom::Calculator;
 
 /// The most bytes of the text of an instruction or a line.
 const NEXT: usize = 51;
@@ -24,7 +24,7 @@ pub const TRACE_CAPACITY: usize = 62;
 /// What stands for an instruction or a line that cannot be read.
 const UNKNOWN: &str = "?";
 
-impl Bench {
+impl<const REGS: usize> Bench<REGS> {
     /// What a trace tells of the next step: where the calculator is, a blank, and the text of the next instruction or line. `?` stands
     /// for one that cannot be read, also where the second word of an instruction cannot be.
     pub fn trace_line(&self) -> ArrayString<TRACE_CAPACITY>
@@ -39,7 +39,10 @@ impl Bench {
 }
 
 /// The text of what stands at a location: of an instruction, or a line.
-fn text_at(calculator: &Calculator, location: Location) -> ArrayString<NEXT>
+fn text_at<const REGS: usize>(
+    calculator: &Calculator<REGS>,
+    location: Location,
+) -> ArrayString<NEXT>
     ensures { TellsAt location calculator.now result.bytes }
 {
     match location {
@@ -49,7 +52,7 @@ fn text_at(calculator: &Calculator, location: Location) -> ArrayString<NEXT>
 }
 
 /// The text of the line at a position.
-fn line_text(ram: &Ram<REGISTERS>, position: Position) -> ArrayString<NEXT>
+fn line_text<const REGS: usize>(ram: &Ram<REGS>, position: Position) -> ArrayString<NEXT>
     ensures { TellsLine ram.now.registers position result.bytes }
 {
     let mut text = ArrayString::new();

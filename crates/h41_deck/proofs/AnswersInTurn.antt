@@ -1,5 +1,6 @@
 -- How the replies of a deck follow one another.
-use Rattle.std.proofs.Common.{◌≡◌, ℕ, ◌+◌, Bool, true, false, ◌||◌, if◌then◌else◌, Option, Some, None, is_some, List, [], ◌∷◌, ◌++◌}
+use Rattle.std.proofs.Common.{inl, inr}
+use Rattle.std.proofs.Common.{◌≡◌, ℕ, ◌+◌, true, false, ◌||◌, if◌then◌else◌, Option, Some, None, is_some, List, [], ◌∷◌, ◌++◌}
 use Rattle.std.proofs.Common.{flat_map, length, take, Err, refl, sym, ap, subst, append_assoc, arith, ◌∙◌}
 use Rattle.std.specs.List.{list_any}
 use Rattle.std.specs.Io.KnownBytes.{Appends, Keeps}
@@ -17,29 +18,30 @@ use Rattle.h41_debug.specs.Bench.{BenchState, start}
 use Rattle.h41_lines.specs.Lines.{lines}
 use Rattle.h41_deck.specs.AnsweredItems.{outcome_and}
 use Rattle.h41_deck.specs.Answers.{Answer, printed_text}
-use Rattle.h41_deck.specs.Deck.{AnswersInTurn, FirstReplies, LeavesOf, commands_ended, outcome_of}
+use Rattle.h41_deck.specs.Deck.{AnswersInTurn, FirstReplies, LeavesOf, MayBeRefused, commands_ended, outcome_of}
+use Rattle.h41_deck.specs.Replies.{item_takes_memory}
 use Rattle.h41_deck.specs.Faults.{of_command}
 use Rattle.h41_deck.specs.Writing.{Leaves, Replies, RepliesInPart, outcome_in}
 
 -- What a deck has told so far: its answers to the items that are done, which are written and of which the outcome tells, and
 -- which go on, from the state now, with the answers to further items.
-pub record Told (old new : Option (List ℕ)) (done : List Spelled) (s : BenchState) (outcome : Outcome) : Type 0 where
+pub record Told (registers : ℕ) (old new : Option (List ℕ)) (done : List Spelled) (s : BenchState) (outcome : Outcome) : Type 0 where
   pub answers : List Answer
   pub written : Appends old new (flat_map printed_text answers)
   pub outcome_is : outcome ≡ outcome_of answers
   pub goes_on : (items : List Spelled) (more : List Answer) → AnswersInTurn items s more
-      → AnswersInTurn (done ++ items) start (answers ++ more)
+      → AnswersInTurn (done ++ items) (start registers) (answers ++ more)
 
-pub told_none : (old : Option (List ℕ)) → Told old old [] start Accepted
-told_none old = record {
+pub told_none : (registers : ℕ) (old : Option (List ℕ)) → Told registers old old [] (start registers) Accepted
+told_none registers old = record {
   answers = [];
   written = Appends-nil old;
   outcome_is = refl;
   goes_on = λ items more rest. rest;
 }
 
-pub told_kept : (old mid new : Option (List ℕ)) (done : List Spelled) (s : BenchState) (outcome : Outcome) → Told old mid done s outcome
-    → Keeps mid new → Told old new done s outcome
+pub told_kept : {registers : ℕ} (old mid new : Option (List ℕ)) (done : List Spelled) (s : BenchState) (outcome : Outcome)
+    → Told registers old mid done s outcome → Keeps mid new → Told registers old new done s outcome
 told_kept old mid new done s outcome told kept = record {
   answers = told.answers;
   written = Appends-kept old mid new (flat_map printed_text told.answers) told.written kept;
@@ -61,9 +63,10 @@ outcome_of-push (first ∷ answers) answer =
     ≡ outcome_and (if refused || list_any (λ each. is_some each.refusal) answers then Refused else Accepted) (outcome_in answer.refusal))
     [ true ↦ refl | false ↦ outcome_of-push answers answer ]
 
-pub told_more : (old mid new : Option (List ℕ)) (done : List Spelled) (s t : BenchState) (outcome next : Outcome) (item : Spelled)
-    → Told old mid done s outcome → Replies item s t mid new next → Told old new (done ++ item ∷ []) t (outcome_and outcome next)
-told_more old mid new done s t outcome next item told replied = record {
+pub told_more : {registers : ℕ} (old mid new : Option (List ℕ)) (done : List Spelled) (s t : BenchState) (outcome next : Outcome)
+    (item : Spelled) → Told registers old mid done s outcome → Replies item s t mid new next
+    → Told registers old new (done ++ item ∷ []) t (outcome_and outcome next)
+told_more {registers} old mid new done s t outcome next item told replied = record {
   answers = told.answers ++ replied.answer ∷ [];
   written =
       subst (Appends old new) (sym (flat_map-append printed_text told.answers (replied.answer ∷ [])
@@ -71,37 +74,45 @@ told_more old mid new done s t outcome next item told replied = record {
       (Appends-trans old mid new (flat_map printed_text told.answers) (printed_text replied.answer) told.written replied.written);
   outcome_is = rw (told.outcome_is, replied.outcome_is) (sym (outcome_of-push told.answers replied.answer));
   goes_on =
-      λ items more later. subst (λ (of : List Spelled). AnswersInTurn of start ((told.answers ++ replied.answer ∷ []) ++ more))
+      λ items more later. subst (λ (of : List Spelled). AnswersInTurn of (start registers) ((told.answers ++ replied.answer ∷ []) ++ more))
       (sym (append_assoc done (item ∷ []) items))
-      (subst (AnswersInTurn (done ++ item ∷ items) start) (sym (append_assoc told.answers (replied.answer ∷ []) more))
+      (subst (AnswersInTurn (done ++ item ∷ items) (start registers)) (sym (append_assoc told.answers (replied.answer ∷ []) more))
       (told.goes_on (item ∷ items) (replied.answer ∷ more) (t, replied.reply, later)));
 }
 
 -- what is told so far are the replies to some first commands
-module _ (old new : Option (List ℕ)) (done : List Spelled) (s : BenchState) (outcome : Outcome) (told : Told old new done s outcome) where
-  pub done_answered : AnswersInTurn done start told.answers
-  done_answered = subst (λ (items : List Spelled). AnswersInTurn items start told.answers) (append-nil done)
-      (subst (AnswersInTurn (done ++ []) start) (append-nil told.answers) (told.goes_on [] [] tt))
+module _ {registers : ℕ} (old new : Option (List ℕ)) (done : List Spelled) (s : BenchState) (outcome : Outcome)
+    (told : Told registers old new done s outcome) where
+  pub done_answered : AnswersInTurn done (start registers) told.answers
+  done_answered = subst (λ (items : List Spelled). AnswersInTurn items (start registers) told.answers) (append-nil done)
+      (subst (AnswersInTurn (done ++ []) (start registers)) (append-nil told.answers) (told.goes_on [] [] tt))
 
-  first_replies : (all rest : List Spelled) → all ≡ done ++ rest → FirstReplies all (flat_map printed_text told.answers)
+  abbrev first_replies : (all rest : List Spelled) → all ≡ done ++ rest → FirstReplies registers all (flat_map printed_text told.answers)
   first_replies all rest begins =
       record { first = done; rest = rest; begins = begins; answers = told.answers; answered = done_answered; text_is = refl }
 
   -- a fault of memory, of reading, and of writing where all was written
-  pub leaves_all : (bytes : List ℕ) (rest : List Spelled) → commands (lines bytes) ≡ done ++ rest → LeavesOf OutOfMemory old new bytes
-  leaves_all bytes rest begins = (flat_map printed_text told.answers, first_replies (commands (lines bytes)) rest begins, told.written)
+  pub leaves_all : (bytes : List ℕ) (rest : List Spelled) → commands (lines bytes) ≡ done ++ rest → MayBeRefused done rest
+      → LeavesOf registers OutOfMemory old new bytes
+  leaves_all bytes rest begins may =
+      (flat_map printed_text told.answers, (first_replies (commands (lines bytes)) rest begins, may), told.written)
 
   pub leaves_ended : (bytes : List ℕ) (rest : List Spelled) → commands (lines bytes) ≡ done ++ rest → commands_ended bytes ≡ done
-      → LeavesOf ReadFault old new bytes
+      → LeavesOf registers ReadFault old new bytes
   leaves_ended bytes rest begins ended =
       let text = flat_map printed_text told.answers in (
         text,
         first_replies (commands (lines bytes)) rest begins,
-        (told.answers, subst (λ (items : List Spelled). AnswersInTurn items start told.answers) (sym ended) done_answered, refl),
+        (
+          told.answers,
+          subst (λ (items : List Spelled). AnswersInTurn items (start registers) told.answers) (sym ended) done_answered,
+          refl,
+        ),
         told.written,
       )
 
-  pub leaves_unpassed : (bytes : List ℕ) (rest : List Spelled) → commands (lines bytes) ≡ done ++ rest → LeavesOf WriteFault old new bytes
+  pub leaves_unpassed : (bytes : List ℕ) (rest : List Spelled) → commands (lines bytes) ≡ done ++ rest
+      → LeavesOf registers WriteFault old new bytes
   leaves_unpassed bytes rest begins =
       let text = flat_map printed_text told.answers in (
         text,
@@ -111,9 +122,9 @@ module _ (old new : Option (List ℕ)) (done : List Spelled) (s : BenchState) (o
       )
 
 -- the next one is written in part
-pub leaves_part : (old mid new : Option (List ℕ)) (done rest : List Spelled) (s t : BenchState) (outcome : Outcome) (item : Spelled)
-    (bytes : List ℕ) → Told old mid done s outcome → commands (lines bytes) ≡ (done ++ item ∷ []) ++ rest
-    → RepliesInPart item s t mid new → LeavesOf WriteFault old new bytes
+pub leaves_part : {registers : ℕ} (old mid new : Option (List ℕ)) (done rest : List Spelled) (s t : BenchState) (outcome : Outcome)
+    (item : Spelled) (bytes : List ℕ) → Told registers old mid done s outcome → commands (lines bytes) ≡ (done ++ item ∷ []) ++ rest
+    → RepliesInPart item s t mid new → LeavesOf registers WriteFault old new bytes
 leaves_part old mid new done rest s t outcome item bytes told begins part =
     let next = part.printed_until.0 in
     let before = flat_map printed_text told.answers in
@@ -135,12 +146,14 @@ leaves_part old mid new done rest s t outcome item bytes told begins part =
     )
 
 -- it ends with a fault at the next one
-pub leaves_at : {W : Type 0} (contents : W → Option (List ℕ)) (old before after : W) (done rest : List Spelled) (s t : BenchState)
-    (outcome : Outcome) (item : Spelled) (bytes : List ℕ) (fault : CommandFault) → Told (contents old) (contents before) done s outcome
+pub leaves_at : {W : Type 0} {registers : ℕ} (contents : W → Option (List ℕ)) (old before after : W) (done rest : List Spelled)
+    (s t : BenchState) (outcome : Outcome) (item : Spelled) (bytes : List ℕ) (fault : CommandFault)
+    → Told registers (contents old) (contents before) done s outcome
     → commands (lines bytes) ≡ (done ++ item ∷ []) ++ rest → Leaves (Err fault) item s t contents before after
-    → LeavesOf (of_command fault) (contents old) (contents after) bytes
-leaves_at contents old before after done rest s t outcome item bytes command.OutOfMemory told begins kept =
+    → (fault ≡ command.OutOfMemory → item_takes_memory item ≡ true)
+    → LeavesOf registers (of_command fault) (contents old) (contents after) bytes
+leaves_at contents old before after done rest s t outcome item bytes command.OutOfMemory told begins kept memory =
     leaves_all _ _ done s outcome (told_kept _ _ _ done s outcome told kept) bytes (item ∷ rest)
-    (begins ∙ append_assoc done (item ∷ []) rest)
-leaves_at contents old before after done rest s t outcome item bytes command.WriteFault told begins part =
+    (begins ∙ append_assoc done (item ∷ []) rest) (inr (inl (memory refl)))
+leaves_at contents old before after done rest s t outcome item bytes command.WriteFault told begins part memory =
     leaves_part _ _ _ done rest s t outcome item bytes told begins part

@@ -1,6 +1,6 @@
 -- How a command that was carried out is answered.
-use Rattle.std.proofs.Common.{◌≡◌, ◌<◌, ℕ, ◌+◌, Bool, List, [], ◌++◌, length, length-append, take, Option, Some, None, Result, Ok, Err}
-use Rattle.std.proofs.Common.{refl, sym, ap, subst, append-nil, ◌∙◌, arith}
+use Rattle.std.proofs.Common.{◌≡◌, ℕ, ◌+◌, Bool, List, [], ◌++◌, length, length-append, take, Option, Some, None, Result, Ok, Err}
+use Rattle.std.proofs.Common.{refl, sym, ap, subst, ◌∙◌, arith}
 use Rattle.std.proofs.KnownBytes.{Appends-nil, Appends-trans}
 use Rattle.std.proofs.Math.Seq.{take-append-add}
 use Rattle.std.proofs.lemmas.List.{take-append-le}
@@ -26,7 +26,7 @@ use Rattle.h41_ends.specs.Ends.{AppendsPart}
 use Rattle.h41_deck.specs.declared.refusal.Refusal.{Refusal}
 use Rattle.h41_deck.specs.declared.refusal.Refusal.TheVariants.{Line}
 use Rattle.h41_deck.specs.declared.replies.Outcome.{Outcome}
-use Rattle.h41_deck.specs.Answers.{Answer, ending_line, ends_by, printed_text, says_or_ends}
+use Rattle.h41_deck.specs.Answers.{ending_line, ends_by, printed_text, says_or_ends}
 use Rattle.h41_pages.specs.PageMap.{PageMap}
 use Rattle.h41_deck.specs.declared.fault.CommandFault.{CommandFault}
 use Rattle.h41_deck.specs.Listings.{listing_at}

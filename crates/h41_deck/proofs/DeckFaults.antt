@@ -1,7 +1,7 @@
 -- What a deck leaves written, at its end and at a fault.
-use Rattle.std.proofs.Common.{inl, inr, ◌≡◌, ◌≢◌, ◌⊎◌, ℕ, ◌<◌, Bool, true, false, List, [], ◌∷◌, ◌++◌, length, Option, Some, None, IfSome}
-use Rattle.std.proofs.Common.{Result, Ok, Err, flat_map, refl, sym, subst, ap, ◌∙◌, arith}
-use Rattle.std.specs.Io.KnownBytes.{Appends, Consumes, Keeps}
+use Rattle.std.proofs.Common.{inl, inr, ◌≡◌, ◌≢◌, ◌⊎◌, ℕ, true, List, [], ◌∷◌, ◌++◌, length, Option, IfSome}
+use Rattle.std.proofs.Common.{Err, flat_map, refl, sym, subst, ap, ◌∙◌, arith}
+use Rattle.std.specs.Io.KnownBytes.{Appends, Keeps}
 use Rattle.std.proofs.KnownBytes.{Appends-kept}
 use Rattle.std.proofs.lemmas.Bool.{ltb-true}
 use Rattle.std.proofs.lemmas.List.{append-nil, take_all}
@@ -11,40 +11,40 @@ use Rattle.h41_commands.specs.declared.fault.ItemFault.{ItemFault}
 use Rattle.h41_commands.specs.declared.fault.ItemFault.TheVariants as item
 use Rattle.h41_debug.specs.Bench.{BenchState, start}
 use Rattle.h41_ends.specs.Ends.{most_bytes}
-use Rattle.h41_ends.specs.InputLines.{IsStopped, bytes_within}
+use Rattle.h41_ends.specs.InputLines.{IsCounted, IsStopped, bytes_within}
 use Rattle.h41_ends.specs.declared.input_lines.InputLines.{InputLines}
 use Rattle.h41_ends.specs.declared.sink.Sink as sinks
 use Rattle.h41_ends.specs.declared.source.Source as sources
 use Rattle.h41_ends.proofs.InputReading.{consumes-both, consumes-nothing}
 use Rattle.h41_lines.specs.Lines.{lines}
-use Rattle.h41_deck.specs.Answers.{Answer, printed_text}
-use Rattle.h41_deck.specs.Deck.{AnswersInTurn, Deck, DeckEnds, FaultLeaves, LeavesOf, WritesText}
+use Rattle.h41_deck.specs.Answers.{printed_text}
+use Rattle.h41_deck.specs.Deck.{AnswersInTurn, Deck, DeckEnds, FaultLeaves, WritesText}
 use Rattle.h41_deck.specs.Faults.{of_command, of_item}
+use Rattle.h41_deck.specs.Replies.{item_takes_memory}
 use Rattle.h41_deck.specs.Writing.{Leaves}
 use Rattle.h41_deck.specs.declared.fault.CommandFault.{CommandFault}
 use Rattle.h41_deck.specs.declared.fault.CommandFault.TheVariants as command
-use Rattle.h41_deck.specs.declared.fault.Fault.{Fault}
 use Rattle.h41_deck.specs.declared.fault.Fault.TheVariants.{OutOfMemory, ReadFault, WriteFault}
 use Rattle.h41_deck.specs.declared.replies.Outcome.{Outcome}
 use Rattle.h41_deck.proofs.AnswersInTurn.{Told, done_answered, leaves_all, leaves_at, leaves_ended, leaves_unpassed, told_kept, told_none}
-use Rattle.h41_deck.proofs.DeckReading.{Begins, IsWholeDeck, ReadSoFar, begins_done, begins_more, deck_is, ended_done}
+use Rattle.h41_deck.proofs.DeckReading.{Begins, IsWholeDeck, ReadSoFar, begins_block, begins_done, begins_more, deck_is, ended_done}
 
 -- the whole deck
-module _ (known after old new : Option (List ℕ)) (done : List Spelled) (s : BenchState) (outcome : Outcome)
-    (whole : IsWholeDeck known after done) (told : Told old new done s outcome) where
-  answered : AnswersInTurn (commands (lines whole.bytes)) start told.answers
-  answered = subst (λ (items : List Spelled). AnswersInTurn items start told.answers) (sym whole.spelled)
+module _ {registers : ℕ} (known after old new : Option (List ℕ)) (done : List Spelled) (s : BenchState) (outcome : Outcome)
+    (whole : IsWholeDeck known after done) (told : Told registers old new done s outcome) where
+  answered : AnswersInTurn (commands (lines whole.bytes)) (start registers) told.answers
+  answered = subst (λ (items : List Spelled). AnswersInTurn items (start registers) told.answers) (sym whole.spelled)
       (done_answered old new done s outcome told)
 
-  pub deck_written : IfSome known (WritesText Deck old new)
-  deck_written = deck_is known after done (WritesText Deck old new) whole (
+  pub deck_written : IfSome known (WritesText (Deck registers) old new)
+  deck_written = deck_is known after done (WritesText (Deck registers) old new) whole (
     flat_map printed_text told.answers,
     (told.answers, record { bound = whole.bound; answered = answered }, refl),
     told.written,
   )
 
-  pub deck_ended : IfSome known (λ deck. DeckEnds deck outcome)
-  deck_ended = deck_is known after done (λ deck. DeckEnds deck outcome) whole
+  pub deck_ended : IfSome known (λ deck. DeckEnds registers deck outcome)
+  deck_ended = deck_is known after done (λ deck. DeckEnds registers deck outcome) whole
       (told.answers, record { bound = whole.bound; answered = answered }, told.outcome_is)
 
 more_begins : (known mid after : Option (List ℕ)) (input next : InputLines) (done : List Spelled) (so_far : ReadSoFar known mid input done)
@@ -57,35 +57,39 @@ never_read : (fault : CommandFault) → of_command fault ≢ ReadFault
 never_read command.OutOfMemory is = cc
 never_read command.WriteFault is = cc
 
-module _ {R W : Type 0} (source : sources.Ghosts R) (sink : sinks.Ghosts W) where
+module _ {R W : Type 0} (registers : ℕ) (source : sources.Ghosts R) (sink : sinks.Ghosts W) where
   -- before anything was read
-  pub leaves_none : (reader : R) (writer : W) → FaultLeaves OutOfMemory source sink reader reader writer writer
+  pub leaves_none : (reader : R) (writer : W) → FaultLeaves registers OutOfMemory source sink reader reader writer writer
   leaves_none reader writer = record {
     bytes = [];
     read = consumes-nothing (source.remaining reader);
-    leaves = leaves_all _ _ [] start _ (told_none (sink.contents writer)) (bytes_within []) (commands (lines (bytes_within []))) refl;
+    leaves = leaves_all _ _ [] (start registers) _ (told_none registers (sink.contents writer)) (bytes_within [])
+        (commands (lines (bytes_within []))) refl (inl refl);
     cause = λ is. cc;
+    why = λ is. cc;
   }
 
   -- where the next item was not read
   pub leaves_item : (first mid after : R) (old before new : W) (input next : InputLines) (done : List Spelled) (s : BenchState)
       (outcome : Outcome) (fault : ItemFault) → ReadSoFar (source.remaining first) (source.remaining mid) input done
-      → Told (sink.contents old) (sink.contents before) done s outcome
+      → Told registers (sink.contents old) (sink.contents before) done s outcome
       → ReadsNext (Err fault) (source.remaining mid) (source.remaining after) input next
       → Keeps (sink.contents before) (sink.contents new) → (fault ≡ item.ReadFault → IsStopped next)
-      → (fault ≡ item.ReadFault → (source.failed after ≡ true) ⊎ (next.is_over ≡ true))
-      → FaultLeaves (of_item fault) source sink first after old new
-  leaves_item first mid after old before new input next done s outcome item.OutOfMemory so_far told more kept stopped cause =
-      let begins = more_begins (source.remaining first) (source.remaining mid) (source.remaining after) input next done so_far
-      item.OutOfMemory more in
+      → (fault ≡ item.ReadFault → (source.failed after ≡ true) ⊎ (next.is_over ≡ true)) → IsCounted next (source.given after)
+      → FaultLeaves registers (of_item fault) source sink first after old new
+  leaves_item first mid after old before new input next done s outcome item.OutOfMemory so_far told more kept stopped cause counted =
+      let block =
+      begins_block (source.remaining first) (source.remaining mid) (source.remaining after) input next done so_far more in
       record {
         bytes = so_far.bytes ++ more.reads.bytes;
         read = consumes-both _ _ _ so_far.bytes more.reads.bytes so_far.consumed more.reads.consumed;
         leaves = leaves_all _ _ done s outcome (told_kept _ _ _ done s outcome told kept)
-            (bytes_within (so_far.bytes ++ more.reads.bytes)) begins.rest begins.begins;
+            (bytes_within (so_far.bytes ++ more.reads.bytes)) (commands block.left) block.begins
+            (inr (inr (block.left, refl, block.opens)));
         cause = λ is. cc;
+        why = λ is. cc;
       }
-  leaves_item first mid after old before new input next done s outcome item.ReadFault so_far told more kept stopped cause =
+  leaves_item first mid after old before new input next done s outcome item.ReadFault so_far told more kept stopped cause counted =
       let begins = more_begins (source.remaining first) (source.remaining mid) (source.remaining after) input next done so_far
       item.ReadFault more in
       let read = more.reads.read so_far.bytes so_far.told so_far.read in
@@ -99,8 +103,12 @@ module _ {R W : Type 0} (source : sources.Ghosts R) (sink : sinks.Ghosts W) wher
           | inl failed ↦ inl failed
           | inr over ↦ inr (ltb-true most_bytes (length (so_far.bytes ++ more.reads.bytes)) (sym read.over ∙ over))
         ];
+        why = λ is. elim (cause refl) [
+          | inl failed ↦ inl failed
+          | inr over ↦ inr (counted.over over)
+        ];
       }
-  leaves_item first mid after old before new input next done s outcome item.WriteFault so_far told more kept stopped cause =
+  leaves_item first mid after old before new input next done s outcome item.WriteFault so_far told more kept stopped cause counted =
       let begins = more_begins (source.remaining first) (source.remaining mid) (source.remaining after) input next done so_far
       item.WriteFault more in
       record {
@@ -109,29 +117,32 @@ module _ {R W : Type 0} (source : sources.Ghosts R) (sink : sinks.Ghosts W) wher
         leaves = leaves_unpassed _ _ done s outcome (told_kept _ _ _ done s outcome told kept)
             (bytes_within (so_far.bytes ++ more.reads.bytes)) begins.rest begins.begins;
         cause = λ is. cc;
+        why = λ is. cc;
       }
 
   -- where it was not answered
   pub leaves_answer : (first after : R) (old before new : W) (next : InputLines) (done : List Spelled) (s t : BenchState)
       (outcome : Outcome) (given : Spelled) (fault : CommandFault)
       → ReadSoFar (source.remaining first) (source.remaining after) next (done ++ given ∷ [])
-      → Told (sink.contents old) (sink.contents before) done s outcome → Leaves (Err fault) given s t sink.contents before new
-      → FaultLeaves (of_command fault) source sink first after old new
-  leaves_answer first after old before new next done s t outcome given fault so_far told leaves =
+      → Told registers (sink.contents old) (sink.contents before) done s outcome → Leaves (Err fault) given s t sink.contents before new
+      → (fault ≡ command.OutOfMemory → item_takes_memory given ≡ true)
+      → FaultLeaves registers (of_command fault) source sink first after old new
+  leaves_answer first after old before new next done s t outcome given fault so_far told leaves memory =
       let begins = begins_done (source.remaining first) (source.remaining after) next (done ++ given ∷ []) so_far in
       record {
         bytes = so_far.bytes;
         read = so_far.consumed;
         leaves = leaves_at sink.contents old before new done begins.rest s t outcome given
-            (bytes_within so_far.bytes) fault told begins.begins leaves;
+            (bytes_within so_far.bytes) fault told begins.begins leaves memory;
         cause = λ is. absurd (never_read fault is);
+        why = λ is. absurd (never_read fault is);
       }
 
   -- where the whole was not passed on
   pub leaves_whole : (first after : R) (old before new : W) (done : List Spelled) (s : BenchState) (outcome : Outcome)
       → IsWholeDeck (source.remaining first) (source.remaining after) done
-      → Told (sink.contents old) (sink.contents before) done s outcome → Keeps (sink.contents before) (sink.contents new)
-      → FaultLeaves WriteFault source sink first after old new
+      → Told registers (sink.contents old) (sink.contents before) done s outcome → Keeps (sink.contents before) (sink.contents new)
+      → FaultLeaves registers WriteFault source sink first after old new
   leaves_whole first after old before new done s outcome whole told kept = record {
     bytes = whole.bytes;
     read = whole.consumed;
@@ -139,29 +150,32 @@ module _ {R W : Type 0} (source : sources.Ghosts R) (sink : sinks.Ghosts W) wher
         (ap (λ (bytes : List ℕ). commands (lines bytes)) (take_all most_bytes whole.bytes whole.bound)
         ∙ whole.spelled ∙ sym (append-nil done));
     cause = λ is. cc;
+    why = λ is. cc;
   }
 
   -- what memory left is passed on, or is not
-  pub leaves_passed : (first after : R) (old before new : W) → FaultLeaves OutOfMemory source sink first after old before
-      → Keeps (sink.contents before) (sink.contents new) → FaultLeaves OutOfMemory source sink first after old new
+  pub leaves_passed : (first after : R) (old before new : W) → FaultLeaves registers OutOfMemory source sink first after old before
+      → Keeps (sink.contents before) (sink.contents new) → FaultLeaves registers OutOfMemory source sink first after old new
   leaves_passed first after old before new left kept = record {
     bytes = left.bytes;
     read = left.read;
     leaves = (left.leaves.0, left.leaves.1, Appends-kept _ _ _ left.leaves.0 left.leaves.2 kept);
     cause = λ is. cc;
+    why = λ is. cc;
   }
 
-  pub leaves_stuck : (first after : R) (old before new : W) → FaultLeaves OutOfMemory source sink first after old before
-      → Keeps (sink.contents before) (sink.contents new) → FaultLeaves WriteFault source sink first after old new
+  pub leaves_stuck : (first after : R) (old before new : W) → FaultLeaves registers OutOfMemory source sink first after old before
+      → Keeps (sink.contents before) (sink.contents new) → FaultLeaves registers WriteFault source sink first after old new
   leaves_stuck first after old before new left kept = record {
     bytes = left.bytes;
     read = left.read;
     leaves = (
       left.leaves.0,
-      left.leaves.1,
+      left.leaves.1.0,
       length left.leaves.0,
       subst (Appends (sink.contents old) (sink.contents new)) (sym (take_all (length left.leaves.0) left.leaves.0 (omega arith)))
           (Appends-kept _ _ _ left.leaves.0 left.leaves.2 kept),
     );
     cause = λ is. cc;
+    why = λ is. cc;
   }

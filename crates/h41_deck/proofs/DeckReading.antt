@@ -1,17 +1,18 @@
 -- What was read of a deck so far, and the items that its lines spell.
-use Rattle.std.proofs.Common.{inl, inr, ◌≡◌, ◌⊎◌, ℕ, ◌+◌, ◌-◌, ◌<◌, ◌≤◌, Bool, true, false, nat_lt, List, [], ◌∷◌, ◌++◌, length, drop, take}
-use Rattle.std.proofs.Common.{not, if◌then◌else◌, Option, Some, None, IfSome, Result, Ok, Err, refl, sym, subst}
+use Rattle.std.proofs.Common.{inl, inr, ◌≡◌, ℕ, ◌+◌, ◌<◌, ◌≤◌, Bool, true, false, List, [], ◌∷◌, ◌++◌, length, drop, take}
+use Rattle.std.proofs.Common.{not, if◌then◌else◌, Option, Some, None, IfSome, Ok, Err, refl, sym, subst}
 use Rattle.std.proofs.Common.{ap, ◌∙◌, arith, append_assoc}
 use Rattle.std.specs.List.{list_any}
-use Rattle.std.specs.Io.KnownBytes.{Appends, Consumes, IsAtEnd}
-use Rattle.std.proofs.lemmas.Bool.{false_from_ne_true, ltb-false, ltb-true, or_from, or_parts}
-use Rattle.std.proofs.lemmas.List.{append-nil, take_all}
+use Rattle.std.specs.Io.KnownBytes.{Consumes, IsAtEnd}
+use Rattle.std.proofs.lemmas.Bool.{false_from_ne_true, ltb-false, or_from, or_parts}
+use Rattle.std.proofs.lemmas.List.{append-nil, length-append, take_all}
 use Rattle.std.proofs.lemmas.List.Elements.{filter-append}
 use Rattle.std.proofs.lemmas.List.Folds.{list_any-append}
 use Rattle.h41_commands.specs.Entries.{what_is_spelled}
 use Rattle.h41_commands.specs.ItemReading.{ReadsNext, Spell}
-use Rattle.h41_commands.specs.Items.{Spelled, commands, is_open, without_open_block}
-use Rattle.h41_commands.specs.declared.fault.ItemFault.{ItemFault}
+use Rattle.h41_commands.specs.Commands.{is_opening}
+use Rattle.h41_commands.specs.DeckLines.{is_long, is_skipped}
+use Rattle.h41_commands.specs.Items.{Spelled, commands, is_open, opens_first, without_open_block}
 use Rattle.h41_commands.specs.declared.fault.ItemFault.TheVariants as item
 use Rattle.h41_commands.specs.declared.item.Item.{Item}
 use Rattle.h41_commands.proofs.ToldCommands.{told_commands}
@@ -22,6 +23,7 @@ use Rattle.h41_ends.proofs.EndedLines.{stopped_lines}
 use Rattle.h41_ends.proofs.InputBuffers.{nothing_behind}
 use Rattle.h41_ends.proofs.InputReading.{consumes-both, end_comes, end_stays}
 use Rattle.h41_lines.specs.Lines.{ended_lines, lines}
+use Rattle.h41_lines.specs.Words.{words_of}
 use Rattle.h41_deck.specs.Deck.{commands_ended}
 
 pub record ReadSoFar (before after : Option (List ℕ)) (input : InputLines) (done : List Spelled) : Type 0 where
@@ -146,6 +148,58 @@ begins_more before mid after old new done so_far bytes told read stays =
                 all ∙ ap commands (append_assoc so_far.told told held)
                 ∙ so_far.spelled (told ++ held) (subst (λ (ended : Bool). MayFollow ended (told ++ held)) (sym goes) tt);
           }
+    ] refl
+
+-- where memory was refused, the lines behind the items that are done open a block
+opens_step : (long skipped opening first next : Bool) → (first ≡ true → next ≡ true)
+    → (if long then false else (if skipped then first else opening)) ≡ true
+    → (if long then false else (if skipped then next else opening)) ≡ true
+opens_step true skipped opening first next more e = e
+opens_step false true opening first next more e = more e
+opens_step false false opening first next more e = e
+
+opens_more : (lines more : List (List ℕ)) → opens_first lines ≡ true → opens_first (lines ++ more) ≡ true
+opens_more [] more e = cc
+opens_more (line ∷ lines) more e =
+    opens_step (is_long line) (is_skipped line) (is_opening (words_of line)) (opens_first lines) (opens_first (lines ++ more))
+    (opens_more lines more) e
+
+opens_some : (lines : List (List ℕ)) → opens_first lines ≡ true → 0 < length lines
+opens_some [] e = cc
+opens_some (line ∷ lines) e = omega arith
+
+pub record BeginsBlock (bytes : List ℕ) (done : List Spelled) : Type 0 where
+  pub left : List (List ℕ)
+  pub begins : commands (lines (bytes_within bytes)) ≡ done ++ commands left
+  pub opens : opens_first left ≡ true
+
+pub begins_block : (before mid after : Option (List ℕ)) (old new : InputLines) (done : List Spelled)
+    (so_far : ReadSoFar before mid old done) (more : ReadsNext (Err item.OutOfMemory) mid after old new)
+    → BeginsBlock (so_far.bytes ++ more.reads.bytes) done
+begins_block before mid after old new done so_far more =
+    let bytes = so_far.bytes ++ more.reads.bytes in
+    let read = more.reads.read so_far.bytes so_far.told so_far.read in
+    let held = told_lines (held_in new ++ []) in
+    let told = whole_lines bytes (so_far.told ++ more.lines) new read in
+    elim old.at_end as (λ (ended : Bool). old.at_end ≡ ended → BeginsBlock bytes done) [
+      | true ↦ λ end.
+          let same : bytes ≡ so_far.bytes =
+          ap (λ (rest : List ℕ). so_far.bytes ++ rest) (more.reads.stays end).1 ∙ append-nil so_far.bytes in
+          let none : told_lines (held_in old ++ []) ≡ [] = ap (λ (rest : List ℕ). told_lines (rest ++ [])) (held_nothing old end) in
+          let count =
+          sym (length-append so_far.told (told_lines (held_in old ++ [])))
+          ∙ ap length (sym (whole_lines so_far.bytes so_far.told old so_far.read)
+          ∙ ap (λ (all : List ℕ). told_lines (bytes_within all)) (sym same) ∙ told)
+          ∙ length-append (so_far.told ++ more.lines) held
+          ∙ ap (λ (k : ℕ). k + length held) (length-append so_far.told more.lines) in
+          absurd (omega (arith, count, ap length none, opens_some more.lines more.spelled))
+      | false ↦ λ goes. record {
+        left = more.lines ++ held;
+        begins =
+            same_commands (bytes_within bytes) _ told ∙ ap commands (append_assoc so_far.told more.lines held)
+            ∙ so_far.spelled (more.lines ++ held) (subst (λ (ended : Bool). MayFollow ended (more.lines ++ held)) (sym goes) tt);
+        opens = opens_more more.lines held more.spelled;
+      }
     ] refl
 
 -- where reading stops, the items that are done are those that have their end in what was read

@@ -127,15 +127,16 @@ module _ (same_steps : StepsAreDetermined) (same_load : LoadIsDetermined) (same_
       λ i. both.1 i ∷ rest i
 
   pub same_text : DeckDeterminesText
-  same_text bytes text other p q =
-      p.2 ∙ ap (λ answers. flat_map printed_text answers) (same_answers _ start p.0 q.0 p.1.answered q.1.answered) ∙ sym q.2
+  same_text registers bytes text other p q =
+      p.2 ∙ ap (λ answers. flat_map printed_text answers) (same_answers _ (start registers) p.0 q.0 p.1.answered q.1.answered) ∙ sym q.2
 
   pub same_ended : EndedTextIsDetermined
-  same_ended bytes text other p q =
-      p.2 ∙ ap (λ answers. flat_map printed_text answers) (same_answers _ start p.0 q.0 p.1 q.1) ∙ sym q.2
+  same_ended registers bytes text other p q =
+      p.2 ∙ ap (λ answers. flat_map printed_text answers) (same_answers _ (start registers) p.0 q.0 p.1 q.1) ∙ sym q.2
 
   pub same_outcome : DeckDeterminesOutcome
-  same_outcome bytes outcome other p q = p.2 ∙ ap outcome_of (same_answers _ start p.0 q.0 p.1.answered q.1.answered) ∙ sym q.2
+  same_outcome registers bytes outcome other p q =
+      p.2 ∙ ap outcome_of (same_answers _ (start registers) p.0 q.0 p.1.answered q.1.answered) ∙ sym q.2
 
   same_first : (items more : List Spelled) (s : BenchState) (a b : List Answer) → AnswersInTurn items s a
       → AnswersInTurn (items ++ more) s b → (c : List Answer) × (b ≡ a ++ c)
@@ -149,9 +150,9 @@ module _ (same_steps : StepsAreDetermined) (same_load : LoadIsDetermined) (same_
       (rest.0, λ i. both.1 i ∷ rest.1 i)
 
   pub first_is_front : FirstTextIsFront
-  first_is_front deck first text p q =
-      let given = subst (λ (of : List Spelled). AnswersInTurn of start q.0) p.begins q.1.answered in
-      let more = same_first p.first p.rest start p.answers q.0 p.answered given in (
+  first_is_front registers deck first text p q =
+      let given = subst (λ (of : List Spelled). AnswersInTurn of (start registers) q.0) p.begins q.1.answered in
+      let more = same_first p.first p.rest (start registers) p.answers q.0 p.answered given in (
         flat_map printed_text more.0,
         q.2 ∙ ap (λ answers. flat_map printed_text answers) more.1 ∙ flat_map-append printed_text p.answers more.0
             ∙ ap (λ (front : List ℕ). front ++ flat_map printed_text more.0) (sym p.text_is),

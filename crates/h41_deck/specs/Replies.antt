@@ -173,3 +173,8 @@ takes_memory (Break location) = false
 takes_memory (Unbreak location) = false
 takes_memory (commands.List address count) = true
 takes_memory (Show view) = true
+
+-- whether what lines spell is such a command
+abbrev pub item_takes_memory : Spelled → Bool
+item_takes_memory (Ok given) = takes_memory given.0
+item_takes_memory (Err refusal) = false

@@ -73,20 +73,28 @@ processor_text s keys =
     registers_line s ++ memories_line s ++ pointers_line s ++ modes_line s keys ++ returns_line s
 
 -- a register by its address
-unfoldable pub register_line : RegisterMap → ℕ → List ℕ
-register_line ram address =
-    hexadecimal_text 3 address ++ codes "=" ++ text (register_at ram address) ++ codes "\n"
+unfoldable pub address_line : ℕ → List ℕ → List ℕ
+address_line address register =
+    hexadecimal_text 3 address ++ codes "=" ++ text register ++ codes "\n"
+
+abbrev pub register_line : RegisterMap → ℕ → List ℕ
+register_line ram address = address_line address (register_at ram address)
 
 -- a level of the stack, or L, by its name
 unfoldable pub level_line : List ℕ → List ℕ → List ℕ
 level_line name register = name ++ codes "=" ++ text register ++ codes "\n"
 
--- the stack from the top, and L: the status registers 0 to 4
-unfoldable pub stack_text : RegisterMap → List ℕ
+-- the stack from the top, and L
+unfoldable pub levels_text : List ℕ → List ℕ → List ℕ → List ℕ → List ℕ → List ℕ
+levels_text t z y x l =
+    level_line (codes "T") t ++ level_line (codes "Z") z ++ level_line (codes "Y") y
+    ++ level_line (codes "X") x ++ level_line (codes "L") l
+
+-- they are the status registers 0 to 4
+abbrev pub stack_text : RegisterMap → List ℕ
 stack_text ram =
-    level_line (codes "T") (register_at ram 0) ++ level_line (codes "Z") (register_at ram 1)
-    ++ level_line (codes "Y") (register_at ram 2)
-    ++ level_line (codes "X") (register_at ram 3) ++ level_line (codes "L") (register_at ram 4)
+    levels_text (register_at ram 0) (register_at ram 1) (register_at ram 2) (register_at ram 3)
+    (register_at ram 4)
 
 -- the flags that are set among so many, from flag 0 on, by their numbers, which blanks (32) part
 abbrev pub flags_below : ℕ → RegisterMap → List ℕ

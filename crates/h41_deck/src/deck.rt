@@ -1,8 +1,10 @@
 //! A deck: its commands, answered in turn.
 
-ghost use Rattle.std.specs.Prelude.{◌≡◌, ◌≢◌, Err, IfOk, OnOk, true, false};
+ghost use Rattle.std.specs.Prelude.{◌≡◌, ◌≢◌, ◌≤◌, Err, IfOk, OnOk, true, false};
+ghost use Rattle.h41_commands.specs.Entries.{what_is_spelled};
 ghost use Rattle.h41_deck.specs.AnsweredItems.{AnswersItem};
 ghost use Rattle.h41_deck.specs.Deck.{EndsKnown, LeavesDeck, PassedOn, WritesDeck};
+ghost use Rattle.h41_deck.specs.Replies.{item_takes_memory};
 
 use crate::fault::{CommandFault, Fault};
 use crate::refusal::Refusal;
@@ -12,7 +14,8 @@ use h41_debug::Bench;
 use h41_ends::{InputLines, Sink, Source, flush};
 use std::alloc::Global;
 
-/// Reads a deck line by line, carries its commands out, and writes what they print and nothing else. Each reply is written before
+/// Reads a deck line by line, carries its commands out on a bench with `REGS` registers of main memory, 64 to 320, and writes what
+/// they print and nothing else. Each reply is written before
 /// the next command's line is read to its end, and the writer is flushed before each read. Both ends' marks are clear before.
 ///
 /// # Errors
@@ -20,22 +23,27 @@ use std::alloc::Global;
 /// `ReadFault` (22) where a read fails, or the deck has more than 67,108,864 bytes; `WriteFault` (23) where a write fails;
 /// `OutOfMemory` (21). Each ends the deck, and what was written before stays. At `ReadFault` the commands were carried out whose
 /// last line end was read within the bound.
-pub fn run_deck<R: Source, W: Sink>(
+pub fn run_deck<R: Source, W: Sink, const REGS: usize>(
     alloc: Global,
     reader: &mut R,
     writer: &mut W,
 ) -> Result<Outcome, Fault>
+    requires at_least { 64 ≤ REGS }
+    requires at_most { REGS ≤ 320 }
     requires reader_clear { R.failed reader.old ≡ false }
     requires writer_clear { W.failed writer.old ≡ false }
 
     // What is written is the text of the deck that was read, where both ends tell their bytes.
-    ensures deck { WritesDeck result (R.remaining reader.old) W.contents writer.old writer.new }
-    ensures outcome { IfOk result (EndsKnown (R.remaining reader.old)) }
+    ensures deck { WritesDeck REGS result (R.remaining reader.old) W.contents
+        writer.old writer.new }
+    ensures outcome { IfOk result (EndsKnown REGS (R.remaining reader.old)) }
     ensures flushed { OnOk result (W.flushed writer.new ≡ true) }
 
     // Where a fault ended it, the replies to some first commands of what was read are written, and passed on, or where writing
-    // failed a front of them; where reading failed the replies to all that have their end in what was read.
-    ensures left { LeavesDeck result R.Source W.Sink reader.old reader.new writer.old writer.new }
+    // failed a front of them; where reading failed the replies to all that have their end in what was read; and where memory was
+    // refused, a command that takes some follows, or none was answered.
+    ensures left { LeavesDeck REGS result R.Source W.Sink
+        reader.old reader.new writer.old writer.new }
     ensures passed { PassedOn result (W.flushed writer.new) }
 
     // The marks tell which end failed.
@@ -43,7 +51,7 @@ pub fn run_deck<R: Source, W: Sink>(
     ensures reader { result ≢ Err Fault.ReadFault → R.failed reader.new ≡ false }
     ensures writer { result ≢ Err Fault.WriteFault → W.failed writer.new ≡ false }
 {
-    match answer_deck(alloc, reader, writer) {
+    match answer_deck::<R, W, REGS>(alloc, reader, writer) {
         Err(Fault::OutOfMemory) => {
             flush(writer)?;
             Err(Fault::OutOfMemory)
@@ -53,23 +61,27 @@ pub fn run_deck<R: Source, W: Sink>(
 }
 
 /// Carries out the commands of a deck, and writes what they print.
-fn answer_deck<R: Source, W: Sink>(
+fn answer_deck<R: Source, W: Sink, const REGS: usize>(
     alloc: Global,
     reader: &mut R,
     writer: &mut W,
 ) -> Result<Outcome, Fault>
+    requires at_least { 64 ≤ REGS }
+    requires at_most { REGS ≤ 320 }
     requires reader_clear { R.failed reader.old ≡ false }
     requires writer_clear { W.failed writer.old ≡ false }
-    ensures deck { WritesDeck result (R.remaining reader.old) W.contents writer.old writer.new }
-    ensures outcome { IfOk result (EndsKnown (R.remaining reader.old)) }
+    ensures deck { WritesDeck REGS result (R.remaining reader.old) W.contents
+        writer.old writer.new }
+    ensures outcome { IfOk result (EndsKnown REGS (R.remaining reader.old)) }
     ensures flushed { OnOk result (W.flushed writer.new ≡ true) }
-    ensures left { LeavesDeck result R.Source W.Sink reader.old reader.new writer.old writer.new }
+    ensures left { LeavesDeck REGS result R.Source W.Sink
+        reader.old reader.new writer.old writer.new }
     ensures passed { result ≡ Err Fault.ReadFault → W.flushed writer.new ≡ true }
     ensures write_fault { result ≡ Err Fault.WriteFault → W.failed writer.new ≡ true }
     ensures reader { result ≢ Err Fault.ReadFault → R.failed reader.new ≡ false }
     ensures writer { result ≢ Err Fault.WriteFault → W.failed writer.new ≡ false }
 {
-    let mut bench = Bench::new(alloc)?;
+    let mut bench = Bench::<REGS>::new(alloc)?;
     let mut input = InputLines::new();
     let mut outcome = Outcome::Accepted;
     while let Some(item) = read_item(alloc, &mut input, reader, writer)? {
@@ -81,14 +93,16 @@ fn answer_deck<R: Source, W: Sink>(
 }
 
 /// Answers one item.
-fn answer<W: Sink>(
+fn answer<W: Sink, const REGS: usize>(
     alloc: Global,
-    bench: &mut Bench,
+    bench: &mut Bench<REGS>,
     item: Item,
     writer: &mut W,
 ) -> Result<Outcome, CommandFault>
     requires { W.failed writer.old ≡ false }
     ensures reply { AnswersItem result item bench.old bench.new W.contents writer.old writer.new }
+    ensures memory { result ≡ Err CommandFault.OutOfMemory
+        → item_takes_memory (what_is_spelled item) ≡ true }
     ensures mark { result ≡ Err CommandFault.WriteFault → W.failed writer.new ≡ true }
     ensures clear { result ≢ Err CommandFault.WriteFault → W.failed writer.new ≡ false }
 {

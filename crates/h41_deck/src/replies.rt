@@ -65,9 +65,9 @@ impl Outcome {
 ///
 /// `OutOfMemory` (21), by commands that take memory alone: nothing is changed and nothing written. `WriteFault` (23): the
 /// command was carried out, and a front of its reply is written.
-pub fn apply<W: Sink>(
+pub fn apply<W: Sink, const REGS: usize>(
     alloc: Global,
-    bench: &mut Bench,
+    bench: &mut Bench<REGS>,
     command: Command,
     block: Block,
     writer: &mut W,
@@ -78,8 +78,9 @@ pub fn apply<W: Sink>(
     // The reply is written, or where writing failed a front of it, or where memory was refused nothing.
     ensures reply { Acts result command block bench.old bench.new W.contents writer.old writer.new }
 
-    // Memory is refused to commands that take some.
+    // Memory is refused to commands that take some, where their blocks are not refused.
     ensures memory { result ≡ Err CommandFault.OutOfMemory → takes_memory command ≡ true }
+    ensures accepted { result ≡ Err CommandFault.OutOfMemory → result_err (judgement block) ≡ None }
     ensures unchanged { result ≡ Err CommandFault.OutOfMemory → bench.new ≡ bench.old }
 
     // The mark tells whether writing failed.
@@ -91,9 +92,9 @@ pub fn apply<W: Sink>(
 }
 
 /// Carries a command out, with its block, and writes its text. Tells why it is refused, where it is; that is not written.
-fn say<W: Sink>(
+fn say<W: Sink, const REGS: usize>(
     alloc: Global,
-    bench: &mut Bench,
+    bench: &mut Bench<REGS>,
     command: Command,
     block: Block,
     writer: &mut W,
@@ -102,6 +103,7 @@ fn say<W: Sink>(
     requires block { block.kind ≡ kind_of command }
     ensures text { Says result command block bench.old bench.new W.contents writer.old writer.new }
     ensures memory { result ≡ Err CommandFault.OutOfMemory → takes_memory command ≡ true }
+    ensures accepted { result ≡ Err CommandFault.OutOfMemory → result_err (judgement block) ≡ None }
     ensures unchanged { result ≡ Err CommandFault.OutOfMemory → bench.new ≡ bench.old }
     ensures mark { result ≡ Err CommandFault.WriteFault → W.failed writer.new ≡ true }
     ensures clear { result ≢ Err CommandFault.WriteFault → W.failed writer.new ≡ false }
@@ -122,9 +124,9 @@ fn say<W: Sink>(
 }
 
 /// Carries a command out that has no block, and writes its text. Tells why it is refused, where it is; that is not written.
-fn say_alone<W: Sink>(
+fn say_alone<W: Sink, const REGS: usize>(
     alloc: Global,
-    bench: &mut Bench,
+    bench: &mut Bench<REGS>,
     command: Command,
     writer: &mut W,
 ) -> Result<Option<Refusal>, CommandFault>
@@ -160,9 +162,9 @@ fn say_alone<W: Sink>(
 }
 
 /// Plugs what a block says at a page's bank, or tells why not. 21 where memory is refused: nothing is changed then.
-fn plug(
+fn plug<const REGS: usize>(
     alloc: Global,
-    bench: &mut Bench,
+    bench: &mut Bench<REGS>,
     block: Block,
     page: u8,
     bank: u8,
@@ -180,9 +182,9 @@ fn plug(
 }
 
 /// Plugs words, filled with 000 to a page, at its bank, or tells why not. 21 where memory is refused: nothing is changed then.
-fn plug_words(
+fn plug_words<const REGS: usize>(
     alloc: Global,
-    bench: &mut Bench,
+    bench: &mut Bench<REGS>,
     page: u8,
     bank: u8,
     writable: bool,
@@ -207,7 +209,11 @@ fn plug_words(
 }
 
 /// Loads the program that a block says, or tells why not. 21 where memory is refused: nothing is changed then.
-fn load(alloc: Global, bench: &mut Bench, block: Block) -> Result<Option<Refusal>, AllocError>
+fn load<const REGS: usize>(
+    alloc: Global,
+    bench: &mut Bench<REGS>,
+    block: Block,
+) -> Result<Option<Refusal>, AllocError>
     requires kind { IsForProgram block }
     requires accepted { result_err (judgement block) ≡ None }
     ensures loads { IfOk result (LoadsTaken block bench.old bench.new) }
@@ -220,7 +226,7 @@ fn load(alloc: Global, bench: &mut Bench, block: Block) -> Result<Option<Refusal
 }
 
 /// Loads the lines of bytes, or tells why not.
-fn load_bytes(bench: &mut Bench, bytes: &[u8]) -> Option<Refusal>
+fn load_bytes<const REGS: usize>(bench: &mut Bench<REGS>, bytes: &[u8]) -> Option<Refusal>
     ensures { LoadsBytes (Ok bytes.now) bench.old bench.new (ends_by result) }
 {
     match bench.calculator_mut().load(bytes) {
@@ -230,7 +236,7 @@ fn load_bytes(bench: &mut Bench, bytes: &[u8]) -> Option<Refusal>
 }
 
 /// Takes out all banks of a page, or tells why not.
-fn unplug(bench: &mut Bench, page: u8) -> Option<Refusal>
+fn unplug<const REGS: usize>(bench: &mut Bench<REGS>, page: u8) -> Option<Refusal>
     ensures { Reply (commands.Unplug page) [] bench.old bench.new (ends_by result) }
 {
     match bench.calculator_mut().unplug(page) {
@@ -240,7 +246,7 @@ fn unplug(bench: &mut Bench, page: u8) -> Option<Refusal>
 }
 
 /// Gives memory so many data registers, or tells why not.
-fn size(bench: &mut Bench, count: u16) -> Option<Refusal>
+fn size<const REGS: usize>(bench: &mut Bench<REGS>, count: u16) -> Option<Refusal>
     ensures { Reply (commands.Size count) [] bench.old bench.new (ends_by result) }
 {
     match bench.calculator_mut().set_size(count) {
@@ -250,7 +256,7 @@ fn size(bench: &mut Bench, count: u16) -> Option<Refusal>
 }
 
 /// Begins anew. It is never refused.
-fn reset(bench: &mut Bench) -> Option<Refusal>
+fn reset<const REGS: usize>(bench: &mut Bench<REGS>) -> Option<Refusal>
     ensures { Reply commands.Reset [] bench.old bench.new (ends_by result) }
 {
     bench.calculator_mut().reset();
@@ -258,7 +264,7 @@ fn reset(bench: &mut Bench) -> Option<Refusal>
 }
 
 /// Begins the function at an address, or tells why not.
-fn call(bench: &mut Bench, address: u16) -> Option<Refusal>
+fn call<const REGS: usize>(bench: &mut Bench<REGS>, address: u16) -> Option<Refusal>
     ensures { Reply (commands.Call address) [] bench.old bench.new (ends_by result) }
 {
     match bench.calculator_mut().call(address) {
@@ -268,7 +274,7 @@ fn call(bench: &mut Bench, address: u16) -> Option<Refusal>
 }
 
 /// Keys in turn, up to the first that is refused, and why that is.
-fn press(bench: &mut Bench, keys: &PressedKeys) -> Option<Refusal>
+fn press<const REGS: usize>(bench: &mut Bench<REGS>, keys: &PressedKeys) -> Option<Refusal>
     ensures { Reply (commands.Key keys.now) [] bench.old bench.new (ends_by result) }
 {
     match bench.press(keys.as_slice()) {
@@ -278,7 +284,7 @@ fn press(bench: &mut Bench, keys: &PressedKeys) -> Option<Refusal>
 }
 
 /// Single steps, up to the first that is refused, and why that is.
-fn step(bench: &mut Bench, count: u32) -> Option<Refusal>
+fn step<const REGS: usize>(bench: &mut Bench<REGS>, count: u32) -> Option<Refusal>
     ensures { Reply (commands.Step count) [] bench.old bench.new (ends_by result) }
 {
     match bench.steps(count) {

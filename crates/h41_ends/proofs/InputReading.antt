@@ -10,9 +10,9 @@ use Rattle.std.proofs.lemmas.Bool.{cases_lt, eqb-true, lt-ltb, le-ltb, ltb-true,
 use Rattle.std.proofs.lemmas.List.{take-append-le, take_all}
 use Rattle.std.proofs.Math.Seq.{take-append-add}
 use Rattle.h41_ends.specs.declared.input_lines.InputLines.{InputLines}
-use Rattle.h41_ends.specs.Ends.{most_bytes}
-use Rattle.h41_ends.specs.InputLines.{HasRead, IsStopped, IsUnended, MayFollow, ReadsMore, bytes_within, held_in, line_if, line_in}
-use Rattle.h41_ends.specs.InputLines.{told_lines, told_part}
+use Rattle.h41_ends.specs.Ends.{most_bytes, most_given}
+use Rattle.h41_ends.specs.InputLines.{HasRead, IsCounted, IsStopped, IsUnended, MayFollow, ReadsMore, bytes_within, held_in, line_if}
+use Rattle.h41_ends.specs.InputLines.{line_in, told_lines, told_part}
 use Rattle.h41_ends.specs.private.ReadingOn.{IsSameReading, ReachesEnd, TellsEnded, TellsLast}
 use Rattle.h41_ends.proofs.ToldLines.{take_within, told_ended, told_last, told_shortened, unended_front}
 
@@ -252,3 +252,18 @@ reaches_end known old new count tail none held over zero end = record {
       where
         none_taken : min 0 (most_bytes - old.count) ≡ 0
         none_taken = omega arith
+
+-- the bytes that the reader has given
+pub counted_same : (old new : InputLines) (given : ℕ) → IsCounted old given → new.count ≡ old.count → new.is_over ≡ old.is_over
+    → IsCounted new given
+counted_same old new given counted count over =
+    record { count = omega (arith, counted.count, count); over = λ is. counted.over (sym over ∙ is) }
+
+pub counted_more : (old new : InputLines) (n given more : ℕ) → IsCounted old given → more ≡ min most_given (given + n)
+    → new.count ≡ old.count + min n (most_bytes - old.count) → new.is_over ≡ nat_lt (most_bytes - old.count) n → IsCounted new more
+counted_more old new n given more counted is count over = record {
+  count = omega (arith, counted.count, count, is, new.bound);
+  over = λ beyond.
+      let long : most_bytes - old.count < n = ltb-true (most_bytes - old.count) n (sym over ∙ beyond) in
+      omega (arith, counted.count, is, long, old.bound);
+}

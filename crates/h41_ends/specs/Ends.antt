@@ -1,7 +1,7 @@
 -- How much of an input is read, what the mark of a sink says of one write, the inner ends of the
 -- two wrappers, and what calls leave written.
 use Rattle.std.specs.Prelude.{◌≡◌, ◌==◌, ◌&&◌, ◌<◌, ℕ, Bool, true, not, List, length, nat_le, take}
-use Rattle.std.specs.Prelude.{Option, IfSome, Result, Ok, Err}
+use Rattle.std.specs.Prelude.{◌+◌, is_some, min, Option, IfSome, Result, Ok, Err}
 use Rattle.std.specs.Io.KnownBytes.{Appends}
 use Rattle.h41_ends.specs.declared.source.FromRead.{FromRead}
 use Rattle.h41_ends.specs.declared.sink.ToWrite.{ToWrite}
@@ -9,6 +9,14 @@ use Rattle.h41_ends.specs.declared.sink.ToWrite.{ToWrite}
 -- the most bytes that an input may have: 64 MiB
 abbrev pub most_bytes : ℕ
 most_bytes = 67108864
+
+-- how many bytes a reader has given with one read more, counted up to one more than that
+abbrev pub most_given : ℕ
+most_given = 67108865
+
+abbrev pub given_more : {E : Type 0} → ℕ → Result ℕ E → ℕ
+given_more given (Ok n) = min most_given (given + n)
+given_more given (Err e) = given
 
 -- where the input is known, these are its bytes within the bound
 abbrev pub IsFront : Option (List ℕ) → List ℕ → Type 0
@@ -29,7 +37,7 @@ reader_of s = s.reader
 
 -- its mark
 abbrev pub read_failed : {R : Type 0} → FromRead R → Bool
-read_failed s = s.has_failed
+read_failed s = is_some s.error
 
 -- the writer of a `ToWrite`
 abbrev pub writer_of : {W : Type 0} → ToWrite W → W

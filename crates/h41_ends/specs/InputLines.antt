@@ -1,7 +1,7 @@
 -- The lines of an input that is read in pieces of any size.
-use Rattle.std.specs.Prelude.{◌≡◌, ◌⊎◌, ◌==◌, ℕ, ◌+◌, ◌-◌, Bool, true, false, List, [], ◌∷◌}
-use Rattle.std.specs.Prelude.{◌++◌, length, map, nat_lt, take, drop, position, Option, None, IfSome}
-use Rattle.std.specs.Prelude.{Result, Ok, Err}
+use Rattle.std.specs.Prelude.{◌≡◌, ◌⊎◌, ◌==◌, ◌<◌, ◌≤◌, ℕ, ◌+◌, ◌-◌, Bool, true, false, List, []}
+use Rattle.std.specs.Prelude.{◌∷◌, ◌++◌, length, map, nat_lt, take, drop, position, Option, None}
+use Rattle.std.specs.Prelude.{IfSome, Result, Ok, Err}
 use Rattle.std.specs.Io.KnownBytes.{Consumes, IsAtEnd}
 use Rattle.h41_lines.specs.Lines.{lines}
 use Rattle.h41_ends.specs.declared.input_lines.InputLines.{InputLines}
@@ -70,6 +70,12 @@ pub record ReadsMore (before after : Option (List ℕ)) (old new : InputLines)
       → HasRead (first ++ bytes) (lines ++ told) new
   pub ended : new.at_end ≡ true → (old.at_end ≡ true) ⊎ IfSome before (λ known. IsAtEnd after)
   pub stays : old.at_end ≡ true → (new.at_end ≡ true) × (bytes ≡ [])
+
+-- so many bytes at least were given by the reader: all that were read, and more than the bound
+-- where there were more
+pub record IsCounted (input : InputLines) (given : ℕ) : Type 0 where
+  pub count : input.count ≤ given
+  pub over : input.is_over ≡ true → most_bytes < given
 
 -- the whole was told
 pub record IsTold (input : InputLines) : Type 0 where

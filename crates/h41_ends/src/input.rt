@@ -1,6 +1,6 @@
 //! Reads an input whole.
 
-ghost use Rattle.std.specs.Prelude.{◌≡◌, ◌≢◌, ◌≤◌, true, false, IfOk, Err, vec_len};
+ghost use Rattle.std.specs.Prelude.{◌≡◌, ◌≢◌, ◌≤◌, ◌<◌, true, false, IfOk, Err, vec_len};
 ghost use Rattle.h41_ends.specs.Ends.{IsFront, SaysWhole, most_bytes};
 
 use crate::fault::InputFault;
@@ -32,6 +32,8 @@ pub fn read_whole<R: Source>(alloc: Global, reader: &mut R) -> Result<ReadInput,
     ensures bytes { IfOk result (λ input. IsFront (R.remaining reader.old) input.bytes.items) }
     ensures whole { IfOk result (λ input. SaysWhole (R.remaining reader.old) input.is_whole) }
     ensures bound { IfOk result (λ input. vec_len input.bytes ≤ most_bytes) }
+    ensures given { IfOk result (λ input. input.is_whole ≡ false
+        → most_bytes < R.given reader.new) }
     ensures mark { result ≡ Err InputFault.ReadFault → R.failed reader.new ≡ true }
     ensures clear { result ≢ Err InputFault.ReadFault → R.failed reader.new ≡ false }
 {

@@ -46,17 +46,18 @@ pub struct InputLines {
 }
 
 impl InputLines {
-    ghost use Rattle.std.specs.Prelude.{◌≡◌, ◌≢◌, ◌⊎◌, ◌≤◌, ◌<◌, ◌+◌, ◌==◌, [], true, false, Some};
-    ghost use Rattle.std.specs.Prelude.{Err, Ok, OnErr, OnOk, position};
+    ghost use Rattle.std.specs.Prelude.{◌≡◌, ◌≢◌, ◌⊎◌, ◌≤◌, ◌<◌, ◌+◌, ◌==◌, ℕ, [], true, false};
+    ghost use Rattle.std.specs.Prelude.{Some, Err, Ok, OnErr, OnOk, position};
     ghost use Rattle.std.specs.Io.KnownBytes.{Keeps};
-    ghost use Rattle.h41_ends.specs.InputLines.{HasRead, IsStopped, IsTold, IsUnended, ReadsMore};
-    ghost use Rattle.h41_ends.specs.InputLines.{held_in, line_in, lines_told, most_left};
+    ghost use Rattle.h41_ends.specs.InputLines.{HasRead, IsCounted, IsStopped, IsTold, IsUnended};
+    ghost use Rattle.h41_ends.specs.InputLines.{ReadsMore, held_in, line_in, lines_told, most_left};
     ghost use Rattle.h41_ends.specs.private.ReadingOn.{Shortens, TakesRead, TellsEnded, TellsLast};
     ghost use Rattle.h41_ends.specs.private.ReadingOn.{ReachesEnd, reads_left};
 
     /// Of an input of which nothing was read.
     pub fn new() -> Self
         ensures nothing { HasRead [] [] result }
+        ensures counted { (given : ℕ) → IsCounted result given }
         ensures goes_on { result.at_end ≡ false }
     {
         InputLines {
@@ -93,6 +94,7 @@ impl InputLines {
     ) -> Result<bool, LineFault>
         requires reader_clear { R.failed reader.old ≡ false }
         requires writer_clear { W.failed writer.old ≡ false }
+        requires counted { IsCounted self.old (R.given reader.old) }
         ensures lines { ReadsMore (R.remaining reader.old) (R.remaining reader.new)
             self.old self.new (lines_told result self.new) }
         ensures end { result ≡ Ok false → IsTold self.new }
@@ -106,6 +108,7 @@ impl InputLines {
         ensures flushed { result ≡ Err LineFault.ReadFault → W.flushed writer.new ≡ true }
 
         ensures kept { Keeps (W.contents writer.old) (W.contents writer.new) }
+        ensures counted { IsCounted self.new (R.given reader.new) }
         ensures reader { result ≢ Err LineFault.ReadFault → R.failed reader.new ≡ false }
         ensures writer { result ≢ Err LineFault.WriteFault → W.failed writer.new ≡ false }
         ensures write_fault { result ≡ Err LineFault.WriteFault → W.failed writer.new ≡ true }
@@ -167,6 +170,7 @@ impl InputLines {
         requires goes_on { self.old.at_end ≡ false }
         requires reader_clear { R.failed reader.old ≡ false }
         requires writer_clear { W.failed writer.old ≡ false }
+        requires counted { IsCounted self.old (R.given reader.old) }
         ensures lines { ReadsMore (R.remaining reader.old) (R.remaining reader.new)
             self.old self.new [] }
         ensures goes_on { self.new.at_end ≡ false }
@@ -178,6 +182,7 @@ impl InputLines {
             → (R.failed reader.new ≡ true) ⊎ (self.new.is_over ≡ true) }
         ensures flushed { result ≡ Err LineFault.ReadFault → W.flushed writer.new ≡ true }
         ensures kept { Keeps (W.contents writer.old) (W.contents writer.new) }
+        ensures counted { IsCounted self.new (R.given reader.new) }
         ensures reader { result ≢ Err LineFault.ReadFault → R.failed reader.new ≡ false }
         ensures writer { result ≢ Err LineFault.WriteFault → W.failed writer.new ≡ false }
         ensures write_fault { result ≡ Err LineFault.WriteFault → W.failed writer.new ≡ true }

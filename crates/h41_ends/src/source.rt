@@ -1,20 +1,26 @@
 //! Where bytes are read from.
 
-ghost use Rattle.std.specs.Prelude.{◌≡◌, ◌||◌, ℕ, Bool, Option, false, List, is_err};
+ghost use Rattle.std.specs.Prelude.{◌≡◌, ◌||◌, ℕ, Bool, Option, false, List, is_err, is_some};
 ghost use Rattle.std.specs.Io.{ReadsAtMost};
 ghost use Rattle.std.specs.Io.KnownBytes.{ReadConsumes};
 
+use crate::input::MOST_BYTES;
 use std::io;
 use std::io::Read;
 
 /// An end that bytes are read from, as `std::io::Read`, with a mark that says whether a call has
 /// failed. An interrupted call is a failing call like every other.
 pub trait Source {
+    ghost use Rattle.h41_ends.specs.Ends.{given_more};
+
     // The bytes that reads will give from here on, where they are known.
     ghost remaining: { Self → Option (List ℕ) };
 
     // The mark.
     ghost failed: { Self → Bool };
+
+    // How many bytes its reads have given, counted up to one more than an input may have.
+    ghost given: { Self → ℕ };
 
     /// Reads some bytes into the front of `buffer` and says how many; 0, where the buffer has room,
     /// is the end of the input. A failing call reads nothing and sets the mark, which no call
@@ -22,18 +28,21 @@ pub trait Source {
     fn read(&mut self, buffer: &mut [u8]) -> io::Result<usize>
         ensures bound { ReadsAtMost result buffer.new }
         ensures bytes { ReadConsumes (remaining self.old) (remaining self.new) result buffer.new }
-        ensures mark { failed self.new ≡ (failed self.old || is_err result) };
+        ensures mark { failed self.new ≡ (failed self.old || is_err result) }
+        ensures given { given self.new ≡ given_more (given self.old) result };
 
     /// Whether a call has failed.
     fn failed(&self) -> bool
         ensures { result ≡ failed self.now };
 }
 
-/// A reader of `std` with its mark.
+/// A reader of `std` with its mark, which is the error of a call that has failed.
 #[derive(Drop)]
 pub struct FromRead<R> {
     reader: R,
-    has_failed: bool,
+    error: Option<io::Error>,
+    /// How many bytes it has given, up to one more than an input may have.
+    given: usize,
 }
 
 impl<R> FromRead<R> {
@@ -46,7 +55,8 @@ impl<R> FromRead<R> {
     {
         FromRead {
             reader,
-            has_failed: false,
+            error: None,
+            given: 0,
         }
     }
 
@@ -56,22 +66,37 @@ impl<R> FromRead<R> {
     {
         self.reader
     }
+
+    /// What the system said of a call that has failed, if one has.
+    pub fn error(&self) -> Option<&io::Error>
+        ensures { is_some result ≡ read_failed self.now }
+    {
+        self.error.as_ref()
+    }
 }
 
 impl<R: Read> Source for FromRead<R> {
     ghost remaining = { λ s. R.remaining s.reader };
 
-    ghost failed = { λ s. s.has_failed };
+    ghost failed = { λ s. is_some s.error };
+
+    ghost given = { λ s. s.given };
 
     fn read(&mut self, buffer: &mut [u8]) -> io::Result<usize> {
-        let result = self.reader.read(buffer);
-        if result.is_err() {
-            self.has_failed = true;
+        match self.reader.read(buffer) {
+            Ok(count) => {
+                self.given = self.given.saturating_add(count).min(MOST_BYTES + 1);
+                Ok(count)
+            }
+            Err(error) => {
+                let kind = error.kind();
+                self.error = Some(error);
+                Err(io::Error::from(kind))
+            }
         }
-        result
     }
 
     fn failed(&self) -> bool {
-        self.has_failed
+        self.error.is_some()
     }
 }

@@ -22,12 +22,14 @@ use Rattle.clap.proofs.WalkLemmas.{both}
 use Rattle.h41_jobs.specs.BenchCommand.{bench_app, command_in, job_asked, job_in, origin_asked}
 use Rattle.h41_jobs.specs.declared.arguments.Task.{Task}
 use Rattle.h41_jobs.specs.declared.arguments.Task.TheVariants as tasks
+use Rattle.h41_jobs.specs.declared.memory.MemorySize.{MemorySize}
+use Rattle.h41_jobs.specs.declared.memory.MemorySize.TheVariants as sizes
 use Rattle.h41_jobs.specs.declared.arguments.Ending.{Ending}
 use Rattle.h41_jobs.specs.declared.arguments.Ending.TheVariants as endings
 use Rattle.h41_jobs.specs.declared.arguments.Job.{Job}
 use Rattle.h41_jobs.specs.Ending.{AsksFor, AsksForNoRun, AsksToRun, GivesJob, parts_of}
 use Rattle.h41_jobs.specs.CommandLine.{asks_help, asks_version, has_wrong_files, is_command, is_help_flag, is_mistake}
-use Rattle.h41_jobs.specs.CommandLine.{is_flag, is_last_flag, file_to_run}
+use Rattle.h41_jobs.specs.CommandLine.{give_memory, is_flag, is_last_flag, is_memory_flag, file_to_run}
 use Rattle.h41_jobs.proofs.WordTurns.{nothing_left, last_flag, is_last, at, flag_turn, plain_turn}
 use Rattle.h41_jobs.proofs.WordTurns.{walk_split}
 use Rattle.h41_jobs.proofs.CommandWalks.{top, names, leaf, top_refuses, taken, first_plain, second_plain, stops_at}
@@ -99,25 +101,32 @@ command_named word is = elim (or_cases (bytes_eq (codes "run") word) (bytes_eq (
 -- ---- words that ask for no run
 
 abbrev NoRun : List Text → Type 0
-NoRun words = (file : Text) → file_to_run words ≡ None → fault_of bench_app words ≡ [] → job_asked words ≡ Some (tasks.Run, file) → ⊥
+NoRun words = (size : MemorySize) (file : Text) → give_memory words ≡ false → file_to_run words ≡ None → fault_of bench_app words ≡ []
+    → job_asked words ≡ Some (tasks.Run size, file) → ⊥
 
 abbrev job_with : Option Text → Task → Option (Task × Text)
 job_with found task = option_map (λ file. (task, file)) found
 
 -- the task of another command, where its origin is one
-no_run_task : (make : ℕ → Task) → ((a : ℕ) → make a ≡ tasks.Run → ⊥) → (origin : Option ℕ) (found : Option Text) (file : Text)
-    → option_and_then (job_with found) (option_map make origin) ≡ Some (tasks.Run, file) → ⊥
-no_run_task make differs None found file is = cc
-no_run_task make differs (Some a) None file is = cc
-no_run_task make differs (Some a) (Some found) file is = differs a (some_pair_parts (make a) tasks.Run found file is).0
+no_run_task : (make : ℕ → Task) (size : MemorySize) → ((a : ℕ) → make a ≡ tasks.Run size → ⊥) → (origin : Option ℕ)
+    (found : Option Text) (file : Text) → option_and_then (job_with found) (option_map make origin) ≡ Some (tasks.Run size, file) → ⊥
+no_run_task make size differs None found file is = cc
+no_run_task make size differs (Some a) None file is = cc
+no_run_task make size differs (Some a) (Some found) file is = differs a (some_pair_parts (make a) (tasks.Run size) found file is).0
+
+-- the words behind two that give no memory
+behind : (a b : Text) (rest : List Text) → give_memory (a ∷ b ∷ rest) ≡ false → give_memory rest ≡ false
+behind a b rest none =
+    (or_parts (is_memory_flag b) (give_memory rest) (or_parts (is_memory_flag a) (give_memory (b ∷ rest)) none).1).1
 
 no_run_named : (c : CommandName) (name : Text) (rest : List Text) → NoRun (name ∷ name_text c ∷ rest)
-no_run_named run_name name rest file is e asked = stops_at rest is (nothing_left _ _ (sym (command_fault run_name name rest) ∙ e)).0
-no_run_named asm_name name rest file is e asked =
-    no_run_task (λ a. tasks.Assemble a) (λ a same. cc) (origin_asked (first_of (codes "origin") (rows_below asm_name rest)))
+no_run_named run_name name rest size file none is e asked =
+    stops_at rest (behind name (codes "run") rest none) is (nothing_left _ _ (sym (command_fault run_name name rest) ∙ e)).0
+no_run_named asm_name name rest size file none is e asked =
+    no_run_task (λ a. tasks.Assemble a) size (λ a same. cc) (origin_asked (first_of (codes "origin") (rows_below asm_name rest)))
     (first_of (codes "FILE") (rows_below asm_name rest)) file (sym (ap job_in (command_met asm_name name rest)) ∙ asked)
-no_run_named dis_name name rest file is e asked =
-    no_run_task (λ a. tasks.List a) (λ a same. cc) (origin_asked (first_of (codes "origin") (rows_below dis_name rest)))
+no_run_named dis_name name rest size file none is e asked =
+    no_run_task (λ a. tasks.List a) size (λ a same. cc) (origin_asked (first_of (codes "origin") (rows_below dis_name rest)))
     (first_of (codes "FILE") (rows_below dis_name rest)) file (sym (ap job_in (command_met dis_name name rest)) ∙ asked)
 
 -- a parse takes no other word in a command's place
@@ -134,21 +143,22 @@ other_fails name word rest none e = go (bytes_eq (codes "help") word) refl (is_l
         let bad : kind.DisplayHelp ∷ kind.InvalidSubcommand ∷ [] ≡ [] = sym help_turn ∙ at_help in cc
     go false no_help true last v _ =
         mark_fails name rest (subst (λ (x : Text). fault_of bench_app (name ∷ x ∷ rest) ≡ []) (is_last word last) e)
-    go false no_help false more true flag = flag_turn top names [] None 1 word top_refuses (other_command word none no_help) more flag turn
+    go false no_help false more true flag =
+        flag_turn top names [] None 1 word (λ n. false) top_refuses (λ rest is. refl) (other_command word none no_help) more flag turn
     go false no_help false more false plain =
         let bad : kind.UnknownArgument ∷ kind.InvalidSubcommand ∷ [] ≡ [] =
         sym (plain_turn top names [] None 1 word (other_command word none no_help) plain).0 ∙ turn in cc
 
 no_run : (words : List Text) → NoRun words
-no_run [] file is e asked = let bad : kind.MissingSubcommand ∷ [] ≡ [] = sym no_word ∙ e in cc
-no_run (name ∷ []) file is e asked = let bad : kind.MissingSubcommand ∷ [] ≡ [] = sym (no_command name) ∙ e in cc
-no_run (name ∷ word ∷ rest) file is e asked = go (is_command word) refl
+no_run [] size file none is e asked = let bad : kind.MissingSubcommand ∷ [] ≡ [] = sym no_word ∙ e in cc
+no_run (name ∷ []) size file none is e asked = let bad : kind.MissingSubcommand ∷ [] ≡ [] = sym (no_command name) ∙ e in cc
+no_run (name ∷ word ∷ rest) size file no_memory is e asked = go (is_command word) refl
   where
     go : (t : Bool) → is_command word ≡ t → ⊥
     go false none = other_fails name word rest none e
     go true named =
         let c = command_named word named in
-        subst (λ (x : Text). NoRun (name ∷ x ∷ rest)) c.1 (no_run_named c.0 name rest) file is e asked
+        subst (λ (x : Text). NoRun (name ∷ x ∷ rest)) c.1 (no_run_named c.0 name rest) size file no_memory is e asked
 
 -- ---- words that ask for help or the version
 
@@ -336,24 +346,25 @@ pub gives_these : (asked : Option (Task × Text)) (result : Result Job Ending) (
 gives_these asked result task file is gives = rw is at gives
 
 -- a run of this file
-pub runs_file : (asked : Option (Task × Text)) (result : Result Job Ending) (file : Text) → asked ≡ Some (tasks.Run, file)
+pub runs_file : (asked : Option (Task × Text)) (result : Result Job Ending) (file : Text) → asked ≡ Some (tasks.Run sizes.Cv, file)
     → GivesJob asked result → AsksToRun result file
 runs_file asked (Ok job) file is gives =
-    let parts : parts_of job ≡ (tasks.Run, file) = rw is at gives in
+    let parts : parts_of job ≡ (tasks.Run sizes.Cv, file) = rw is at gives in
     record { task_is = ap (λ (p : Task × Text). p.0) parts; file_is = ap (λ (p : Task × Text). p.1) parts }
 runs_file asked (Err ending) file is gives = let parts : ending ≡ endings.OutOfMemory = rw is at gives in parts
 
 -- no run
-pub runs_none : (words : List Text) (result : Result Job Ending) → file_to_run words ≡ None → fault_of bench_app words ≡ []
-    → GivesJob (job_asked words) result → AsksForNoRun result
-runs_none words (Ok job) none passed gives = λ run. go (job_asked words) refl gives run
+pub runs_none : (words : List Text) (result : Result Job Ending) → give_memory words ≡ false → file_to_run words ≡ None
+    → fault_of bench_app words ≡ [] → GivesJob (job_asked words) result → AsksForNoRun result
+runs_none words (Ok job) given none passed gives = λ size run. go size (job_asked words) refl gives run
   where
-    go : (asked : Option (Task × Text)) → job_asked words ≡ asked → GivesJob asked (Ok job) → job.task ≡ tasks.Run → ⊥
-    go None is gives run = absurd gives
-    go (Some parts) is gives run =
-        no_run words job.file.now none passed
+    go : (size : MemorySize) (asked : Option (Task × Text)) → job_asked words ≡ asked → GivesJob asked (Ok job)
+        → job.task ≡ tasks.Run size → ⊥
+    go size None is gives run = absurd gives
+    go size (Some parts) is gives run =
+        no_run words size job.file.now given none passed
         (is ∙ sym (ap (λ (p : Task × Text). Some p) gives) ∙ ap (λ (t : Task). Some (t, job.file.now)) run)
-runs_none words (Err ending) none passed gives = tt
+runs_none words (Err ending) given none passed gives = tt
 
 -- memory may run out
 pub runs_out : (asked : Option (Task × Text)) (ending : Ending) → ending ≡ endings.OutOfMemory → GivesJob asked (Err ending)

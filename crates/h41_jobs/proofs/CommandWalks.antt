@@ -1,22 +1,27 @@
 -- What `clap` makes of the three commands of the bench and of the words after each.
 use Rattle.std.proofs.Common.{ap, ap₂, sym, refl, codes, Bool, true, false, List, Some, None, [], ◌∷◌, ◌≡◌, ◌∙◌}
-use Rattle.std.proofs.Common.{is_some, subst}
+use Rattle.std.proofs.Common.{is_some, subst, cond, ◌||◌, ◌==◌, ℕ, ◌+◌, arith, take}
+use Rattle.std.specs.Prelude.{suc}
 use Rattle.std.specs.Str.{bytes_eq}
+use Rattle.std.proofs.lemmas.Bool.{or_parts}
 use Rattle.std.proofs.lemmas.Slice.Eq.{bytes_eq-Decides}
-use Rattle.clap.specs.Words.{App, Row, Shape, Text, subcommand_of}
+use Rattle.std.specs.List.{before_first, position_or_len}
+use Rattle.clap.specs.Words.{App, Row, Rule, Shape, Text, subcommand_of}
 use Rattle.clap.specs.Walk.{Names, Walk, walk, walk_from, walked, nothing_held, settled, finished, has_long, has_short}
-use Rattle.clap.specs.Simple.{built, entered, built_leaf, inherited, marked_built, with_leaf_noted, names_of}
+use Rattle.clap.specs.Simple.{built, entered, built_leaf, filled, inherited, marked_built, with_index, with_leaf_noted, names_of}
 use Rattle.clap.specs.Kinds.{Kinds, or_else}
 use Rattle.clap.specs.Faults.{fault_of, turn_fault, walk_fault, settle_fault, defaults_fault, check_fault, level_fault}
 use Rattle.clap.specs.Faults.{entered_fault}
 use Rattle.clap.specs.declared.error.kind.ErrorKind.TheVariants as kind
 use Rattle.clap.proofs.FaultLemmas.{stopped_fault}
 use Rattle.clap.proofs.WalkLemmas.{walk_stopped}
-use Rattle.h41_jobs.specs.BenchCommand.{bench_app, job_asked, job_in, origin_app, run_app}
+use Rattle.h41_jobs.specs.BenchCommand.{bench_app, job_asked, job_in, memory_rule, origin_app, run_app}
 use Rattle.h41_jobs.specs.declared.arguments.Task.{Task}
 use Rattle.h41_jobs.specs.declared.arguments.Task.TheVariants as tasks
-use Rattle.h41_jobs.specs.CommandLine.{is_flag, is_last_flag, only_file, file_for}
-use Rattle.h41_jobs.proofs.WordTurns.{nothing_left, help, version, RefusesAll, refuses_either, last_flag, is_last, at}
+use Rattle.h41_jobs.specs.declared.memory.MemorySize.TheVariants as sizes
+use Rattle.h41_jobs.specs.CommandLine.{give_memory, is_flag, is_last_flag, is_memory_flag, only_file, file_for}
+use Rattle.h41_jobs.proofs.WordTurns.{nothing_left, help, version, NamesUnknown, Refuses, RefusesAll, refuses_either}
+use Rattle.h41_jobs.proofs.WordTurns.{last_flag, is_last, at}
 use Rattle.h41_jobs.proofs.WordTurns.{flag_turn, plain_turn, walk_split}
 
 -- ---- the three commands
@@ -33,7 +38,7 @@ name_text dis_name = codes "dis"
 
 -- the task that it asks for with FILE alone
 abbrev pub task_named : CommandName → Task
-task_named run_name = tasks.Run
+task_named run_name = tasks.Run sizes.Cv
 task_named asm_name = tasks.Assemble 0x8000
 task_named dis_name = tasks.List 0x8000
 
@@ -52,17 +57,50 @@ names = names_of (built bench_app)
 abbrev pub leaf : CommandName → Shape
 leaf c = built_leaf (inherited (with_leaf_noted (marked_built bench_app.top)) (app_named c).top)
 
-pub top_refuses : RefusesAll top.rules false
+pub top_refuses : RefusesAll top.rules false (λ n. false)
 top_refuses = (
-  λ n. refuses_either top.rules false (has_long help n) (has_long version n),
+  λ n unknown. refuses_either top.rules false (has_long help n) (has_long version n),
   λ x. refuses_either top.rules false (has_short help x) (has_short version x),
 )
 
-run_refuses : RefusesAll (leaf run_name).rules false
+-- the long name that is known behind `run`
+is_memory : Text → Bool
+is_memory n = bytes_eq (codes "memory") n
+
+memory : Rule
+memory = with_index 1 (filled memory_rule)
+
+run_refuses : RefusesAll (leaf run_name).rules false is_memory
+unfolding is_memory memory
 run_refuses = (
-  λ n. refuses_either (leaf run_name).rules false (has_long help n) false,
+  λ n unknown. subst (Refuses (leaf run_name).rules false)
+      (sym (ap (λ t. cond (t || false) (Some memory) (cond (has_long help n) (Some help) None)) unknown))
+      (refuses_either (leaf run_name).rules false (has_long help n) false),
   λ x. refuses_either (leaf run_name).rules false (has_short help x) false,
 )
+
+-- two hyphens stand in front of what is taken
+two_more : (n : ℕ) (rest : Text) → take (1 + (1 + n)) (45 ∷ 45 ∷ rest) ≡ 45 ∷ 45 ∷ take n rest
+two_more n rest =
+    let count : 1 + (1 + n) ≡ suc (suc n) = omega arith in
+    ap (λ (k : ℕ). take k (45 ∷ 45 ∷ rest)) count
+
+-- a word that gives no memory does not name it
+no_memory : (word : Text) → is_memory_flag word ≡ false → NamesUnknown is_memory word
+unfolding is_memory
+no_memory word none rest is = go (bytes_eq (codes "memory") (before_first (λ x. x == 61) rest)) refl
+  where
+    go : (t : Bool) → bytes_eq (codes "memory") (before_first (λ x. x == 61) rest) ≡ t
+        → bytes_eq (codes "memory") (before_first (λ x. x == 61) rest) ≡ false
+    go false other = other
+    go true same =
+        let named : codes "--memory" ≡ before_first (λ x. x == 61) (45 ∷ 45 ∷ rest) =
+        ap (λ (name : Text). 45 ∷ 45 ∷ name) ((bytes_eq-Decides (codes "memory") (before_first (λ x. x == 61) rest)).0 same)
+        ∙ sym (two_more (position_or_len (λ x. x == 61) rest) rest) in
+        let given : is_memory_flag word ≡ true =
+        subst (λ (w : Text). is_memory_flag w ≡ true) (sym is)
+        ((bytes_eq-Decides (codes "--memory") (before_first (λ x. x == 61) (45 ∷ 45 ∷ rest))).1 named) in
+        let bad : true ≡ false = sym given ∙ none in cc
 
 -- ---- the words after a command that have one FILE
 
@@ -188,21 +226,25 @@ third_fails file word rest e =
     let bad : kind.UnknownArgument ∷ [] ≡ [] = (walk_split (leaf run_name) [] (taken file true) word rest e).0 in cc
 
 -- a second FILE
-second_fails : (file word : Text) (rest : List Text) → is_last_flag word ≡ false → FailsFrom (taken file false) (word ∷ rest)
+second_fails : (file word : Text) (rest : List Text) → is_memory_flag word ≡ false → is_last_flag word ≡ false
+    → FailsFrom (taken file false) (word ∷ rest)
 unfolding FailsFrom
-second_fails file word rest more e = go (is_flag word) refl
+second_fails file word rest none more e = go (is_flag word) refl
   where
     turn : turn_fault (leaf run_name) [] (taken file false) word ≡ []
     turn = (walk_split (leaf run_name) [] (taken file false) word rest e).0
 
     go : (t : Bool) → is_flag word ≡ t → ⊥
-    go true flag = flag_turn (leaf run_name) [] [] (Some (codes "FILE", file ∷ [])) 2 word run_refuses refl more flag turn
+    go true flag = flag_turn (leaf run_name) [] [] (Some (codes "FILE", file ∷ [])) 2 word is_memory run_refuses (no_memory word none)
+        refl more flag turn
     go false plain = let bad : kind.UnknownArgument ∷ [] ≡ [] = sym (second_plain run_name file word plain) ∙ turn in cc
 
-flag_first : (a : Text) (rest : List Text) → is_flag a ≡ true → is_last_flag a ≡ false → FailsFrom (at [] None 1 false) (a ∷ rest)
+flag_first : (a : Text) (rest : List Text) → is_memory_flag a ≡ false → is_flag a ≡ true → is_last_flag a ≡ false
+    → FailsFrom (at [] None 1 false) (a ∷ rest)
 unfolding FailsFrom
-flag_first a rest flag more e =
-    flag_turn (leaf run_name) [] [] None 1 a run_refuses refl more flag (walk_split (leaf run_name) [] (at [] None 1 false) a rest e).0
+flag_first a rest none flag more e =
+    flag_turn (leaf run_name) [] [] None 1 a is_memory run_refuses (no_memory a none) refl more flag
+    (walk_split (leaf run_name) [] (at [] None 1 false) a rest e).0
 
 no_file : Stops []
 unfolding Stops walk_fault defaults_fault
@@ -221,34 +263,41 @@ stops_marked (b ∷ d ∷ rest) is =
     (goes_on (at [] None 1 true) (taken b true) b (d ∷ rest) (file_after_mark b) (third_fails b d rest)))
 
 -- a FILE first, and then not the mark alone
-stops_taken : (a : Text) (rest : List Text) → is_last_flag a ≡ false → is_flag a ≡ false → only_file (a ∷ rest) ≡ None
-    → FailsFrom (taken a false) rest
-stops_taken a [] more plain is = let bad : Some a ≡ None = rw plain at is in cc
-stops_taken a (b ∷ rest) more plain is = go (is_last_flag b) refl rest is
+stops_taken : (a : Text) (rest : List Text) → give_memory rest ≡ false → is_last_flag a ≡ false → is_flag a ≡ false
+    → only_file (a ∷ rest) ≡ None → FailsFrom (taken a false) rest
+stops_taken a [] none more plain is = let bad : Some a ≡ None = rw plain at is in cc
+stops_taken a (b ∷ rest) none more plain is = go (is_last_flag b) refl rest is
   where
+    given : (is_memory_flag b ≡ false) × (give_memory rest ≡ false)
+    given = or_parts (is_memory_flag b) (give_memory rest) none
+
     go : (u : Bool) → is_last_flag b ≡ u → (rest : List Text) → only_file (a ∷ b ∷ rest) ≡ None → FailsFrom (taken a false) (b ∷ rest)
-    go false other rest is = second_fails a b rest other
+    go false other rest is = second_fails a b rest given.0 other
     go true last [] is = let bad : Some a ≡ None = rw (more, last, plain) at is in cc
     go true last (d ∷ rest) is =
         subst (λ (x : Text). FailsFrom (taken a false) (x ∷ d ∷ rest)) (sym (is_last b last))
         (goes_on (taken a false) (taken a true) last_flag (d ∷ rest) (around_mark run_name a).1 (third_fails a d rest))
 
-stops : (rest : List Text) → only_file rest ≡ None → Stops rest
-stops [] is = no_file
-stops (a ∷ rest) is = go (is_last_flag a) refl (is_flag a) refl
+stops : (rest : List Text) → give_memory rest ≡ false → only_file rest ≡ None → Stops rest
+stops [] none is = no_file
+stops (a ∷ rest) none is = go (is_last_flag a) refl (is_flag a) refl
   where
+    given : (is_memory_flag a ≡ false) × (give_memory rest ≡ false)
+    given = or_parts (is_memory_flag a) (give_memory rest) none
+
     go : (t : Bool) → is_last_flag a ≡ t → (v : Bool) → is_flag a ≡ v → Stops (a ∷ rest)
     go true last v _ =
         subst (λ (x : Text). Stops (x ∷ rest)) (sym (is_last a last))
         (stops_marked rest (subst (λ (x : Text). only_file (x ∷ rest) ≡ None) (is_last a last) is))
-    go false more true flag = walk_stops (a ∷ rest) (flag_first a rest flag more)
+    go false more true flag = walk_stops (a ∷ rest) (flag_first a rest given.0 flag more)
     go false more false plain =
         walk_stops (a ∷ rest) (goes_on (at [] None 1 false) (taken a false) a rest (first_plain run_name a plain).1
-        (stops_taken a rest more plain is))
+        (stops_taken a rest given.1 more plain is))
 
-pub stops_at : (rest : List Text) → only_file rest ≡ None → level_fault (leaf run_name) [] nothing_held rest false [] ≡ [] → ⊥
+pub stops_at : (rest : List Text) → give_memory rest ≡ false → only_file rest ≡ None
+    → level_fault (leaf run_name) [] nothing_held rest false [] ≡ [] → ⊥
 unfolding Stops
-stops_at rest is = stops rest is
+stops_at rest none is = stops rest none is
 
 -- ---- a command and the words after it
 

@@ -1,13 +1,11 @@
 -- What was read of an input, and what a task makes of it.
-use Rattle.std.proofs.Common.{inl, inr, ◌⊎◌, ◌≡◌, ◌≢◌, ℕ, ◌<◌, ◌≤◌, Bool, true, false, nat_le, List, [], ◌++◌, length, take, Option, Some}
-use Rattle.std.proofs.Common.{None, IfSome, Result, Ok, Err, IfErr, OnErr, arith, ap, refl, sym, subst, ◌∙◌}
+use Rattle.std.proofs.Common.{inl, inr, ◌⊎◌, ◌≡◌, ℕ, ◌<◌, ◌≤◌, Bool, true, nat_le, List, [], ◌++◌, length, take, Option, Some}
+use Rattle.std.proofs.Common.{None, IfSome, Result, Ok, Err, OnErr, arith, ap, refl, sym, subst, ◌∙◌}
 use Rattle.std.proofs.lemmas.Bool.{leb-true}
 use Rattle.std.proofs.lemmas.List.{append-nil, take_all}
 use Rattle.std.specs.Io.KnownBytes.{Appends, Keeps}
 use Rattle.h41_asm.specs.Faults.{assembly_fault}
 use Rattle.h41_asm.specs.declared.fault.SourceFault as asm
-use Rattle.h41_deck.specs.declared.fault.Fault.{Fault}
-use Rattle.h41_deck.specs.declared.fault.Fault.TheVariants.{OutOfMemory, ReadFault, WriteFault}
 use Rattle.h41_commands.specs.declared.refusal.LineRefusal.{LineRefusal}
 use Rattle.h41_commands.specs.declared.refusal.LineRefusal.TheVariants.{Source}
 use Rattle.h41_ends.specs.Ends.{most_bytes}
@@ -54,11 +52,11 @@ nothing_long (Some input) None long = ([], record { too_long = long; nothing = r
 nothing_long (Some input) (Some before) long = ([], record { too_long = long; nothing = refl }, sym (append-nil before))
 
 -- why an input was not read whole, with nothing written
-pub why_unread : {F : Type 0} (known old : Option (List ℕ)) → F ⊎ IfSome known (λ input. most_bytes < length input)
-    → F ⊎ IfSome known (WritesTextOf IsTooLong old old)
+pub why_unread : {F G : Type 0} (known old : Option (List ℕ)) → F ⊎ (G × IfSome known (λ input. most_bytes < length input))
+    → F ⊎ (G × IfSome known (WritesTextOf IsTooLong old old))
 why_unread known old unread = elim unread [
   | inl failed ↦ inl failed
-  | inr long ↦ inr (nothing_long known old long)
+  | inr long ↦ inr (long.0, nothing_long known old long.1)
 ]
 
 -- a text that was written, and then kept, is a front of itself

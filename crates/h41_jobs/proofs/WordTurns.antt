@@ -2,6 +2,7 @@
 use Rattle.std.proofs.Common.{ap, ap₂, sym, refl, ℕ, Bool, true, false, List, Option, Some, None, [], ◌∷◌, ◌≡◌, ◌∙◌}
 use Rattle.std.proofs.Common.{is_some, subst, length, drop, encode_utf8, ◌==◌, ◌&&◌, slice_get, cond}
 use Rattle.std.specs.Option.{option_map_or}
+use Rattle.std.specs.List.{before_first}
 use Rattle.std.specs.Prelude.{option_and_then}
 use Rattle.std.specs.Str.{chars}
 use Rattle.std.proofs.lemmas.Bool.{eqb-true}
@@ -50,8 +51,9 @@ module _ (rules : List Rule) (again : Bool) where
       → (long_fault rules again found v (holding rows pending) ≡ [] → ⊥)
       × (short_fault rules again found rest (holding rows pending) next ≡ [] → ⊥)
 
-  abbrev pub RefusesAll : Type 0
-  RefusesAll = ((n : Text) → Refuses (arg_by_long rules n)) × ((x : ℕ) → Refuses (arg_by_short rules x))
+  -- that holds of all names but the long ones that are known
+  abbrev pub RefusesAll : (Text → Bool) → Type 0
+  RefusesAll known = ((n : Text) → known n ≡ false → Refuses (arg_by_long rules n)) × ((x : ℕ) → Refuses (arg_by_short rules x))
 
   refuses_help : Refuses (Some help)
   refuses_help None rest rows pending next = (answered _ kind.DisplayHelp, answered_then _ _ kind.DisplayHelp)
@@ -82,20 +84,24 @@ unfolding chars
 hyphen_spells [] e = cc
 hyphen_spells (x ∷ xs) e = cc
 
+-- a word does not give a long name that is known
+abbrev pub NamesUnknown : (Text → Bool) → Text → Type 0
+NamesUnknown known word = (rest : Text) → word ≡ 45 ∷ 45 ∷ rest → known (before_first (λ x. x == 61) rest) ≡ false
+
 module _ (rules : List Rule) (again : Bool) (rows : List Row) (pending : Option (Text × List Text)) where
   -- the first character of a bundle
-  first_fails : RefusesAll rules again → (o : Option ℕ) (flags : Text) (next : Text → ℕ → Held → Kinds) → is_some o ≡ true
-      → bundle_step_fault rules again o flags 0 (holding rows pending) next ≡ [] → ⊥
-  first_fails all None flags next some e = cc
-  first_fails all (Some x) flags next some e =
+  first_fails : (known : Text → Bool) → RefusesAll rules again known → (o : Option ℕ) (flags : Text) (next : Text → ℕ → Held → Kinds)
+      → is_some o ≡ true → bundle_step_fault rules again o flags 0 (holding rows pending) next ≡ [] → ⊥
+  first_fails known all None flags next some e = cc
+  first_fails known all (Some x) flags next some e =
       let rest : Text = drop (length (encode_utf8 x)) flags in
       (all.1 x None rest rows pending (next rest 0)).1 e
 
-  bundle_fails : RefusesAll rules again → (d : ℕ) (flags : Text) → is_some (slice_get (chars (d ∷ flags)) 0) ≡ true
-      → bundle_fault rules again (d ∷ flags) (holding rows pending) ≡ [] → ⊥
+  bundle_fails : (known : Text → Bool) → RefusesAll rules again known → (d : ℕ) (flags : Text)
+      → is_some (slice_get (chars (d ∷ flags)) 0) ≡ true → bundle_fault rules again (d ∷ flags) (holding rows pending) ≡ [] → ⊥
   unfolding flags_fault
-  bundle_fails all d flags some e =
-      first_fails all (slice_get (chars (d ∷ flags)) 0) (d ∷ flags) (flags_fault rules again (length flags)) some e
+  bundle_fails known all d flags some e =
+      first_fails known all (slice_get (chars (d ∷ flags)) 0) (d ∷ flags) (flags_fault rules again (length flags)) some e
 
   bundle_read : (d : ℕ) (rest : Text) → (d == 45) ≡ false
       → flag_word_fault rules again (long_of (45 ∷ d ∷ rest)) (45 ∷ d ∷ rest) (holding rows pending)
@@ -104,25 +110,27 @@ module _ (rules : List Rule) (again : Bool) (rows : List Row) (pending : Option 
       ap (λ o. flag_word_fault rules again o (45 ∷ d ∷ rest) (holding rows pending)) (no_long d rest is)
       ∙ ap (λ o. option_map_or (λ flags. bundle_fault rules again flags (holding rows pending)) o []) (is_short d rest is)
 
-  dashed_fails : RefusesAll rules again → (d : ℕ) (rest : Text) → is_some (slice_get (chars (d ∷ rest)) 0) ≡ true
-      → is_last_flag (45 ∷ d ∷ rest) ≡ false → (t : Bool) → (d == 45) ≡ t
-      → flag_word_fault rules again (long_of (45 ∷ d ∷ rest)) (45 ∷ d ∷ rest) (holding rows pending) ≡ [] → ⊥
-  dashed_fails all d [] some more true is e =
+  dashed_fails : (known : Text → Bool) → RefusesAll rules again known → (d : ℕ) (rest : Text)
+      → is_some (slice_get (chars (d ∷ rest)) 0) ≡ true → is_last_flag (45 ∷ d ∷ rest) ≡ false → NamesUnknown known (45 ∷ d ∷ rest)
+      → (t : Bool) → (d == 45) ≡ t → flag_word_fault rules again (long_of (45 ∷ d ∷ rest)) (45 ∷ d ∷ rest) (holding rows pending) ≡ [] → ⊥
+  dashed_fails known all d [] some more unknown true is e =
       let bad : is_last_flag (45 ∷ d ∷ []) ≡ true = ap (λ (x : ℕ). is_last_flag (45 ∷ x ∷ [])) (eqb-true d 45 is) in cc
-  dashed_fails all d (y ∷ ys) some more true is e =
-      let long = rw is at e in (all.0 _ _ [] rows pending (λ h. [])).0 long
-  dashed_fails all d rest some more false is e = bundle_fails all d rest some (sym (bundle_read d rest is) ∙ e)
+  dashed_fails known all d (y ∷ ys) some more unknown true is e =
+      let long = rw is at e in
+      let other = unknown (y ∷ ys) (ap (λ (x : ℕ). 45 ∷ x ∷ y ∷ ys) (eqb-true d 45 is)) in
+      (all.0 _ other _ [] rows pending (λ h. [])).0 long
+  dashed_fails known all d rest some more unknown false is e = bundle_fails known all d rest some (sym (bundle_read d rest is) ∙ e)
 
   -- a flag fails, whatever is pending
-  flag_fails : RefusesAll rules again → (word : Text) → is_flag word ≡ true → is_last_flag word ≡ false
-      → flag_word_fault rules again (long_of word) word (holding rows pending) ≡ [] → ⊥
-  flag_fails all [] flag more e = cc
-  flag_fails all (c ∷ []) flag more e = let none : false ≡ true = (both (c == 45) false (no_chars c flag)).1 in cc
-  flag_fails all (c ∷ d ∷ rest) flag more e =
+  flag_fails : (known : Text → Bool) → RefusesAll rules again known → (word : Text) → is_flag word ≡ true → is_last_flag word ≡ false
+      → NamesUnknown known word → flag_word_fault rules again (long_of word) word (holding rows pending) ≡ [] → ⊥
+  flag_fails known all [] flag more unknown e = cc
+  flag_fails known all (c ∷ []) flag more unknown e = let none : false ≡ true = (both (c == 45) false (no_chars c flag)).1 in cc
+  flag_fails known all (c ∷ d ∷ rest) flag more unknown e =
       let is : c ≡ 45 = eqb-true c 45 (both _ _ flag).0 in
-      let P : ℕ → Type 0 = λ c. is_last_flag (c ∷ d ∷ rest) ≡ false
+      let P : ℕ → Type 0 = λ c. is_last_flag (c ∷ d ∷ rest) ≡ false → NamesUnknown known (c ∷ d ∷ rest)
       → flag_word_fault rules again (long_of (c ∷ d ∷ rest)) (c ∷ d ∷ rest) (holding rows pending) ≡ [] → ⊥ in
-      subst P (sym is) (λ more e. dashed_fails all d rest (both _ _ flag).1 more (d == 45) refl e) more e
+      subst P (sym is) (λ more unknown e. dashed_fails known all d rest (both _ _ flag).1 more unknown (d == 45) refl e) more unknown e
 
   -- a word that is no flag names none
   abbrev Passes : Text → Type 0
@@ -210,10 +218,12 @@ module _ (s : Shape) (subs : Names) (rows : List Row) (pending : Option (Text ×
       ∙ ap (λ t. cond t (holding rows pending, trailing position)
       (long_or_other s.rules idle word (long_of word) (holding rows pending))) more
 
-  pub flag_turn : RefusesAll s.rules s.args_override_self → subcommand_met subs idle word ≡ None → is_last_flag word ≡ false
-      → is_flag word ≡ true → turn_fault s subs (at rows pending position false) word ≡ [] → ⊥
-  flag_turn all none more flag e =
-      flag_fails s.rules s.args_override_self rows pending all word flag more (sym (word_is none more) ∙ (nothing_left _ _ e).0)
+  pub flag_turn : (known : Text → Bool) → RefusesAll s.rules s.args_override_self known → NamesUnknown known word
+      → subcommand_met subs idle word ≡ None → is_last_flag word ≡ false → is_flag word ≡ true
+      → turn_fault s subs (at rows pending position false) word ≡ [] → ⊥
+  flag_turn known all unknown none more flag e =
+      flag_fails s.rules s.args_override_self rows pending known all word flag more unknown
+      (sym (word_is none more) ∙ (nothing_left _ _ e).0)
 
   pub plain_turn : subcommand_met subs idle word ≡ None → is_flag word ≡ false
       → (turn_fault s subs (at rows pending position false) word ≡ step_fault s position (holding rows pending) value)

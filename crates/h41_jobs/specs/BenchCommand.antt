@@ -11,6 +11,9 @@ use Rattle.clap.specs.declared.parser.matches.ArgMatches.{ArgMatches}
 use Rattle.clap.specs.declared.builder.action.ArgAction.TheVariants.{Set}
 use Rattle.h41_jobs.specs.declared.arguments.Task.{Task}
 use Rattle.h41_jobs.specs.declared.arguments.Task.TheVariants as tasks
+use Rattle.h41_jobs.specs.declared.memory.MemorySize.{MemorySize}
+use Rattle.h41_jobs.specs.declared.memory.MemorySize.TheVariants as sizes
+use Rattle.h41_jobs.specs.MemorySizes.{size_written}
 use Rattle.h41_jobs.specs.WordTexts.{origin_value}
 
 abbrev pub file_rule : Rule
@@ -23,12 +26,23 @@ origin_rule = record (new_rule (codes "origin")) {
   value_names = 1;
 }
 
-abbrev pub run_app : App
-run_app = with_rule (new_app (codes "run")) file_rule
+abbrev pub memory_rule : Rule
+memory_rule = record (new_rule (codes "memory")) {
+  long = Some (codes "memory");
+  action = Some Set;
+  value_names = 1;
+}
 
--- a command that takes an origin beside FILE
+-- a command that takes an option beside FILE
+abbrev pub option_app : Text → Rule → App
+option_app name option = with_rule (with_rule (new_app name) option) file_rule
+
+-- it is the size of memory for a run, and an origin for the other tasks
+abbrev pub run_app : App
+run_app = option_app (codes "run") memory_rule
+
 abbrev pub origin_app : Text → App
-origin_app name = with_rule (with_rule (new_app name) origin_rule) file_rule
+origin_app name = option_app name origin_rule
 
 -- a subcommand is required, and there is a version to be told
 abbrev pub empty_bench : App
@@ -55,6 +69,15 @@ command_in = option_map (λ p. p.0)
 abbrev pub file_in : Option (Text × List Row) → Option (Option Text)
 file_in = option_map (λ p. first_of (codes "FILE") p.1)
 
+-- the size that a value of `--memory` gives: 320 registers where there is none
+abbrev pub memory_asked : Option Text → Option MemorySize
+memory_asked None = Some sizes.Cv
+memory_asked (Some text) = size_written text
+
+-- the value of `--memory` in what a parse read of a command, where there is one
+abbrev pub memory_in : ArgMatches → Option Text
+memory_in command = first_of (codes "memory") (rows_of (found_of command))
+
 -- the address that a value of `--origin` gives: 8000 where there is none
 abbrev pub origin_asked : Option Text → Option ℕ
 origin_asked None = Some 0x8000
@@ -64,10 +87,10 @@ origin_asked (Some digits) = origin_value digits
 abbrev pub origin_in : ArgMatches → Option Text
 origin_in command = first_of (codes "origin") (rows_of (found_of command))
 
--- the task that a command's name asks for, where its origin is one
-abbrev pub task_asked : Text → Option Text → Option Task
-task_asked name origin =
-    if bytes_eq name (codes "run") then Some tasks.Run
+-- the task that a command's name asks for, where its size of memory or its origin is one
+abbrev pub task_asked : Text → Option Text → Option Text → Option Task
+task_asked name memory origin =
+    if bytes_eq name (codes "run") then option_map (λ size. tasks.Run size) (memory_asked memory)
     else (if bytes_eq name (codes "asm")
     then option_map (λ address. tasks.Assemble address) (origin_asked origin)
     else (if bytes_eq name (codes "dis")
@@ -79,7 +102,7 @@ abbrev pub job_in : Option (Text × List Row) → Option (Task × Text)
 job_in =
     option_and_then
     (λ p. option_and_then (λ task. option_map (λ file. (task, file)) (first_of (codes "FILE") p.1))
-    (task_asked p.0 (first_of (codes "origin") p.1)))
+    (task_asked p.0 (first_of (codes "memory") p.1) (first_of (codes "origin") p.1)))
 
 -- the task and the FILE of the command that a parse of these words meets
 abbrev pub job_asked : List Text → Option (Task × Text)

@@ -2,6 +2,7 @@
 use Rattle.std.specs.Prelude.{map, ◌==◌, ◌&&◌, ◌||◌, ℕ, Bool, true, false, not, List, [], ◌∷◌}
 use Rattle.std.specs.Prelude.{Option, Some, None, is_some, if◌then◌else◌, codes, slice_get}
 use Rattle.std.specs.Borrow.{Bor}
+use Rattle.std.specs.List.{before_first, list_any}
 use Rattle.std.specs.Str.{bytes_eq, chars}
 
 -- a hyphen (45), and at least one character after it
@@ -30,6 +31,13 @@ file_for command (name ∷ word ∷ rest) = if bytes_eq command word then only_f
 -- the FILE that the words ask to run, where they do
 abbrev pub file_to_run : List (List ℕ) → Option (List ℕ)
 file_to_run = file_for (codes "run")
+
+-- a word gives a size of memory, behind `=` (61) or in the next word
+abbrev pub is_memory_flag : List ℕ → Bool
+is_memory_flag word = bytes_eq (codes "--memory") (before_first (λ c. c == 61) word)
+
+abbrev pub give_memory : List (List ℕ) → Bool
+give_memory words = list_any is_memory_flag words
 
 -- the names of the commands
 abbrev pub is_command : List ℕ → Bool

@@ -10,6 +10,8 @@ use Rattle.h41_jobs.specs.declared.arguments.Ending.TheVariants as endings
 use Rattle.h41_jobs.specs.declared.arguments.Job.{Job}
 use Rattle.h41_jobs.specs.declared.arguments.Task.{Task}
 use Rattle.h41_jobs.specs.declared.arguments.Task.TheVariants as tasks
+use Rattle.h41_jobs.specs.declared.memory.MemorySize.{MemorySize}
+use Rattle.h41_jobs.specs.declared.memory.MemorySize.TheVariants as sizes
 use Rattle.h41_deck.specs.declared.refusal.Refusal.TheVariants.{OutOfMemory}
 use Rattle.h41_deck.specs.Refusals.{heading}
 
@@ -55,19 +57,21 @@ AsksFor result parts =
 abbrev pub AsksTo : Result Job Ending → Task → List ℕ → Type 0
 AsksTo result task file = AsksFor result (task, file)
 
--- no run
+-- no run, with whatever memory
 abbrev pub AsksForNoRun : Result Job Ending → Type 0
-AsksForNoRun result = IfOk result (λ job. job.task ≢ tasks.Run)
+AsksForNoRun result = IfOk result (λ job. (size : MemorySize) → job.task ≢ tasks.Run size)
 
--- a run of this file, where memory did not run out
+-- a run of this file with 320 registers, where memory did not run out
 abbrev pub AsksToRun : Result Job Ending → List ℕ → Type 0
 AsksToRun result file =
-    MatchResult result (λ job. IsJob job tasks.Run file) (λ ending. ending ≡ endings.OutOfMemory)
+    MatchResult result (λ job. IsJob job (tasks.Run sizes.Cv) file)
+    (λ ending. ending ≡ endings.OutOfMemory)
 
 -- the job with these parts, or status 2 where there are none
 abbrev pub GivesJob : Option (Task × List ℕ) → Result Job Ending → Type 0
 GivesJob asked result = MatchOption asked (EndsAtOnce 2 result) (AsksFor result)
 
--- where a parse takes the words, the job that it meets, or status 2 where its origin is wrong
+-- where a parse takes the words, the job that it meets, or status 2 where its size of memory or its
+-- origin is wrong
 abbrev pub GivesJobOf : List (List ℕ) → Result Job Ending → Type 0
 GivesJobOf words result = fault_of bench_app words ≡ [] → GivesJob (job_asked words) result

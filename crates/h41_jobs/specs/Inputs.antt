@@ -12,4 +12,5 @@ pub record IsWhole (bytes input : List ℕ) : Type 0 where
 abbrev pub IsUnread : {R : Type 0} → sources.Ghosts R → R → R → Type 0
 IsUnread source before after =
     (source.failed after ≡ true)
-    ⊎ IfSome (source.remaining before) (λ input. most_bytes < length input)
+    ⊎ ((most_bytes < source.given after)
+    × IfSome (source.remaining before) (λ input. most_bytes < length input))

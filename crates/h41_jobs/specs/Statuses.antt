@@ -24,7 +24,7 @@ IsListStatus status = (status ≡ 0) ⊎ ((status ≡ 2) ⊎ (status ≡ 3))
 
 -- the status of a task that was begun
 abbrev pub IsTaskStatus : Task → ℕ → Type 0
-IsTaskStatus tasks.Run = IsStatus
+IsTaskStatus (tasks.Run size) = IsStatus
 IsTaskStatus (tasks.Assemble origin) = IsStatus
 IsTaskStatus (tasks.List origin) = IsListStatus
 
@@ -32,8 +32,8 @@ IsTaskStatus (tasks.List origin) = IsListStatus
 abbrev pub IsOrFailed : ℕ → ℕ → Type 0
 IsOrFailed status result = (result ≡ status) ⊎ (result ≡ 3)
 
--- where a parse takes the words, a status of the task that it meets, or 2 or 3 where its origin is
--- wrong
+-- where a parse takes the words, a status of the task that it meets, or 2 or 3 where its size of
+-- memory or its origin is wrong
 abbrev pub EndsJobOf : List (List ℕ) → ℕ → Type 0
 EndsJobOf words status =
     fault_of bench_app words ≡ []

@@ -1,7 +1,8 @@
 -- What a job makes of its input: the text that it prints, how it ends, and what is said where it
 -- goes wrong.
 use Rattle.std.specs.Global.{Global}
-use Rattle.std.specs.Prelude.{◌≡◌, ◌≢◌, ◌⊎◌, ℕ, ◌<◌, ◌≤◌, true, false, Vec, List, [], ◌++◌, length}
+use Rattle.std.specs.Prelude.{◌≡◌, ◌≢◌, ◌⊎◌, ℕ, ◌<◌, ◌≤◌, Bool, true, false, Vec, List, [], ◌++◌}
+use Rattle.std.specs.Prelude.{length}
 use Rattle.std.specs.Prelude.{take, codes, Option, Some, IfSome, Result, Ok, Err, IfErr, IfOk, OnOk}
 use Rattle.std.specs.Fmt.{decimal}
 use Rattle.std.specs.Io.KnownBytes.{Appends, Consumes, Keeps}
@@ -25,6 +26,7 @@ use Rattle.h41_jobs.specs.declared.arguments.Task.TheVariants as tasks
 use Rattle.h41_jobs.specs.declared.ended.Answer.{Answer}
 use Rattle.h41_jobs.specs.declared.ended.Ended.{Ended}
 use Rattle.h41_jobs.specs.declared.ended.Ended.TheVariants.{Accepted, Refused, WrongWord}
+use Rattle.h41_jobs.specs.MemorySizes.{registers_of}
 use Rattle.h41_jobs.specs.WordTexts.{WritesWords, word_lines, wrong_word}
 
 -- what a source gives at an origin, where it isn't too long: the words that it spells, or its
@@ -71,7 +73,7 @@ ListingText input text =
 
 -- the text that a task prints of an input; the listing of words is the same at each origin
 abbrev pub HasText : Task → List ℕ → List ℕ → Type 0
-HasText tasks.Run = decks.Deck
+HasText (tasks.Run size) = decks.Deck (registers_of size)
 HasText (tasks.Assemble origin) = AssemblyText origin
 HasText (tasks.List origin) = ListingText
 
@@ -119,8 +121,10 @@ ended_of_list (Err number) = WrongWord number
 
 -- how a task ends over an input
 abbrev pub TaskEnds : Task → Ended → List ℕ → Type 0
-TaskEnds tasks.Run ended input =
-    (outcome : Outcome) × decks.DeckEnds input outcome × (ended ≡ ended_of_deck outcome)
+TaskEnds (tasks.Run size) ended input =
+    (outcome : Outcome)
+    × decks.DeckEnds (registers_of size) input outcome
+    × (ended ≡ ended_of_deck outcome)
 TaskEnds (tasks.Assemble origin) ended input =
     (given : Result (List ℕ) LineRefusal)
     × SourceAssemblesTo origin input given
@@ -142,7 +146,7 @@ IsNotRefused (WrongWord number) = Unit {0}
 
 -- how a task may end
 abbrev pub MayEnd : Task → Ended → Type 0
-MayEnd tasks.Run = HasNoWrongWord
+MayEnd (tasks.Run size) = HasNoWrongWord
 MayEnd (tasks.Assemble origin) = HasNoWrongWord
 MayEnd (tasks.List origin) = IsNotRefused
 
@@ -167,26 +171,30 @@ pub record WritesOfRead {R W : Type 0} (text_of : List ℕ → List ℕ → Type
 
 -- more of a deck was read than the bound, and the replies to the commands that have their end
 -- within it are written and passed on
-pub record LeavesTooLong {R W : Type 0} (source : sources.Ghosts R) (sink : sinks.Ghosts W)
-    (before after : R) (old new : W) : Type 0 where
+pub record LeavesTooLong {R W : Type 0} (registers : ℕ) (source : sources.Ghosts R)
+    (sink : sinks.Ghosts W) (before after : R) (old new : W) : Type 0 where
   pub bytes : List ℕ
   pub read : Consumes (source.remaining before) (source.remaining after) bytes
   pub too_long : most_bytes < length bytes
+  pub given : most_bytes < source.given after
   pub written :
-      WritesTextOf decks.EndedText (sink.contents old) (sink.contents new) (bytes_within bytes)
+      WritesTextOf (decks.EndedText registers) (sink.contents old) (sink.contents new)
+      (bytes_within bytes)
   pub flushed : sink.flushed new ≡ true
 
 -- why reading is said to have failed where no read did: a deck is too long, or another input, of
 -- which nothing is printed
 abbrev pub TooLong : {R W : Type 0} → Task → sources.Ghosts R → sinks.Ghosts W → R → R → W → W
     → Type 0
-TooLong tasks.Run source sink before after old new =
-    LeavesTooLong source sink before after old new
+TooLong (tasks.Run size) source sink before after old new =
+    LeavesTooLong (registers_of size) source sink before after old new
 TooLong (tasks.Assemble origin) source sink before after old new =
-    IfSome (source.remaining before)
+    (most_bytes < source.given after)
+    × IfSome (source.remaining before)
     (WritesTextOf IsTooLong (sink.contents old) (sink.contents new))
 TooLong (tasks.List origin) source sink before after old new =
-    IfSome (source.remaining before)
+    (most_bytes < source.given after)
+    × IfSome (source.remaining before)
     (WritesTextOf IsTooLong (sink.contents old) (sink.contents new))
 
 -- why reading ends with a fault: a read failed, or the input is too long
@@ -209,8 +217,8 @@ NotRead result task source sink before after old new =
 -- commands of what was read, of a source and of a list of words nothing
 abbrev pub LeavesBegun : {R W : Type 0} → Task → sources.Ghosts R → sinks.Ghosts W → R → R → W → W
     → Type 0
-LeavesBegun tasks.Run source sink before after old new =
-    WritesOfRead decks.FirstText source sink before after old new
+LeavesBegun (tasks.Run size) source sink before after old new =
+    WritesOfRead (decks.FirstText (registers_of size)) source sink before after old new
 LeavesBegun (tasks.Assemble origin) source sink before after old new =
     Keeps (sink.contents old) (sink.contents new)
 LeavesBegun (tasks.List origin) source sink before after old new =
@@ -220,26 +228,27 @@ LeavesBegun (tasks.List origin) source sink before after old new =
 -- read
 abbrev pub LeavesUnread : {R W : Type 0} → Task → sources.Ghosts R → sinks.Ghosts W → R → R → W → W
     → Type 0
-LeavesUnread tasks.Run source sink before after old new =
-    WritesOfRead decks.EndedText source sink before after old new
+LeavesUnread (tasks.Run size) source sink before after old new =
+    WritesOfRead (decks.EndedText (registers_of size)) source sink before after old new
 LeavesUnread (tasks.Assemble origin) source sink before after old new =
     Keeps (sink.contents old) (sink.contents new)
 LeavesUnread (tasks.List origin) source sink before after old new =
     Keeps (sink.contents old) (sink.contents new)
 
 -- of what was read of a deck a front of the replies to some first commands is written
-pub record WritesFrontOfRead {R W : Type 0} (source : sources.Ghosts R) (sink : sinks.Ghosts W)
-    (before after : R) (old new : W) : Type 0 where
+pub record WritesFrontOfRead {R W : Type 0} (registers : ℕ) (source : sources.Ghosts R)
+    (sink : sinks.Ghosts W) (before after : R) (old new : W) : Type 0 where
   pub bytes : List ℕ
   pub read : Consumes (source.remaining before) (source.remaining after) bytes
   pub written :
-      WritesFrontOf decks.FirstText (sink.contents old) (sink.contents new) (bytes_within bytes)
+      WritesFrontOf (decks.FirstText registers) (sink.contents old) (sink.contents new)
+      (bytes_within bytes)
 
 -- and where the output failed: a front of these replies, or of their text
 abbrev pub LeavesFront : {R W : Type 0} → Task → sources.Ghosts R → sinks.Ghosts W → R → R → W → W
     → Type 0
-LeavesFront tasks.Run source sink before after old new =
-    WritesFrontOfRead source sink before after old new
+LeavesFront (tasks.Run size) source sink before after old new =
+    WritesFrontOfRead (registers_of size) source sink before after old new
 LeavesFront (tasks.Assemble origin) source sink before after old new =
     IfSome (source.remaining before)
     (WritesFrontOf (AssemblyText origin) (sink.contents old) (sink.contents new))
@@ -263,6 +272,20 @@ abbrev pub ErrLeavesFront : {A R W : Type 0} → Result A Fault → Task → sou
     → sinks.Ghosts W → R → R → W → W → Type 0
 ErrLeavesFront result task source sink before after old new =
     result ≡ Err WriteFault → LeavesFront task source sink before after old new
+
+-- but for a fault of writing all that is written of a deck is passed on; of a source and of a list
+-- of words nothing is written
+abbrev pub IsPassedOn : Task → Bool → Type 0
+IsPassedOn (tasks.Run size) flushed = flushed ≡ true
+IsPassedOn (tasks.Assemble origin) flushed = Unit {0}
+IsPassedOn (tasks.List origin) flushed = Unit {0}
+
+abbrev pub ErrPassedOn : {A : Type 0} → Result A Fault → Task → Bool → Type 0
+ErrPassedOn result task flushed =
+    IfErr result (λ fault. fault ≢ WriteFault → IsPassedOn task flushed)
+
+abbrev pub JobPassedOn : ℕ → Job → Bool → Bool → Type 0
+JobPassedOn status job failed flushed = status ≡ 3 → failed ≡ false → IsPassedOn job.task flushed
 
 -- where a job has the status of a fault, and the output did not fail, or did, or a read failed
 abbrev pub JobBegun : {R W : Type 0} → ℕ → Job → sources.Ghosts R → sinks.Ghosts W → R → R → W → W

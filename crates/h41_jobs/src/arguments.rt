@@ -6,14 +6,16 @@ ghost use Rattle.clap.specs.Words.{FailsBy, HasMatchesOf, app_of, fault_of, kind
 ghost use Rattle.clap.specs.Words.{subcommand_rows_of};
 ghost use Rattle.clap.specs.declared.error.kind.ErrorKind.TheVariants as kind;
 ghost use Rattle.h41_jobs.specs.BenchCommand.{bench_app, file_rule, has_globals, job_in};
+ghost use Rattle.h41_jobs.specs.BenchCommand.{memory_asked, memory_in, memory_rule};
 ghost use Rattle.h41_jobs.specs.BenchCommand.{origin_app, origin_asked, origin_in, origin_rule};
 ghost use Rattle.h41_jobs.specs.BenchCommand.{run_app, task_asked};
 ghost use Rattle.h41_jobs.specs.CommandLine.{asks_help, asks_version, asm_file, dis_file};
-ghost use Rattle.h41_jobs.specs.CommandLine.{file_to_run, is_mistake};
+ghost use Rattle.h41_jobs.specs.CommandLine.{file_to_run, give_memory, is_mistake};
 ghost use Rattle.h41_jobs.specs.Ending.{AsksForNoRun, AsksTo, AsksToRun, EndsAtOnce, EndsWith};
 ghost use Rattle.h41_jobs.specs.Ending.{GivesJob, GivesJobOf, IsNoHelp, parts_of, status_of};
 ghost use Rattle.h41_jobs.specs.Ending.{text_of};
 
+use crate::memory::{MemorySize, written_size};
 use crate::numbers::origin_value;
 use clap::error::ErrorKind;
 use clap::{Arg, ArgAction, ArgMatches, Command, Error};
@@ -23,8 +25,8 @@ use std::alloc::{AllocError, Global};
 /// What a job does with its file.
 #[derive(Clone, Copy, Debug, PartialEq, Eq)]
 pub enum Task {
-    /// Runs the deck in it.
-    Run,
+    /// Runs the deck in it, on a bench with so much memory.
+    Run { memory: MemorySize },
     /// Assembles the source in it, from an address on.
     Assemble { origin: u16 },
     /// Lists the words in it, of which the first stands at an address.
@@ -76,15 +78,21 @@ impl Ending {
 /// The address of the first word where none is given.
 const ORIGIN: u16 = 0x8000;
 
+/// The memory of a run where none is given.
+const MEMORY: MemorySize = MemorySize::Cv;
+
 /// The version, and the kit that proves it, as `rt version` prints it.
 const VERSION: &str = "0.1.0, proved with rattle-kit-13f logic dac8208d650f15bf";
 
 /// What a wrong origin is answered with.
 const WRONG_ORIGIN: &str = "error: the origin has not four hexadecimal digits\n";
 
+/// What a wrong size of memory is answered with.
+const WRONG_MEMORY: &str = "error: the memory is none of 64, 128, 192, 256 and 320 registers\n";
+
 /// How the program is started.
 const USAGE: &str = "\
-bench run FILE
+bench run [--memory N] FILE
        bench asm [--origin HHHH] FILE
        bench dis [--origin HHHH] FILE";
 
@@ -180,15 +188,16 @@ fn bench<'a>(alloc: Global) -> Result<Command<'a>, AllocError>
         .subcommand(list_command(alloc)?)
 }
 
-/// The command that takes FILE alone.
+/// The command that runs a deck.
 fn run_command<'a>(alloc: Global) -> Result<Command<'a>, AllocError>
     ensures app { IfOk result (λ command. app_of command ≡ run_app) }
     ensures local { IfOk result (λ command. has_globals command ≡ false) }
 {
     Command::new(alloc, "run")
         .about("Runs a deck of commands")
-        .override_usage("bench run FILE")
+        .override_usage("bench run [--memory N] FILE")
         .after_help(DECKS)
+        .arg(memory_argument(alloc))?
         .arg(file_argument(alloc))
 }
 
@@ -229,6 +238,18 @@ fn origin_command<'a>(
         .arg(file_argument(alloc))
 }
 
+/// The argument `--memory`.
+fn memory_argument<'a>(alloc: Global) -> Arg<'a>
+    ensures rule { rule_of result ≡ memory_rule }
+    ensures local { result.global ≡ false }
+{
+    Arg::new(alloc, "memory")
+        .long("memory")
+        .value_name("N")
+        .help("The registers of memory: 64, 128, 192, 256 or 320, and 320 if not given")
+        .action(ArgAction::Set)
+}
+
 /// The argument `--origin`.
 fn origin_argument<'a>(alloc: Global) -> Arg<'a>
     ensures rule { rule_of result ≡ origin_rule }
@@ -260,7 +281,7 @@ fn matched<'a>(alloc: Global, words: &'a [&'a str]) -> Result<ArgMatches<'a>, Er
     bench(alloc)?.try_get_matches_from(words)
 }
 
-/// The job that the matches have. None where an origin is wrong.
+/// The job that the matches have. None where a size of memory or an origin is wrong.
 fn job_of<'a>(matches: &ArgMatches<'a>) -> Option<Job<'a>>
     ensures { option_map parts_of result ≡ job_in (subcommand_rows_of matches.now) }
 {
@@ -272,10 +293,12 @@ fn job_of<'a>(matches: &ArgMatches<'a>) -> Option<Job<'a>>
 
 /// The task that a command's name asks for.
 fn task_of(name: &str, command: &ArgMatches<'_>) -> Option<Task>
-    ensures { result ≡ task_asked name.now (origin_in command.now) }
+    ensures { result ≡ task_asked name.now (memory_in command.now) (origin_in command.now) }
 {
     match name {
-        "run" => Some(Task::Run),
+        "run" => Some(Task::Run {
+            memory: memory_of(command)?,
+        }),
         "asm" => Some(Task::Assemble {
             origin: origin_of(command)?,
         }),
@@ -283,6 +306,16 @@ fn task_of(name: &str, command: &ArgMatches<'_>) -> Option<Task>
             origin: origin_of(command)?,
         }),
         _ => None,
+    }
+}
+
+/// The size of memory: 320 registers where it is not given. None where the one that is given is no size.
+fn memory_of(command: &ArgMatches<'_>) -> Option<MemorySize>
+    ensures { result ≡ memory_asked (memory_in command.now) }
+{
+    match command.get_str("memory") {
+        Some(text) => written_size(text),
+        None => Some(MEMORY),
     }
 }
 
@@ -296,21 +329,25 @@ fn origin_of(command: &ArgMatches<'_>) -> Option<u16>
     }
 }
 
-/// The job that the matches have, or how the program ends where an origin is wrong.
+/// The job that the matches have, or how the program ends where a size of memory or an origin is wrong.
 fn job_or_mistake<'a>(alloc: Global, matches: &ArgMatches<'a>) -> Result<Job<'a>, Ending>
     ensures { GivesJob (job_in (subcommand_rows_of matches.now)) result }
 {
     match job_of(matches) {
         Some(job) => Ok(job),
-        None => Err(wrong_origin(alloc)),
+        None => Err(wrong_option(alloc, matches.subcommand_name())),
     }
 }
 
-/// How the program ends where an origin is wrong.
-fn wrong_origin(alloc: Global) -> Ending
+/// How the program ends where an option of this command is wrong.
+fn wrong_option(alloc: Global, command: Option<&str>) -> Ending
     ensures { EndsWith 2 result }
 {
-    match String::from_str(alloc, WRONG_ORIGIN) {
+    let text = match command {
+        Some("run") => WRONG_MEMORY,
+        _ => WRONG_ORIGIN,
+    };
+    match String::from_str(alloc, text) {
         Ok(text) => Ending::Mistake(text),
         Err(_) => Ending::OutOfMemory,
     }
@@ -334,22 +371,23 @@ fn make_ending(alloc: Global, error: Error) -> Ending
 }
 
 /// Reads the words of the command line, of which the first is the program's name. They ask for a
-/// run as `run FILE`, with FILE `-` or no flag, or with the mark `--` before or after it; for the
-/// other tasks as `asm` and `dis`, with FILE and an origin.
+/// run as `run FILE`, with FILE `-` or no flag, or with the mark `--` before or after it, and with a
+/// size of memory; for the other tasks as `asm` and `dis`, with FILE and an origin.
 ///
 /// # Errors
 ///
 /// `Help` (status 0), `Mistake` (status 2) and `OutOfMemory` (status 3).
 pub fn read_words<'a>(alloc: Global, words: &'a [&'a str]) -> Result<Job<'a>, Ending>
     ensures run { IfSome (file_to_run (map (λ w. w.now) words.now)) (AsksToRun result) }
-    ensures no_run { IfNone (file_to_run (map (λ w. w.now) words.now)) (AsksForNoRun result) }
+    ensures no_run { give_memory (map (λ w. w.now) words.now) ≡ false
+        → IfNone (file_to_run (map (λ w. w.now) words.now)) (AsksForNoRun result) }
     ensures asm { IfSome (asm_file words.now) (AsksTo result (Task.Assemble 0x8000)) }
     ensures dis { IfSome (dis_file words.now) (AsksTo result (Task.List 0x8000)) }
     ensures help { asks_help (map (λ w. w.now) words.now) ≡ true → EndsAtOnce 0 result }
     ensures version { asks_version (map (λ w. w.now) words.now) ≡ true → EndsAtOnce 0 result }
     ensures mistake { is_mistake (map (λ w. w.now) words.now) ≡ true → EndsAtOnce 2 result }
 
-    // Where the words are taken, the job is that of the command, the FILE and the origin in them, and a wrong origin ends the
+    // Where the words are taken, the job is that of the command, the FILE and the option in them, and a wrong option ends the
     // program.
     ensures refused { fault_of bench_app (map (λ w. w.now) words.now) ≢ [] → IsErr result }
     ensures job { GivesJobOf (map (λ w. w.now) words.now) result }

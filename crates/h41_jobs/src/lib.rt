@@ -7,10 +7,12 @@ mod assemble;
 mod ended;
 mod input;
 mod list;
+mod memory;
 mod numbers;
 mod output;
 mod serving;
 
 pub use arguments::{Ending, Job, Task, read_words};
 pub use h41_deck::{Fault, FromRead, Sink, Source, ToWrite};
+pub use memory::MemorySize;
 pub use serving::{serve, tell};

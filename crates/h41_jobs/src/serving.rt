@@ -5,6 +5,7 @@ ghost use Rattle.std.specs.Io.KnownBytes.{Keeps};
 ghost use Rattle.h41_ends.specs.Ends.{Appended};
 ghost use Rattle.h41_jobs.specs.Statuses.{EndsJob, IsTaskStatus, TellsFault, TellsMark, fault_line};
 ghost use Rattle.h41_jobs.specs.Tasks.{Ends, ErrLeavesBegun, ErrLeavesFront, ErrLeavesUnread};
+ghost use Rattle.h41_jobs.specs.Tasks.{ErrPassedOn, JobPassedOn};
 ghost use Rattle.h41_jobs.specs.Tasks.{JobBegun, JobLeavesFront, JobLeavesUnread, JobWritesText};
 ghost use Rattle.h41_jobs.specs.Tasks.{MayEnd, OkWritesText, Tells, TellsWord};
 ghost use Rattle.h41_jobs.specs.Tasks.{NotRead, mistake_line};
@@ -14,8 +15,9 @@ use crate::assemble::assembly;
 use crate::ended::{Ended, mistake_line};
 use crate::input::read_input;
 use crate::list::listing;
+use crate::memory::run_with;
 use crate::output::{write_answer, write_text};
-use h41_deck::{Fault, Sink, Source, WriteFault, run_deck};
+use h41_deck::{Fault, Sink, Source, WriteFault};
 use std::alloc::Global;
 
 /// The status of a job that was carried out and printed no refusal.
@@ -60,13 +62,15 @@ pub fn serve<R: Source, W: Sink, E: Sink>(
     ensures writer { TellsMark result (W.failed writer.new) }
 
     // Where something failed, the replies to some first commands of a deck are written, and nothing of a source or of a list; or
-    // where writing failed a front of these replies or of its text. The fault came for its cause, and its line is told, if it can be.
+    // where writing failed a front of these replies or of its text. What is written is passed on before the fault is told. It came
+    // for its cause, and its line is told, if it can be.
     ensures begun { JobBegun result job.entry R.Source W.Sink
         reader.old reader.new writer.old writer.new }
     ensures unread { JobLeavesUnread job.entry R.Source W.Sink
         reader.old reader.new writer.old writer.new }
     ensures cut { JobLeavesFront result job.entry R.Source W.Sink
         reader.old reader.new writer.old writer.new }
+    ensures passed { JobPassedOn result job.entry (W.failed writer.new) (W.flushed writer.new) }
     ensures fault { TellsFault result job.entry.task R.Source W.Sink E.Sink
         reader.old reader.new writer.old writer.new faults.old faults.new }
 {
@@ -98,12 +102,13 @@ fn do_task<R: Source, W: Sink>(
         reader.old reader.new writer.old writer.new }
     ensures cut { ErrLeavesFront result task R.Source W.Sink
         reader.old reader.new writer.old writer.new }
+    ensures passed { ErrPassedOn result task (W.flushed writer.new) }
     ensures write_fault { result ≡ Err Fault.WriteFault → W.failed writer.new ≡ true }
     ensures reader { result ≢ Err Fault.ReadFault → R.failed reader.new ≡ false }
     ensures writer { result ≢ Err Fault.WriteFault → W.failed writer.new ≡ false }
 {
     match task {
-        Task::Run => Ok(Ended::from(run_deck(alloc, reader, writer)?)),
+        Task::Run { memory } => Ok(Ended::from(run_with(alloc, memory, reader, writer)?)),
         Task::Assemble { origin } => {
             let source = read_input(alloc, reader)?;
             let answer = assembly(alloc, &source, origin)?;

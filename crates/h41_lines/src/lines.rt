@@ -4,7 +4,7 @@ ghost use Rattle.std.specs.Iterator.{YieldsFirstRef, item_count};
 ghost use Rattle.std.specs.List.{position};
 ghost use Rattle.std.specs.Prelude.{◌≡◌, ◌==◌};
 ghost use Rattle.std.specs.Str.Lines.{strip_carriage_return};
-ghost use Rattle.h41_lines.specs.Lines.{ended_lines, lines};
+ghost use Rattle.h41_lines.specs.Lines.{lines};
 
 /// The lines that are left of a text, each without its LF and without a CR right before that. The last LF may be missing.
 #[derive(Debug, Drop)]
@@ -65,15 +65,4 @@ pub fn without_return(line: &[u8]) -> &[u8]
         [line @ .., b'\r'] => line,
         _ => line,
     }
-}
-
-/// The lines of a text that have their end: all bytes up to the last LF, with it.
-pub fn ended_lines(text: &[u8]) -> &[u8]
-    ensures { result.now ≡ ended_lines text.now }
-{
-    let mut end = text.len();
-    while end > 0 && text[end - 1] != b'\n' {
-        end -= 1;
-    }
-    &text[..end]
 }

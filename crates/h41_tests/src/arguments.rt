@@ -1,20 +1,71 @@
 //! Rows of command lines.
 
 use crate::judge::wants;
-use h41_jobs::{Task, read_words};
+use h41_jobs::{MemorySize, Task, read_words};
 use std::alloc::Global;
 use std::process::Abort;
 use std::test::Fail;
 
 #[test]
 fn runs_a_file(rt: HostRuntime) -> Result<(), Fail> {
+    let memory = MemorySize::Cv;
     for file in ["deck.txt", "-", "help", "run", ""] {
         match read_words(rt.alloc(), &["bench", "run", file]) {
-            Ok(job) => wants(&rt, file, job.task == Task::Run && job.file == file),
+            Ok(job) => wants(
+                &rt,
+                file,
+                job.task == Task::Run { memory } && job.file == file,
+            ),
             Err(_) => wants(&rt, file, false),
         }
     }
     Ok(())
+}
+
+#[test]
+fn takes_a_size_of_memory(rt: HostRuntime) {
+    let rows: [(&[&str], MemorySize); 7] = [
+        (&["bench", "run", "--memory", "64", "f"], MemorySize::BareC),
+        (
+            &["bench", "run", "f", "--memory", "128"],
+            MemorySize::OneModule,
+        ),
+        (
+            &["bench", "run", "--memory=192", "f"],
+            MemorySize::TwoModules,
+        ),
+        (
+            &["bench", "run", "f", "--memory=256"],
+            MemorySize::ThreeModules,
+        ),
+        (&["bench", "run", "--memory=320", "--", "f"], MemorySize::Cv),
+        (&["bench", "run", "--", "f"], MemorySize::Cv),
+        (&["bench", "run", "f", "--"], MemorySize::Cv),
+    ];
+    for (words, memory) in rows {
+        takes(&rt, rt.alloc(), words, Task::Run { memory }, "f");
+    }
+}
+
+#[test]
+fn refuses_a_size_of_memory(rt: HostRuntime) {
+    for text in [
+        "", "0", "63", "65", "100", "319", "321", "064", "+64", "64 ", "C", "six",
+    ] {
+        is_mistake(&rt, rt.alloc(), &["bench", "run", "--memory", text, "f"]);
+    }
+    let rows: [&[&str]; 7] = [
+        &["bench", "run", "--memory", "64"],
+        &["bench", "run", "f", "--memory"],
+        &["bench", "run", "--memory=", "f"],
+        &["bench", "run", "--memory=64", "f", "--memory=64"],
+        &["bench", "run", "--memory", "64", "f", "g"],
+        &["bench", "asm", "--memory", "64", "f"],
+        &["bench", "--memory", "64", "run", "f"],
+    ];
+    for words in rows {
+        is_mistake(&rt, rt.alloc(), words);
+    }
 }
 
 #[test]

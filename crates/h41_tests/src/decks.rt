@@ -23,7 +23,7 @@ fn runs_in_pieces(rt: HostRuntime) -> Result<(), Fail> {
     for (reads, writes) in [(1, 1), (2, 3), (7, 1), (100, 100), (1, 100), (100, 1)] {
         let mut reader = reader(DECK, reads, 1000);
         let mut writer = writer(rt.alloc(), writes, 1000);
-        let outcome = run_deck(rt.alloc(), &mut reader, &mut writer)?;
+        let outcome = run_deck::<_, _, 320>(rt.alloc(), &mut reader, &mut writer)?;
         let is_whole = writer.taken.as_slice() == TEXT.as_bytes();
         let holds = outcome == Outcome::Refused && is_whole;
         assert!(rt; holds, "by {reads} and {writes}");
@@ -57,7 +57,7 @@ fn stops_at_a_failed_read(rt: HostRuntime) {
     for calls in 0..=DECK.len().div_ceil(7) {
         let mut reader = reader(DECK, 7, calls);
         let mut writer = writer(rt.alloc(), 100, 1000);
-        let result = run_deck(rt.alloc(), &mut reader, &mut writer);
+        let result = run_deck::<_, _, 320>(rt.alloc(), &mut reader, &mut writer);
         let is_told = result == Err(Fault::ReadFault) && reader.failed() && !writer.failed();
         let is_front = TEXT.as_bytes().starts_with(&writer.taken);
         let is_all = writer.taken.len() == text_within(7 * calls);
@@ -74,7 +74,7 @@ fn stops_at_a_failed_write(rt: HostRuntime) {
     for calls in [0, 1, 9, 10, 100, TEXT.len() - 1, TEXT.len()] {
         let mut reader = reader(DECK, 100, 1000);
         let mut writer = writer(rt.alloc(), 1, calls);
-        let result = run_deck(rt.alloc(), &mut reader, &mut writer);
+        let result = run_deck::<_, _, 320>(rt.alloc(), &mut reader, &mut writer);
         let is_told = result == Err(Fault::WriteFault) && writer.failed() && !reader.failed();
         let is_front = TEXT.as_bytes().starts_with(&writer.taken);
         assert!(rt;
@@ -87,7 +87,7 @@ fn stops_at_a_failed_write(rt: HostRuntime) {
 #[test]
 fn stops_where_a_write_takes_nothing(rt: HostRuntime) {
     let mut none = writer(rt.alloc(), 0, 1000);
-    let result = run_deck(rt.alloc(), &mut reader(DECK, 100, 1000), &mut none);
+    let result = run_deck::<_, _, 320>(rt.alloc(), &mut reader(DECK, 100, 1000), &mut none);
     let is_told = result == Err(Fault::WriteFault) && none.failed();
     wants(
         &rt,
@@ -98,7 +98,7 @@ fn stops_where_a_write_takes_nothing(rt: HostRuntime) {
     // Room for the first refusal and the start of the trace.
     let mut room = [0u8; 20];
     let mut full = ToWrite::new(Cursor::new(room.as_mut_slice()));
-    let result = run_deck(rt.alloc(), &mut reader(DECK, 100, 1000), &mut full);
+    let result = run_deck::<_, _, 320>(rt.alloc(), &mut reader(DECK, 100, 1000), &mut full);
     let is_told = result == Err(Fault::WriteFault) && full.failed();
     let is_full = full.into_inner().position() == 20;
     let is_front = TEXT.as_bytes().starts_with(&room);
@@ -118,9 +118,10 @@ fn ends_at_the_bound(
         before,
         blanks: count - before.len(),
         after,
+        given: 0,
     };
     let mut writer = writer(alloc, 100, 1000);
-    let result = run_deck(alloc, &mut reader, &mut writer);
+    let result = run_deck::<_, _, 320>(alloc, &mut reader, &mut writer);
     wants(rt, "how it ends", result == expected);
     wants(rt, text, writer.taken.as_slice() == text.as_bytes());
     wants(rt, "no end fails", !reader.failed() && !writer.failed());
@@ -156,7 +157,7 @@ fn an_open_block_of_a_longer_deck_prints_nothing(rt: HostRuntime) {
 fn flushes_a_writer_of_std(rt: HostRuntime) -> Result<(), Fail> {
     let inner = Cursor::new([0u8; 20]);
     let mut writer = ToWrite::new(BufWriter::new(rt.alloc(), inner)?);
-    run_deck(
+    run_deck::<_, _, 320>(
         rt.alloc(),
         &mut FromRead::new("fly\n".as_bytes()),
         &mut writer,

@@ -15,6 +15,7 @@ pub struct SourceInPieces<'a> {
     pub most: usize,
     pub calls: usize,
     pub has_failed: bool,
+    pub given: usize,
     ghost some: { 0 < most },
 }
 
@@ -22,6 +23,8 @@ impl Source for SourceInPieces<'_> {
     ghost remaining = { λ s. Some s.rest.now };
 
     ghost failed = { λ s. s.has_failed };
+
+    ghost given = { λ s. s.given };
 
     fn read(&mut self, buffer: &mut [u8]) -> io::Result<usize> {
         if self.calls == 0 {
@@ -32,12 +35,20 @@ impl Source for SourceInPieces<'_> {
         let count = self.rest.len().min(self.most).min(buffer.len());
         buffer[..count].copy_from_slice(&self.rest[..count]);
         self.rest = &self.rest[count..];
+        self.given = given_with(self.given, count);
         Ok(count)
     }
 
     fn failed(&self) -> bool {
         self.has_failed
     }
+}
+
+/// How many bytes were given with so many more, counted up to one more than an input may have.
+pub fn given_with(given: usize, count: usize) -> usize
+    ensures { result ≡ min 67108865 (given + count) }
+{
+    given.saturating_add(count).min(67_108_865)
 }
 
 /// A sink of at most `most` bytes a call, which fails once `calls` is spent.
@@ -99,6 +110,7 @@ pub fn reader<'a>(text: &'a str, most: usize, calls: usize) -> SourceInPieces<'a
         most,
         calls,
         has_failed: false,
+        given: 0,
     }
 }
 
@@ -121,6 +133,7 @@ pub struct Long<'a> {
     pub before: &'a [u8],
     pub blanks: usize,
     pub after: &'a [u8],
+    pub given: usize,
 }
 
 impl Source for Long<'_> {
@@ -128,13 +141,17 @@ impl Source for Long<'_> {
 
     ghost failed = { λ _. false };
 
+    ghost given = { λ s. s.given };
+
     fn read(&mut self, buffer: &mut [u8]) -> io::Result<usize> {
         if self.before.is_empty() && self.blanks > 0 {
             let count = self.blanks.min(buffer.len());
             buffer[..count].fill(b' ');
             self.blanks -= count;
+            self.given = given_with(self.given, count);
             return Ok(count);
         }
+        let given = self.given;
         let rest = if self.before.is_empty() {
             &mut self.after
         } else {
@@ -143,6 +160,7 @@ impl Source for Long<'_> {
         let count = rest.len().min(buffer.len());
         buffer[..count].copy_from_slice(&rest[..count]);
         *rest = &rest[count..];
+        self.given = given_with(given, count);
         Ok(count)
     }
 

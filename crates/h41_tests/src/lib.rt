@@ -13,4 +13,10 @@ mod judge;
 #[cfg(test)]
 mod libraries;
 #[cfg(test)]
+mod pieces;
+#[cfg(test)]
 mod serving;
+#[cfg(test)]
+mod sizes;
+#[cfg(test)]
+mod watched;

@@ -3,11 +3,13 @@
 use crate::decks::{DECK, TEXT};
 use crate::ends::{reader, writer};
 use crate::judge::wants;
-use h41_jobs::{Job, Task, serve};
+use h41_jobs::{Job, MemorySize, Task, serve};
 use std::alloc::Global;
 use std::process::Abort;
 
-const RUN: Task = Task::Run;
+const RUN: Task = Task::Run {
+    memory: MemorySize::Cv,
+};
 
 const ASSEMBLE: Task = Task::Assemble { origin: 0x8000 };
 

@@ -1,3 +1,4 @@
+pub mod Accepted
 pub mod DisplayLaws
 pub mod KeyLaws
 pub mod Keying

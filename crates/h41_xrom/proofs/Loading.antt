@@ -77,3 +77,18 @@ pub size_failed : (count : ℕ) (from s : CalculatorState) (memory : RegisterMap
 size_failed count from s memory why is accepted gives =
     let free = rw (← is) at accepted in
     rw (← is, sym free) (size_refused from memory why (size_outcome from.nut.ram count) gives)
+
+-- a new size that it takes
+size_made : (from t : CalculatorState) (memory : RegisterMap) (done : Unit {0})
+    (outcome : Result (RegisterMap × Unit {0}) program.ProgramRefusal) → HasOutcome from.nut.ram memory (Ok done) outcome
+    → t ≡ not_typing (with_memory memory from) → Becomes (after_size from outcome) from t None
+size_made from t memory done (Ok made) gives left = (left ∙ ap (λ (of : RegisterMap). not_typing (with_memory of from)) gives.1, refl)
+size_made from t memory done (Err other) gives left =
+    let never : ◌≡◌ {A = Result (Unit {0}) program.ProgramRefusal} (Ok done) (Err other) = gives.0 in cc
+
+pub size_done : (count : ℕ) (from s t : CalculatorState) (memory : RegisterMap) (done : Unit {0}) → from ≡ s → None ≡ change_refusal s
+    → HasOutcome from.nut.ram memory (Ok done) (size_outcome from.nut.ram count) → t ≡ not_typing (with_memory memory from)
+    → Becomes (size_makes s count) s t None
+size_done count from s t memory done is accepted gives left =
+    let free = rw (← is) at accepted in
+    rw (← is, sym free) (size_made from t memory done (size_outcome from.nut.ram count) gives left)

@@ -1,7 +1,7 @@
 -- The calculator: its state, its mode, a call, pages, and single steps. All of it is this project's
 -- choice, but for what words, lines and keys do.
 use Rattle.std.specs.Prelude.{◌≡◌, ℕ, Bool, true, false, not, nat_lt, ◌==◌, if◌then◌else◌, Option}
-use Rattle.std.specs.Prelude.{None, List, option_map, Result, Ok}
+use Rattle.std.specs.Prelude.{None, List, length, option_map, Result, Ok}
 use Rattle.std.specs.Bool.{then_some}
 use Rattle.std.specs.Option.{option_or}
 use Rattle.std.specs.Result.{result_err}
@@ -46,18 +46,14 @@ pub record CalculatorState : Type 0 where
   pub message : Option (List ℕ)
   pub mode : Mode
 
--- how many registers main memory has
-abbrev pub registers : ℕ
-registers = 320
-
 -- no key was pressed
 abbrev pub no_key : Keys
 no_key = record { ky = 0; flag = false }
 
--- nothing is plugged, nothing runs, nothing is typed, there is no message, and memory has an empty
--- program, at whose line 00 the calculator stands
-abbrev pub start : CalculatorState
-start = record {
+-- with so many registers of main memory nothing is plugged, nothing runs, nothing is typed, there
+-- is no message, and memory has an empty program, at whose line 00 the calculator stands
+abbrev pub start : ℕ → CalculatorState
+start registers = record {
   nut = nut_of initial_state (ram.start registers) pages.no_pages no_key;
   focal = focal.start;
   input = keyboard.start;
@@ -123,9 +119,11 @@ with_page page bank writable words s =
 abbrev pub without_page : ℕ → CalculatorState → CalculatorState
 without_page page s = with_pages (pages.without_images s.nut.pages page) s
 
--- as at the start, but for the pages, which stay plugged; bank 1 is chosen at each
+-- as at the start with as many registers of main memory, but for the pages, which stay plugged;
+-- bank 1 is chosen at each
 abbrev pub after_reset : CalculatorState → CalculatorState
-after_reset s = with_pages (pages.with_first_banks s.nut.pages) start
+after_reset s =
+    with_pages (pages.with_first_banks s.nut.pages) (start (length s.nut.ram.main))
 
 -- what lines work on, memory with it
 abbrev pub machine_of : CalculatorState → Machine

@@ -1,8 +1,12 @@
 //! The calculator: processor, memory, pages and keys, and what it does.
 
-ghost use Rattle.std.specs.Prelude.{◌≡◌, ◌≢◌, None, IfOk, IfErr, OnOk, OnErr, option_map};
+ghost use Rattle.std.specs.Prelude.{◌≡◌, ◌≢◌, ◌≤◌, None, IfOk, IfErr, OnOk, OnErr, length};
+ghost use Rattle.std.specs.Prelude.{option_map};
 ghost use Rattle.std.specs.Result.{result_err};
 ghost use Rattle.h41_focal.specs.LabelledMachine as labelled;
+ghost use Rattle.h41_focal.specs.LineStep as focal;
+ghost use Rattle.h41_focal.specs.LineStep.{machine_with};
+ghost use Rattle.h41_ram.specs.RegisterMap as registers;
 ghost use Rattle.h41_pages.specs.PageMap.{unplug_refusal};
 ghost use Rattle.h41_xrom.specs.Calculator.{RefusesLine, RefusesPage, RefusesStep, RefusesStepIn};
 ghost use Rattle.h41_xrom.specs.Calculator.{Step, StepIn, StepsByLine, TakesPage, after_answer};
@@ -34,9 +38,6 @@ use h41_ram::Ram;
 use h41_ram::flags::ALPHA_MODE;
 use std::alloc::{AllocError, Global};
 use std::marker::Model;
-
-/// How many registers main memory has.
-pub const REGISTERS: usize = 320;
 
 /// What the calculator does.
 #[derive(Clone, Copy, Debug, PartialEq, Eq)]
@@ -81,12 +82,12 @@ impl Caller {
     }
 }
 
-/// The calculator: processor, memory, pages and keys, and what it does.
+/// The calculator: processor, memory of `REGS` registers, 64 to 320, pages and keys, and what it does.
 #[derive(Drop)]
-pub struct Calculator {
+pub struct Calculator<const REGS: usize> {
     cpu: Cpu,
     /// Memory, and what lines work on beside it.
-    machine: Machine<REGISTERS>,
+    machine: Machine<REGS>,
     pages: Pages,
     keys: Keys,
     /// What the keyboard keeps from key to key.
@@ -96,7 +97,7 @@ pub struct Calculator {
     mode: Mode,
 }
 
-impl Model for Calculator {
+impl<const REGS: usize> Model for Calculator<REGS> {
     ghost use Rattle.std.specs.Prelude.{option_map};
     ghost use Rattle.h41_focal.specs.LabelledMachine.{AreRight};
     ghost use Rattle.h41_nut.specs.WordStep.{nut_of};
@@ -116,10 +117,12 @@ impl Model for Calculator {
     ghost invariant = { λ all. AreRight all.machine };
 }
 
-impl Calculator {
+impl<const REGS: usize> Calculator<REGS> {
     /// Nothing is plugged, and nothing runs. 21 where memory is refused.
     pub fn new(alloc: Global) -> Result<Self, AllocError>
-        ensures { IfOk result (λ calculator. calculator ≡ start) }
+        requires at_least { 64 ≤ REGS }
+        requires at_most { REGS ≤ 320 }
+        ensures { IfOk result (λ calculator. calculator ≡ start REGS) }
     {
         Ok(Calculator {
             cpu: Cpu::new(),
@@ -140,7 +143,7 @@ impl Calculator {
     }
 
     /// The memory.
-    pub fn ram(&self) -> &Ram<REGISTERS>
+    pub fn ram(&self) -> &Ram<REGS>
         ensures { result.now.registers ≡ self.now.nut.ram }
     {
         &self.machine.ram
@@ -175,7 +178,7 @@ impl Calculator {
     }
 
     /// Memory, and what lines work on beside it.
-    pub fn machine(&self) -> &Machine<REGISTERS>
+    pub fn machine(&self) -> &Machine<REGS>
         ensures { labelled.machine_of result.now ≡ machine_of self.now }
     {
         &self.machine
@@ -524,13 +527,24 @@ impl Calculator {
         ensures { self.new ≡ after_reset self.old }
     {
         self.cpu = Cpu::new();
-        self.machine = Machine::new();
+        self.machine = begun_anew(&self.machine);
         self.pages.choose_first_banks();
         self.keys = Keys::new();
         self.input = Input::new();
         self.message = None;
         self.mode = Mode::Idle;
     }
+}
+
+/// A machine of the same size at the start.
+fn begun_anew<const REGS: usize>(machine: &Machine<REGS>) -> Machine<REGS>
+    ensures machine { labelled.machine_of result
+        ≡ machine_with (registers.start (length machine.now.ram.registers.main)) focal.start }
+    ensures right { labelled.AreRight result }
+{
+    // Every memory has 64 to 320 registers, and a read tells it.
+    let _curtain = machine.ram.curtain();
+    Machine::new()
 }
 
 /// The mode behind what a line answers.

@@ -20,7 +20,7 @@ use h41_text::write_line;
 /// What stands behind a number or a line that is being typed.
 const CURSOR: &str = "_";
 
-impl Calculator {
+impl<const REGS: usize> Calculator<REGS> {
     /// The text of the display, the first that applies: none while the display is off, the message, a prompt, in program mode the
     /// line, ALPHA with flag 48, the number that is being typed, and else X in the display format.
     pub fn display(&self) -> ArrayString<TEXT_CAPACITY>
@@ -32,12 +32,21 @@ impl Calculator {
         if let Some(message) = self.message() {
             return message;
         }
-        let input = self.input();
-        match input.prompt {
+        match self.input().prompt {
             Some(prompt) => prompt_text(&prompt),
-            None if input.program_mode => shown_line(self.machine(), input.entry),
-            None => entry_text(self.ram(), input.entry),
+            None => self.shown_entry(),
         }
+    }
+
+    /// In program mode the line, ALPHA with flag 48, the number that is being typed, and else X in the display format.
+    fn shown_entry(&self) -> ArrayString<TEXT_CAPACITY>
+        ensures { spec.ShowsEntry self.now result.bytes }
+    {
+        let input = self.input();
+        if input.program_mode {
+            return shown_line(self.machine(), input.entry);
+        }
+        entry_text(self.ram(), input.entry)
     }
 }
 

@@ -11,5 +11,5 @@ mod refusal;
 mod storing;
 mod typing;
 
-pub use calculator::{Calculator, Caller, Mode, REGISTERS};
+pub use calculator::{Calculator, Caller, Mode};
 pub use refusal::CalculatorRefusal;

@@ -1,4 +1,4 @@
-//! Bytes, as the lines of an `image` or a `load` block give them.
+//! The bytes of a program, as the lines of a `load` block give them.
 
 ghost use Rattle.std.specs.Prelude.{◌≡◌, IfOk};
 ghost use Rattle.h41_commands.specs.Blocks.{line_digits};
@@ -7,7 +7,6 @@ ghost use Rattle.h41_commands.specs.Contents.{AreBytesOf};
 use crate::line::is_skipped;
 use crate::refusal::LineRefusal;
 use h41_lines::words::is_blank;
-use h41_pages::{ReadRefusal, image_read, is_image_bytes};
 use hex::FromHexError;
 use std::alloc::{AllocError, Global};
 
@@ -20,10 +19,9 @@ pub struct HexBytes {
 }
 
 impl HexBytes {
-    ghost use Rattle.std.specs.Prelude.{◌≡◌, ◌≤◌, [], IfOk, None, Ok, vec_len};
+    ghost use Rattle.std.specs.Prelude.{◌≡◌, [], IfOk, None, Ok};
     ghost use Rattle.std.specs.Result.{result_err};
-    ghost use Rattle.h41_pages.specs.Addresses.{page_size};
-    ghost use Rattle.h41_commands.specs.Blocks.{block_bytes, image_content};
+    ghost use Rattle.h41_commands.specs.Blocks.{block_bytes};
     ghost use Rattle.h41_commands.specs.Contents.{TakesBytes, bytes_in};
 
     /// No bytes.
@@ -61,19 +59,6 @@ impl HexBytes {
         self.is_wrong.then_some(LineRefusal::BadNumber)
     }
 
-    /// Why they are refused as an image, if they are: 51 before 4.
-    pub fn image_refusal(&self) -> Option<LineRefusal>
-        ensures { result ≡ result_err (image_content (bytes_in self.now)) }
-    {
-        if self.is_wrong {
-            Some(LineRefusal::BadNumber)
-        } else if !is_image_bytes(&self.bytes) {
-            Some(LineRefusal::BadImage)
-        } else {
-            None
-        }
-    }
-
     /// The bytes, where they are not refused.
     pub fn into_bytes(self) -> Vec<u8>
         requires { result_err (bytes_in self) ≡ None }
@@ -81,24 +66,11 @@ impl HexBytes {
     {
         self.bytes
     }
-
-    /// The words of the image, where the bytes are not refused as one. 21 where memory is refused.
-    pub fn into_words(self, alloc: Global) -> Result<Vec<u16>, AllocError>
-        requires { result_err (image_content (bytes_in self)) ≡ None }
-        ensures words { IfOk result (λ words. image_content (bytes_in self) ≡ Ok words.items) }
-        ensures bound { IfOk result (λ words. vec_len words ≤ page_size) }
-    {
-        match image_read(alloc, &self.bytes) {
-            Ok(words) => Ok(words),
-            Err(ReadRefusal::OutOfMemory) => Err(AllocError),
-            Err(ReadRefusal::BadImage) => unreachable!(),
-        }
-    }
 }
 
 /// The bytes of a line, where it has an even count of hexadecimal digits and nothing else but blanks and tabs. 21 where
 /// memory is refused.
-fn line_bytes(alloc: Global, line: &[u8]) -> Result<Option<Vec<u8>>, AllocError>
+pub(super) fn line_bytes(alloc: Global, line: &[u8]) -> Result<Option<Vec<u8>>, AllocError>
     ensures { IfOk result (AreBytesOf line.now) }
 {
     match hex::decode(alloc, digits_of(alloc, line)?) {

@@ -3,15 +3,14 @@
 ghost use Rattle.std.specs.Prelude.{◌≡◌, ◌+◌, ◌*◌, ◌<◌, ◌≤◌, ◌++◌, Some};
 ghost use Rattle.std.specs.Fmt.{WritesOnOk};
 ghost use Rattle.arrayvec.specs.ArrayString.{array_string_len};
-ghost use Rattle.h41_deck.specs.Views.{flags_below, flags_line, level_line, register_line};
-ghost use Rattle.h41_deck.specs.Views.{stack_text};
+ghost use Rattle.h41_deck.specs.Views.{address_line, flags_below, level_line, levels_text};
 ghost use Rattle.h41_lines.specs.Characters.{two_digits};
+ghost use Rattle.h41_ram.specs.RegisterMap.{register_at};
 
 use arrayvec::ArrayString;
 use h41_digits::{Digits, Reg};
 use h41_lines::characters::two_digits as digits_of;
 use h41_ram::Ram;
-use h41_xrom::REGISTERS;
 use std::fmt;
 
 /// How many flags there are.
@@ -22,77 +21,86 @@ const FLAGS_TEXT: usize = 168;
 
 /// A register with its address.
 #[derive(Clone, Copy)]
-pub struct RegisterLine<'a> {
-    pub ram: &'a Ram<REGISTERS>,
+pub struct RegisterLine {
     pub address: u16,
+    pub register: Reg,
 }
 
-impl fmt::Display for RegisterLine<'_> {
+impl fmt::Display for RegisterLine {
     ghost use Rattle.std.specs.Prelude.{Some};
-    ghost use Rattle.h41_deck.specs.Views.{register_line};
+    ghost use Rattle.h41_deck.specs.Views.{address_line};
 
-    ghost output = { λ line. Some (register_line line.ram.now.registers line.address) };
+    ghost output = { λ line. Some (address_line line.address line.register) };
 
     fn fmt<W: fmt::Write>(&self, f: &mut fmt::Formatter<W>) -> fmt::Result {
-        write_register(f, self.ram, self.address)
+        write_register(f, self.address, self.register)
     }
 }
 
 /// The stack from T down, and L.
 #[derive(Clone, Copy)]
-pub struct StackLines<'a>(pub &'a Ram<REGISTERS>);
+pub struct StackLines {
+    pub t: Reg,
+    pub z: Reg,
+    pub y: Reg,
+    pub x: Reg,
+    pub l: Reg,
+}
 
-impl fmt::Display for StackLines<'_> {
-    ghost use Rattle.std.specs.Prelude.{Some};
-    ghost use Rattle.h41_deck.specs.Views.{stack_text};
-
-    ghost output = { λ lines. Some (stack_text lines.0.now.registers) };
-
-    fn fmt<W: fmt::Write>(&self, f: &mut fmt::Formatter<W>) -> fmt::Result {
-        write_stack(f, self.0)
+impl StackLines {
+    /// Those of a memory.
+    pub fn of<const REGS: usize>(ram: &Ram<REGS>) -> Self
+        ensures t { result.t ≡ register_at ram.now.registers 0 }
+        ensures z { result.z ≡ register_at ram.now.registers 1 }
+        ensures y { result.y ≡ register_at ram.now.registers 2 }
+        ensures x { result.x ≡ register_at ram.now.registers 3 }
+        ensures l { result.l ≡ register_at ram.now.registers 4 }
+    {
+        StackLines {
+            t: ram.status(0),
+            z: ram.status(1),
+            y: ram.status(2),
+            x: ram.status(3),
+            l: ram.status(4),
+        }
     }
 }
 
-/// The numbers of the flags that are set.
-#[derive(Clone, Copy)]
-pub struct FlagsLine<'a>(pub &'a Ram<REGISTERS>);
-
-impl fmt::Display for FlagsLine<'_> {
+impl fmt::Display for StackLines {
     ghost use Rattle.std.specs.Prelude.{Some};
-    ghost use Rattle.h41_deck.specs.Views.{flags_line};
+    ghost use Rattle.h41_deck.specs.Views.{levels_text};
 
-    ghost output = { λ line. Some (flags_line line.0.now.registers) };
+    ghost output = { λ lines. Some (levels_text lines.t lines.z lines.y lines.x lines.l) };
 
     fn fmt<W: fmt::Write>(&self, f: &mut fmt::Formatter<W>) -> fmt::Result {
-        write_flags(f, self.0)
+        write_stack(f, *self)
     }
 }
 
 /// A register with its address, of three hexadecimal digits.
-#[tactic(auto, unfolding(crate::specs::Views::register_line))]
+#[tactic(auto, unfolding(crate::specs::Views::address_line))]
 fn write_register<W: fmt::Write>(
     f: &mut fmt::Formatter<W>,
-    ram: &Ram<REGISTERS>,
     address: u16,
+    register: Reg,
 ) -> fmt::Result
-    ensures { WritesOnOk W.write_str_gives f.old result (register_line ram.now.registers address)
-        f.new }
+    ensures { WritesOnOk W.write_str_gives f.old result (address_line address register) f.new }
 {
     let name = Digits::<3>::holding(u64::from(address % 0x1000));
-    let register = ram.read(address);
     writeln!(f, "{name}={register}")
 }
 
 /// The stack from T down, and L.
-#[tactic(auto, unfolding(crate::specs::Views::stack_text))]
-fn write_stack<W: fmt::Write>(f: &mut fmt::Formatter<W>, ram: &Ram<REGISTERS>) -> fmt::Result
-    ensures { WritesOnOk W.write_str_gives f.old result (stack_text ram.now.registers) f.new }
+#[tactic(auto, unfolding(crate::specs::Views::levels_text))]
+fn write_stack<W: fmt::Write>(f: &mut fmt::Formatter<W>, stack: StackLines) -> fmt::Result
+    ensures { WritesOnOk W.write_str_gives f.old result
+        (levels_text stack.t stack.z stack.y stack.x stack.l) f.new }
 {
-    write_level(f, "T", ram.status(0))?;
-    write_level(f, "Z", ram.status(1))?;
-    write_level(f, "Y", ram.status(2))?;
-    write_level(f, "X", ram.status(3))?;
-    write_level(f, "L", ram.status(4))
+    write_level(f, "T", stack.t)?;
+    write_level(f, "Z", stack.z)?;
+    write_level(f, "Y", stack.y)?;
+    write_level(f, "X", stack.x)?;
+    write_level(f, "L", stack.l)
 }
 
 /// A level of the stack, or L, by its name.
@@ -103,18 +111,8 @@ fn write_level<W: fmt::Write>(f: &mut fmt::Formatter<W>, name: &str, register: R
     writeln!(f, "{name}={register}")
 }
 
-/// The numbers of the flags that are set.
-#[tactic(auto, unfolding(crate::specs::Views::flags_line))]
-fn write_flags<W: fmt::Write>(f: &mut fmt::Formatter<W>, ram: &Ram<REGISTERS>) -> fmt::Result
-    ensures { WritesOnOk W.write_str_gives f.old result (flags_line ram.now.registers) f.new }
-{
-    let flags = set_flags(ram);
-    let flags = flags.as_str();
-    writeln!(f, "{flags}")
-}
-
 /// The numbers of the flags that are set, parted by blanks.
-fn set_flags(ram: &Ram<REGISTERS>) -> ArrayString<FLAGS_TEXT>
+pub fn set_flags<const REGS: usize>(ram: &Ram<REGS>) -> ArrayString<FLAGS_TEXT>
     ensures { result.bytes ≡ flags_below 56 ram.now.registers }
 {
     let mut flags = ArrayString::new();

@@ -9,12 +9,14 @@ use h41_debug::byte_digits;
 use h41_program::{ListedLine, first_from, is_final_end};
 use h41_ram::Ram;
 use h41_text::write_line;
-use h41_xrom::REGISTERS;
 use std::alloc::{AllocError, Global};
 
 /// The lines of memory from the first on, each with its position and its text; memory that is not sound has none. 21 where
 /// memory is refused.
-pub fn program_lines(alloc: Global, ram: &Ram<REGISTERS>) -> Result<Vec<u8>, AllocError>
+pub fn program_lines<const REGS: usize>(
+    alloc: Global,
+    ram: &Ram<REGS>,
+) -> Result<Vec<u8>, AllocError>
     ensures { IfOk result (λ listing. spec.ListsProgram ram.now.registers listing.items) }
 {
     let mut listing = Vec::new(alloc);

@@ -22,8 +22,8 @@ const RAN: usize = 24;
 const TRACED: usize = TRACE_CAPACITY + 1;
 
 /// A run of at most so many steps. Writes how many it made and why it stopped, and tells its refusal where that is why.
-pub fn run<W: Sink>(
-    bench: &mut Bench,
+pub fn run<W: Sink, const REGS: usize>(
+    bench: &mut Bench<REGS>,
     limit: u32,
     writer: &mut W,
 ) -> Result<Option<Refusal>, WriteFault>
@@ -75,8 +75,8 @@ fn stop_refusal(stop: Stop) -> Option<Refusal>
 
 /// So many single steps, up to the first that is refused, and why that is. Before each is made it is told. Where a line cannot be
 /// written, no more are, but the steps that are left are made: what a command does to the bench does not hang on its writer.
-pub fn trace<W: Sink>(
-    bench: &mut Bench,
+pub fn trace<W: Sink, const REGS: usize>(
+    bench: &mut Bench<REGS>,
     count: u32,
     writer: &mut W,
 ) -> Result<Option<Refusal>, WriteFault>
@@ -100,7 +100,7 @@ pub fn trace<W: Sink>(
 }
 
 /// The line that tells of the next step.
-fn traced_line(bench: &Bench) -> ArrayString<TRACED>
+fn traced_line<const REGS: usize>(bench: &Bench<REGS>) -> ArrayString<TRACED>
     ensures { IsTraceLine bench.now result.bytes }
 {
     let mut line = ArrayString::new();
@@ -110,7 +110,7 @@ fn traced_line(bench: &Bench) -> ArrayString<TRACED>
 }
 
 /// Sets a breakpoint, or tells why not.
-pub fn set_break(bench: &mut Bench, location: Location) -> Option<Refusal>
+pub fn set_break<const REGS: usize>(bench: &mut Bench<REGS>, location: Location) -> Option<Refusal>
     ensures { Reply (commands.Break location) [] bench.old bench.new (ends_by result) }
 {
     match bench.break_at(location) {
@@ -120,7 +120,7 @@ pub fn set_break(bench: &mut Bench, location: Location) -> Option<Refusal>
 }
 
 /// Takes a breakpoint away, or tells why not.
-pub fn unbreak(bench: &mut Bench, location: Location) -> Option<Refusal>
+pub fn unbreak<const REGS: usize>(bench: &mut Bench<REGS>, location: Location) -> Option<Refusal>
     ensures { Reply (commands.Unbreak location) [] bench.old bench.new (ends_by result) }
 {
     match bench.unbreak(location) {

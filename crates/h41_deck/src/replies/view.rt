@@ -1,25 +1,26 @@
 //! What `show` prints.
 
 ghost use Rattle.std.specs.Prelude.{◌≡◌, ◌++◌, IfOk, IfSome};
-ghost use Rattle.h41_deck.specs.Views.{line_of};
+ghost use Rattle.h41_deck.specs.Views.{flags_line, line_of, register_line, stack_text};
 ghost use Rattle.h41_deck.specs.Writing.{IsShown};
 
 use crate::refusal::Refusal;
 use crate::replies::functions::functions_text;
 use crate::replies::image::image_shown;
-use crate::replies::memory::{FlagsLine, RegisterLine, StackLines};
+use crate::replies::memory::{RegisterLine, StackLines, set_flags};
 use crate::replies::processor::Processor;
 use crate::replies::program::program_lines;
 use h41_commands::View;
 use h41_debug::Bench;
+use h41_ram::Ram;
 use h41_show::alpha_text;
 use std::alloc::{AllocError, Global};
 use std::fmt;
 
 /// The text of a view, or why it is refused. 21 where memory is refused.
-pub fn shown(
+pub fn shown<const REGS: usize>(
     alloc: Global,
-    bench: &Bench,
+    bench: &Bench<REGS>,
     view: View,
 ) -> Result<Result<Vec<u8>, Refusal>, AllocError>
     ensures { IfOk result (IsShown view bench.now) }
@@ -34,9 +35,9 @@ pub fn shown(
                 keys: calculator.keys(),
             },
         )?,
-        View::Register(address) => text_of(alloc, RegisterLine { ram, address })?,
-        View::Stack => text_of(alloc, StackLines(ram))?,
-        View::Flags => text_of(alloc, FlagsLine(ram))?,
+        View::Register(address) => register_shown(alloc, ram, address)?,
+        View::Stack => stack_shown(alloc, ram)?,
+        View::Flags => flags_shown(alloc, ram)?,
         View::Alpha => line_of(alloc, alpha_text(ram).as_str())?,
         View::Display => line_of(alloc, calculator.display().as_str())?,
         View::Position => line_of(alloc, bench.position().as_str())?,
@@ -45,6 +46,33 @@ pub fn shown(
         View::Functions => functions_text(alloc, calculator.pages())?,
     };
     Ok(Ok(text))
+}
+
+/// A register with its address. 21 where memory is refused.
+fn register_shown<const REGS: usize>(
+    alloc: Global,
+    ram: &Ram<REGS>,
+    address: u16,
+) -> Result<Vec<u8>, AllocError>
+    ensures { IfOk result (λ text. text.items ≡ register_line ram.now.registers address) }
+{
+    let register = ram.read(address);
+    text_of(alloc, RegisterLine { address, register })
+}
+
+/// The stack from T down, and L. 21 where memory is refused.
+fn stack_shown<const REGS: usize>(alloc: Global, ram: &Ram<REGS>) -> Result<Vec<u8>, AllocError>
+    ensures { IfOk result (λ text. text.items ≡ stack_text ram.now.registers) }
+{
+    text_of(alloc, StackLines::of(ram))
+}
+
+/// The numbers of the flags that are set. 21 where memory is refused.
+#[tactic(auto, unfolding(crate::specs::Views::flags_line))]
+fn flags_shown<const REGS: usize>(alloc: Global, ram: &Ram<REGS>) -> Result<Vec<u8>, AllocError>
+    ensures { IfOk result (λ text. text.items ≡ flags_line ram.now.registers) }
+{
+    line_of(alloc, set_flags(ram).as_str())
 }
 
 /// Room in bytes for what is printed of a value, the processor with its five lines among them. A longer text takes more.

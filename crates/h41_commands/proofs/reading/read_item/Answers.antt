@@ -1,4 +1,4 @@
-use Rattle.std.proofs.Common.{◌≡◌, ◌∷◌, ◌++◌, [], ap, sym, refl, ◌∙◌, arith, rules}
+use Rattle.std.proofs.Common.{◌∷◌, ◌++◌, [], ap, sym, refl, ◌∙◌, arith, rules}
 use Rattle.std.proofs.lemmas.Result.{err_from_is_err_and}
 use Rattle.h41_ends.specs.InputLines.{line_in}
 use Rattle.h41_ends.proofs.InputReading.{keeps-both, keeps-known, reads_both, reads_nothing}
@@ -15,17 +15,20 @@ loop-input-init g c = record {
   kept = keeps-known _;
   reader = c.requires.reader_clear;
   writer = c.requires.writer_clear;
+  counted = c.requires.counted;
 }
 
 pub returns-in_err-next_line-clause-item : goal.returns-in_err-next_line-clause-item
 returns-in_err-next_line-clause-item g c =
     let so_far = c.loop-input.invariant.lines in
     let failed = err_from_is_err_and c.from_residual.result c.from_residual.ensures.1 in
-    rw failed.1
+    rw (failed.1, failed.2)
     (record {
       lines = so_far.0 ++ [];
       reads = reads_both _ _ _ c.args.input.now c.loop-input.input c.next_line.new.self _ _ so_far.2 c.in_err-next_line.ensures.lines;
-      spelled = fault_before _ c.next_line.new.self.at_end (so_far.0 ++ []) (nothing_still so_far.0 so_far.1);
+      spelled =
+          fault_before c.in_err-next_line.field-0.0 c.next_line.new.self.at_end (so_far.0 ++ [])
+          (nothing_still so_far.0 so_far.1);
     })
 
 pub returns-then-is_long-clause-item : goal.returns-then-is_long-clause-item
@@ -56,6 +59,7 @@ loop-input-preserved g c =
       kept = keeps-both _ _ _ c.loop-input.invariant.kept c.in_ok-next_line.ensures.kept;
       reader = search rules;
       writer = search rules;
+      counted = c.in_ok-next_line.ensures.counted;
     }
 
 pub returns-in_err-read_block-clause-item : goal.returns-in_err-read_block-clause-item

@@ -1,6 +1,6 @@
 use Rattle.std.proofs.Common.{◌≡◌, ◌≤◌, ℕ, false, List}
 use Rattle.std.specs.Io.KnownBytes.{Keeps}
-use Rattle.h41_ends.specs.InputLines.{ReadsMore, most_left}
+use Rattle.h41_ends.specs.InputLines.{IsCounted, ReadsMore, most_left}
 use Rattle.h41_commands.proofs.ItemLines.{SpellNothing}
 use Rattle.h41_commands.proofs.reading.read_item.Given as goal
 
@@ -13,6 +13,7 @@ invariant-loop-input g l = record {
   kept : Keeps (g.W.Sink.contents l.fn.writer) (g.W.Sink.contents l.writer);
   reader : g.R.Source.failed l.reader ≡ false;
   writer : g.W.Sink.failed l.writer ≡ false;
+  counted : IsCounted l.input (g.R.Source.given l.reader);
 }
 
 abbrev pub decreases-loop-input : goal.decreases-loop-input

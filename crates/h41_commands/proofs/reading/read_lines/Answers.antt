@@ -1,4 +1,4 @@
-use Rattle.std.proofs.Common.{◌≡◌, ◌∷◌, ◌++◌, [], ap, sym, refl, ◌∙◌, arith, rules}
+use Rattle.std.proofs.Common.{◌∷◌, ◌++◌, [], ap, sym, refl, ◌∙◌, arith, rules}
 use Rattle.std.proofs.lemmas.Result.{err_from_is_err_and}
 use Rattle.h41_ends.specs.InputLines.{line_in}
 use Rattle.h41_ends.proofs.InputReading.{keeps-both, reads_both}
@@ -51,6 +51,7 @@ loop-block-preserved g c =
       kept = keeps-both _ _ _ c.loop-block.invariant.kept c.in_ok-next_line.ensures.kept;
       reader = search rules;
       writer = search rules;
+      counted = c.in_ok-next_line.ensures.counted;
     }
 
 pub returns-in_err-line-clause-block : goal.returns-in_err-line-clause-block

@@ -1,7 +1,7 @@
 use Rattle.std.proofs.Common.{◌≡◌, ◌≤◌, ℕ, false, List}
 use Rattle.std.specs.List.{list_any}
 use Rattle.std.specs.Io.KnownBytes.{Keeps}
-use Rattle.h41_ends.specs.InputLines.{ReadsMore, most_left}
+use Rattle.h41_ends.specs.InputLines.{IsCounted, ReadsMore, most_left}
 use Rattle.h41_commands.specs.DeckLines.{is_end}
 use Rattle.h41_commands.specs.Entries.{IsTaken}
 use Rattle.h41_commands.proofs.reading.read_lines.Given as goal
@@ -15,6 +15,7 @@ invariant-loop-block g l = record {
   kept : Keeps (g.W.Sink.contents l.fn.writer) (g.W.Sink.contents l.writer);
   reader : g.R.Source.failed l.reader ≡ false;
   writer : g.W.Sink.failed l.writer ≡ false;
+  counted : IsCounted l.input (g.R.Source.given l.reader);
 }
 
 abbrev pub decreases-loop-block : goal.decreases-loop-block

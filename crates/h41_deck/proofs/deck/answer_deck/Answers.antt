@@ -1,4 +1,4 @@
-use Rattle.std.proofs.Common.{◌≡◌, ◌∷◌, ◌++◌, [], Err, ap, refl, rules}
+use Rattle.std.proofs.Common.{◌∷◌, ◌++◌, [], Err, ap, refl, rules}
 use Rattle.std.proofs.lemmas.Result.{err_from_is_err_and}
 use Rattle.h41_commands.specs.Entries.{what_is_spelled}
 use Rattle.h41_ends.proofs.InputReading.{consumes-nothing}
@@ -13,10 +13,11 @@ loop-bench-init g c = record {
     [],
     read_none (g.R.Source.remaining c.args.reader.now) c.new-input.result (consumes-nothing _) c.new-input.ensures.nothing
         c.new-input.ensures.goes_on,
-    rw c.in_ok-bench.ensures (told_none (g.W.Sink.contents c.args.writer.now)),
+    rw c.in_ok-bench.ensures (told_none g.row.REGS (g.W.Sink.contents c.args.writer.now)),
   );
   reader = search rules;
   writer = search rules;
+  counted = c.new-input.ensures.counted _;
 }
 
 pub loop-bench-preserved : goal.loop-bench-preserved
@@ -35,6 +36,7 @@ loop-bench-preserved g c =
       );
       reader = search rules;
       writer = search rules;
+      counted = c.in_ok-item.ensures.counted;
     }
 
 pub returns-clause-deck : goal.returns-clause-deck
@@ -58,17 +60,18 @@ returns-clause-outcome g c =
 pub returns-in_err-bench-clause-left : goal.returns-in_err-bench-clause-left
 returns-in_err-bench-clause-left g c =
     let failed = err_from_is_err_and c.from_residual.result c.from_residual.ensures.1 in
-    rw (failed.1, failed.2) (leaves_none g.R.Source g.W.Sink c.args.reader.now c.args.writer.now)
+    rw (failed.1, failed.2) (leaves_none g.row.REGS g.R.Source g.W.Sink c.args.reader.now c.args.writer.now)
 
 pub returns-in_err-item-clause-left : goal.returns-in_err-item-clause-left
 returns-in_err-item-clause-left g c =
     let so_far = c.loop-bench.invariant.done in
     let failed = err_from_is_err_and c.from_residual-in_err-item.result c.from_residual-in_err-item.ensures.1 in
     rw (failed.1, failed.2)
-    (leaves_item g.R.Source g.W.Sink c.args.reader.now c.loop-bench.reader c.read_item.new.reader c.args.writer.now
+    (leaves_item g.row.REGS g.R.Source g.W.Sink c.args.reader.now c.loop-bench.reader c.read_item.new.reader c.args.writer.now
     c.loop-bench.writer c.read_item.new.writer c.loop-bench.input c.read_item.new.input so_far.0 c.loop-bench.bench
     c.loop-bench.outcome c.in_err-item.field-0.0 so_far.1 so_far.2 c.in_err-item.ensures.item c.in_err-item.ensures.kept
-    (λ is. c.in_err-item.ensures.stopped (ap (λ why. Err why) is)) (λ is. c.in_err-item.ensures.cause (ap (λ why. Err why) is)))
+    (λ is. c.in_err-item.ensures.stopped (ap (λ why. Err why) is)) (λ is. c.in_err-item.ensures.cause (ap (λ why. Err why) is))
+    c.in_err-item.ensures.counted)
 
 pub returns-in_err-next-clause-left : goal.returns-in_err-next-clause-left
 returns-in_err-next-clause-left g c =
@@ -79,11 +82,11 @@ returns-in_err-next-clause-left g c =
     let at_end = rw c.in-Some.is at c.in_ok-item.ensures.open in
     let told = told_kept _ _ _ so_far.0 c.loop-bench.bench c.loop-bench.outcome so_far.2 c.in_ok-item.ensures.kept in
     rw (failed.1, failed.2)
-    (leaves_answer g.R.Source g.W.Sink c.args.reader.now c.read_item.new.reader c.args.writer.now c.read_item.new.writer
+    (leaves_answer g.row.REGS g.R.Source g.W.Sink c.args.reader.now c.read_item.new.reader c.args.writer.now c.read_item.new.writer
     c.answer.new.writer c.read_item.new.input so_far.0 c.loop-bench.bench c.answer.new.bench c.loop-bench.outcome
     (what_is_spelled c.in-Some.item) c.in_err-next.field-0.0
     (read_item _ _ _ c.loop-bench.input c.read_item.new.input so_far.0 so_far.1 c.in-Some.item next less at_end) told
-    c.in_err-next.ensures.reply)
+    c.in_err-next.ensures.reply (λ is. c.in_err-next.ensures.memory (ap (λ why. Err why) is)))
 
 pub returns-in_err-flush-clause-left : goal.returns-in_err-flush-clause-left
 returns-in_err-flush-clause-left g c =
@@ -94,5 +97,5 @@ returns-in_err-flush-clause-left g c =
     let whole = whole_done _ _ _ c.loop-bench.input c.read_item.new.input so_far.0 so_far.1 next (end refl) in
     let told = told_kept _ _ _ so_far.0 c.loop-bench.bench c.loop-bench.outcome so_far.2 c.in_ok-item.ensures.kept in
     rw (failed.1, failed.2)
-    (leaves_whole g.R.Source g.W.Sink c.args.reader.now c.read_item.new.reader c.args.writer.now c.read_item.new.writer
+    (leaves_whole g.row.REGS g.R.Source g.W.Sink c.args.reader.now c.read_item.new.reader c.args.writer.now c.read_item.new.writer
     c.flush.new.writer so_far.0 c.loop-bench.bench c.loop-bench.outcome whole told c.flush.ensures.bytes)

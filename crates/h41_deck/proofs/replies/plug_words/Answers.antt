@@ -4,7 +4,7 @@ use Rattle.h41_deck.proofs.Plugging.{plugs_done, plugs_refused, resized}
 use Rattle.h41_deck.proofs.replies.plug_words.Goals as goal
 
 pub returns-in-Ok-clause-plugs : goal.returns-in-Ok-clause-plugs
-returns-in-Ok-clause-plugs c =
+returns-in-Ok-clause-plugs g c =
     let words : c.deref.result.now ≡ page_of_words c.args.words.items =
     c.deref.ensures.value ∙ resized c.args.words.items _ _ c.args.words.ok.0 c.requires c.in_ok-resize.ensures.items in
     plugs_done c.args.bench.now c.args.page c.args.bank c.args.writable c.args.words.items c.deref.result.now
@@ -12,7 +12,7 @@ returns-in-Ok-clause-plugs c =
     c.in-Ok.ensures.accepted c.in-Ok.ensures.change
 
 pub returns : goal.returns
-returns c =
+returns g c =
     let words : c.deref.result.now ≡ page_of_words c.args.words.items =
     c.deref.ensures.value ∙ resized c.args.words.items _ _ c.args.words.ok.0 c.requires c.in_ok-resize.ensures.items in
     record {

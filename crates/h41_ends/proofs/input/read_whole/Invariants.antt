@@ -7,6 +7,7 @@ abbrev pub invariant-loop-count : goal.invariant-loop-count
 invariant-loop-count g l =
     (vec_len l.bytes ≤ 67108864) × (g.R.Source.failed l.reader ≡ false)
     × Consumes (g.R.Source.remaining l.fn.reader) (g.R.Source.remaining l.reader) l.bytes.items
+    × (vec_len l.bytes ≤ g.R.Source.given l.reader)
 
 abbrev pub decreases-loop-count : goal.decreases-loop-count
 decreases-loop-count g l = 67108864 - vec_len l.bytes

@@ -15,7 +15,8 @@ returns c =
     (c.in_ok-name.ensures.name ∙ sym (named_rows c.args.matches.now)) c.in_ok-name.ensures.rows in
     let file : Some c.in_ok-file.file.now ≡ first_of (codes "FILE") (rows_of command) =
     c.in_ok-file.ensures ∙ first_value-rows command (codes "FILE") in
-    let task : Some c.in_ok-task.task ≡ task_asked c.in_ok-name.name.now (first_of (codes "origin") (rows_of command)) =
+    let task : Some c.in_ok-task.task
+    ≡ task_asked c.in_ok-name.name.now (first_of (codes "memory") (rows_of command)) (first_of (codes "origin") (rows_of command)) =
     c.in_ok-task.ensures in
     (λ i. option_and_then (λ task. option_map (λ file. (task, file)) (file i)) (task i)) ∙ sym (ap job_in met)
 
@@ -27,7 +28,8 @@ returns-in_err-file c =
     (c.in_ok-name.ensures.name ∙ sym (named_rows c.args.matches.now)) c.in_ok-name.ensures.rows in
     let none : None ≡ first_of (codes "FILE") (rows_of command) =
     sym (ap (option_map (λ s. s.now)) c.in_err-file.was) ∙ c.get_str.ensures ∙ first_value-rows command (codes "FILE") in
-    let task : Some c.in_ok-task.task ≡ task_asked c.in_ok-name.name.now (first_of (codes "origin") (rows_of command)) =
+    let task : Some c.in_ok-task.task
+    ≡ task_asked c.in_ok-name.name.now (first_of (codes "memory") (rows_of command)) (first_of (codes "origin") (rows_of command)) =
     c.in_ok-task.ensures in
     ap (option_map parts_of) c.from_residual-in_err-file.ensures
     ∙ (λ i. option_and_then (λ task. option_map (λ file. (task, file)) (none i)) (task i)) ∙ sym (ap job_in met)

@@ -18,11 +18,11 @@ returns-in-Ok-clause-run c =
     (λ file is. runs_file (job_asked words) c.job_or_mistake.result file (file_meets run_name words file is).asked gives)
 
 pub returns-in-Ok-clause-no_run : goal.returns-in-Ok-clause-no_run
-returns-in-Ok-clause-no_run c =
+returns-in-Ok-clause-no_run c = λ given.
     let words : List (List ℕ) = map (λ w. w.now) c.args.words.now in
     let gives : GivesJob (job_asked words) c.job_or_mistake.result =
     rw (asked_of words c.in-Ok.matches c.in-Ok.ensures.matches) at c.job_or_mistake.ensures in
-    if_none (file_to_run words) _ (λ none. runs_none words c.job_or_mistake.result none c.in-Ok.ensures.kinds gives)
+    if_none (file_to_run words) _ (λ none. runs_none words c.job_or_mistake.result given none c.in-Ok.ensures.kinds gives)
 
 pub returns-in-Ok-clause-help : goal.returns-in-Ok-clause-help
 returns-in-Ok-clause-help c = λ is.

@@ -12,14 +12,16 @@ globals fields = fields.has_globals
 
 pub returns-clause-app : goal.returns-clause-app
 returns-clause-app c =
-    let before =
+    let empty =
     ap app_of_fields c.after_help.ensures ∙ ap app_of_fields c.override_usage.ensures ∙ ap app_of_fields c.about.ensures
     ∙ c.new.ensures.app in
-    IfOk-weaker c.arg.result _ _
-    (λ r h. h.shape c.file_argument.ensures.local ∙ ap₂ with_rule before c.file_argument.ensures.rule) c.arg.ensures
+    let with_memory = c.in_ok-arg.ensures.shape c.memory_argument.ensures.local ∙ ap₂ with_rule empty c.memory_argument.ensures.rule in
+    IfOk-weaker c.arg-2.result _ _
+    (λ r h. h.shape c.file_argument.ensures.local ∙ ap₂ with_rule with_memory c.file_argument.ensures.rule) c.arg-2.ensures
 
 pub returns-clause-local : goal.returns-clause-local
 returns-clause-local c =
-    let before : (out-Command c.after_help.result).has_globals ≡ false =
+    let empty : (out-Command c.after_help.result).has_globals ≡ false =
     ap globals c.after_help.ensures ∙ ap globals c.override_usage.ensures ∙ ap globals c.about.ensures ∙ c.new.ensures.local in
-    IfOk-weaker c.arg.result _ _ (λ r h. h.globals ∙ ap₂ (λ a b. a || b) before c.file_argument.ensures.local) c.arg.ensures
+    let with_memory = c.in_ok-arg.ensures.globals ∙ ap₂ (λ a b. a || b) empty c.memory_argument.ensures.local in
+    IfOk-weaker c.arg-2.result _ _ (λ r h. h.globals ∙ ap₂ (λ a b. a || b) with_memory c.file_argument.ensures.local) c.arg-2.ensures

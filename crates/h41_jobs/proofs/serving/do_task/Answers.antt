@@ -36,34 +36,34 @@ returns-in_ok-write_answer-in-List-clause-text g c =
     rw c.in-List.is (whole_text (HasText (tasks.List c.in-List.origin)) _ _ _ c.in_ok-words-in-List.words.items
     c.in_ok-answer-in-List.answer.text.items c.in_ok-words-in-List.ensures.bytes has c.in_ok-write_answer-in-List.ensures.text)
 
-pub returns-in_err-run_deck-in-Run-clause-begun : goal.returns-in_err-run_deck-in-Run-clause-begun
-returns-in_err-run_deck-in-Run-clause-begun g c =
+pub returns-in_err-run_with-in-Run-clause-begun : goal.returns-in_err-run_with-in-Run-clause-begun
+returns-in_err-run_with-in-Run-clause-begun g c =
     let failed = err_from_is_err_and c.from_residual.result c.from_residual.ensures.1 in
     rw (failed.1, failed.2, c.in-Run.is)
-    (leaves_begun g.R.Source g.W.Sink c.args.reader.now c.run_deck.new.reader c.args.writer.now c.run_deck.new.writer
-    c.in_err-run_deck-in-Run.field-0.0 c.in_err-run_deck-in-Run.ensures.left)
+    (leaves_begun g.R.Source g.W.Sink c.args.reader.now c.run_with.new.reader c.args.writer.now c.run_with.new.writer
+    c.in_err-run_with-in-Run.field-0.0 c.in_err-run_with-in-Run.ensures.left)
 
-pub returns-in_err-run_deck-in-Run-clause-unread : goal.returns-in_err-run_deck-in-Run-clause-unread
-returns-in_err-run_deck-in-Run-clause-unread g c = λ is.
+pub returns-in_err-run_with-in-Run-clause-unread : goal.returns-in_err-run_with-in-Run-clause-unread
+returns-in_err-run_with-in-Run-clause-unread g c = λ is.
     let failed = err_from_is_err_and c.from_residual.result c.from_residual.ensures.1 in
-    let same : c.in_err-run_deck-in-Run.field-0.0 ≡ ReadFault = let both = sym failed.1 ∙ is in cc in
+    let same : c.in_err-run_with-in-Run.field-0.0 ≡ ReadFault = let both = sym failed.1 ∙ is in cc in
     rw c.in-Run.is
-    (leaves_unread g.R.Source g.W.Sink c.args.reader.now c.run_deck.new.reader c.args.writer.now c.run_deck.new.writer
-    (rw same at c.in_err-run_deck-in-Run.ensures.left))
+    (leaves_unread g.R.Source g.W.Sink c.args.reader.now c.run_with.new.reader c.args.writer.now c.run_with.new.writer
+    (rw same at c.in_err-run_with-in-Run.ensures.left))
 
-pub returns-in_err-run_deck-in-Run-clause-cut : goal.returns-in_err-run_deck-in-Run-clause-cut
-returns-in_err-run_deck-in-Run-clause-cut g c = λ is.
+pub returns-in_err-run_with-in-Run-clause-cut : goal.returns-in_err-run_with-in-Run-clause-cut
+returns-in_err-run_with-in-Run-clause-cut g c = λ is.
     let failed = err_from_is_err_and c.from_residual.result c.from_residual.ensures.1 in
-    let same : c.in_err-run_deck-in-Run.field-0.0 ≡ WriteFault = let both = sym failed.1 ∙ is in cc in
+    let same : c.in_err-run_with-in-Run.field-0.0 ≡ WriteFault = let both = sym failed.1 ∙ is in cc in
     rw c.in-Run.is
-    (leaves_front g.R.Source g.W.Sink c.args.reader.now c.run_deck.new.reader c.args.writer.now c.run_deck.new.writer
-    (rw same at c.in_err-run_deck-in-Run.ensures.left))
+    (leaves_front g.R.Source g.W.Sink c.args.reader.now c.run_with.new.reader c.args.writer.now c.run_with.new.writer
+    (rw same at c.in_err-run_with-in-Run.ensures.left))
 
-pub returns-in_err-run_deck-in-Run-clause-read : goal.returns-in_err-run_deck-in-Run-clause-read
-returns-in_err-run_deck-in-Run-clause-read g c = λ is.
+pub returns-in_err-run_with-in-Run-clause-read : goal.returns-in_err-run_with-in-Run-clause-read
+returns-in_err-run_with-in-Run-clause-read g c = λ is.
     let failed = err_from_is_err_and c.from_residual.result c.from_residual.ensures.1 in
-    let same : c.in_err-run_deck-in-Run.field-0.0 ≡ ReadFault = let both = sym failed.1 ∙ is in cc in
-    let passed = rw same at c.in_err-run_deck-in-Run.ensures.passed in
+    let same : c.in_err-run_with-in-Run.field-0.0 ≡ ReadFault = let both = sym failed.1 ∙ is in cc in
+    let passed = rw same at c.in_err-run_with-in-Run.ensures.passed in
     rw c.in-Run.is
-    (why_deck g.R.Source g.W.Sink c.args.reader.now c.run_deck.new.reader c.args.writer.now c.run_deck.new.writer
-    (rw same at c.in_err-run_deck-in-Run.ensures.left) (passed (λ other. cc)))
+    (why_deck g.R.Source g.W.Sink c.args.reader.now c.run_with.new.reader c.args.writer.now c.run_with.new.writer
+    (rw same at c.in_err-run_with-in-Run.ensures.left) (passed (λ other. cc)))

@@ -6,7 +6,7 @@ use Rattle.h41_debug.proofs.Runs.{ends_at_refusal}
 use Rattle.h41_debug.proofs.bench.Bench.advance.Goals as goal
 
 pub returns-in-Some-refused-clause-run : goal.returns-in-Some-refused-clause-run
-returns-in-Some-refused-clause-run c =
+returns-in-Some-refused-clause-run g c =
     let refused : IsRefused c.args.limit c.go_on-now.result.0 c.go_on-now.new.self c.in-Some-refused.refusal =
     subst (λ (why : Option CalculatorRefusal).
     MatchOption why (c.loop-made.made < c.go_on-now.result.0) (IsRefused c.args.limit c.go_on-now.result.0 c.go_on-now.new.self))

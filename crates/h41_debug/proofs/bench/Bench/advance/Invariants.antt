@@ -5,8 +5,8 @@ use Rattle.h41_debug.proofs.bench.Bench.advance.Given as goal
 
 -- so many steps were made, and where breakpoints are not asked for none is set
 abbrev pub invariant-loop-made : goal.invariant-loop-made
-invariant-loop-made l =
+invariant-loop-made g l =
     MakesSteps l.fn.limit l.made l.fn.self l.self × (l.made ≤ l.fn.limit) × (l.watched ≡ false → len l.self.breakpoints ≡ 0)
 
 abbrev pub decreases-loop-made : goal.decreases-loop-made
-decreases-loop-made l = l.fn.limit - l.made
+decreases-loop-made g l = l.fn.limit - l.made

@@ -1,11 +1,19 @@
-use Rattle.std.proofs.Common.{◌≡◌, false, ap, subst, ◌∙◌}
+use Rattle.std.proofs.Common.{◌≡◌, false, ap, rules, subst, ◌∙◌}
 use Rattle.h41_xrom.specs.declared.calculator.Mode.{Mode}
 use Rattle.h41_xrom.specs.Calculator.{CalculatorState}
 use Rattle.h41_debug.proofs.Advancing.{no_function}
 use Rattle.h41_debug.specs.private.Running.{runs_function}
 use Rattle.h41_debug.proofs.bench.Bench.go_on.Goals as goal
 
-pub lines-requires-clause-mode : goal.lines-requires-clause-mode
-lines-requires-clause-mode c =
-    let mode = c.mode.ensures ∙ ap (λ (s : CalculatorState). s.mode) c.calculator.ensures in
-    subst (λ (m : Mode). runs_function m ≡ false) mode (no_function c.mode.result c.in_default.not-Micro)
+pub lines-requires : goal.lines-requires
+lines-requires g c =
+    let mode = c.mode.ensures ∙ ap (λ (s : CalculatorState). s.mode) c.calculator.ensures in (
+      search rules,
+      (
+        search rules,
+        (
+          subst (λ (m : Mode). runs_function m ≡ false) mode (no_function c.mode.result c.in_default.not-Micro),
+          (search rules, search rules),
+        ),
+      ),
+    )

@@ -8,7 +8,7 @@ use Rattle.h41_debug.proofs.Advancing.{clear_in_program, ends_piece, line_refuse
 use Rattle.h41_debug.proofs.bench.Bench.lines.Goals as goal
 
 pub returns-in-Err : goal.returns-in-Err
-returns-in-Err c =
+returns-in-Err g c =
     refused_piece c.args.limit c.args.from c.loop-made.made c.args.self.now c.loop-made.self c.step_line.new.self c.in-Err.refusal
     c.loop-made.invariant.0 c.loop-made.invariant.3 c.loop-made.invariant.1 c.loop-made-test.true
     (line_refuses c.loop-made.self.calculator.mode c.loop-made.self.calculator (Some c.in-Err.refusal) c.loop-made.invariant.2
@@ -16,7 +16,7 @@ returns-in-Err c =
     (c.in-Err.ensures).unchanged
 
 pub returns-in-Idle : goal.returns-in-Idle
-returns-in-Idle c =
+returns-in-Idle g c =
     ends_piece c.step_is_determined.ensures.refusal c.step_is_determined.ensures.state c.args.limit
     c.args.from c.loop-made.made c.args.self.now c.loop-made.self c.step_line.new.self
     c.loop-made.invariant.0 c.loop-made.invariant.3 c.loop-made.auto.made c.loop-made.invariant.1 c.loop-made-test.true
@@ -26,7 +26,7 @@ returns-in-Idle c =
     c.step_line.ensures.others
 
 pub returns-in-Some : goal.returns-in-Some
-returns-in-Some c =
+returns-in-Some g c =
     ends_piece c.step_is_determined.ensures.refusal c.step_is_determined.ensures.state c.args.limit
     c.args.from c.loop-made.made c.args.self.now c.loop-made.self c.step_line.new.self
     c.loop-made.invariant.0 c.loop-made.invariant.3 c.loop-made.auto.made c.loop-made.invariant.1 c.loop-made-test.true
@@ -36,7 +36,7 @@ returns-in-Some c =
     c.step_line.ensures.others
 
 pub loop-made-preserved : goal.loop-made-preserved
-loop-made-preserved c =
+loop-made-preserved g c =
     let kept = ap (λ (at : BenchState). at.breakpoints) c.step_line.ensures.others ∙ c.loop-made.invariant.3 in
     let mode : c.step_line.new.self.calculator.mode ≡ Run =
     sym (c.mode.ensures ∙ ap (λ (s : CalculatorState). s.mode) c.calculator.ensures) ∙ c.in-Run.is in (

@@ -6,7 +6,7 @@ use Rattle.h41_debug.proofs.bench.Bench.lines.Given as goal
 
 -- so many steps were made, no function runs, and there is no reason to stop
 abbrev pub invariant-loop-made : goal.invariant-loop-made
-invariant-loop-made l =
+invariant-loop-made g l =
     ((start : BenchState) → MakesSteps l.fn.limit l.fn.from start l.fn.self → MakesSteps l.fn.limit l.made start l.self)
     × (stop_behind (nat_lt 0 l.made) l.self ≡ None)
     × (runs_function l.self.calculator.mode ≡ false)

@@ -5,7 +5,7 @@ use Rattle.h41_debug.proofs.bench.Bench.press.Given as goal
 
 -- the keys that are left, from here on, are the keys from the start on
 abbrev pub invariant-loop-key : goal.invariant-loop-key
-invariant-loop-key l =
+invariant-loop-key g l =
     (t : BenchState) (refusal : Option CalculatorRefusal)
     → PressesInTurn (drop l.key-index l.fn.keys) (record { calculator = l.self-inside.calculator; breakpoints = l.self-inside.breakpoints })
     t refusal

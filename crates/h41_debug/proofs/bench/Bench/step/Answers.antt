@@ -5,7 +5,7 @@ use Rattle.h41_debug.proofs.Runs.{none_made, one_made, refused_for, some_made}
 use Rattle.h41_debug.proofs.bench.Bench.step.Goals as goal
 
 pub returns-in-Refused-clause-refusal : goal.returns-in-Refused-clause-refusal
-returns-in-Refused-clause-refusal c =
+returns-in-Refused-clause-refusal g c =
     let ended =
     refused_for 1 c.advance-made.result.0 c.advance-made.new.self c.advance-made.result.1
     c.in-Refused.refusal c.advance-made.ensures.ends c.in-Refused.is in
@@ -13,7 +13,7 @@ returns-in-Refused-clause-refusal c =
     subst (λ (at : BenchState). RefusesStep at.calculator (Some c.in-Refused.refusal)) stays ended.1
 
 pub returns : goal.returns
-returns c =
+returns g c =
     let some =
     some_made 1 c.advance-made.result.0 c.advance-made.new.self c.advance-made.result.1
     (omega arith) c.advance-made.ensures.ends c.in_default.not-Refused in

@@ -5,8 +5,8 @@ use Rattle.h41_debug.proofs.bench.Bench.steps.Given as goal
 
 -- the steps that are left, from here on, are the steps from the start on
 abbrev pub invariant-loop-left : goal.invariant-loop-left
-invariant-loop-left l =
+invariant-loop-left g l =
     (t : BenchState) (refusal : Option CalculatorRefusal) → Steps l.left l.self t refusal → Steps l.fn.count l.fn.self t refusal
 
 abbrev pub decreases-loop-left : goal.decreases-loop-left
-decreases-loop-left l = l.left
+decreases-loop-left g l = l.left

@@ -9,7 +9,7 @@ use Rattle.h41_debug.proofs.bench.Bench.stop_at_breakpoint.Goals.{else-watched-v
 use Rattle.h41_debug.proofs.bench.Bench.stop_at_breakpoint.Goals.{else-watched-via-else-watched}
 
 pub returns-else-watched : goal.returns-else-watched
-returns-else-watched c =
+returns-else-watched g c =
     let s = c.args.self.now in
     let free : is_set s.breakpoints (location_of s.calculator) ≡ false = elim c.else-watched.branch [
       | else-watched-via-then-watched+else-has_breakpoint w ↦

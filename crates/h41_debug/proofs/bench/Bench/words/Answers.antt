@@ -1,6 +1,9 @@
-use Rattle.std.proofs.Common.{◌≡◌, false, sym, ap, subst, ◌∙◌}
+use Rattle.std.proofs.Common.{◌≡◌, ◌<◌, ◌≤◌, ◌+◌, ℕ, Bool, true, false, if◌then◌else◌, None, arith, refl, sym, ap, subst, ◌∙◌}
+use Rattle.h41_xrom.specs.declared.calculator.Caller.{Caller}
 use Rattle.h41_xrom.specs.declared.calculator.Mode.TheVariants.{Micro}
 use Rattle.h41_debug.specs.Bench.{BenchState}
+use Rattle.h41_debug.specs.private.Advancing.{MakesSteps}
+use Rattle.h41_debug.specs.private.Running.{stop_behind}
 use Rattle.h41_breakpoints.specs.Breakpoints.{is_set}
 use Rattle.h41_debug.specs.Positions.{location_of}
 use Rattle.h41_debug.proofs.Advancing.{clear_behind, ends_piece, one_more}
@@ -8,37 +11,58 @@ use Rattle.h41_breakpoints.proofs.Members.{none_set}
 use Rattle.h41_debug.proofs.bench.Bench.words.Goals as goal
 use Rattle.h41_debug.proofs.bench.Bench.words.Goals.{else-watched-via-then-watched+else-has_breakpoint, else-watched-via-else-watched}
 
+-- between two words breakpoints are not asked for where none is set; where some are, a look is behind each word
+between : (watched : Bool) (made word limit : ℕ) (t : BenchState) (behind : Bool) (caller : Caller)
+    → (watched ≡ false → is_set t.breakpoints (location_of t.calculator) ≡ false) → t.calculator.mode ≡ Micro caller → made ≤ word
+    → word + 1 < (if watched then made + 1 else limit) → stop_behind behind t ≡ None
+between true made word limit t behind caller free mode from more = absurd (omega (arith, from, more))
+between false made word limit t behind caller free mode from more = clear_behind behind t caller mode (free refl)
+
 pub returns-in-Ok-false : goal.returns-in-Ok-false
-returns-in-Ok-false c =
+returns-in-Ok-false g c =
     ends_piece c.step_is_determined.ensures.refusal c.step_is_determined.ensures.state c.args.limit
-    c.args.from c.loop-made.made c.args.self.now c.loop-made.self c.step_word.new.self
-    c.loop-made.invariant.0 c.loop-made.invariant.3 c.loop-made.auto.made c.loop-made.invariant.1 c.loop-made-test.true
+    c.args.from c.loop-word.word c.args.self.now c.loop-word.self c.step_word.new.self
+    c.loop-word.invariant.0 c.loop-word.invariant.3 (omega (arith, c.loop-made.invariant.4, c.loop-word.auto.word))
+    (c.loop-word.invariant.1 c.loop-word-test.true) (omega (arith, c.loop-word-test.true, c.next_look-until.ensures.most))
     c.in-Ok-false.ensures.refusal c.in-Ok-false.ensures.change c.step_word.ensures.others
 
-pub returns-then-has_breakpoint : goal.returns-then-has_breakpoint
-returns-then-has_breakpoint c =
-    ends_piece c.step_is_determined.ensures.refusal c.step_is_determined.ensures.state c.args.limit
-    c.args.from c.loop-made.made c.args.self.now c.loop-made.self c.step_word.new.self
-    c.loop-made.invariant.0 c.loop-made.invariant.3 c.loop-made.auto.made c.loop-made.invariant.1 c.loop-made-test.true
-    c.in-Ok-true.ensures.refusal c.in-Ok-true.ensures.change c.step_word.ensures.others
+pub loop-word-preserved : goal.loop-word-preserved
+loop-word-preserved g c =
+    let kept = ap (λ (at : BenchState). at.breakpoints) c.step_word.ensures.others ∙ c.loop-word.invariant.3 in
+    let mode : c.step_word.new.self.calculator.mode ≡ Micro c.args.caller = rw c.in-Ok-true.field-0-test at c.in-Ok-true.ensures.mode in
+    let free : c.args.watched ≡ false → is_set c.step_word.new.self.breakpoints (location_of c.step_word.new.self.calculator) ≡ false =
+    λ unwatched.
+    rw kept (sym (none_set c.args.self.now.breakpoints (location_of c.step_word.new.self.calculator) (c.requires.free unwatched))) in (
+      one_more c.step_is_determined.ensures.refusal c.step_is_determined.ensures.state c.args.limit
+          c.args.from c.loop-word.word c.args.self.now c.loop-word.self c.step_word.new.self
+          c.loop-word.invariant.0 (c.loop-word.invariant.1 c.loop-word-test.true)
+          (omega (arith, c.loop-word-test.true, c.next_look-until.ensures.most))
+          c.in-Ok-true.ensures.refusal c.in-Ok-true.ensures.change c.step_word.ensures.others,
+      (λ more. between c.args.watched c.loop-made.made c.loop-word.word c.args.limit c.step_word.new.self _ c.args.caller free mode
+          c.loop-word.auto.word (subst (λ n. c.loop-word.word + 1 < n) c.next_look-until.ensures.look more)),
+      mode,
+      kept,
+    )
 
 pub loop-made-preserved : goal.loop-made-preserved
-loop-made-preserved c =
-    let kept = ap (λ (at : BenchState). at.breakpoints) c.step_word.ensures.others ∙ c.loop-made.invariant.3 in
-    let mode : c.step_word.new.self.calculator.mode ≡ Micro c.args.caller = rw c.in-Ok-true.field-0-test at c.in-Ok-true.ensures.mode in
-    let free : is_set c.step_word.new.self.breakpoints (location_of c.step_word.new.self.calculator) ≡ false = elim c.else-watched.branch [
+loop-made-preserved g c =
+    let until = c.next_look-until.result in
+    let all : c.loop-word.word ≡ until =
+    omega (arith, c.loop-word-test.false, c.loop-word.auto.word-end, c.next_look-until.ensures.behind) in
+    let kept = c.loop-word.invariant.3 in
+    let free : is_set c.loop-word.self.breakpoints (location_of c.loop-word.self.calculator) ≡ false = elim c.else-watched.branch [
       | else-watched-via-then-watched+else-has_breakpoint w ↦
-          subst (λ at. is_set c.step_word.new.self.breakpoints at ≡ false)
+          subst (λ at. is_set c.loop-word.self.breakpoints at ≡ false)
           w.location.ensures (sym w.has_breakpoint.ensures ∙ w.if-has_breakpoint.false)
       | else-watched-via-else-watched w ↦
           rw kept
-          (sym (none_set c.args.self.now.breakpoints (location_of c.step_word.new.self.calculator) (c.requires.free w.if-watched.false)))
+          (sym (none_set c.args.self.now.breakpoints (location_of c.loop-word.self.calculator) (c.requires.free w.if-watched.false)))
     ] in (
-      one_more c.step_is_determined.ensures.refusal c.step_is_determined.ensures.state c.args.limit
-          c.args.from c.loop-made.made c.args.self.now c.loop-made.self c.step_word.new.self
-          c.loop-made.invariant.0 c.loop-made.invariant.1 c.loop-made-test.true
-          c.in-Ok-true.ensures.refusal c.in-Ok-true.ensures.change c.step_word.ensures.others,
-      clear_behind _ c.step_word.new.self c.args.caller mode free,
-      mode,
+      subst (λ n. (start : BenchState) → MakesSteps c.args.limit c.args.from start c.args.self.now
+          → MakesSteps c.args.limit n start c.loop-word.self) all c.loop-word.invariant.0,
+      clear_behind _ c.loop-word.self c.args.caller c.loop-word.invariant.2 free,
+      c.loop-word.invariant.2,
       kept,
+      omega (arith, c.loop-made.invariant.4, c.next_look-until.ensures.behind),
+      c.next_look-until.ensures.most,
     )

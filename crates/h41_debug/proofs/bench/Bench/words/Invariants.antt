@@ -1,4 +1,4 @@
-use Rattle.std.proofs.Common.{◌≡◌, None, nat_lt}
+use Rattle.std.proofs.Common.{◌≡◌, ◌<◌, ◌≤◌, ◌-◌, None, nat_lt}
 use Rattle.h41_xrom.specs.declared.calculator.Mode.TheVariants.{Micro}
 use Rattle.h41_debug.specs.private.Advancing.{MakesSteps}
 use Rattle.h41_debug.specs.Bench.{BenchState}
@@ -7,8 +7,20 @@ use Rattle.h41_debug.proofs.bench.Bench.words.Given as goal
 
 -- so many steps were made, the function runs, and there is no reason to stop
 abbrev pub invariant-loop-made : goal.invariant-loop-made
-invariant-loop-made l =
+invariant-loop-made g l =
     ((start : BenchState) → MakesSteps l.fn.limit l.fn.from start l.fn.self → MakesSteps l.fn.limit l.made start l.self)
     × (stop_behind (nat_lt 0 l.made) l.self ≡ None)
+    × (l.self.calculator.mode ≡ Micro l.fn.caller)
+    × (l.self.breakpoints ≡ l.fn.self.breakpoints)
+    × (l.fn.from ≤ l.made) × (l.made ≤ l.fn.limit)
+
+abbrev pub decreases-loop-made : goal.decreases-loop-made
+decreases-loop-made g l = l.fn.limit - l.made
+
+-- the same in front of each word; behind the last of them a breakpoint may be set
+abbrev pub invariant-loop-word : goal.invariant-loop-word
+invariant-loop-word g l =
+    ((start : BenchState) → MakesSteps l.fn.limit l.fn.from start l.fn.self → MakesSteps l.fn.limit l.word start l.self)
+    × (l.word < l.until → stop_behind (nat_lt 0 l.word) l.self ≡ None)
     × (l.self.calculator.mode ≡ Micro l.fn.caller)
     × (l.self.breakpoints ≡ l.fn.self.breakpoints)

@@ -7,7 +7,7 @@ use Rattle.h41_deck.proofs.replies.memory.set_flags.Goals as goal
 use Rattle.h41_deck.proofs.replies.memory.set_flags.Goals.{then-flag, then-not-is_empty, else-not-is_empty, else-flag}
 
 pub loop-flag-preserved : goal.loop-flag-preserved
-loop-flag-preserved c =
+loop-flag-preserved g c =
     let flag = c.loop-flag.flag in
     record {
       text = elim c.if-flag.branch [
@@ -54,4 +54,4 @@ loop-flag-preserved c =
     }
 
 pub returns : goal.returns
-returns c = let last : c.loop-flag.flag ≡ 56 = omega arith in rw last at c.loop-flag.invariant.text
+returns g c = let last : c.loop-flag.flag ≡ 56 = omega arith in rw last at c.loop-flag.invariant.text

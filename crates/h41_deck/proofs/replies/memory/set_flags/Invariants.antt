@@ -4,7 +4,7 @@ use Rattle.h41_deck.proofs.replies.memory.set_flags.Given as goal
 
 -- the flags so far
 abbrev pub invariant-loop-flag : goal.invariant-loop-flag
-invariant-loop-flag l = record {
+invariant-loop-flag g l = record {
   text : l.flags.bytes ≡ flags_below l.flag l.ram.registers;
   short : length l.flags.bytes ≤ 3 * l.flag;
 }

@@ -3,7 +3,7 @@ use Rattle.h41_deck.proofs.ProgramWalks.{listed_more, lists_final, lists_none}
 use Rattle.h41_deck.proofs.replies.program.program_lines.Goals as goal
 
 pub returns-then-is_last : goal.returns-then-is_last
-returns-then-is_last c =
+returns-then-is_last g c =
     let sound = sym c.is_sound.ensures ∙ c.if-not-is_sound.false in
     let found = c.in-Some.found in
     lists_final c.args.ram.now.registers c.loop-found.listing.items _ c.loop-found.at
@@ -11,13 +11,13 @@ returns-then-is_last c =
     (sym c.is_last.ensures ∙ c.if-is_last.true) (c.in_ok-push_line.ensures)
 
 pub loop-found-preserved : goal.loop-found-preserved
-loop-found-preserved c =
+loop-found-preserved g c =
     let found = c.in-Some.found in
     listed_more c.args.ram.now.registers c.loop-found.listing.items _ c.loop-found.at
     found.behind found.listed c.loop-found.invariant c.in-Some.ensures.first
     (sym c.is_last.ensures ∙ c.if-is_last.false) (c.in_ok-push_line.ensures)
 
 pub returns : goal.returns
-returns c =
+returns g c =
     let sound = sym c.is_sound.ensures ∙ c.if-not-is_sound.false in
     lists_none c.args.ram.now.registers c.loop-found.listing.items c.loop-found.at sound c.loop-found.invariant c.in_default.ensures.none

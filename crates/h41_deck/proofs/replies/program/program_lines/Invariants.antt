@@ -5,8 +5,8 @@ use Rattle.h41_deck.proofs.replies.program.program_lines.Given as goal
 
 -- the lines so far
 abbrev pub invariant-loop-found : goal.invariant-loop-found
-invariant-loop-found l = Listed l.ram.registers l.listing.items l.at
+invariant-loop-found g l = Listed l.ram.registers l.listing.items l.at
 
 -- the bytes that are left
 abbrev pub decreases-loop-found : goal.decreases-loop-found
-decreases-loop-found l = length (program_bytes l.ram.registers) - l.at
+decreases-loop-found g l = length (program_bytes l.ram.registers) - l.at

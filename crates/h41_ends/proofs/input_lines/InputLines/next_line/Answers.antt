@@ -1,6 +1,6 @@
 use Rattle.std.proofs.Common.{arith, refl, rules}
 use Rattle.std.proofs.lemmas.Result.{err_from_is_err_and}
-use Rattle.h41_ends.proofs.InputReading.{keeps-both, reads_both, reads_last, reads_line}
+use Rattle.h41_ends.proofs.InputReading.{counted_same, keeps-both, reads_both, reads_last, reads_line}
 use Rattle.h41_ends.proofs.input_lines.InputLines.next_line.Goals as goal
 
 pub returns-in-Some-clause-lines : goal.returns-in-Some-clause-lines
@@ -25,7 +25,18 @@ loop-end-preserved g c = record {
   kept = keeps-both _ _ _ c.loop-end.invariant.kept c.in_ok-read_more.ensures.kept;
   reader = search rules;
   writer = search rules;
+  counted = c.in_ok-read_more.ensures.counted;
 }
+
+pub returns-in-Some-clause-counted : goal.returns-in-Some-clause-counted
+returns-in-Some-clause-counted g c =
+    counted_same c.loop-end.self c.tell_ended.new.self _ c.loop-end.invariant.counted c.tell_ended.ensures.same.count
+    c.tell_ended.ensures.same.over
+
+pub returns-then-not-branch-clause-counted : goal.returns-then-not-branch-clause-counted
+returns-then-not-branch-clause-counted g c =
+    counted_same c.read_more.new.self c.tell_last.new.self _ c.in_ok-read_more.ensures.counted c.tell_last.ensures.count
+    c.tell_last.ensures.over
 
 pub returns-in_err-read_more-clause-lines : goal.returns-in_err-read_more-clause-lines
 returns-in_err-read_more-clause-lines g c =

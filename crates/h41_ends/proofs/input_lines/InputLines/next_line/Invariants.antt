@@ -1,6 +1,6 @@
 use Rattle.std.proofs.Common.{◌≡◌, ◌≤◌, false, []}
 use Rattle.std.specs.Io.KnownBytes.{Keeps}
-use Rattle.h41_ends.specs.InputLines.{ReadsMore, most_left}
+use Rattle.h41_ends.specs.InputLines.{IsCounted, ReadsMore, most_left}
 use Rattle.h41_ends.specs.private.ReadingOn.{reads_left}
 use Rattle.h41_ends.proofs.input_lines.InputLines.next_line.Given as goal
 
@@ -12,6 +12,7 @@ invariant-loop-end g l = record {
   kept : Keeps (g.W.Sink.contents l.fn.writer) (g.W.Sink.contents l.writer);
   reader : g.R.Source.failed l.reader ≡ false;
   writer : g.W.Sink.failed l.writer ≡ false;
+  counted : IsCounted l.self (g.R.Source.given l.reader);
 }
 
 abbrev pub decreases-loop-end : goal.decreases-loop-end

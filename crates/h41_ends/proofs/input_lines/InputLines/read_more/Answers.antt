@@ -4,7 +4,7 @@ use Rattle.std.proofs.lemmas.Bool.{ltb-false}
 use Rattle.h41_ends.specs.Ends.{most_bytes}
 use Rattle.h41_ends.specs.InputLines.{held_in}
 use Rattle.h41_ends.proofs.InputBuffers.{held_kept, held_more}
-use Rattle.h41_ends.proofs.InputReading.{reaches_end, reads_failed, reads_some, stopped_short}
+use Rattle.h41_ends.proofs.InputReading.{counted_more, counted_same, reaches_end, reads_failed, reads_some, stopped_short}
 use Rattle.h41_ends.proofs.input_lines.InputLines.read_more.Goals as goal
 
 pub returns-in-Err-clause-lines : goal.returns-in-Err-clause-lines
@@ -27,6 +27,18 @@ returns-in-Err-clause-stopped g c =
       front.held_end,
     )) c.shorten.ensures.held)
     c.shorten.ensures.same.at_end
+
+pub returns-in-Err-clause-counted : goal.returns-in-Err-clause-counted
+returns-in-Err-clause-counted g c =
+    let same = c.shorten.ensures.same in
+    rw c.in-Err.ensures.given (counted_same c.args.self.now _ _ c.requires.counted same.count same.over)
+
+pub returns-in-Ok-clause-counted : goal.returns-in-Ok-clause-counted
+returns-in-Ok-clause-counted g c =
+    let same = c.shorten.ensures.same in
+    let read = c.take_read.ensures in
+    counted_more c.args.self.now c.take_read.new.self c.in-Ok.count _ _ c.requires.counted c.in-Ok.ensures.given
+    (rw same.count at read.total) (rw same.count at read.over)
 
 pub returns-in-Ok-clause-lines : goal.returns-in-Ok-clause-lines
 returns-in-Ok-clause-lines g c =

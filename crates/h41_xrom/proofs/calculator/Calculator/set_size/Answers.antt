@@ -1,19 +1,35 @@
-use Rattle.std.proofs.Common.{ap, ◌∙◌}
+use Rattle.std.proofs.Common.{ap, ◌∙◌, ℕ, option_map}
 use Rattle.std.proofs.lemmas.Result.{err_from_is_err_and}
 use Rattle.h41_xrom.specs.declared.calculator.Calculator.TheInside.{Inside}
 use Rattle.h41_xrom.proofs.LabelsStay.{right_over}
-use Rattle.h41_xrom.proofs.Loading.{size_failed}
-use Rattle.h41_xrom.specs.contracts.calculator.Calculator.{the_view}
+use Rattle.h41_xrom.proofs.Loading.{size_done, size_failed}
+use Rattle.h41_nut.specs.WordStep.{nut_of}
+use Rattle.h41_xrom.specs.Calculator.{CalculatorState}
 use Rattle.h41_xrom.proofs.calculator.Calculator.set_size.Goals as goal
 
+-- the view of an opened calculator
+abbrev viewed : {n : ℕ} → Inside n → CalculatorState
+viewed inside = record {
+  nut = nut_of inside.cpu inside.machine.ram.registers inside.pages inside.keys;
+  focal = inside.machine.focal.state;
+  input = inside.input;
+  message = option_map (λ text. text.bytes) inside.message;
+  mode = inside.mode;
+}
+
 pub returns-in_err-set_size : goal.returns-in_err-set_size
-returns-in_err-set_size c =
+returns-in_err-set_size g c =
     let p = err_from_is_err_and c.from_residual-in_err-set_size.result c.from_residual-in_err-set_size.ensures.1 in
     rw (p.1, p.2)
     (size_failed c.args.count _ c.args.self.now c.set_size.new.ram.registers c.in_err-set_size.field-0.0
-    (ap the_view c.self-inside.view_is ∙ c.self.view_is) (c.in_ok-check_change.ensures) (c.in_err-set_size.ensures).size)
+    (ap viewed c.self-inside.view_is ∙ c.self.view_is) (c.in_ok-check_change.ensures) (c.in_err-set_size.ensures).size)
+
+pub returns : goal.returns
+returns g c =
+    size_done c.args.count _ c.args.self.now c.end_entry.new.self c.set_size.new.ram.registers c.in_ok-set_size.field-0
+    (ap viewed c.self-inside.view_is ∙ c.self.view_is) (c.in_ok-check_change.ensures) (c.in_ok-set_size.ensures).size c.end_entry.ensures
 
 pub invariant_of-self : goal.invariant_of-self
-invariant_of-self c =
+invariant_of-self g c =
     right_over c.kept_answers_stay_right.ensures.keeping c.self.inside.machine _ c.set_size.new.ram
-    (ap (λ (inside : Inside). inside.machine) c.self-inside.view_is) c.set_size.ensures.mark c.self.invariant
+    (ap (λ (inside : Inside g.row.REGS). inside.machine) c.self-inside.view_is) c.set_size.ensures.mark c.self.invariant

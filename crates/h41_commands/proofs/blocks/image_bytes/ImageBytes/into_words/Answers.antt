@@ -2,7 +2,7 @@ use Rattle.std.proofs.Common.{◌≡◌, ℕ, List, length, arith, ap}
 use Rattle.std.proofs.lemmas.List.FromFn.{length-map-range_with_len}
 use Rattle.h41_pages.specs.Addresses.{page_size}
 use Rattle.h41_pages.specs.Images.{first_words, word_in_bytes, words_in}
-use Rattle.h41_commands.proofs.blocks.hex_bytes.HexBytes.into_words.Goals as goal
+use Rattle.h41_commands.proofs.blocks.image_bytes.ImageBytes.into_words.Goals as goal
 
 words_count : (bytes : List ℕ) → length (words_in bytes) ≡ page_size
 unfolding first_words

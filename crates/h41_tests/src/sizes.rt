@@ -1,0 +1,219 @@
+//! A deck at each size of memory: where its registers end, how many there are at the start, and how much room there is.
+
+ghost use Rattle.std.specs.Prelude.{◌≤◌};
+
+use crate::ends::{reader, writer};
+use crate::judge::wants;
+use h41_deck::{Outcome, run_deck};
+use std::alloc::{AllocError, Global};
+use std::process::Abort;
+use std::test::Fail;
+
+/// A size of memory, with what it makes of the deck.
+struct Size {
+    registers: u16,
+    /// Register c at the start, and how many registers are free then.
+    start: &'static str,
+    free: u16,
+    /// The last address of memory, and the next.
+    last: u16,
+    above: u16,
+    /// How many data registers are left by a program that counts through them, the number that it begins with, what it leaves in the
+    /// last of them, and how many steps it makes.
+    counted: u16,
+    limit: &'static str,
+    register: &'static str,
+    steps: u16,
+}
+
+static SIZES: [Size; 9] = [
+    Size {
+        registers: 64,
+        start: "0FA001690EF0EE",
+        free: 46,
+        last: 0x0FF,
+        above: 0x100,
+        counted: 61,
+        limit: "0.060",
+        register: "06006000000001",
+        steps: 245,
+    },
+    Size {
+        registers: 65,
+        start: "0FB001690F00EF",
+        free: 47,
+        last: 0x100,
+        above: 0x101,
+        counted: 62,
+        limit: "0.061",
+        register: "06106100000001",
+        steps: 249,
+    },
+    Size {
+        registers: 100,
+        start: "11E00169113112",
+        free: 82,
+        last: 0x123,
+        above: 0x124,
+        counted: 97,
+        limit: "0.096",
+        register: "09609600000001",
+        steps: 389,
+    },
+    Size {
+        registers: 101,
+        start: "0CC001690C10C0",
+        free: 0,
+        last: 0x124,
+        above: 0x125,
+        counted: 98,
+        limit: "0.097",
+        register: "09709700000001",
+        steps: 393,
+    },
+    Size {
+        registers: 128,
+        start: "0E7001690DC0DB",
+        free: 27,
+        last: 0x13F,
+        above: 0x140,
+        counted: 125,
+        limit: "0.124",
+        register: "01241240000002",
+        steps: 501,
+    },
+    Size {
+        registers: 192,
+        start: "1270016911C11B",
+        free: 91,
+        last: 0x17F,
+        above: 0x180,
+        counted: 189,
+        limit: "0.188",
+        register: "01881880000002",
+        steps: 757,
+    },
+    Size {
+        registers: 256,
+        start: "1670016915C15B",
+        free: 155,
+        last: 0x1BF,
+        above: 0x1C0,
+        counted: 253,
+        limit: "0.252",
+        register: "02522520000002",
+        steps: 1013,
+    },
+    Size {
+        registers: 319,
+        start: "1A60016919B19A",
+        free: 218,
+        last: 0x1FE,
+        above: 0x1FF,
+        counted: 316,
+        limit: "0.315",
+        register: "03153150000002",
+        steps: 1265,
+    },
+    Size {
+        registers: 320,
+        start: "1A70016919C19B",
+        free: 219,
+        last: 0x1FF,
+        above: 0x200,
+        counted: 317,
+        limit: "0.316",
+        register: "03163160000002",
+        steps: 1269,
+    },
+];
+
+/// So many bytes of RCL 05, as the lines of a block.
+fn recalls(alloc: Global, count: u16) -> Result<String, AllocError> {
+    let mut lines = String::new(alloc);
+    for byte in 0..count {
+        lines.push_str(if byte % 90 == 89 { "25\n" } else { "25" })?;
+    }
+    Ok(lines)
+}
+
+/// What is asked of the start, of the ends of memory, of its data registers, and of its room for programs.
+fn deck_of(alloc: Global, size: &Size) -> Result<String, AllocError> {
+    let Size {
+        registers,
+        last,
+        above,
+        counted,
+        limit,
+        ..
+    } = size;
+    let most = registers.saturating_sub(1);
+    let room = registers.saturating_mul(7).saturating_sub(3);
+    let full = recalls(alloc, room)?;
+    let more = recalls(alloc, room.saturating_add(1))?;
+    format!(in alloc;
+        "show ram 00D\nkey PRGM\nshow display\nkey PRGM\nsize {most}\nsize {registers}\n\
+        words 8\n130 {last:03X} 270 2F0 130 {above:03X} 270 2F0 3E0\nend\ncall 8000\nstep 7\n\
+        show ram {last:03X}\nshow ram {above:03X}\n\
+        size {counted}\nprogram\n{limit}\nLBL 01\nSTO IND X\nISG X\nGTO 01\nSTOP\nCLRG\nend\n\
+        key R/S\nrun 9999\nshow ram {last:03X}\nstep\nshow ram {last:03X}\nshow ram 0C3\n\
+        reset\nshow ram 00D\nsize 0\nload\n{full}\nend\nshow ram 0C0\nshow ram {last:03X}\n\
+        reset\nsize 0\nload\n{more}\nend\n"
+    )
+}
+
+/// What is printed then.
+fn text_of(alloc: Global, size: &Size) -> Result<String, AllocError> {
+    let Size {
+        start,
+        free,
+        last,
+        above,
+        register,
+        steps,
+        ..
+    } = size;
+    format!(in alloc;
+        "00D={start}\n00 REG {free}\n! 17 SizeTooLarge\n\
+        {last:03X}=00000000000{last:03X}\n{above:03X}=00000000000000\n\
+        ran {steps} Idle\n{last:03X}={register}\n{last:03X}=00000000000000\n0C3=00000000000000\n\
+        00D={start}\n0C0=25252525C00020\n{last:03X}=25252525252525\n! 16 NoRoom\n"
+    )
+}
+
+/// The deck prints this text at the size.
+fn answers<const REGS: usize>(rt: &impl Abort, alloc: Global, size: &Size) -> Result<(), Fail>
+    requires at_least { 64 ≤ REGS }
+    requires at_most { REGS ≤ 320 }
+{
+    let deck = deck_of(alloc, size)?;
+    let text = text_of(alloc, size)?;
+    let mut reader = reader(deck.as_str(), 4096, 1000);
+    let mut writer = writer(alloc, 4096, 1000);
+    let outcome = run_deck::<_, _, REGS>(alloc, &mut reader, &mut writer);
+    let is_told = outcome == Ok(Outcome::Refused);
+    assert!(rt;
+        is_told && writer.taken.as_slice() == text.as_bytes(),
+        "at {REGS}"
+    );
+    Ok(())
+}
+
+#[test]
+fn every_size(rt: HostRuntime) -> Result<(), Fail> {
+    for size in &SIZES {
+        match size.registers {
+            64 => answers::<64>(&rt, rt.alloc(), size)?,
+            65 => answers::<65>(&rt, rt.alloc(), size)?,
+            100 => answers::<100>(&rt, rt.alloc(), size)?,
+            101 => answers::<101>(&rt, rt.alloc(), size)?,
+            128 => answers::<128>(&rt, rt.alloc(), size)?,
+            192 => answers::<192>(&rt, rt.alloc(), size)?,
+            256 => answers::<256>(&rt, rt.alloc(), size)?,
+            319 => answers::<319>(&rt, rt.alloc(), size)?,
+            320 => answers::<320>(&rt, rt.alloc(), size)?,
+            _ => wants(&rt, "a size", false),
+        }
+    }
+    Ok(())
+}

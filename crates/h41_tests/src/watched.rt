@@ -1,0 +1,220 @@
+//! Ends that fail once, and a reader that watches what was passed on.
+
+ghost use Rattle.std.specs.Prelude.{◌≡◌, ◌<◌, ◌≤◌, false, None, Some, length};
+
+use crate::ends::given_with;
+use crate::pieces::Commands;
+use h41_deck::{Sink, Source};
+use std::alloc::Global;
+use std::cell::Cell;
+use std::io;
+use std::io::ErrorKind;
+
+/// A source over bytes, of so many a call at most. One of its calls fails, if that is asked for.
+#[derive(Drop)]
+pub struct Reader<'a> {
+    rest: &'a [u8],
+    most: usize,
+    fails: Option<usize>,
+    calls: usize,
+    has_failed: bool,
+    given: usize,
+    watched: Option<(Commands, &'a Cell<usize>)>,
+    was_late: bool,
+    ghost some: { 0 < most },
+}
+
+impl<'a> Reader<'a> {
+    /// Of these bytes; each call gives one at least.
+    pub fn new(bytes: &'a [u8], most: usize, fails: Option<usize>) -> Self
+        ensures { result.has_failed ≡ false }
+    {
+        let most = if most == 0 { 1 } else { most };
+        Reader {
+            rest: bytes,
+            most,
+            fails,
+            calls: 0,
+            has_failed: false,
+            given: 0,
+            watched: None,
+            was_late: false,
+        }
+    }
+
+    /// Has it watch that at each read the replies to all commands are passed on that have their end in what was given.
+    pub fn watch(&mut self, deck: Commands, passed: &'a Cell<usize>)
+        ensures { self.new.has_failed ≡ self.old.has_failed }
+    {
+        self.watched = Some((deck, passed));
+    }
+
+    /// Whether they always were.
+    pub fn was_in_time(&self) -> bool {
+        !self.was_late
+    }
+
+    /// How many calls there were.
+    pub fn calls(&self) -> usize {
+        self.calls
+    }
+}
+
+/// How many bytes the replies have to the commands that have their end in the first so many bytes of a deck.
+fn count_within(deck: Commands, given: usize) -> usize {
+    let mut end = 0usize;
+    let mut count = 0usize;
+    for (lines, reply) in deck {
+        end = end.saturating_add(lines.len());
+        if end <= given {
+            count = count.saturating_add(reply.len());
+        }
+    }
+    count
+}
+
+impl Source for Reader<'_> {
+    ghost remaining = { λ s. Some s.rest.now };
+
+    ghost failed = { λ s. s.has_failed };
+
+    ghost given = { λ s. s.given };
+
+    fn read(&mut self, buffer: &mut [u8]) -> io::Result<usize> {
+        let call = self.calls;
+        self.calls = call.saturating_add(1);
+        if let Some((deck, passed)) = self.watched {
+            if passed.get() != count_within(deck, self.given) {
+                self.was_late = true;
+            }
+        }
+        if self.fails == Some(call) {
+            self.has_failed = true;
+            return Err(io::Error::from(ErrorKind::Other));
+        }
+        let count = self.rest.len().min(self.most).min(buffer.len());
+        buffer[..count].copy_from_slice(&self.rest[..count]);
+        self.rest = &self.rest[count..];
+        self.given = given_with(self.given, count);
+        Ok(count)
+    }
+
+    fn failed(&self) -> bool {
+        self.has_failed
+    }
+}
+
+/// What one call of a sink does.
+#[derive(Clone, Copy, Debug, PartialEq, Eq)]
+pub enum Once {
+    /// It fails.
+    Fails,
+    /// It takes no byte; a flush fails.
+    TakesNothing,
+}
+
+/// A sink of so many bytes a call. One of its calls, writes and flushes, fails or takes nothing, if that is asked for.
+#[derive(Drop)]
+pub struct Writer<'a> {
+    pub taken: Vec<u8>,
+    most: usize,
+    fails: Option<(usize, Once)>,
+    calls: usize,
+    has_failed: bool,
+    is_flushed: bool,
+    told: Option<&'a Cell<usize>>,
+}
+
+impl<'a> Writer<'a> {
+    /// One that has taken nothing.
+    pub fn new(alloc: Global, most: usize, fails: Option<(usize, Once)>) -> Self
+        ensures { result.has_failed ≡ false }
+    {
+        Writer {
+            taken: Vec::new(alloc),
+            most,
+            fails,
+            calls: 0,
+            has_failed: false,
+            is_flushed: false,
+            told: None,
+        }
+    }
+
+    /// Has it tell how many bytes were passed on.
+    pub fn tell(&mut self, passed: &'a Cell<usize>)
+        ensures { self.new.has_failed ≡ self.old.has_failed }
+    {
+        self.told = Some(passed);
+    }
+
+    /// How many calls there were.
+    pub fn calls(&self) -> usize {
+        self.calls
+    }
+
+    /// Whether what was taken is passed on.
+    pub fn is_passed_on(&self) -> bool {
+        self.is_flushed
+    }
+
+    /// What the next call does but for its work.
+    fn next_call(&mut self) -> Option<Once>
+        ensures taken { self.new.taken ≡ self.old.taken }
+        ensures mark { self.new.has_failed ≡ self.old.has_failed }
+        ensures flushed { self.new.is_flushed ≡ self.old.is_flushed }
+    {
+        let call = self.calls;
+        self.calls = call.saturating_add(1);
+        match self.fails {
+            Some((fails, once)) if fails == call => Some(once),
+            _ => None,
+        }
+    }
+}
+
+impl Sink for Writer<'_> {
+    ghost contents = { λ s. Some s.taken.items };
+
+    ghost failed = { λ s. s.has_failed };
+
+    ghost flushed = { λ s. s.is_flushed };
+
+    fn write(&mut self, bytes: &[u8]) -> io::Result<usize> {
+        self.is_flushed = false;
+        let once = self.next_call();
+        let count = match once {
+            Some(_) => 0,
+            None => bytes.len().min(self.most),
+        };
+        if once == Some(Once::Fails) || self.taken.extend_from_slice(&bytes[..count]).is_err() {
+            self.has_failed = true;
+            return Err(io::Error::from(ErrorKind::Other));
+        }
+        if count == 0 && !bytes.is_empty() {
+            self.has_failed = true;
+        }
+        Ok(count)
+    }
+
+    fn flush(&mut self) -> io::Result<()> {
+        let once = self.next_call();
+        self.is_flushed = once.is_none();
+        if once.is_some() {
+            self.has_failed = true;
+            return Err(io::Error::from(ErrorKind::Other));
+        }
+        if let Some(passed) = self.told {
+            passed.set(self.taken.len());
+        }
+        Ok(())
+    }
+
+    fn is_flushed(&self) -> bool {
+        self.is_flushed
+    }
+
+    fn failed(&self) -> bool {
+        self.has_failed
+    }
+}

@@ -20,6 +20,11 @@ MARKS_OF_UTF16 = (b"\xff\xfe", b"\xfe\xff")
 LONGEST_LINE = 200
 LONGEST_DECK = 67_108_864
 
+# How many registers of memory a run may have, and how many it has where none are given.
+MEMORIES = ("64", "128", "192", "256", "320")
+MEMORY = "320"
+MAIN_START = 0xC0
+
 # The launcher's status where it has no answer.
 NO_ANSWER = 70
 
@@ -137,40 +142,54 @@ def with_keys(deck):
     return b"".join(lines)
 
 
-def run(deck):
+def memory_in(words):
+    """The registers that `--memory N` among the words gives, and the other words."""
+    at = words.index("--memory")
+    given, others = words[at + 1:at + 2], words[:at] + words[at + 2:]
+    if not given or given[0] not in MEMORIES or "--memory" in others:
+        raise Failure(f"--memory is one of {', '.join(MEMORIES)}", 2)
+    return given[0], others
+
+
+def running(memory):
+    """The words that run a deck of standard input with so many registers of memory."""
+    return ["run", *([] if memory == MEMORY else ["--memory", memory]), "-"]
+
+
+def run(deck, memory=MEMORY):
     """Runs a deck: the status and what it writes. The program's own faults and the launcher's go to standard error."""
     deck = with_keys(deck)
     if len(deck) > LONGEST_DECK:
         raise Failure(f"the deck has {len(deck)} bytes with what is added to it, and {LONGEST_DECK} is the most", 3)
-    ran = subprocess.run([BENCH, "run", "-"], input=deck, stdout=subprocess.PIPE)
+    ran = subprocess.run([BENCH, *running(memory)], input=deck, stdout=subprocess.PIPE)
     if ran.returncode == NO_ANSWER:
         raise Failure("the bench gave no answer", NO_ANSWER)
     return ran.returncode, ran.stdout
 
 
-def answered(deck):
+def answered(deck, memory=MEMORY):
     """The status of a deck, and its commands and blocks: of each the first line and the last, counted from 0, and the lines
     that it has printed."""
     lines = lines_of(deck)
     items = items_of(lines)
-    status, output = run(marked(lines, items))
+    status, output = run(marked(lines, items), memory)
     answers = answers_of(output)
     if status in (0, 1) and items and len(answers) != len(items):
         raise Failure(f"the bench answered {len(answers)} commands of {len(items)}", 3)
     return status, [(first, last, answer) for (first, last), answer in zip(items, answers)]
 
 
-def refused(deck):
+def refused(deck, memory=MEMORY):
     """The status of a deck, 0 where it has no refusal, and the refused commands and blocks: of each the first line and the
     last, counted from 0, and the refusal."""
     lines = lines_of(deck)
-    status, answers = answered(deck)
+    status, answers = answered(deck, memory)
     found = [(first, last, answer[-1].decode()) for first, last, answer in answers
              if answer and answer[-1].startswith(b"! ") and words_of(lines[first]) not in NEVER_REFUSED]
     return (status if status > 1 else int(bool(found))), found
 
 
-def refused_key(lines, at):
+def refused_key(lines, at, memory=MEMORY):
     """Which key of the key line at a place, counted from 0, is refused, or why its text has no keys; nothing where it is no key
     line, or has one key alone. The deck is run up to there with its keys a line each."""
     if words_of(lines[at])[:1] != [b"key"]:
@@ -180,7 +199,7 @@ def refused_key(lines, at):
     except NoKeys as why:
         return str(why)
     keys = "".join(f"key {name}\n" for name in names).encode("latin-1")
-    _, answers = answered(b"".join(lines[:at]) + keys)
+    _, answers = answered(b"".join(lines[:at]) + keys, memory)
     refusals = [number for number, (_, _, answer) in enumerate(answers[-len(names):], 1) if answer]
     return f"its key {refusals[0]}: {names[refusals[0] - 1]}" if refusals and names[1:] else ""
 

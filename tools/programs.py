@@ -2,7 +2,7 @@
 bytes are no line, and how many registers leave room. Whether it is so is asked of the bench."""
 import re
 
-from decks import Failure, answered, block, hexadecimal, refused, run
+from decks import MEMORY, Failure, answered, block, hexadecimal, refused, run
 from typed import LONGEST_NAME, why_no_name
 
 LEFT_OUT = "left out here, so a step there is refused: "
@@ -16,7 +16,6 @@ LABEL = re.compile(r'LBL "(.*)"')
 # What is asked whether it leads nowhere: other lines can say so for registers and flags alone.
 CALL = re.compile(r'(?:GTO|XEQ) ".*"|XROM .*')
 
-MOST_REGISTERS = 319
 LONGEST_LINE_BYTES = 18
 
 
@@ -151,12 +150,13 @@ def numbered(lines):
 
 # Room.
 
-def greatest_size(deck):
+def greatest_size(deck, memory=MEMORY):
     """The most data registers that leave room for all programs of a deck; none where there is room with none of them."""
-    sizes = range(MOST_REGISTERS, -1, -1)
+    most = int(memory) - 1
+    sizes = range(most, -1, -1)
     front = b"size 0\n" + deck
-    status, found = refused(front + b"".join(f"size {size}\n".encode() for size in sizes))
+    status, found = refused(front + b"".join(f"size {size}\n".encode() for size in sizes), memory)
     first = front.count(b"\n")
     if status > 1 or any(at < first for at, _, _ in found):
         return None
-    return next(size for size in sizes if first + MOST_REGISTERS - size not in {at for at, _, _ in found})
+    return next(size for size in sizes if first + most - size not in {at for at, _, _ in found})

@@ -1,8 +1,8 @@
 """The refusals of a deck: of each its place, and the line that is meant."""
 import re
 
-from decks import (LONGEST_LINE, MARK_OF_UTF8, MARKS_OF_UTF16, Failure, block, is_skipped, lines_of, refused, refused_key, shown,
-                   text_of, words_of)
+from decks import (LONGEST_LINE, MARK_OF_UTF8, MARKS_OF_UTF16, MEMORY, Failure, block, is_skipped, lines_of, refused, refused_key,
+                   shown, text_of, words_of)
 from programs import broken, whole_lines
 
 BLANKS = b" \t"
@@ -26,8 +26,8 @@ class Refused:
     """A command or block of a deck that is refused: its lines, counted from 0, and the refusal. `inner` is the line of the
     block that is meant, where it is known, and `told` what else is told of it."""
 
-    def __init__(self, lines, first, last, refusal):
-        self.lines, self.first, self.last, self.refusal = lines, first, last, refusal
+    def __init__(self, lines, first, last, refusal, memory=MEMORY):
+        self.lines, self.first, self.last, self.refusal, self.memory = lines, first, last, refusal, memory
         numbered = OF_A_LINE.fullmatch(refusal)
         self.inner = first + int(numbered[1]) if numbered else None
         self.told = []
@@ -91,15 +91,15 @@ class Refused:
 
     def key(self):
         """Which key of a line with several is refused, on a line of its own."""
-        found = refused_key(self.lines, self.first)
+        found = refused_key(self.lines, self.first, self.memory)
         return f"\n  {found}" if found else ""
 
 
-def refusals_of(deck):
+def refusals_of(deck, memory=MEMORY):
     """The status of a deck, and its refusals. Of a block of words or bytes the faulty line is found."""
     lines = lines_of(deck)
-    status, found = refused(deck)
-    found = [Refused(lines, *one) for one in found]
+    status, found = refused(deck, memory)
+    found = [Refused(lines, *one, memory) for one in found]
     look_into_blocks(found)
     return status, found
 

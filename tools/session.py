@@ -2,7 +2,7 @@
 import re
 import subprocess
 
-from decks import BENCH, Failure, LONGEST_LINE, MARK, MARK_ANSWER, NO_ANSWER, OPENERS
+from decks import BENCH, Failure, LONGEST_LINE, MARK, MARK_ANSWER, MEMORY, NO_ANSWER, OPENERS, running
 
 
 def words_of(line):
@@ -24,10 +24,11 @@ def is_whole(command):
 
 
 class Session:
-    """A bench that goes on until it is closed. It begins empty, and keeps what its commands leave."""
+    """A bench that goes on until it is closed, with so many registers of memory. It begins empty, and keeps what its commands
+    leave."""
 
-    def __init__(self):
-        self.bench = subprocess.Popen([BENCH, "run", "-"], stdin=subprocess.PIPE, stdout=subprocess.PIPE)
+    def __init__(self, memory=MEMORY):
+        self.bench = subprocess.Popen([BENCH, *running(memory)], stdin=subprocess.PIPE, stdout=subprocess.PIPE)
 
     def ask(self, command):
         """The lines that a command prints, a block from its first line up to its `end` among them."""

@@ -9,7 +9,7 @@ import subprocess
 import sys
 import tempfile
 
-from decks import with_keys
+from decks import MEMORY, running, with_keys
 
 TOP = os.path.realpath(os.path.join(os.path.dirname(os.path.realpath(__file__)), ".."))
 CRATE = f"{TOP}/crates/h41_bench"
@@ -18,8 +18,10 @@ CRATE = f"{TOP}/crates/h41_bench"
 LONGEST_INPUT = 67_108_864
 SECONDS = 30
 
-# A word that names no file, in the place of one that can't be read: the program then says so itself.
+# A word that names no file, in the place of one that can't be read: the program then says so itself. What the system says of
+# that name is not told.
 NO_FILE = "/dev/null/no-such-file"
+CAUSE = re.compile(rb"^bench: %s: .*\n" % NO_FILE.encode(), re.M)
 
 # The last lines of rt where the program has ended, and why it has not.
 ENDED = re.compile(rb"^checked: ended .*\n(?:.*\n)*?run=ended status=(\d+) .*proved=no\n\Z", re.M)
@@ -52,7 +54,7 @@ def place_of_file(words):
         for place, word in enumerate(words[1:], 1):
             if skipped or not hyphens_end and word == "--":
                 hyphens_end, skipped = hyphens_end or not skipped, False
-            elif not hyphens_end and word == "--origin":
+            elif not hyphens_end and word in ("--memory", "--origin"):
                 skipped = True
             elif hyphens_end or word == "-" or not word.startswith("-"):
                 at = place
@@ -123,11 +125,11 @@ def answer(words):
     ended = ENDED.search(told)
     if not ended:
         raise NoAnswer(reason_of(told))
-    return int(ended[1]), output, told[:ended.start()]
+    return int(ended[1]), output, CAUSE.sub(b"", told[:ended.start()])
 
 
 @no_answer_without_room()
-def answers(decks):
+def answers(decks, memory=MEMORY):
     """What the program answers to each of some decks, which are files: its status and what it writes; nothing where a file can't
     be read or there is no answer. It is compiled once for all."""
     mark = secrets.token_hex(16)
@@ -143,7 +145,7 @@ def answers(decks):
                 file.write(named)
             if not is_whole:
                 os.remove(f"{room}/{name}")
-        output, told = rt_try(["--cases", room, "--", "run", "-"], subprocess.DEVNULL)
+        output, told = rt_try(["--cases", room, "--", *running(memory)], subprocess.DEVNULL)
     statuses = {name.decode(): int(status) for name, status in CASE.findall(told)}
     if not statuses:
         raise NoAnswer(reason_of(told))

@@ -1,12 +1,15 @@
 """A browser without a window, Chromium with its driver, asked by WebDriver over HTTP."""
 import base64
 import json
+import re
 import shutil
-import socket
 import subprocess
 import time
 import urllib.error
 import urllib.request
+
+# The seconds that anything may take. They pass only where something fails.
+PATIENCE = 120
 
 ELEMENT = "element-6066-11e4-a52e-4f735466cecf"
 SHIFT_KEYS = {"Enter": "\ue007", "Backspace": "\ue003", "Tab": "\ue004", "Escape": "\ue00c", "ArrowLeft": "\ue012",
@@ -24,21 +27,29 @@ class Browser:
     """One browser with one window, of a size."""
 
     def __init__(self):
-        with socket.socket() as free:
-            free.bind(("127.0.0.1", 0))
-            self.port = free.getsockname()[1]
-        self.driver = subprocess.Popen(["chromedriver", f"--port={self.port}"], stdout=subprocess.DEVNULL, stderr=subprocess.DEVNULL)
-        self.session = ""
+        self.driver = subprocess.Popen(["chromedriver", "--port=0"], stdout=subprocess.PIPE, stderr=subprocess.DEVNULL, text=True)
+        self.session, self.asking = "", urllib.request.build_opener(urllib.request.ProxyHandler({}))
+        try:
+            # It tells its port as soon as it listens there.
+            self.port = next(found[1] for found in map(re.compile(r"started successfully on port ([0-9]+)").search, self.driver.stdout) if found)
+            self.begin(3)
+        except BaseException:
+            self.close()
+            raise
+
+    def begin(self, tries):
+        """Starts the browser. One that does not come up is started again."""
         arguments = ["--headless=new", "--no-sandbox", "--disable-gpu", "--disable-dev-shm-usage", "--window-size=1280,900",
-                     "--force-device-scale-factor=1"]
-        wanted = {"browserName": "chrome", "goog:chromeOptions": {"args": arguments}, "goog:loggingPrefs": {"browser": "ALL"}}
-        for _ in range(100):
-            try:
-                self.session = "/session/" + self.ask("POST", "/session", {"capabilities": {"alwaysMatch": wanted}})["sessionId"]
-                return
-            except (ConnectionError, urllib.error.URLError):
-                time.sleep(0.1)
-        raise TimeoutError("chromedriver does not answer")
+                     "--force-device-scale-factor=1", "--disable-background-timer-throttling", "--disable-renderer-backgrounding",
+                     "--disable-backgrounding-occluded-windows"]
+        wanted = {"browserName": "chrome", "goog:chromeOptions": {"args": arguments}, "goog:loggingPrefs": {"browser": "ALL"},
+                  "timeouts": {"script": PATIENCE * 1000, "pageLoad": PATIENCE * 1000}}
+        try:
+            self.session = "/session/" + self.ask("POST", "/session", {"capabilities": {"alwaysMatch": wanted}})["sessionId"]
+        except ValueError:
+            if tries <= 1:
+                raise
+            self.begin(tries - 1)
 
     def ask(self, method, path, body=None):
         """What the driver answers."""
@@ -46,7 +57,7 @@ class Browser:
         request = urllib.request.Request(f"http://127.0.0.1:{self.port}{self.session}{path}", data, {"Content-Type": "application/json"},
                                          method=method)
         try:
-            with urllib.request.urlopen(request, timeout=30) as reply:
+            with self.asking.open(request, timeout=2 * PATIENCE) as reply:
                 return json.load(reply)["value"]
         except urllib.error.HTTPError as error:
             raise ValueError(json.load(error)["value"]["message"].splitlines()[0]) from error
@@ -58,20 +69,24 @@ class Browser:
         """What a script answers, or the promise that it answers."""
         return self.ask("POST", "/execute/sync", {"script": script, "args": list(words)})
 
-    def until(self, script, *words, seconds=15):
-        """What a script answers as soon as it is something."""
-        end = time.monotonic() + seconds
-        while time.monotonic() < end:
-            found = self.run(script, *words)
-            if found:
-                return found
+    def until(self, script, is_wanted=bool):
+        """What a script answers as soon as it is what is wanted, which is something at all; else its last answer."""
+        end = time.monotonic() + PATIENCE
+        while not is_wanted(found := self.run(script)) and time.monotonic() < end:
             time.sleep(0.02)
-        return None
+        return found
 
     def click(self, selector):
-        """A click of the mouse in the middle of an element."""
-        element = self.ask("POST", "/element", {"using": "css selector", "value": selector})
-        self.ask("POST", f"/element/{element[ELEMENT]}/click", {})
+        """A click of the mouse in the middle of an element, as soon as it can be clicked there."""
+        end = time.monotonic() + PATIENCE
+        while True:
+            try:
+                element = self.ask("POST", "/element", {"using": "css selector", "value": selector})
+                return self.ask("POST", f"/element/{element[ELEMENT]}/click", {})
+            except ValueError:
+                if time.monotonic() > end:
+                    raise
+            time.sleep(0.02)
 
     def type(self, *keys):
         """Keys of the computer's keyboard, each pressed and released."""
@@ -94,11 +109,13 @@ class Browser:
 
     def complaints(self):
         """What the browser has complained of."""
-        return [entry["message"] for entry in self.ask("POST", "/se/log", {"type": "browser"})]
+        log = self.ask("POST", "/se/log", {"type": "browser"})
+        return [entry["message"] for entry in log if entry["level"] in ("WARNING", "SEVERE")]
 
     def close(self):
         try:
-            self.ask("DELETE", "")
+            if self.session:
+                self.ask("DELETE", "")
         except (OSError, ValueError):
             pass
         self.session = ""

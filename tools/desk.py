@@ -243,10 +243,14 @@ class Desk:
     # What is carried out.
 
     def go(self, seconds, steps=None, parts=None):
-        """Carries out what waits, for about so long, at most so many steps and parts of it. The states behind each traced step."""
-        until, states = time.monotonic() + seconds, []
-        while self.queue and time.monotonic() < until and (steps is None or steps > 0) and (parts is None or parts > 0):
+        """Carries out what waits, for about so long, at most so many steps and parts of it, and at least one command or a piece
+        of it. The states behind each traced step."""
+        until, states, has_asked = time.monotonic() + seconds, [], False
+        while self.queue and (steps is None or steps > 0) and (parts is None or parts > 0):
+            if has_asked and time.monotonic() >= until:
+                break
             part = self.queue[0]
+            has_asked |= part.is_command
             before = part.asked
             self.carry_out(part, steps)
             if part.kind:

@@ -26,10 +26,10 @@ MOST_CONNECTIONS = 48
 MOST_PAGES = 4
 
 # Seconds: that a request may take to come, between two beats of the events, that a page may be away, as while it is loaded
-# again, and that the first may take to come.
-SLOWEST, BEAT, AWAY, FIRST = 20, 0.5, 4, 600
-# What is passed over of a request that is refused.
-MOMENT = 0.3
+# again, and that nothing may be asked before the first.
+SLOWEST, BEAT, AWAY, FIRST = 20, 0.5, 10, 600
+# How long what comes of a request that is refused is passed over.
+MOMENT = 2
 
 HEADERS = {
     "Content-Security-Policy": "default-src 'none'; script-src 'self'; style-src 'self'; img-src 'self' data:; connect-src 'self'; "
@@ -62,7 +62,8 @@ class Server(ThreadingHTTPServer):
         self.token, self.cookie = secrets.token_urlsafe(24), None
         self.port = self.server_address[1]
         self.room = threading.BoundedSemaphore(MOST_CONNECTIONS)
-        self.pages, self.left_at, self.first_until = 0, None, time.monotonic() + FIRST
+        # The pages that are open, how long none may be, and until when that lasts.
+        self.pages, self.patience, self.until = 0, FIRST, time.monotonic() + FIRST
         self.lock, self.closing = threading.Lock(), False
 
     def address(self):
@@ -86,9 +87,8 @@ class Server(ThreadingHTTPServer):
 
     def service_actions(self):
         """Ends where no page is open any more."""
-        now = time.monotonic()
         with self.lock:
-            is_over = not self.pages and (now > self.left_at + AWAY if self.left_at else now > self.first_until)
+            is_over = not self.pages and time.monotonic() > self.until
         if is_over and not self.closing:
             self.closing = True
             threading.Thread(target=self.shutdown, daemon=True).start()
@@ -99,12 +99,12 @@ class Server(ThreadingHTTPServer):
             if self.pages + count > MOST_PAGES:
                 raise Refusal(409, f"{MOST_PAGES} pages are open already")
             self.pages += count
-            self.left_at = time.monotonic()
+            self.patience, self.until = AWAY, time.monotonic() + AWAY
 
     def stay(self):
         """A page that asks is there, or comes back."""
         with self.lock:
-            self.left_at = time.monotonic() if self.left_at else None
+            self.until = time.monotonic() + self.patience
 
     def take_cookie(self, given):
         """The cookie of the browser that opens the page first; later ones have to give it."""

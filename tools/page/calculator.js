@@ -4,8 +4,7 @@
 
 const by = (id) => document.getElementById(id);
 const MOST_STEPS = 9999999;
-const MOST_STATES = 500;
-const MOST_ENTRIES = 200;
+const [MOST_STATES, MOST_ENTRIES, MOST_TRACED] = [500, 200, 60];
 
 let session = null;         // the number of the session that the page has
 let entries = [];           // its commands with their replies, as the server has told them
@@ -13,7 +12,7 @@ let past = [];              // states, the oldest first
 let shown = null;           // which of them is shown; null is the last
 let lesson = null;          // the lesson, its parts and their replies
 let waits = 0;              // how many parts of decks wait to be carried out
-let isDriving = false;      // whether this page has them carried out
+let driver = null;          // what has them carried out here; each beginning has its own
 let isGone = false;         // whether the bench or the server has ended
 let told = -1;              // the version of the session that the page has
 let lastRefusal = -1;       // the entry whose refusal is shown
@@ -52,10 +51,22 @@ function reveal(box, part) {
 // ---- The server
 
 let line = Promise.resolve();   // requests go one behind the other
-let asking = 0;                 // how many are not answered yet
+let underway = 0;               // how much was begun that is not at its end
 
-/** Whether nothing is asked and nothing is carried out. */
-const isQuiet = () => asking === 0 && !isDriving;
+/** Whether all that was begun is at its end: nothing is asked, carried out or read, and no question is open. */
+const isQuiet = () => underway === 0;
+
+/** Does what was asked for by a key, a button or a file, and tells why it cannot be done. */
+async function act(call, tellWhy = tell) {
+  underway += 1;
+  try {
+    await call();
+  } catch (error) {
+    if (!isGone) tellWhy(error.message);
+  } finally {
+    underway -= 1;
+  }
+}
 
 async function fetched(path, body) {
   const request = body && { method: "POST", headers: { "Content-Type": "application/json" }, body: JSON.stringify(body) };
@@ -67,9 +78,8 @@ async function fetched(path, body) {
   return reply;
 }
 
-/** Asks behind all that was asked before, or only how all stands. The answer is taken in; why there is none is told. */
+/** Asks behind all that was asked before, or only how all stands. The answer is taken in. */
 function ask(body, path = "do") {
-  asking += 1;
   const turn = line.then(async () => {
     const known = { session, since: entries.length };
     const reply = await (body ? fetched(path, { ...body, ...known }) : fetched(`state?${new URLSearchParams(known)}`));
@@ -77,7 +87,7 @@ function ask(body, path = "do") {
     if (answer.state) take(answer);
     return answer;
   });
-  line = turn.catch((error) => tell(error.message)).finally(() => asking--);
+  line = turn.catch(() => {});
   return turn;
 }
 
@@ -85,14 +95,18 @@ function ask(body, path = "do") {
 function take(answer) {
   if (answer.session !== session) [session, entries, past, lesson, lastRefusal] = [answer.session, [], [], null, -1];
   if (answer.keys) drawKeys(answer.keys);
-  if (answer.lessons) listLessons(answer.lessons);
+  if (answer.lessons) {
+    const options = Object.entries(answer.lessons).map(([value, title]) => make("option", { value }, title));
+    by("lessons").replaceChildren(make("option", { value: "" }, "Lessons"), ...options);
+  }
   if (answer.lesson) lesson = { ...(lesson || { replies: {} }), ...answer.lesson };
   for (const [number, text, reply] of answer.entries) entries[number] = { text, reply };
   for (const state of [...answer.states, answer.state]) remember(state);
-  [waits, told, shown] = [answer.waits, answer.version, null];
+  if (answer.version !== told) shown = null;
+  [waits, told] = [answer.waits, answer.version];
   gone(answer.ended, false);
   show();
-  tellRefusal();
+  act(tellRefusal);
 }
 
 /** Keeps a state, where it is not the one before. */
@@ -105,7 +119,7 @@ function remember(state) {
 /** Tells that the bench or the server has ended, and why; nothing where it has not. */
 function gone(why, isServer) {
   isGone = why !== null;
-  isDriving &&= !isGone;
+  if (isGone) driver = null;
   by("ended").hidden = !isGone;
   document.body.classList.toggle("gone", isGone);
   by("ended").querySelector("p").textContent = why;
@@ -118,7 +132,7 @@ function listen(isAgain) {
   const events = new EventSource("events");
   events.onmessage = (event) => {
     const { version, ended } = JSON.parse(event.data);
-    if (version !== told || (ended !== null) !== isGone) ask(null);
+    if (version > told || (ended !== null) !== isGone) act(() => ask(null));
   };
   events.onerror = () => {
     if (events.readyState !== EventSource.CLOSED) return fetched("state").catch(() => {});
@@ -205,11 +219,8 @@ function light(cells) {
   [...by("lcd").children].forEach((cell, at) => {
     const [character, point] = cells[at] || [" ", ""];
     const shape = SHAPES[character] ?? EVERY;
-    for (const segment of cell.children) {
-      const name = segment.dataset.segment;
-      const isOn = name === "." ? point !== "" : name === "," || name === ":" ? point === name : shape.includes(name);
-      segment.classList.toggle("on", isOn);
-    }
+    const isOn = (name) => name === "." ? point !== "" : ",:".includes(name) ? point === name : shape.includes(name);
+    for (const segment of cell.children) segment.classList.toggle("on", isOn(segment.dataset.segment));
   });
 }
 
@@ -293,8 +304,11 @@ let pressing = Promise.resolve();
 
 /** Presses keys behind those that are pressed already. What stands for keys may depend on what these did: `names` may be a call. */
 function press(names) {
-  asking += 1;
-  pressing = pressing.then(() => pressNow(typeof names === "function" ? names() : names)).catch(() => {}).finally(() => asking--);
+  const before = pressing;
+  pressing = act(async () => {
+    await before;
+    await pressNow(typeof names === "function" ? names() : names);
+  });
   return pressing;
 }
 
@@ -302,12 +316,12 @@ function press(names) {
 async function pressNow(names) {
   for (const name of names) {
     if (isGone) return;
-    if (name === "R/S" && isDriving && waits) await ask({ do: "stop" });
+    if (name === "R/S" && driver && waits) await ask({ do: "stop" });
     const before = present().pos[0];
     const answer = await ask({ do: "give", deck: `key ${name}\n`, first: true });
     flash(name, answer.state.last[0] === `key ${name}` && answer.state.last[1].length > 0);
     const isStarted = before.startsWith("Idle") && !answer.state.pos[0].startsWith("Idle");
-    if (isStarted && by("auto").checked) give(`run ${MOST_STEPS}\n`);
+    if (isStarted && by("auto").checked) act(() => give(`run ${MOST_STEPS}\n`));
   }
 }
 
@@ -348,7 +362,7 @@ function typed(event) {
   }
   event.preventDefault();
   if (isTyped) press(() => keysFor(event.key));
-  else commands[event.key]();
+  else act(commands[event.key]);
 }
 
 // ---- What is carried out
@@ -367,11 +381,11 @@ function pieces() {
 }
 
 /** Has what waits carried out, piece by piece, and shows each. */
-async function drive() {
-  if (isDriving) return;
-  isDriving = true;
+const drive = () => act(async () => {
+  if (driver) return;
+  const own = driver = {};
   try {
-    while (isDriving && waits && !isGone) {
+    while (driver === own && waits && !isGone) {
       const pace = Number(by("pace").value);
       const [first, before] = [performance.now(), stepsMade()];
       await ask({ do: "go", ...pieces() });
@@ -379,12 +393,11 @@ async function drive() {
       if (rest > 0) await new Promise((done) => setTimeout(done, rest));
       tellRate(stepsMade() - before, performance.now() - first);
     }
-  } catch {
-    // What went wrong is told already.
+  } finally {
+    if (driver === own) driver = null;
+    show();
   }
-  isDriving = false;
-  show();
-}
+});
 
 /** How many steps the last run has made. */
 function stepsMade() {
@@ -405,19 +418,18 @@ async function runOn() {
   const { pos } = present();
   // A run needs a program that runs; what is not started is started at its position.
   if (pos[0].startsWith("Idle")) await ask({ do: "give", deck: "key R/S\n" });
-  if (!present().pos[0].startsWith("Idle")) give(`run ${MOST_STEPS}\n`);
+  if (!present().pos[0].startsWith("Idle")) await give(`run ${MOST_STEPS}\n`);
 }
 
-function step() {
+async function step() {
   if (isGone) return;
-  isDriving = false;
+  driver = null;
   by("trace-panel").open = true;
-  if (waits) ask({ do: "go", steps: 1 });
-  else ask({ do: "give", deck: "trace 1\n" });
+  await ask(waits ? { do: "go", steps: 1 } : { do: "give", deck: "trace 1\n" });
 }
 
 async function stop() {
-  isDriving = false;
+  driver = null;
   if (waits) await ask({ do: "stop" });
 }
 
@@ -439,13 +451,13 @@ function show() {
   fill("lights", ...lights.map(([name, isLit]) => make("span", { class: isLit ? "lit" : "" }, name)));
   const lit = lights.filter(([, isLit]) => isLit).map(([name]) => name);
   const said = `${state.display[0] || "(off)"}${lit.length ? ` (${lit.join(" ")})` : ""}`;
-  if (!(isDriving && waits) && by("live").textContent !== said) by("live").textContent = said;
+  if (!(driver && waits) && by("live").textContent !== said) by("live").textContent = said;
   by("past").hidden = shown === null;
   by("past").querySelector("span").textContent = `As it was ${past.length - 1 - (shown ?? 0)} steps ago.`;
   by("stop").disabled = !waits;
-  by("run").textContent = waits && !isDriving ? "Go on" : "Run";
+  by("run").textContent = waits && !driver ? "Go on" : "Run";
   by("pos").textContent = state.pos[0];
-  document.body.classList.toggle("busy", isDriving && waits > 0);
+  document.body.classList.toggle("busy", driver !== null && waits > 0);
   showStack(state, before);
   showProgram(state);
   showProcessor(state, before);
@@ -480,7 +492,8 @@ function stopping(place, kind, name, isNext, ...children) {
     type: "button", class: "break", "aria-pressed": String(isSet), "aria-label": `breakpoint at ${name} ${place}`, "data-at": place,
   }, isSet ? "●" : "○");
   const number = kind === "l" ? Number(place) : place;
-  button.addEventListener("click", () => ask({ do: "give", deck: `${isSet ? "unbreak" : "break"} ${kind} ${number}\n`, first: true }));
+  const deck = `${isSet ? "unbreak" : "break"} ${kind} ${number}\n`;
+  button.addEventListener("click", () => act(() => ask({ do: "give", deck, first: true })));
   return make("div", { class: `line${isNext ? " next" : ""}`, "aria-current": isNext ? "step" : null }, button, ...children);
 }
 
@@ -572,8 +585,6 @@ function ledTo(state, before) {
   return lineMade(state, before) ?? (reply.length === 1 && !head.startsWith("show") ? `${head}: ${reply[0]}` : head);
 }
 
-const MOST_TRACED = 60;
-
 function showTrace() {
   const [end, at] = [past.length - 1, shown ?? past.length - 1];
   const first = Math.max(1, Math.min(at - MOST_TRACED / 2, end - MOST_TRACED + 1));
@@ -593,7 +604,7 @@ function showTrace() {
 }
 
 function goTo(number) {
-  isDriving = false;
+  driver = null;
   shown = number >= past.length - 1 ? null : Math.max(0, number);
   show();
 }
@@ -644,13 +655,8 @@ function showSession() {
 
 // ---- Lessons
 
-function listLessons(lessons) {
-  by("lessons").replaceChildren(make("option", { value: "" }, "Lessons"),
-    ...Object.entries(lessons).map(([name, title]) => make("option", { value: name }, title)));
-}
-
 async function openLesson(name) {
-  if (entries.length && !await isSure()) return;
+  if (!await isSure()) return;
   await ask({ do: "lesson", name });
   for (const id of ["trace-panel", "lesson"]) by(id).open = true;
   by("lesson").scrollIntoView({ block: "nearest" });
@@ -695,52 +701,42 @@ async function base64Of(file) {
 }
 
 async function bringIn(files) {
-  try {
-    const decks = files.filter((file) => /\.deck$/i.test(file.name));
-    if (decks.length && files.length > 1) throw new Error("a deck is opened alone");
-    if (decks.length) return openDeck(decks[0]);
-    const given = await Promise.all(files.map(async (file) => ({ name: file.name, data: await base64Of(file) })));
-    if (!given.length) return;
-    by("files-panel").open = true;
-    tellOfFiles("…", true);
-    const answer = await ask({ files: given, page: by("page-in").value }, "import");
-    tellOfFiles(answer.told || "All came in.", answer.good);
-    await ask({ do: "go", ...pieces() });
-    drive();
-  } catch (error) {
-    tellOfFiles(error.message, false);
-  }
+  const decks = files.filter((file) => /\.deck$/i.test(file.name));
+  if (decks.length && files.length > 1) throw new Error("a deck is opened alone");
+  if (decks.length) return openDeck(decks[0]);
+  const given = await Promise.all(files.map(async (file) => ({ name: file.name, data: await base64Of(file) })));
+  by("files-panel").open = true;
+  tellOfFiles("…", true);
+  const answer = await ask({ files: given, page: by("page-in").value }, "import");
+  tellOfFiles(answer.told || "All came in.", answer.good);
+  await ask({ do: "go", ...pieces() });
+  drive();
 }
 
 async function openDeck(file) {
-  if (entries.length && !await isSure()) return;
-  await ask({ do: "open", data: await base64Of(file) });
+  if (await isSure()) await ask({ do: "open", data: await base64Of(file) });
   drive();
 }
 
 async function takeOut() {
   const kind = by("kind").value;
   const ends = { raw: "raw", text: "lines", rom: "rom", source: "asm" };
-  try {
-    const reply = await fetched("export", { kind, page: by("page-out").value, label: by("label").value });
-    const link = make("a", { href: URL.createObjectURL(await reply.blob()), download: `bench.${ends[kind]}` });
-    link.click();
-    setTimeout(() => URL.revokeObjectURL(link.href), 10000);
-    tellOfFiles(`bench.${ends[kind]} is written.`, true);
-  } catch (error) {
-    tellOfFiles(error.message, false);
-  }
+  const reply = await fetched("export", { kind, page: by("page-out").value, label: by("label").value });
+  const link = make("a", { href: URL.createObjectURL(await reply.blob()), download: `bench.${ends[kind]}` });
+  link.click();
+  setTimeout(() => URL.revokeObjectURL(link.href), 10000);
+  tellOfFiles(`bench.${ends[kind]} is written.`, true);
 }
 
-function tellOfFiles(text, isGood) {
+function tellOfFiles(text, isGood = false) {
   by("told").textContent = text;
   by("told").classList.toggle("refusal", !isGood);
 }
 
-/** Whether the session may end for another. */
+/** Whether the session may end for another; an empty one may. */
 function isSure() {
   const dialog = by("sure");
-  return new Promise((done) => {
+  return !entries.length || new Promise((done) => {
     for (const id of ["yes", "no"]) by(id).onclick = () => dialog.close(id);
     dialog.returnValue = "no";
     dialog.onclose = () => done(dialog.returnValue === "yes");
@@ -753,7 +749,8 @@ function isSure() {
 async function giveTyped() {
   const text = by("commands").value.replace(/\n*$/, "\n");
   if (!text.trim()) return;
-  if (await give(text).catch(() => null)) by("commands").value = "";
+  await give(text);
+  by("commands").value = "";
 }
 
 function begin() {
@@ -762,17 +759,19 @@ function begin() {
   for (const id of ["page-in", "page-out"]) by(id).append(...[..."456789ABCDEF"].map((page) => make("option", { value: page }, page)));
   const calls = {
     run: runOn, step, stop, back: goBack, forth: goForth, now: () => goTo(past.length - 1), give: giveTyped,
-    display: () => showDisplay(displayed, true), export: takeOut, again: () => ask({ do: "again" }).then(drive),
+    display: () => showDisplay(displayed, true), again: () => ask({ do: "again" }).then(drive),
     "next-step": () => next("step"), "next-command": () => next("command"), "next-all": () => next("all"),
     "open-lesson": () => by("lessons").value && openLesson(by("lessons").value), "lesson-again": () => openLesson(lesson.name), choose: () => by("files").click(), "open-deck": () => by("deck-file").click(),
-    begin: async () => (!entries.length || await isSure()) && ask({ do: "begin" }),
+    begin: async () => await isSure() && ask({ do: "begin" }),
   };
-  for (const [id, call] of Object.entries(calls)) by(id).addEventListener("click", call);
+  for (const [id, call] of Object.entries(calls)) by(id).addEventListener("click", () => act(call));
+  by("export").addEventListener("click", () => act(takeOut, tellOfFiles));
   by("zeros").addEventListener("change", show);
-  by("commands").addEventListener("keydown", (event) => event.key === "Enter" && event.ctrlKey && giveTyped());
-  for (const [id, call] of [["files", bringIn], ["deck-file", ([file]) => file && openDeck(file)]]) {
+  by("commands").addEventListener("keydown", (event) => event.key === "Enter" && event.ctrlKey && act(giveTyped));
+  for (const id of ["files", "deck-file"]) {
     by(id).addEventListener("change", () => {
-      call([...by(id).files]);
+      const files = [...by(id).files];
+      if (files.length) act(() => id === "files" ? bringIn(files) : openDeck(files[0]), tellOfFiles);
       by(id).value = "";
     });
   }
@@ -784,15 +783,16 @@ function begin() {
     document.addEventListener(kind, (event) => {
       event.preventDefault();
       by("drop").hidden = kind === "drop" || (kind === "dragleave" && !event.relatedTarget);
-      if (kind === "drop") bringIn([...event.dataTransfer.files]);
+      const files = [...event.dataTransfer.files];
+      if (kind === "drop" && files.length) act(() => bringIn(files), tellOfFiles);
     });
   }
-  ask(null).then(() => {
+  act(async () => {
+    await ask(null);
     listen();
-    const name = new URLSearchParams(location.search).get("lesson");
-    if (name && (!lesson || lesson.name !== name)) openLesson(name);
     by("needs").hidden = true;
-    document.body.dataset.ready = "yes";
+    const name = new URLSearchParams(location.search).get("lesson");
+    if (name && lesson?.name !== name) await openLesson(name);
   });
 }
 

@@ -1,0 +1,3 @@
+pub mod HasOne
+pub mod DigitAnswers
+pub mod DecimalAnswers

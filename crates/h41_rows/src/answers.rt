@@ -5,10 +5,12 @@ ghost use Rattle.h41_decimal.specs.NearestDecimal.{Nearest};
 ghost use Rattle.h41_decimal.specs.Operations.{NearestQuotient};
 ghost use Rattle.h41_decimal.specs.Units.{one, units};
 ghost use Rattle.h41_decimal.specs.WholeParts.{IsFraction, IsIntegerPart};
+ghost use Rattle.h41_ram.specs.NamedFlags.{range_ignore};
+ghost use Rattle.h41_ram.specs.RegisterMap.{flag_of};
 ghost use Rattle.h41_show.specs.DisplayFormat.{format_of};
 ghost use Rattle.h41_rows.specs.private.Answers.{AnswersOne, AnswersTwo, IsNumberAt, KeptRange};
 ghost use Rattle.h41_rows.specs.private.Answers.{sign_of_one, sign_of_two};
-ghost use Rattle.h41_rows.specs.Values.{IsRegisterOf, places_of, unit_of};
+ghost use Rattle.h41_rows.specs.Values.{IsRegisterOf, Kept, places_of, unit_of};
 
 use crate::counters::{counted_down, counted_up};
 use crate::fault::LineFault;
@@ -36,6 +38,21 @@ pub fn register(number: Ten) -> Reg
     ensures { IsRegisterOf (units number) result }
 {
     number.to_reg()
+}
+
+/// The register of an answer with a sign, or the fault that stands for it.
+pub fn kept<const REGS: usize>(
+    ram: &Ram<REGS>,
+    answer: Result<Ten, DecimalFault>,
+    sign: Sign,
+) -> Result<Reg, LineFault>
+    ensures { Kept sign (flag_of ram.now.registers range_ignore) answer result }
+{
+    match answer {
+        Ok(number) => Ok(register(number)),
+        Err(DecimalFault::Data) => Err(LineFault::DataError),
+        Err(DecimalFault::Range) => out_of_range(ram, sign),
+    }
 }
 
 /// What stands for a result out of range with a sign: the greatest number where flag 24 is set.

@@ -5,11 +5,11 @@ ghost use Rattle.h41_rows.specs.Computing.{WorksOnOne, amount_at};
 ghost use Rattle.h41_rows.specs.Counters.{Down, Up, goes_on};
 ghost use Rattle.h41_rows.specs.Results.{result_map};
 ghost use Rattle.h41_rows.specs.declared.values.ValueOfOne.TheVariants.{CountedDown, CountedUp};
+ghost use Rattle.h41_rows.specs.private.Counting.{value_along, way_of};
 
-use crate::answers::number_at;
-use crate::counters::goes_on;
+use crate::answers::{kept, number_at};
+use crate::counters::{counted, five_decimals, goes_on};
 use crate::fault::LineFault;
-use crate::values::{ValueOfOne, kept_of_one};
 use h41_decimal::Sign;
 use h41_digits::Reg;
 use h41_ram::Ram;
@@ -30,16 +30,7 @@ pub fn loop_up<const REGS: usize>(ram: &Ram<REGS>, address: u16) -> Result<Count
     ensures course { IfOk result
         (λ counted. counted.goes_on ≡ goes_on Up (amount_at ram.now.registers address)) }
 {
-    match number_at(ram, address) {
-        Ok(number) => match kept_of_one(ram, ValueOfOne::CountedUp, number) {
-            Ok(register) => {
-                let goes_on = goes_on(number, Sign::Plus);
-                Ok(CountedLoop { register, goes_on })
-            }
-            Err(fault) => Err(fault),
-        },
-        Err(fault) => Err(fault),
-    }
+    loop_along(ram, address, Sign::Plus)
 }
 
 /// The same, counted down.
@@ -49,14 +40,32 @@ pub fn loop_down<const REGS: usize>(ram: &Ram<REGS>, address: u16) -> Result<Cou
     ensures course { IfOk result
         (λ counted. counted.goes_on ≡ goes_on Down (amount_at ram.now.registers address)) }
 {
+    loop_along(ram, address, Sign::Minus)
+}
+
+/// The same, counted up for plus and down for minus. The decimals of the counter are asked for once.
+fn loop_along<const REGS: usize>(
+    ram: &Ram<REGS>,
+    address: u16,
+    direction: Sign,
+) -> Result<CountedLoop, LineFault>
+    ensures register { WorksOnOne (value_along direction) ram.now.registers address
+        (result_map (λ counted. counted.register) result) }
+    ensures course { IfOk result
+        (λ counted. counted.goes_on
+        ≡ goes_on (way_of direction) (amount_at ram.now.registers address)) }
+{
     match number_at(ram, address) {
-        Ok(number) => match kept_of_one(ram, ValueOfOne::CountedDown, number) {
-            Ok(register) => {
-                let goes_on = goes_on(number, Sign::Minus);
-                Ok(CountedLoop { register, goes_on })
+        Ok(number) => {
+            let decimals = five_decimals(number);
+            match kept(ram, counted(number, direction, decimals), Sign::Plus) {
+                Ok(register) => {
+                    let goes_on = goes_on(number, direction, decimals);
+                    Ok(CountedLoop { register, goes_on })
+                }
+                Err(fault) => Err(fault),
             }
-            Err(fault) => Err(fault),
-        },
+        }
         Err(fault) => Err(fault),
     }
 }

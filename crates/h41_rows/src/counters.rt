@@ -5,8 +5,8 @@ ghost use Rattle.std.specs.Prelude.{if◌then◌else◌, int_le, int_lt, pos, un
 ghost use Rattle.h41_decimal.specs.NearestDecimal.{Nearest};
 ghost use Rattle.h41_decimal.specs.Signs.{with_sign};
 ghost use Rattle.h41_decimal.specs.Units.{one, size, units};
-ghost use Rattle.h41_rows.specs.Counters.{Down, Up, fraction_of, goes_on, number_after};
-ghost use Rattle.h41_rows.specs.private.Counting.{IsMovedSize, number_along, way_of};
+ghost use Rattle.h41_rows.specs.Counters.{Down, Up, goes_on, number_after};
+ghost use Rattle.h41_rows.specs.private.Counting.{IsMovedSize, decimals_of, number_along, way_of};
 ghost use Rattle.h41_rows.specs.private.Readings.{IsCounted};
 ghost use Rattle.h41_rows.specs.private.Wholes.{told_ones};
 
@@ -21,21 +21,21 @@ const HIGHEST_SHIFTED: u8 = 103;
 pub fn counted_up(number: Ten) -> Result<Ten, DecimalFault>
     ensures { Nearest (number_after Up (units number)) 1 result }
 {
-    counted(number, Sign::Plus)
+    counted(number, Sign::Plus, five_decimals(number))
 }
 
 /// A loop's counter, counted down.
 pub fn counted_down(number: Ten) -> Result<Ten, DecimalFault>
     ensures { Nearest (number_after Down (units number)) 1 result }
 {
-    counted(number, Sign::Minus)
+    counted(number, Sign::Minus, five_decimals(number))
 }
 
-/// Whether a loop goes on by its counter, counted up for plus and down for minus.
-pub fn goes_on(counter: Ten, direction: Sign) -> bool
+/// Whether a loop goes on by its counter and its decimals, counted up for plus and down for minus.
+pub fn goes_on(counter: Ten, direction: Sign, decimals: u64) -> bool
+    requires { decimals ≡ decimals_of (units counter) }
     ensures { result ≡ goes_on (way_of direction) (units counter) }
 {
-    let decimals = five_decimals(counter);
     let ones = ones(counter);
     let count = increment(decimals);
     let last = decimals / 100;
@@ -56,8 +56,8 @@ fn ones(number: Ten) -> u64
 }
 
 /// The first five decimals of a number's size, as a whole number.
-fn five_decimals(number: Ten) -> u64
-    ensures value { result ≡ fraction_of (units number) / 10 ^ 103 }
+pub fn five_decimals(number: Ten) -> u64
+    ensures value { result ≡ decimals_of (units number) }
     ensures bound { result < 100000 }
 {
     match number {
@@ -134,12 +134,13 @@ fn is_above(sign: Sign, ones: u64, count: u64, last: u64) -> bool
     }
 }
 
-/// A loop's counter, counted up for plus and down for minus. Where its ones keep their sign, all of it is moved by what is
-/// counted.
-fn counted(number: Ten, direction: Sign) -> Result<Ten, DecimalFault>
+/// A loop's counter with its decimals, counted up for plus and down for minus. Where its ones keep their sign, all of it is
+/// moved by what is counted.
+pub fn counted(number: Ten, direction: Sign, decimals: u64) -> Result<Ten, DecimalFault>
+    requires { decimals ≡ decimals_of (units number) }
     ensures { Nearest (number_along direction (units number)) 1 result }
 {
-    let count = increment(five_decimals(number));
+    let count = increment(decimals);
     if number.sign() == direction || ones(number) > count {
         moved(number, direction, count)
     } else {

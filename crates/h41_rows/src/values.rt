@@ -8,7 +8,7 @@ ghost use Rattle.h41_rows.specs.FunctionRows as functions;
 ghost use Rattle.h41_rows.specs.Values.{Given, Written};
 
 use crate::answers::{
-    answer_of_one, answer_of_two, number_at, out_of_range, register, sign_of_one, sign_of_two,
+    answer_of_one, answer_of_two, kept, number_at, out_of_range, register, sign_of_one, sign_of_two,
 };
 use crate::fault::LineFault;
 use h41_codes::Number;
@@ -117,18 +117,18 @@ pub fn written(number: &Number) -> Reg
 }
 
 /// The register of a value of one number.
-pub(crate) fn kept_of_one<const REGS: usize>(
+fn kept_of_one<const REGS: usize>(
     ram: &Ram<REGS>,
     value: ValueOfOne,
     number: Ten,
 ) -> Result<Reg, LineFault>
     ensures { KeptOne value ram.now.registers number result }
 {
-    match answer_of_one(ram, value, number) {
-        Ok(answer) => Ok(register(answer)),
-        Err(DecimalFault::Data) => Err(LineFault::DataError),
-        Err(DecimalFault::Range) => out_of_range(ram, sign_of_one(value, number)),
-    }
+    kept(
+        ram,
+        answer_of_one(ram, value, number),
+        sign_of_one(value, number),
+    )
 }
 
 /// What is computed of a register with no number: a fault, but for the unit, which is zero.

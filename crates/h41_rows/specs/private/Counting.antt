@@ -6,11 +6,22 @@ use Rattle.h41_decimal.specs.Units.{one}
 use Rattle.h41_decimal.specs.declared.sign.Sign.{Sign}
 use Rattle.h41_decimal.specs.declared.sign.Sign.TheVariants.{Plus, Minus}
 use Rattle.h41_rows.specs.Counters.{Way, Up, Down, count_of, counter_of, fraction_of}
+use Rattle.h41_rows.specs.declared.values.ValueOfOne.{ValueOfOne}
+use Rattle.h41_rows.specs.declared.values.ValueOfOne.TheVariants.{CountedDown, CountedUp}
 
 -- which way a direction is: plus up, minus down
 abbrev pub way_of : Sign → Way
 way_of Plus = Up
 way_of Minus = Down
+
+-- the value that a counter so counted is
+abbrev pub value_along : Sign → ValueOfOne
+value_along Plus = CountedUp
+value_along Minus = CountedDown
+
+-- the first five decimals of a number's size, as a whole number
+abbrev pub decimals_of : ℤ → ℕ
+decimals_of number = fraction_of number / 10 ^ 103
 
 -- by how much a fraction says that is counted
 abbrev pub count_in : ℕ → ℕ

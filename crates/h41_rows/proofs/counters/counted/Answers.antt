@@ -18,7 +18,7 @@ returns-then-ones-count c =
     let d = c.args.direction in
     let count = c.increment-count.result in
     let counts : count ≡ count_of z =
-    c.increment-count.ensures.value ∙ ap (λ t. if t % 100 == 0 then 1 else t % 100) c.five_decimals.ensures.value in
+    c.increment-count.ensures.value ∙ ap (λ t. if t % 100 == 0 then 1 else t % 100) c.requires in
     let kept : (sign_of z ≡ d) ⊎ (count < unsigned_abs z / one) =
     elim c.if-eq.branch [
       | then-eq w ↦ inl (sym c.sign.ensures ∙ signs_same c.sign.result d (sym w.if-eq.true ∙ c.eq.ensures))

@@ -7,6 +7,7 @@ use Rattle.h41_asm.specs.Placing.{Labels, LinesSpell, SpellsRead, entry_words}
 use Rattle.h41_asm.specs.SourceLines.{SourceLine}
 use Rattle.h41_asm.specs.Statements.{name_words}
 use Rattle.h41_pages.specs.FunctionTables.{entry_offset, spelled_name, words_before}
+use Rattle.h41_pages.specs.KeystrokeCode.{code_from, label_name}
 use Rattle.h41_entries.specs.DirectivesRead.{NameIsRead, EntryIsRead, FocalIsRead, FunctionIsRead, SpellsBy, name_line, entry_line}
 use Rattle.h41_entries.specs.DirectivesRead.{focal_line, lines_length}
 use Rattle.h41_entries.proofs.Placed.{IsPlaced, placed, name_reading, entry_reading, focal_reading}
@@ -119,7 +120,9 @@ function_is_read labels source words fill name text origin entry label other
     let size : length at.own ≡ length text = ap length own ∙ length-name_words text in
     let offset : entry_offset (words ++ fill) entry ≡ lines_length first + length text =
     read.2.offset ∙ omega (arith, target, size, at.size, start, inside) in
-    ap (λ keystroke. if keystroke then None else spelled_name (words_before (words ++ fill) (entry_offset (words ++ fill) entry)))
+    ap (λ keystroke.
+    if keystroke then label_name (code_from (words ++ fill) (entry_offset (words ++ fill) entry))
+    else spelled_name (words_before (words ++ fill) (entry_offset (words ++ fill) entry)))
     read.2.kind
     ∙ ap (λ o. spelled_name (words_before (words ++ fill) o)) offset
     ∙ name_is_read labels source words fill text origin other first (next ∷ rest) quoted by_name

@@ -1,7 +1,8 @@
 -- The functions of a module, as HP's modules list them: word 0 of a page is its XROM number, word 1
 -- how many entries it has, and two words an entry follow. A microcode function's name stands before
--- the words of the function. All of it is read in bank 1. What counts as a name, and what a number
--- or a count out of range means, are this project's choices.
+-- the words of the function; that of a keystroke function is its label's. All of it is read in bank
+-- 1. What counts as a name, and what a number or a count out of range means, are this project's
+-- choices.
 use Rattle.std.specs.Prelude.{ℕ, ◌+◌, ◌-◌, ◌*◌, ◌/◌, ◌%◌, ◌^◌, ◌<◌, ◌≤◌, Bool, false, ◌&&◌, List}
 use Rattle.std.specs.Prelude.{[], ◌∷◌, map, find, min, slice_index, nat_lt, nat_le, ◌==◌, bytes_eq}
 use Rattle.std.specs.Prelude.{if◌then◌else◌, Option, Some, None, option_map, option_and_then}
@@ -10,6 +11,7 @@ use Rattle.std.specs.List.{flat_map, range_with_len}
 use Rattle.std.specs.Option.{option_map_or}
 use Rattle.h41_words.specs.declared.rows.Bank.TheVariants.{First}
 use Rattle.h41_pages.specs.Addresses.{page_count, page_size}
+use Rattle.h41_pages.specs.KeystrokeCode.{code_from, label_name}
 use Rattle.h41_pages.specs.PageMap.{PageMap, PageImage, image_at}
 use Rattle.h41_pages.specs.declared.functions.Entry.{Entry}
 use Rattle.h41_pages.specs.declared.functions.ModuleFunction.{ModuleFunction}
@@ -66,10 +68,11 @@ spelled_name (word ∷ words) =
     if is_last word then Some (character word ∷ [])
     else option_map (λ name. character word ∷ name) (spelled_name words)
 
--- the name of an entry: that before a microcode function; keystroke code has none yet
+-- the name of an entry: that before a microcode function, and of keystroke code that of the label
+-- with which it begins
 abbrev pub entry_name : List ℕ → ℕ → Option (List ℕ)
 entry_name words entry =
-    if is_keystroke words entry then None
+    if is_keystroke words entry then label_name (code_from words (entry_offset words entry))
     else spelled_name (words_before words (entry_offset words entry))
 
 -- an entry as a function: its two numbers, and its name

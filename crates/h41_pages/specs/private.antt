@@ -2,3 +2,4 @@
 -- files.
 pub mod AddedFunctions
 pub mod AddressSpace
+pub mod Labels

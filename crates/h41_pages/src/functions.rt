@@ -10,7 +10,7 @@ ghost use Rattle.h41_pages.specs.FunctionTables as spec;
 
 use crate::addresses::{PAGE_WORDS, PAGES};
 use crate::image::Image;
-use crate::name::{NAME_LENGTH, Name};
+use crate::name::Name;
 use crate::pages::Pages;
 use h41_words::{Bank, Word};
 use std::alloc::{AllocError, Global};
@@ -19,6 +19,9 @@ use std::alloc::{AllocError, Global};
 const LAST_NUMBER: u16 = 31;
 
 const MOST_ENTRIES: u16 = 64;
+
+/// The most characters of a microcode function's name.
+const MICROCODE_NAME_LENGTH: usize = 11;
 
 /// An entry of a module's table.
 #[derive(Clone, Copy, Debug, PartialEq, Eq)]
@@ -36,7 +39,7 @@ pub struct ModuleFunction {
     pub number: u8,
     /// Its entry there, 0 to 63.
     pub entry: u8,
-    /// Its name, where it has one. Keystroke code has none yet.
+    /// Its name, where it has one.
     pub name: Option<Name>,
 }
 
@@ -199,7 +202,7 @@ impl Image {
         ensures { result ≡ spec.spelled_name (spec.words_before self.now.words offset) }
     {
         let mut name = Name::new();
-        let count = offset.min(NAME_LENGTH);
+        let count = offset.min(MICROCODE_NAME_LENGTH);
         for distance in 0..count {
             let word = self.word(offset - 1 - distance);
             name.push(character(word));
@@ -210,15 +213,16 @@ impl Image {
         None
     }
 
-    /// The name of an entry's function, where it has one.
+    /// The name of an entry's function, where it has one: that before microcode, and that of the label of keystroke code.
     fn entry_name(&self, entry: usize) -> Option<Name>
         requires { entry < 64 }
         ensures { result ≡ spec.entry_name self.now.words entry }
     {
+        let offset = self.entry_offset(entry);
         if self.is_keystroke(entry) {
-            None
+            self.label_name(offset)
         } else {
-            self.name_before(self.entry_offset(entry))
+            self.name_before(offset)
         }
     }
 

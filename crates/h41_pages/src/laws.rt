@@ -8,6 +8,7 @@ ghost use Rattle.h41_pages.specs.PageLaws.{WrittenIsFetched, WritingKeepsOthers}
 ghost use Rattle.h41_pages.specs.PageLaws.{ChosenIsFetched, PluggingKeepsOtherBanks};
 ghost use Rattle.h41_pages.specs.PageLaws.{WritingKeepsOtherBanks, UnpluggingKeepsOtherBanks};
 ghost use Rattle.h41_pages.specs.PageLaws.{ChoosingKeepsBanks};
+ghost use Rattle.h41_pages.specs.FunctionLaws.{NameIsOfLabel};
 
 use crate::pages::Pages;
 
@@ -60,4 +61,9 @@ pub fn other_banks_stay()
     ensures write { WritingKeepsOtherBanks }
     ensures unplug { UnpluggingKeepsOtherBanks }
     ensures choose { ChoosingKeepsBanks }
+{}
+
+/// Keystroke code has a name just where the line with which it begins is a label of this name.
+pub fn name_is_of_label()
+    ensures { NameIsOfLabel }
 {}

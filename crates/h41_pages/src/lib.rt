@@ -8,6 +8,7 @@ mod banks;
 mod functions;
 mod image;
 mod image_bytes;
+mod keystrokes;
 pub mod laws;
 mod name;
 mod pages;

@@ -1,14 +1,15 @@
 //! The name of a function in a module.
 
-ghost use Rattle.std.specs.Prelude.{◌≡◌, ◌<◌, ◌++◌, [], ◌∷◌, length, bytes_eq};
+ghost use Rattle.std.specs.Prelude.{◌≡◌, ◌<◌, ◌≤◌, ◌++◌, [], ◌∷◌, length, bytes_eq};
 
 use arrayvec::ArrayVec;
 use std::marker::Model;
 
-/// The most characters of a name.
-pub const NAME_LENGTH: usize = 11;
+/// The most characters of a name: those of a label.
+pub const NAME_LENGTH: usize = 14;
 
-/// The name of a function: up to eleven characters, 20 to 5F.
+/// The name of a function: of one in microcode 1 to 11 characters, 20 to 5F; of one in keystrokes that of its label, up to 14
+/// characters of any kind.
 #[derive(Debug, Drop)]
 pub struct Name {
     characters: ArrayVec<u8, NAME_LENGTH>,
@@ -38,6 +39,18 @@ impl Name {
         ensures { self.new ≡ self.old ++ character ∷ [] }
     {
         self.characters.push(character);
+    }
+
+    /// The name with these characters.
+    pub(crate) fn of(characters: &[u8]) -> Self
+        requires { length characters.now ≤ NAME_LENGTH }
+        ensures { result ≡ characters.now }
+    {
+        let mut name = Name::new();
+        for character in characters {
+            name.push(*character);
+        }
+        name
     }
 
     /// Its characters.

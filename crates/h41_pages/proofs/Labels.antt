@@ -1,0 +1,156 @@
+-- Keystroke code begins with a label just where its name says so.
+use Rattle.std.proofs.Common.{◌≡◌, ℕ, suc, zero, ◌+◌, ◌-◌, ◌*◌, ◌<◌, ◌≤◌, ◌↔◌, Bool, true, false, List, [], ◌∷◌, ◌++◌, map, min}
+use Rattle.std.proofs.Common.{length, take, drop, Option, Some, None, Result, Ok, Err, refl, sym, ◌∙◌, ap, subst, arith, length-append}
+use Rattle.std.proofs.Common.{length-take-le, take-append-drop, inl, inr}
+use Rattle.std.specs.Bool.{then_some}
+use Rattle.std.proofs.lemmas.Bool.{cases_lt}
+use Rattle.std.proofs.lemmas.Grind.{common_steps}
+use Rattle.std.proofs.lemmas.List.{take_all, take_at, take-take, take-map, length-drop, length-take}
+use Rattle.h41_codes.specs.ByteGrammar.{spelling, link_high, link_low, IsBytes, Begins}
+use Rattle.h41_codes.specs.declared.line.Line.{Line}
+use Rattle.h41_codes.specs.declared.line.Line.TheVariants.{GlobalLabel}
+use Rattle.h41_pages.specs.FunctionLaws.{BeginsLabel}
+use Rattle.h41_pages.specs.KeystrokeCode.{code_byte, is_label, label_name}
+use Rattle.h41_pages.specs.private.Labels.{name_of}
+
+-- the bytes of words are bytes, and so are the first of them
+are_bytes : (words : List ℕ) (count : ℕ) → IsBytes (take count (map code_byte words))
+are_bytes words zero index inside = absurd (omega (arith, inside))
+are_bytes [] (suc count) index inside = absurd (omega (arith, inside))
+are_bytes (word ∷ words) (suc count) zero inside = omega arith
+are_bytes (word ∷ words) (suc count) (suc index) inside = are_bytes words count index (omega (arith, inside))
+
+-- a test that passes has what is behind it
+taken : (b : Bool) (name own : List ℕ) → then_some b own ≡ Some name → (b ≡ true) × (own ≡ name)
+taken true name own same = (refl, cc)
+taken false name own same = cc
+
+-- the four bytes in front of a name, and the name
+front : (first second third key : ℕ) (behind : List ℕ) (n : ℕ) → n ≤ length behind
+    → take (4 + n) (first ∷ second ∷ third ∷ key ∷ behind) ≡ first ∷ second ∷ third ∷ key ∷ take n behind
+front first second third key behind n inside = let e : 4 + n ≡ suc (suc (suc (suc n))) = omega arith in rw e refl
+
+begins : (first second third key : ℕ) (behind name : List ℕ) → second < 256 → third < 256 → key < 256 → is_label first third behind ≡ true
+    → take (third - 0xF1) behind ≡ name → IsBytes name → BeginsLabel (first ∷ second ∷ third ∷ key ∷ behind) name
+begins first second third key behind name low_second low_third low_key is own bytes =
+    let link = (first - 0xC0) * 256 + second in
+    let n = third - 0xF1 in
+    let from : 0xC0 ≤ first = grind (arith, common_steps, is) in
+    let to : first ≤ 0xCD = grind (arith, common_steps, is) in
+    let some : 0xF1 ≤ third = grind (arith, common_steps, is) in
+    let inside : n ≤ length behind = grind (arith, common_steps, is) in
+    let size : length name ≡ n = ap length (sym own) ∙ length-take-le n behind inside in
+    let a : link_high link ≡ first = omega arith in
+    let b : link_low link ≡ second = omega arith in
+    let d : 0xF1 + length name ≡ third = omega arith in
+    let all : take (4 + n) (first ∷ second ∷ third ∷ key ∷ behind) ≡ first ∷ second ∷ third ∷ key ∷ take n behind =
+    front first second third key behind n inside in
+    let same : take (4 + n) (first ∷ second ∷ third ∷ key ∷ behind) ≡ spelling (GlobalLabel link key name) = cc in (
+      link,
+      key,
+      4 + n,
+      record {
+        inside = omega arith;
+        spells = record { valid = (omega arith, low_key, record { fits = omega arith; bytes = bytes }); same = same };
+        whole = tt;
+      },
+    )
+
+pub has_label : (words name : List ℕ) → label_name (map code_byte words) ≡ Some name → BeginsLabel (map code_byte words) name
+has_label [] name same = cc
+has_label (a ∷ []) name same = cc
+has_label (a ∷ b ∷ []) name same = cc
+has_label (a ∷ b ∷ c ∷ []) name same = cc
+has_label (a ∷ b ∷ c ∷ d ∷ words) name same =
+    let third = code_byte c in
+    let behind = map code_byte words in
+    let is = taken (is_label (code_byte a) third behind) name (take (third - 0xF1) behind) same in
+    begins (code_byte a) (code_byte b) third (code_byte d) behind name (omega arith) (omega arith) (omega arith) is.0 is.1
+    (subst (λ (own : List ℕ). IsBytes own) is.1 (are_bytes words (third - 0xF1)))
+
+-- bytes that begin with a label have its name
+spelled : (link key : ℕ) (name rest : List ℕ) → link < 3584 → label_name (spelling (GlobalLabel link key name) ++ rest) ≡ Some name
+spelled link key name rest fits =
+    let is : is_label (link_high link) (0xF1 + length name) (name ++ rest) ≡ true =
+    grind (arith, common_steps, length-append name rest) in
+    ap (λ b. then_some b (take (0xF1 + length name - 0xF1) (name ++ rest))) is
+    ∙ ap Some (take_at name rest (0xF1 + length name - 0xF1) (omega arith))
+
+pub label_has : (bytes name : List ℕ) → BeginsLabel bytes name → label_name bytes ≡ Some name
+label_has bytes name (link, key, count, label) =
+    ap label_name (sym (take-append-drop count bytes) ∙ ap (λ line. line ++ drop count bytes) label.spells.same)
+    ∙ spelled link key name (drop count bytes) label.spells.valid.0
+
+-- a label has at most 18 bytes
+cut_behind : (first third : ℕ) (behind : List ℕ) → third < 256
+    → then_some (is_label first third (take 14 behind)) (take (third - 0xF1) (take 14 behind))
+    ≡ then_some (is_label first third behind) (take (third - 0xF1) behind)
+cut_behind first third behind low =
+    let size : length (take 14 behind) ≡ _ = length-take 14 behind in
+    let same : is_label first third (take 14 behind) ≡ is_label first third behind = grind (arith, common_steps, size) in
+    ap (λ b. then_some b (take (third - 0xF1) (take 14 behind))) same
+    ∙ ap (λ own. then_some (is_label first third behind) own) (take-take (third - 0xF1) 14 behind (omega arith))
+
+pub cut_label : (words : List ℕ) → label_name (take 18 (map code_byte words)) ≡ label_name (map code_byte words)
+cut_label [] = refl
+cut_label (a ∷ []) = refl
+cut_label (a ∷ b ∷ []) = refl
+cut_label (a ∷ b ∷ c ∷ []) = refl
+cut_label (a ∷ b ∷ c ∷ d ∷ words) = cut_behind (code_byte a) (code_byte c) (map code_byte words) (omega arith)
+
+-- the name of a line that was read
+abbrev pub name_read : {E : Type 0} → Result (Line × ℕ) E → Option (List ℕ)
+name_read (Ok found) = name_of found.0
+name_read (Err fault) = None
+
+label_line : (line : Line) (name : List ℕ) → name_of line ≡ Some name → (link : ℕ) × (key : ℕ) × (line ≡ GlobalLabel link key name)
+label_line (GlobalLabel link key own) name same = (link, key, cc)
+label_line line name same = cc
+
+none_read : (line : Line) (own : Option (List ℕ)) → name_of line ≡ own → ((name : List ℕ) → own ≡ Some name → ⊥) → name_of line ≡ None
+none_read line None same none = same
+none_read line (Some name) same none = absurd (none name refl)
+
+-- it is that of the code, of which the first bytes were read
+named : {E : Type 0} (words : List ℕ) (result : Result (Line × ℕ) E)
+    → ((line : Line) (count : ℕ) → (result ≡ Ok (line, count)) ↔ Begins (map code_byte words) line count)
+    → (own : Option (List ℕ)) → label_name (map code_byte words) ≡ own → name_read result ≡ own
+named words result means (Some name) own =
+    let (link, key, count, label) = has_label words name own in
+    ap name_read ((means (GlobalLabel link key name) count).1 label)
+named words (Ok found) means None own =
+    none_read found.0 (name_of found.0) refl (λ name same.
+    let (link, key, is) = label_line found.0 name same in
+    let label : Begins (map code_byte words) (GlobalLabel link key name) found.1 =
+    subst (λ (line : Line). Begins (map code_byte words) line found.1) is ((means found.0 found.1).0 refl) in
+    let some = label_has (map code_byte words) name (link, key, found.1, label) in cc)
+named words (Err fault) means None own = refl
+
+pub name_is_read : {E : Type 0} (words : List ℕ) (result : Result (Line × ℕ) E)
+    → ((line : Line) (count : ℕ) → (result ≡ Ok (line, count)) ↔ Begins (take 18 (map code_byte words)) line count)
+    → name_read result ≡ label_name (map code_byte words)
+name_is_read {E} words result means =
+    let first : take 18 (map code_byte words) ≡ map code_byte (take 18 words) = take-map code_byte 18 words in
+    named (take 18 words) result
+    (subst (λ (bytes : List ℕ). (line : Line) (count : ℕ) → (result ≡ Ok (line, count)) ↔ Begins bytes line count) first means)
+    (label_name (map code_byte (take 18 words))) refl
+    ∙ ap label_name (sym first)
+    ∙ cut_label words
+
+-- the code that was read: up to 18 words, and none past the page's end
+first_of : (words : List ℕ) (offset end : ℕ) → offset < 4096 → length words ≡ 4096 → end ≡ min 4096 (offset + 18)
+    → take (end - offset) (drop offset words) ≡ take 18 (drop offset words)
+first_of words offset end inside whole at =
+    elim (cases_lt 4096 (offset + 18)) [
+      | inl past ↦
+          take_all (end - offset) (drop offset words) (omega (arith, length-drop offset words))
+          ∙ sym (take_all 18 (drop offset words) (omega (arith, length-drop offset words)))
+      | inr within ↦ let e : end - offset ≡ 18 = omega arith in ap (λ count. take count (drop offset words)) e
+    ]
+
+pub code_read : (words : List ℕ) (offset end index : ℕ) → offset < 4096 → length words ≡ 4096 → end ≡ min 4096 (offset + 18)
+    → length (take (end - offset) (drop offset words)) ≤ index
+    → map code_byte (take index (take (end - offset) (drop offset words))) ≡ take 18 (map code_byte (drop offset words))
+code_read words offset end index inside whole at past =
+    ap (map code_byte) (take_all index (take (end - offset) (drop offset words)) past ∙ first_of words offset end inside whole at)
+    ∙ sym (take-map code_byte 18 (drop offset words))

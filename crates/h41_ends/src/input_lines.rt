@@ -5,10 +5,11 @@ ghost use Rattle.h41_ends.specs.Ends.{most_bytes};
 
 use crate::fault::LineFault;
 use crate::input::MOST_BYTES;
+use crate::line_ends::line_end;
 use crate::output::flush;
 use crate::sink::Sink;
 use crate::source::Source;
-use h41_lines::lines::{line_end, without_return};
+use h41_lines::lines::without_return;
 
 /// The most bytes of a line that are told: one more than a line of a deck may have.
 pub const MOST_TOLD: usize = 201;
@@ -87,6 +88,7 @@ impl InputLines {
     ///
     /// `ReadFault` (22) where a read fails, or more than 67,108,864 bytes come before the line's end; `WriteFault` (23) where the
     /// writer cannot be flushed.
+    #[inline(always)]
     pub fn next_line<R: Source, W: Sink>(
         &mut self,
         reader: &mut R,
@@ -148,6 +150,7 @@ impl InputLines {
     }
 
     /// Tells what is held as the last line, if there is something, and says so. The end was reached.
+    #[inline(never)]
     fn tell_last(&mut self) -> bool
         requires { self.old.is_over ≡ false }
         ensures { TellsLast self.old result self.new }
@@ -161,6 +164,7 @@ impl InputLines {
     }
 
     /// Reads some bytes behind what is held, which is shortened to what counts of a line. Says whether there were any.
+    #[inline(never)]
     fn read_more<R: Source, W: Sink>(
         &mut self,
         reader: &mut R,

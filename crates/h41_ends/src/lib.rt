@@ -4,6 +4,7 @@
 mod fault;
 mod input;
 mod input_lines;
+mod line_ends;
 mod output;
 mod sink;
 mod source;

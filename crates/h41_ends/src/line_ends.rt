@@ -1,0 +1,52 @@
+//! Where the first line of some bytes ends: sixteen bytes are looked at at once, as long as there are as many.
+
+ghost use Rattle.std.specs.Prelude.{◌≡◌, ◌≢◌, ◌↔◌, ◌≤◌, ◌<◌, ◌==◌, ℕ, position, length, slice_index};
+ghost use Rattle.std.specs.Int.{bit_at};
+
+use h41_lines::lines;
+use std::simd::prelude::*;
+
+/// How many bytes are looked at at once.
+const LANES: usize = 16;
+
+/// Where the first LF of a text stands.
+#[inline(always)]
+pub(crate) fn line_end(text: &[u8]) -> Option<usize>
+    ensures { result ≡ position (λ byte. byte == 10) text.now }
+{
+    let mut at = 0;
+    while LANES <= text.len() - at {
+        let ends = line_ends(&text[at..]);
+        if ends != 0 {
+            return Some(at + lowest(ends));
+        }
+        at += LANES;
+    }
+    match lines::line_end(&text[at..]) {
+        Some(end) => Some(at + end),
+        None => None,
+    }
+}
+
+/// Which of the first sixteen bytes end a line, each by a bit.
+#[inline(always)]
+fn line_ends(text: &[u8]) -> u64
+    requires { 16 ≤ length text.now }
+    ensures within { (k : ℕ) → bit_at result k ≡ 1 → k < 16 }
+    ensures bits { (k : ℕ) → k < 16 → (bit_at result k ≡ 1) ↔ (slice_index text.now k ≡ 10) }
+{
+    u8x16::from_slice(text)
+        .simd_eq(u8x16::splat(b'\n'))
+        .to_bitmask()
+}
+
+/// The lowest bit that is set.
+#[inline(always)]
+fn lowest(bits: u64) -> usize
+    requires { bits ≢ 0 }
+    ensures bound { result < 64 }
+    ensures set { bit_at bits result ≡ 1 }
+    ensures below { (k : ℕ) → k < result → bit_at bits k ≡ 0 }
+{
+    bits.trailing_zeros() as usize
+}

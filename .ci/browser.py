@@ -1,9 +1,11 @@
 """A browser without a window, Chromium with its driver, asked by WebDriver over HTTP."""
 import base64
 import json
+import os
 import re
 import shutil
 import subprocess
+import tempfile
 import time
 import urllib.error
 import urllib.request
@@ -31,7 +33,8 @@ class Browser:
         self.session, self.asking = "", urllib.request.build_opener(urllib.request.ProxyHandler({}))
         try:
             # It tells its port as soon as it listens there.
-            self.port = next(found[1] for found in map(re.compile(r"started successfully on port ([0-9]+)").search, self.driver.stdout) if found)
+            told = map(re.compile(r"started successfully on port ([0-9]+)").search, self.driver.stdout)
+            self.port = next(found[1] for found in told if found)
             self.begin(3)
         except BaseException:
             self.close()
@@ -87,6 +90,17 @@ class Browser:
                 if time.monotonic() > end:
                     raise
             time.sleep(0.02)
+
+    def saved(self, selector, name):
+        """The bytes of the file of this name that a click on a link saves."""
+        with tempfile.TemporaryDirectory() as room:
+            self.tell("Browser.setDownloadBehavior", {"behavior": "allow", "downloadPath": room})
+            self.click(selector)
+            end = time.monotonic() + PATIENCE
+            while not os.path.exists(f"{room}/{name}") and time.monotonic() < end:
+                time.sleep(0.02)
+            with open(f"{room}/{name}", "rb") as file:
+                return file.read()
 
     def type(self, *keys):
         """Keys of the computer's keyboard, each pressed and released."""

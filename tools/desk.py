@@ -181,10 +181,11 @@ class Entry:
         self.text, self.reply, self.key = text, [], None
 
     def told(self):
+        """Its text without its last LF, a character for each byte, and its reply."""
         reply = self.reply
         if len(reply) > MOST_LINES:
             reply = [*reply[:FIRST_LINES], f"… {len(reply) - 2 * FIRST_LINES} lines", *reply[-FIRST_LINES:]]
-        return [self.text.decode("utf-8", "replace").removesuffix("\n"), reply]
+        return [self.text.decode("latin-1").removesuffix("\n"), reply]
 
 
 class Desk:

@@ -19,20 +19,14 @@ let lastRefusal = -1;       // the entry whose refusal is shown
 
 // ---- Elements
 
-function make(tag, attributes = {}, ...children) {
-  const element = document.createElement(tag);
-  for (const [name, value] of Object.entries(attributes)) {
-    if (value !== false && value !== null && value !== undefined) element.setAttribute(name, value === true ? "" : value);
-  }
+function filled(element, attributes, children) {
+  for (const [name, value] of Object.entries(attributes)) if (value !== null) element.setAttribute(name, value);
   element.append(...children);
   return element;
 }
 
-function drawn(tag, attributes) {
-  const element = document.createElementNS("http://www.w3.org/2000/svg", tag);
-  for (const [name, value] of Object.entries(attributes)) element.setAttribute(name, value);
-  return element;
-}
+const make = (tag, attributes = {}, ...children) => filled(document.createElement(tag), attributes, children);
+const drawn = (tag, attributes, ...children) => filled(document.createElementNS("http://www.w3.org/2000/svg", tag), attributes, children);
 
 /** Draws what a box has anew; a control in it that has the focus gives it to the one of its name. */
 function fill(id, ...children) {
@@ -100,7 +94,7 @@ function take(answer) {
     by("lessons").replaceChildren(make("option", { value: "" }, "Lessons"), ...options);
   }
   if (answer.lesson) lesson = { ...(lesson || { replies: {} }), ...answer.lesson };
-  for (const [number, text, reply] of answer.entries) entries[number] = { text, reply };
+  for (const [number, bytes, reply] of answer.entries) entries[number] = { bytes, text: textOf(bytes), reply };
   for (const state of [...answer.states, answer.state]) remember(state);
   if (answer.version !== told) shown = null;
   [waits, told] = [answer.waits, answer.version];
@@ -108,6 +102,13 @@ function take(answer) {
   show();
   act(tellRefusal);
 }
+
+/** Bytes, each as a character, as bytes, and as the text that they are in UTF-8. */
+const bytesOf = (characters) => Uint8Array.from(characters, (one) => one.charCodeAt(0));
+const textOf = (characters) => new TextDecoder().decode(bytesOf(characters));
+
+/** The address of a file that the page itself has. */
+const addressOf = (...parts) => URL.createObjectURL(new Blob(parts));
 
 /** Keeps a state, where it is not the one before. */
 function remember(state) {
@@ -124,8 +125,8 @@ function gone(why, isServer) {
   document.body.classList.toggle("gone", isGone);
   by("ended").querySelector("p").textContent = why;
   by("again").hidden = isServer;
-  const deck = entries.map((entry) => `${entry.text}\n`).join("");
-  by("ended-save").href = isServer ? `data:text/plain;charset=utf-8,${encodeURIComponent(deck)}` : "deck";
+  const deck = isServer ? addressOf(...entries.map(({ bytes }) => bytesOf(`${bytes}\n`))) : "deck";
+  for (const link of document.querySelectorAll("a[download]")) link.href = deck;
 }
 
 function listen(isAgain) {
@@ -135,7 +136,7 @@ function listen(isAgain) {
     if (version > told || (ended !== null) !== isGone) act(() => ask(null));
   };
   events.onerror = () => {
-    if (events.readyState !== EventSource.CLOSED) return fetched("state").catch(() => {});
+    if (events.readyState !== EventSource.CLOSED) return fetched("state").catch(() => events.close());
     if (!isAgain) tell("Other pages of this calculator are open: this one gets no news.");
     return setTimeout(listen, 2000, true);
   };
@@ -158,10 +159,11 @@ async function tellRefusal() {
   }
   if (number === lastRefusal && by("refusal").textContent.startsWith(last)) return;
   lastRefusal = number;
-  tell(`${last}  ${entry.text.split("\n")[0]}`);
+  const text = `${last}  ${entry.text.split("\n")[0]}`;
+  tell(text);
   if (isGone) return;
   const { line: place, causes } = await ask({ do: "causes", entry: number });
-  if (lastRefusal !== number || !causes) return;
+  if (by("refusal").textContent !== text || !causes) return;
   const list = make("dl");
   for (const [head, why] of causes.slice(0, 6)) list.append(make("dt", {}, head), make("dd", {}, why));
   by("refusal").append(...(place ? [make("p", {}, place)] : []), list);
@@ -188,18 +190,14 @@ const SHAPES = {
   "\\1D": "DGHKL",
 };
 const [CELLS, CELL_WIDTH] = [12, 49];
-
 let [scrolling, displayed] = [null, null];
 
 function drawDisplay() {
   for (let at = 0; at < CELLS; at++) {
-    const cell = drawn("g", { class: "cell", transform: `translate(${22 + at * CELL_WIDTH} 16) skewX(-5)` });
-    for (const [name, [x1, y1, x2, y2]] of Object.entries(SEGMENTS)) {
-      cell.append(drawn("line", { "data-segment": name, x1, y1, x2, y2 }));
-    }
-    cell.append(drawn("circle", { "data-segment": ".", cx: 39, cy: 63, r: 3 }),
-      drawn("line", { "data-segment": ",", x1: 39, y1: 65, x2: 36, y2: 73 }), drawn("circle", { "data-segment": ":", cx: 39, cy: 42, r: 3 }));
-    by("lcd").append(cell);
+    const lines = Object.entries({ ...SEGMENTS, ",": [39, 65, 36, 73] }).map(([name, [x1, y1, x2, y2]]) =>
+      drawn("line", { "data-segment": name, x1, y1, x2, y2 }));
+    const points = [[".", 63], [":", 42]].map(([name, cy]) => drawn("circle", { "data-segment": name, cx: 39, cy, r: 3 }));
+    by("lcd").append(drawn("g", { class: "cell", transform: `translate(${22 + at * CELL_WIDTH} 16) skewX(-5)` }, ...lines, ...points));
   }
 }
 
@@ -305,10 +303,7 @@ let pressing = Promise.resolve();
 /** Presses keys behind those that are pressed already. What stands for keys may depend on what these did: `names` may be a call. */
 function press(names) {
   const before = pressing;
-  pressing = act(async () => {
-    await before;
-    await pressNow(typeof names === "function" ? names() : names);
-  });
+  pressing = act(() => before.then(() => pressNow(typeof names === "function" ? names() : names)));
   return pressing;
 }
 
@@ -369,9 +364,8 @@ function typed(event) {
 
 /** Has commands carried out. */
 async function give(deck) {
-  const answer = await ask({ do: "give", deck, ...pieces() });
+  await ask({ do: "give", deck, ...pieces() });
   drive();
-  return answer;
 }
 
 /** How much of a run is made at once. */
@@ -386,12 +380,11 @@ const drive = () => act(async () => {
   const own = driver = {};
   try {
     while (driver === own && waits && !isGone) {
-      const pace = Number(by("pace").value);
-      const [first, before] = [performance.now(), stepsMade()];
+      const [pace, first] = [Number(by("pace").value), performance.now()];
       await ask({ do: "go", ...pieces() });
       const rest = first + (pace ? Math.max(50, 1000 / pace) : 0) - performance.now();
       if (rest > 0) await new Promise((done) => setTimeout(done, rest));
-      tellRate(stepsMade() - before, performance.now() - first);
+      tellRate(performance.now() - first);
     }
   } finally {
     if (driver === own) driver = null;
@@ -399,15 +392,10 @@ const drive = () => act(async () => {
   }
 });
 
-/** How many steps the last run has made. */
-function stepsMade() {
-  const found = /^ran ([0-9]+) /.exec(entries.at(-1)?.reply[0] ?? "");
-  return found ? Number(found[1]) : 0;
-}
-
-function tellRate(steps, milliseconds) {
-  if (steps <= 0) return;
-  const rate = steps * 1000 / milliseconds;
+/** Tells how fast the last piece of a run was. */
+function tellRate(milliseconds) {
+  const rate = present().made * 1000 / milliseconds;
+  if (!rate || !entries.at(-1).text.startsWith("run ")) return;
   const digits = rate >= 100 ? Number(rate.toPrecision(2)).toLocaleString("en") : rate.toFixed(1);
   by("rate").textContent = `${digits} ${present().pos[0].startsWith("Micro") ? "words" : "lines"} a second`;
 }
@@ -453,11 +441,13 @@ function show() {
   const said = `${state.display[0] || "(off)"}${lit.length ? ` (${lit.join(" ")})` : ""}`;
   if (!(driver && waits) && by("live").textContent !== said) by("live").textContent = said;
   by("past").hidden = shown === null;
-  by("past").querySelector("span").textContent = `As it was ${past.length - 1 - (shown ?? 0)} steps ago.`;
+  const ago = past.length - 1 - (shown ?? 0);
+  by("past").querySelector("span").textContent = `As it was ${ago} step${ago === 1 ? "" : "s"} ago.`;
   by("stop").disabled = !waits;
   by("run").textContent = waits && !driver ? "Go on" : "Run";
   by("pos").textContent = state.pos[0];
   document.body.classList.toggle("busy", driver !== null && waits > 0);
+  showBreakpoints();
   showStack(state, before);
   showProgram(state);
   showProcessor(state, before);
@@ -485,16 +475,28 @@ function showStack(state, before) {
     make("td", { class: "digits" }, ...digitsOf(row.slice(2), before.stack[at].slice(2))))));
 }
 
-/** A line of a list with a breakpoint that is set or taken away by a click. */
-function stopping(place, kind, name, isNext, ...children) {
+/** A button that sets a breakpoint, or takes it away. */
+function breakpoint(kind, place, isNamed = false) {
   const isSet = present().breaks.some(([of, at]) => of === kind && at === place);
-  const button = make("button", {
-    type: "button", class: "break", "aria-pressed": String(isSet), "aria-label": `breakpoint at ${name} ${place}`, "data-at": place,
-  }, isSet ? "●" : "○");
-  const number = kind === "l" ? Number(place) : place;
-  const deck = `${isSet ? "unbreak" : "break"} ${kind} ${number}\n`;
+  const name = `${kind === "l" ? "line" : "word"} ${place}`;
+  const button = make("button", { type: "button", class: "break", "aria-pressed": String(isSet), "data-at": kind + place,
+    "aria-label": `breakpoint at ${name}` }, isSet ? "●" : "○", isNamed ? ` ${name}` : "");
+  const deck = `${isSet ? "unbreak" : "break"} ${kind} ${kind === "l" ? Number(place) : place}\n`;
   button.addEventListener("click", () => act(() => ask({ do: "give", deck, first: true })));
-  return make("div", { class: `line${isNext ? " next" : ""}`, "aria-current": isNext ? "step" : null }, button, ...children);
+  return button;
+}
+
+/** A line of a list, with its breakpoint. */
+function stopping(kind, place, isNext, ...children) {
+  const attributes = { class: `line${isNext ? " next" : ""}`, "aria-current": isNext ? "step" : null };
+  return make("div", attributes, breakpoint(kind, place), ...children);
+}
+
+/** All breakpoints, also those of lines and words that are not shown. */
+function showBreakpoints() {
+  const { breaks } = present();
+  by("breaks").hidden = !breaks.length;
+  fill("breaks", "Breakpoints", ...breaks.map(([kind, place]) => breakpoint(kind, place, true)));
 }
 
 let programDrawn = "";
@@ -505,20 +507,15 @@ function showProgram(state) {
   const drawing = JSON.stringify([state.lines, next, present().breaks]);
   if (drawing === programDrawn) return;
   programDrawn = drawing;
-  fill("program", ...state.lines.map((text) => stopping(text.slice(0, 4), "l", "line", text.slice(0, 4) === next,
+  fill("program", ...state.lines.map((text) => stopping("l", text.slice(0, 4), text.slice(0, 4) === next,
     make("span", { class: "place" }, text.slice(0, 4)), make("code", {}, text.slice(5)))));
   reveal(by("program"), by("program").querySelector(".next"));
 }
 
 /** What `show cpu` tells, by its names. */
 function partsOf(cpu) {
-  const parts = {};
-  for (const text of cpu.slice(0, 4).join(" ").split(" ")) {
-    const [name, value] = text.split("=");
-    parts[name] = value;
-  }
-  parts.RTN = cpu[4].slice(4);
-  return parts;
+  const parts = cpu.slice(0, 4).join(" ").split(" ").map((text) => text.split("="));
+  return { ...Object.fromEntries(parts), RTN: cpu[4].slice(4) };
 }
 
 /** Whether a place is in the field that the last instruction names, and whether the instruction names a register. */
@@ -548,7 +545,7 @@ function showProcessor(state, before) {
 
 function showListing(state) {
   const place = state.pos[0].startsWith("Micro") ? state.pos[0].slice(6) : null;
-  const lines = state.listing.map(([at, label, text]) => stopping(at, "w", "word", at === place,
+  const lines = state.listing.map(([at, label, text]) => stopping("w", at, at === place,
     make("span", { class: "place" }, at), make("span", { class: "words" }, text.slice(0, 9).trim()), make("code", {}, text.slice(9)),
     make("span", { class: "label" }, /\+/.test(label) && at !== place ? "" : label)));
   fill("listing", ...(lines.length ? lines : [make("p", { class: "none" }, "No function runs.")]));
@@ -580,8 +577,8 @@ function lineMade(state, before) {
 
 /** What led to a state: a step, or a command and what it told. */
 function ledTo(state, before) {
-  const [text, reply] = state.last;
-  const head = text.trim().split("\n")[0];
+  const [bytes, reply] = state.last;
+  const head = textOf(bytes).trim().split("\n")[0];
   return lineMade(state, before) ?? (reply.length === 1 && !head.startsWith("show") ? `${head}: ${reply[0]}` : head);
 }
 
@@ -593,7 +590,7 @@ function showTrace() {
     const button = make("button", { type: "button", class: "step", "aria-current": number === at ? "step" : null, "data-at": number },
       make("code", {}, ledTo(one.state, past[number - 1].state)),
       ...changesOf(one.state, past[number - 1].state).slice(0, 6).map((text) => make("span", { class: "change" }, text)));
-    button.addEventListener("click", () => goTo(number));
+    button.addEventListener("click", () => act(() => goTo(() => past.indexOf(one))));
     return make("li", { class: number === at ? "next" : "" }, button);
   });
   if (!by("trace-panel").open) return;
@@ -603,14 +600,17 @@ function showTrace() {
   by("forth").disabled = shown === null;
 }
 
-function goTo(number) {
+/** Ends what goes on, and shows a state, by a call that tells its place from that of the one that is shown. */
+async function goTo(place) {
   driver = null;
+  await line;
+  const number = place(shown ?? past.length - 1);
   shown = number >= past.length - 1 ? null : Math.max(0, number);
   show();
 }
 
-const goBack = () => goTo((shown ?? past.length - 1) - 1);
-const goForth = () => goTo((shown ?? past.length - 1) + 1);
+const goBack = () => goTo((at) => at - 1);
+const goForth = () => goTo((at) => at + 1);
 
 const registerName = (at) => `R${String(at).padStart(2, "0")}`;
 
@@ -622,8 +622,8 @@ function showRegisters(state, before) {
     return make("tr", { class: isChanged ? "changed" : "" }, make("th", { scope: "row" }, registerName(at)),
       make("td", { class: "number" }, state.values[at]), make("td", { class: "digits" }, digits));
   }).filter(Boolean);
-  const none = make("tr", {}, make("td", { class: "none" }, `${state.registers.length} registers, all zero`));
-  fill("registers", ...(rows.length ? rows : [none]));
+  if (!rows.length) rows.push(make("tr", {}, make("td", { class: "none" }, `${state.registers.length} registers, all zero`)));
+  fill("registers", ...rows);
 }
 
 function showFlags(state, before) {
@@ -695,9 +695,7 @@ function showLesson() {
 
 async function base64Of(file) {
   const bytes = new Uint8Array(await file.arrayBuffer());
-  let text = "";
-  for (let at = 0; at < bytes.length; at += 8192) text += String.fromCharCode(...bytes.subarray(at, at + 8192));
-  return btoa(text);
+  return btoa(Array.from(bytes, (byte) => String.fromCharCode(byte)).join(""));
 }
 
 async function bringIn(files) {
@@ -722,7 +720,7 @@ async function takeOut() {
   const kind = by("kind").value;
   const ends = { raw: "raw", text: "lines", rom: "rom", source: "asm" };
   const reply = await fetched("export", { kind, page: by("page-out").value, label: by("label").value });
-  const link = make("a", { href: URL.createObjectURL(await reply.blob()), download: `bench.${ends[kind]}` });
+  const link = make("a", { href: addressOf(await reply.blob()), download: `bench.${ends[kind]}` });
   link.click();
   setTimeout(() => URL.revokeObjectURL(link.href), 10000);
   tellOfFiles(`bench.${ends[kind]} is written.`, true);
@@ -758,10 +756,11 @@ function begin() {
   for (const panel of document.querySelectorAll("details")) panel.addEventListener("toggle", () => panel.open && show());
   for (const id of ["page-in", "page-out"]) by(id).append(...[..."456789ABCDEF"].map((page) => make("option", { value: page }, page)));
   const calls = {
-    run: runOn, step, stop, back: goBack, forth: goForth, now: () => goTo(past.length - 1), give: giveTyped,
+    run: runOn, step, stop, back: goBack, forth: goForth, now: () => goTo(() => past.length), give: giveTyped,
     display: () => showDisplay(displayed, true), again: () => ask({ do: "again" }).then(drive),
     "next-step": () => next("step"), "next-command": () => next("command"), "next-all": () => next("all"),
-    "open-lesson": () => by("lessons").value && openLesson(by("lessons").value), "lesson-again": () => openLesson(lesson.name), choose: () => by("files").click(), "open-deck": () => by("deck-file").click(),
+    "open-lesson": () => by("lessons").value && openLesson(by("lessons").value), "lesson-again": () => openLesson(lesson.name),
+    choose: () => by("files").click(), "open-deck": () => by("deck-file").click(),
     begin: async () => await isSure() && ask({ do: "begin" }),
   };
   for (const [id, call] of Object.entries(calls)) by(id).addEventListener("click", () => act(call));
@@ -792,7 +791,8 @@ function begin() {
     listen();
     by("needs").hidden = true;
     const name = new URLSearchParams(location.search).get("lesson");
-    if (name && lesson?.name !== name) await openLesson(name);
+    if (name && ![...by("lessons").options].some((one) => one.value === name)) tell(`There is no lesson ${name}.`);
+    else if (name && lesson?.name !== name) await openLesson(name);
   });
 }
 

@@ -1,0 +1,47 @@
+-- Lists of lines, and answers by them.
+use Rattle.std.proofs.Common.{ℕ, ◌+◌, List, refl, arith}
+use Rattle.h41_codes.specs.ByteLaws.{LineOrNone, OneLine}
+use Rattle.h41_program.specs.Lines.{is_final_end}
+use Rattle.h41_program.specs.ProgramLaws.{OneList, ReadIsDetermined}
+use Rattle.h41_program.specs.ProgramLines.{AnswersOf, Reads}
+use Rattle.h41_program.specs.SearchLaws.{AnswersAreDetermined, ProgramIsDetermined}
+use Rattle.h41_program.specs.Searches.{AnswersProgram, start_in, up_to_end}
+use Rattle.h41_program.proofs.Exists.{reads_some}
+use Rattle.h41_laws_numbers.proofs.Answering.{Has}
+use Rattle.h41_laws_programs.specs.ProgramAnswers.{BytesHaveOneList, MemoryHasOneAnswer, ProgramHasOneAnswer}
+
+pub listed : OneLine → LineOrNone → (bytes : List ℕ) (final at : ℕ) → Has (Reads bytes final at)
+listed one tells bytes final at =
+    let found = reads_some one tells bytes final is_final_end (final + 1) at (omega arith) in
+    record { answer = found.0; right = found.1 }
+
+pub one_listed : OneLine → LineOrNone → ReadIsDetermined → BytesHaveOneList
+one_listed one tells determined bytes final at =
+    let found = listed one tells bytes final at in
+    record {
+      answer = found.answer;
+      right = found.right;
+      only = λ other again. determined bytes final at other found.answer again found.right;
+    }
+
+pub by_list : {A : Type 0} → OneList → AnswersAreDetermined A → MemoryHasOneAnswer A
+by_list lists determined answer memory at =
+    let all = lists memory at in
+    let right : AnswersOf answer memory at (answer all.lines) = (all.lines, all.from, refl) in
+    record {
+      answer = answer all.lines;
+      right = right;
+      only = λ other again. determined memory answer at other (answer all.lines) again right;
+    }
+
+pub by_program : {A : Type 0} → OneList → ProgramIsDetermined A → ProgramHasOneAnswer A
+by_program lists determined answer memory at =
+    let all = lists memory 0 in
+    let own = lists memory (start_in at all.lines) in
+    let right : AnswersProgram answer memory at (answer (up_to_end own.lines)) =
+    record { lines = all.lines; own = own.lines; all = all.from; program = own.from; is = refl } in
+    record {
+      answer = answer (up_to_end own.lines);
+      right = right;
+      only = λ other again. determined memory answer at other (answer (up_to_end own.lines)) again right;
+    }

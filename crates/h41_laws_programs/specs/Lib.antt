@@ -1,0 +1,2 @@
+pub mod ProgramAnswers
+pub mod ProgramChanges

@@ -1,0 +1,32 @@
+-- Lists of lines, and what is found in them, exist.
+use Rattle.std.specs.Prelude.{ℕ, List}
+use Rattle.h41_ram.specs.RegisterMap.{RegisterMap}
+use Rattle.h41_program.specs.ProgramLines.{AnswersOf, Reads}
+use Rattle.h41_program.specs.Searches.{AnswersProgram}
+use Rattle.h41_program.specs.declared.listed_line.ListedLine.{ListedLine}
+use Rattle.h41_program.specs.declared.position.Position.{Position}
+use Rattle.h41_laws_numbers.specs.HasOne.{HasOne}
+
+-- bytes have one list of lines from each position on, wherever their last three begin
+abbrev pub BytesHaveOneList : Type 0
+BytesHaveOneList = (bytes : List ℕ) (final at : ℕ) → HasOne (Reads bytes final at)
+
+-- what is asked of the list of lines from a position on has one answer
+abbrev pub MemoryHasOneAnswer : Type 0 → Type 0
+MemoryHasOneAnswer A =
+    (answer : List ListedLine → A) (memory : RegisterMap) (at : ℕ)
+    → HasOne (AnswersOf answer memory at)
+
+-- and so has what is asked of the program of a position
+abbrev pub ProgramHasOneAnswer : Type 0 → Type 0
+ProgramHasOneAnswer A =
+    (answer : List ListedLine → A) (memory : RegisterMap) (at : ℕ)
+    → HasOne (AnswersProgram answer memory at)
+
+-- each position has one answer of a kind, in any memory
+abbrev pub PositionHasOne : {A : Type 0} → (RegisterMap → Position → A → Type 0) → Type 0
+PositionHasOne answers = (memory : RegisterMap) (at : Position) → HasOne (answers memory at)
+
+-- so it is for each number
+abbrev pub PositionHasOneEach : {A : Type 0} → (ℕ → RegisterMap → Position → A → Type 0) → Type 0
+PositionHasOneEach answers = (n : ℕ) → PositionHasOne (answers n)

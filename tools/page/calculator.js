@@ -50,13 +50,13 @@ let underway = 0;               // how much was begun that is not at its end
 /** Whether all that was begun is at its end: nothing is asked, carried out or read, and no question is open. */
 const isQuiet = () => underway === 0;
 
-/** Does what was asked for by a key, a button or a file, and tells why it cannot be done. */
+/** Does what was asked for by a key, a button or a file, and tells why it cannot be done. An error without a text is told already. */
 async function act(call, tellWhy = tell) {
   underway += 1;
   try {
     await call();
   } catch (error) {
-    if (!isGone) tellWhy(error.message);
+    if (error.message) tellWhy(error.message);
   } finally {
     underway -= 1;
   }
@@ -64,9 +64,9 @@ async function act(call, tellWhy = tell) {
 
 async function fetched(path, body) {
   const request = body && { method: "POST", headers: { "Content-Type": "application/json" }, body: JSON.stringify(body) };
-  const reply = await fetch(path, request).catch((error) => {
+  const reply = await fetch(path, request).catch(() => {
     gone("tools/calculator has ended. The session can be saved as this page has it.", true);
-    throw error;
+    throw new Error("");
   });
   if (!reply.ok) throw new Error((await reply.text()).trim());
   return reply;

@@ -2,8 +2,8 @@
 import base64
 import json
 import os
-import re
 import shutil
+import socket
 import subprocess
 import tempfile
 import time
@@ -29,30 +29,40 @@ class Browser:
     """One browser with one window, of a size."""
 
     def __init__(self):
-        self.driver = subprocess.Popen(["chromedriver", "--port=0"], stdout=subprocess.PIPE, stderr=subprocess.DEVNULL, text=True)
-        self.session, self.asking = "", urllib.request.build_opener(urllib.request.ProxyHandler({}))
-        try:
-            # It tells its port as soon as it listens there.
-            told = map(re.compile(r"started successfully on port ([0-9]+)").search, self.driver.stdout)
-            self.port = next(found[1] for found in told if found)
-            self.begin(3)
-        except BaseException:
-            self.close()
-            raise
+        self.asking = urllib.request.build_opener(urllib.request.ProxyHandler({}))
+        for tries in (1, 2, 3):
+            try:
+                return self.begin()
+            except (OSError, ValueError):
+                self.close()
+                if tries == 3:
+                    raise
 
-    def begin(self, tries):
-        """Starts the browser. One that does not come up is started again."""
+    def begin(self):
+        """Starts the driver, and the browser as soon as the driver answers."""
+        with socket.socket() as free:
+            free.bind(("127.0.0.1", 0))
+            self.port = free.getsockname()[1]
+        self.session = ""
+        self.driver = subprocess.Popen(["chromedriver", f"--port={self.port}"], stdout=subprocess.DEVNULL, stderr=subprocess.DEVNULL)
+        end = time.monotonic() + PATIENCE
+        while not self.answers():
+            if self.driver.poll() is not None or time.monotonic() > end:
+                raise TimeoutError("chromedriver does not answer")
+            time.sleep(0.05)
         arguments = ["--headless=new", "--no-sandbox", "--disable-gpu", "--disable-dev-shm-usage", "--window-size=1280,900",
                      "--force-device-scale-factor=1", "--disable-background-timer-throttling", "--disable-renderer-backgrounding",
                      "--disable-backgrounding-occluded-windows"]
         wanted = {"browserName": "chrome", "goog:chromeOptions": {"args": arguments}, "goog:loggingPrefs": {"browser": "ALL"},
                   "timeouts": {"script": PATIENCE * 1000, "pageLoad": PATIENCE * 1000}}
+        self.session = "/session/" + self.ask("POST", "/session", {"capabilities": {"alwaysMatch": wanted}})["sessionId"]
+
+    def answers(self):
+        """Whether the driver answers."""
         try:
-            self.session = "/session/" + self.ask("POST", "/session", {"capabilities": {"alwaysMatch": wanted}})["sessionId"]
-        except ValueError:
-            if tries <= 1:
-                raise
-            self.begin(tries - 1)
+            return self.ask("GET", "/status")["ready"]
+        except OSError:
+            return False
 
     def ask(self, method, path, body=None):
         """What the driver answers."""

@@ -39,6 +39,8 @@ HEADERS = {
     "Cache-Control": "no-store",
     "Cross-Origin-Resource-Policy": "same-origin",
     "Cross-Origin-Opener-Policy": "same-origin",
+    # No request can meet a connection that is just given up.
+    "Connection": "close",
 }
 
 
@@ -251,9 +253,8 @@ class Handler(BaseHTTPRequestHandler):
         """Tells a page the version of the session, whenever there is a new one, and at each beat that the server lives. The page
         is open as long as this is read."""
         self.server.open_page(1)
-        self.close_connection = True
         self.send_response(200)
-        for name, value in {**HEADERS, "Content-Type": "text/event-stream", "Connection": "close"}.items():
+        for name, value in {**HEADERS, "Content-Type": "text/event-stream"}.items():
             self.send_header(name, value)
         try:
             self.end_headers()

@@ -3,14 +3,13 @@
 // calculator is computed here. A state is what the bench showed at one time; `past` has the last of them.
 
 const by = (id) => document.getElementById(id);
-const MOST_STEPS = 9999999;
-const [MOST_STATES, MOST_ENTRIES, MOST_TRACED] = [500, 200, 60];
+const [MOST_STEPS, MOST_STATES, MOST_ENTRIES, MOST_TRACED] = [9999999, 500, 200, 60];
 
 let session = null;         // the number of the session that the page has
 let entries = [];           // its commands with their replies, as the server has told them
 let past = [];              // states, the oldest first
 let shown = null;           // which of them is shown; null is the last
-let lesson = null;          // the lesson, its parts and their replies
+let lesson = null;          // the lesson, its parts, and how far it is
 let waits = 0;              // how many parts of decks wait to be carried out
 let driver = null;          // what has them carried out here; each beginning has its own
 let isGone = false;         // whether the bench or the server has ended
@@ -35,6 +34,10 @@ function fill(id, ...children) {
   if (name) by(id).querySelector(`[data-at="${name}"]`)?.focus();
 }
 
+// What is drawn of boxes in which places are clicked. It stays where it is the same, also under a click in a run.
+const drawings = {};
+const isNew = (id, ...parts) => drawings[id] !== (drawings[id] = JSON.stringify(parts));
+
 /** Scrolls a box, and not the page, so that this part of it is seen. */
 function reveal(box, part) {
   if (!part) return;
@@ -50,13 +53,13 @@ let underway = 0;               // how much was begun that is not at its end
 /** Whether all that was begun is at its end: nothing is asked, carried out or read, and no question is open. */
 const isQuiet = () => underway === 0;
 
-/** Does what was asked for by a key, a button or a file, and tells why it cannot be done. */
+/** Does what was asked for by a key, a button or a file, and tells why it cannot be done. An error without a text is told already. */
 async function act(call, tellWhy = tell) {
   underway += 1;
   try {
     await call();
   } catch (error) {
-    if (!isGone) tellWhy(error.message);
+    if (error.message) tellWhy(error.message);
   } finally {
     underway -= 1;
   }
@@ -64,9 +67,9 @@ async function act(call, tellWhy = tell) {
 
 async function fetched(path, body) {
   const request = body && { method: "POST", headers: { "Content-Type": "application/json" }, body: JSON.stringify(body) };
-  const reply = await fetch(path, request).catch((error) => {
+  const reply = await fetch(path, request).catch(() => {
     gone("tools/calculator has ended. The session can be saved as this page has it.", true);
-    throw error;
+    throw new Error("");
   });
   if (!reply.ok) throw new Error((await reply.text()).trim());
   return reply;
@@ -93,7 +96,7 @@ function take(answer) {
     const options = Object.entries(answer.lessons).map(([value, title]) => make("option", { value }, title));
     by("lessons").replaceChildren(make("option", { value: "" }, "Lessons"), ...options);
   }
-  if (answer.lesson) lesson = { ...(lesson || { replies: {} }), ...answer.lesson };
+  if (answer.lesson) lesson = { ...lesson, ...answer.lesson };
   for (const [number, bytes, reply] of answer.entries) entries[number] = { bytes, text: textOf(bytes), reply };
   for (const state of [...answer.states, answer.state]) remember(state);
   if (answer.version !== told) shown = null;
@@ -495,18 +498,15 @@ function stopping(kind, place, isNext, ...children) {
 /** All breakpoints, also those of lines and words that are not shown. */
 function showBreakpoints() {
   const { breaks } = present();
+  if (!isNew("breaks", breaks)) return;
   by("breaks").hidden = !breaks.length;
   fill("breaks", "Breakpoints", ...breaks.map(([kind, place]) => breakpoint(kind, place, true)));
 }
 
-let programDrawn = "";
-
 function showProgram(state) {
   const [mode, place] = state.pos[0].split(" ");
   const next = mode === "Micro" ? null : place;
-  const drawing = JSON.stringify([state.lines, next, present().breaks]);
-  if (drawing === programDrawn) return;
-  programDrawn = drawing;
+  if (!isNew("program", state.lines, next, present().breaks)) return;
   fill("program", ...state.lines.map((text) => stopping("l", text.slice(0, 4), text.slice(0, 4) === next,
     make("span", { class: "place" }, text.slice(0, 4)), make("code", {}, text.slice(5)))));
   reveal(by("program"), by("program").querySelector(".next"));

@@ -1,0 +1,223 @@
+"""Modules of keystroke programs: a page of programs with its table of functions, and the programs in such a page. Which bytes a
+line has, and which line bytes are, is asked of the bench."""
+import re
+
+from decks import MAIN_START, Failure, block, hexadecimal, run
+from programs import loadable, whole_lines
+
+PAGE_SIZE = 4096
+MOST_FUNCTIONS = 64
+LAST_NUMBER = 31
+
+# From here on a calculator looks at words of a page for itself.
+ROOM = 0xFF4
+
+# The END that archives have, and the marks of the field: on the first byte of a line, and on the last one of an END.
+END = bytes.fromhex("C0000D")
+FIRST, LAST = 0x100, 0x200
+
+# So many bytes, and so many lines, fit memory for sure.
+PIECE, LINES = 2000, 100
+
+# A line that ends what is asked: of one byte, and no number.
+SENTINEL, SENTINEL_BYTE = "BEEP", b"\x86"
+
+LABEL = re.compile(r'LBL "(.*)"')
+ENDS = re.compile(rb"(?=[\xc0-\xcd].[\x00-\xef])", re.S)
+FINAL_END = re.compile(rb"[\xc0-\xcd].[\x20-\x3f\x60-\x7f\xa0-\xbf\xe0-\xef]", re.S)
+OF_NUMBERS = range(0x10, 0x1D)
+
+
+# Lines and their bytes.
+
+def with_bytes(opener, lines):
+    """The lines that a block loads, each with its bytes; none where the bench refuses the block."""
+    registers = range(0x1FF, MAIN_START - 1, -1)
+    status, output = run(b"size 0\n" + block(opener, lines) + b"show lines\n"
+                         + b"".join(b"show ram %03x\n" % at for at in registers))
+    if status:
+        return None
+    rows = output.decode().splitlines()
+    shown, memory = rows[:-len(registers)], bytes.fromhex("".join(row[4:] for row in rows[-len(registers):]))
+    places = [int(row[:4]) for row in shown]
+    found = [(row[5:], memory[at:behind]) for row, at, behind in zip(shown, places, places[1:])]
+    # Behind a number stands a null where another follows.
+    return [(text, data.rstrip(b"\0") if data[0] in OF_NUMBERS else data) for text, data in found]
+
+
+def lines_of_texts(texts):
+    """The lines of a listing with their bytes; none where the bench reads no such line."""
+    found = []
+    for at in range(0, len(texts), LINES):
+        lines = with_bytes(b"program", [text.encode() for text in [*texts[at:at + LINES], SENTINEL]])
+        if lines is None:
+            return None
+        found += [(text, END if text == "END" else data) for text, data in lines[:-1]]
+    return found
+
+
+def lines_of_program(data):
+    """The lines of bytes that may end with an .END., which is an END then; none where they are no lines."""
+    front = data.rstrip(b"\0")[:-3]
+    if not FINAL_END.fullmatch(data.rstrip(b"\0")[-3:]):
+        return lines_of_bytes(data)
+    lines = lines_of_bytes(front)
+    return lines_of_bytes(data) if lines is None else [*lines, ("END", END)]
+
+
+def lines_of_bytes(data):
+    """The lines that bytes are, without nulls; none where they are no lines, an .END. in them too."""
+    found, at = [], 0
+    while at < len(data):
+        length = piece_of(data[at:])
+        lines = with_bytes(b"load", hexadecimal(data[at:at + length] + SENTINEL_BYTE)) if length else None
+        if lines is None:
+            return None
+        found += lines[:-1]
+        at += length
+    return found
+
+
+def piece_of(data):
+    """How many first bytes are whole lines and fit memory, with no number at their end that may go on."""
+    if len(data) <= PIECE:
+        return len(data)
+    length = whole_lines(data[:PIECE])
+    while length and data[length - 1] in OF_NUMBERS:
+        length = whole_lines(data[:length - 1])
+    return length
+
+
+def programs_of(lines):
+    """The programs that lines are, each up to its END and with it; the last has that of archives where it has none."""
+    programs = [[]]
+    for text, data in lines:
+        programs[-1].append((text, data))
+        if text == "END":
+            programs.append([])
+    if programs[-1]:
+        programs[-1].append(("END", END))
+    return [program for program in programs if program]
+
+
+# Into a page.
+
+class Module:
+    """A module of programs: its words, its functions, each a name and its offset, and the lines of its source."""
+
+    def __init__(self, number, programs):
+        """Each program is the lines that it has, with their bytes."""
+        self.number, self.rows, self.functions, self.ends = number, [], [], []
+        # The names of labels, of each program its own.
+        self.names = [[found[1] for found in map(LABEL.fullmatch, (text for text, _ in program)) if found] for program in programs]
+        self.length = 2 + 2 * sum(map(len, self.names)) + 2
+        for program in programs:
+            self.add(program)
+            self.ends.append(self.length)
+
+    def add(self, program):
+        """Puts a program behind what is there: a null parts two numbers, the first byte of each line is marked, and an END."""
+        last = None
+        for text, data in program:
+            words = [byte | (FIRST if at == 0 else 0) for at, byte in enumerate(data)]
+            if text == "END":
+                words[-1] |= LAST
+            if last is not None and last[0] in OF_NUMBERS and data[0] in OF_NUMBERS:
+                self.put(None, [0])
+            name = LABEL.fullmatch(text)
+            if name:
+                self.functions.append((name[1], self.length))
+            self.put(text, words)
+            last = data
+
+    def put(self, text, words):
+        self.rows.append((self.length, text, words))
+        self.length += len(words)
+
+    def labels(self):
+        """A label of the source language for each function: its name, where that may be one and no other has it."""
+        found = {}
+        for at, (name, place) in enumerate(self.functions):
+            label = name if re.fullmatch("[A-Z][0-9A-Z_]{0,11}", name) else f"F{at:02}"
+            found[place] = next(one for one in (label, f"F{at:02}", f"F{at:02}_") if one not in found.values())
+        return found
+
+    def source(self):
+        """The lines of a source that gives the page."""
+        labels = self.labels()
+        front = [f"CON {self.number:03X}", f"CON {len(self.functions):03X}", *(f"FOCAL :{label}" for label in labels.values()),
+                 "CON 000", "CON 000"]
+        lines = [f"        {text}" for text in front]
+        for place, text, words in self.rows:
+            label = f"{labels[place]}:" if place in labels else ""
+            remark = f"; {text}" if text is not None else ""
+            lines.append(f"{label:<7} CON {words[0]:03X}         {remark}".rstrip())
+            lines += [f"        CON {word:03X}" for word in words[1:]]
+        return lines
+
+    def shown(self):
+        """What `show functions` prints of it."""
+        return [f"XROM {self.number:02},{at:02} {name}" for at, (name, _) in enumerate(self.functions)]
+
+
+# Out of a page.
+
+def end_of(data):
+    """How many first bytes a program has with its END or .END., where whole lines lead to one; nothing where none do."""
+    at = 0
+    while True:
+        places = [found.start() for found in ENDS.finditer(data, at, min(len(data), at + PIECE))]
+        for first in range(0, len(places), 16):
+            some = places[first:first + 16]
+            good = next((place for place, is_good in zip(some, loadable([data[at:place] for place in some])) if is_good), None)
+            if good is not None:
+                return good + 3
+        length = piece_of(data[at:])
+        if not length or at + length >= len(data):
+            return None
+        at += length
+
+
+def programs_in(page, image):
+    """The programs of a module's page, in the order in which its table leads to them: each its lines with their bytes, and its
+    bytes with the nulls between them."""
+    words = [image[at] << 8 | image[at + 1] for at in range(0, len(image), 2)]
+    number, count = words[:2]
+    if not (1 <= number <= LAST_NUMBER and 1 <= count <= MOST_FUNCTIONS):
+        raise Failure(f"page {page} is no module: it begins with {number:03X} and {count:03X}")
+    entries = [(at, (words[2 + 2 * at] & 0xF) << 8 | words[3 + 2 * at] & 0xFF) for at in range(count) if words[2 + 2 * at] & 0x200]
+    if not entries:
+        raise Failure(f"the module at page {page} has no function in keystrokes")
+    data, found, behind, inside = bytes(word & 0xFF for word in words), [], 0, set()
+    for at, place in sorted(entries, key=lambda entry: entry[1]):
+        if place in inside:
+            raise Failure(f"XROM {number:02},{at:02} leads into a line, at {page}{place:03X}")
+        if place < behind:
+            continue
+        length = end_of(data[place:])
+        if length is None:
+            raise Failure(f"XROM {number:02},{at:02} leads to no END from {page}{place:03X} on: {why_none(data[place:])}")
+        lines = lines_of_bytes(data[place:place + length - 3])
+        found.append(ended(data[place:place + length], lines))
+        behind, inside = place + length, set(inside_lines(data, place, found[-1][0]))
+    return found
+
+
+def inside_lines(data, place, lines):
+    """The places in a page within these lines, but for their first bytes; nulls may stand between them."""
+    for _, own in lines:
+        place += next(at for at, byte in enumerate(data[place:]) if byte)
+        yield from range(place + 1, place + len(own))
+        place += len(own)
+
+
+def ended(data, lines):
+    """A program with its END, which stands in the place of an .END."""
+    end = END if data[-1] & 0x20 else data[-3:]
+    return lines + [("END", end)], data[:-3] + end
+
+
+def why_none(data):
+    """Why bytes lead to no END."""
+    at = whole_lines(data[:PIECE])
+    return f"byte {data[at]:02X} at offset {at} begins no line" if at < min(len(data), PIECE) - 18 else "the page ends before"

@@ -21,7 +21,7 @@ pub fn typed(sign: Sign, digits: u64, places: u8, exponent: Exponent) -> Ten
     if digits == 0 {
         return Ten::Zero;
     }
-    let scale = ENTRY_SCALE + u32::from(exponent.biased) - u32::from(places);
+    let scale = ENTRY_SCALE + exponent.biased - u32::from(places);
     match round_whole(sign, digits, scale) {
         Ok(number) => number,
         Err(_) => greatest(sign),

@@ -16,7 +16,7 @@ pub struct Mantissa {
 #[derive(Clone, Copy, Debug, PartialEq, Eq)]
 pub struct Exponent {
     /// The exponent plus 99: 0 to 198.
-    pub biased: u8,
+    pub biased: u32,
     pub ghost in_range: { biased ≤ 198 },
 }
 
@@ -25,7 +25,7 @@ impl Exponent {
     pub fn power(self) -> i16
         ensures { result ≡ pos self.biased -ℤ pos 99 }
     {
-        i16::from(self.biased) - 99
+        self.biased as i16 - 99
     }
 }
 
@@ -50,6 +50,6 @@ impl Magnitude {
     pub fn steps(self) -> u32
         ensures { result ≡ self.exponent.biased }
     {
-        u32::from(self.exponent.biased)
+        self.exponent.biased
     }
 }

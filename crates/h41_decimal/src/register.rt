@@ -35,6 +35,7 @@ const PACKED_PAIRS: [u8; 100] = [
 ];
 
 /// The number that a register holds, or nothing where it holds none.
+#[inline(always)]
 pub fn read(register: Reg) -> Option<Ten>
     ensures { option_map units result ≡ worth (holding_of register) }
 {
@@ -48,6 +49,7 @@ pub fn read(register: Reg) -> Option<Ten>
 }
 
 /// The number of so many decimal digits from a place up, or nothing where one of them is above 9.
+#[inline(always)]
 fn decimal_digits(register: Reg, place: usize, count: usize) -> Option<u64>
     requires places { place + count ≤ 14 }
     requires some { 0 < count }
@@ -59,6 +61,7 @@ fn decimal_digits(register: Reg, place: usize, count: usize) -> Option<u64>
 }
 
 /// The number of ten decimal digits in four bits each, or nothing where one of them is above 9.
+#[inline(always)]
 fn unpacked(digits: u64) -> Option<u64>
     requires { digits < 16 ^ 10 }
     ensures { result ≡ decimal_of 10 digits }
@@ -72,6 +75,7 @@ fn unpacked(digits: u64) -> Option<u64>
 }
 
 /// The number to the base 100 whose five digits are bytes, the lowest in the lowest one.
+#[inline(always)]
 fn hundreds(bytes: u64) -> u64
     requires { bytes < 256 ^ 5 }
     ensures { result ≡ hundreds_of 5 bytes }
@@ -82,6 +86,7 @@ fn hundreds(bytes: u64) -> u64
 }
 
 /// The number of a mantissa, an exponent as its three digits are written, and the digit of the sign.
+#[inline(always)]
 fn number(mantissa: u64, exponent: u64, sign: u8) -> Option<Ten>
     requires mantissa { mantissa < 10 ^ 10 }
     requires exponent { exponent < 10 ^ 3 }
@@ -104,6 +109,7 @@ fn number(mantissa: u64, exponent: u64, sign: u8) -> Option<Ten>
 }
 
 /// The sign that a digit stands for.
+#[inline(always)]
 fn sign_of(digit: u8) -> Option<Sign>
     ensures { result ≡ sign_in digit }
 {
@@ -115,21 +121,23 @@ fn sign_of(digit: u8) -> Option<Sign>
 }
 
 /// The exponent that three digits stand for, counted from -99.
-fn steps_of(exponent: u64) -> Option<u8>
+#[inline(always)]
+fn steps_of(exponent: u64) -> Option<u32>
     requires { exponent < 10 ^ 3 }
     ensures value { result ≡ steps_in exponent }
     ensures bound { IfSome result (λ steps. steps ≤ 198) }
 {
     if exponent <= 99 {
-        Some((exponent + 99) as u8)
+        Some((exponent + 99) as u32)
     } else if exponent >= 901 {
-        Some((exponent - 901) as u8)
+        Some((exponent - 901) as u32)
     } else {
         None
     }
 }
 
 /// The register that holds a number.
+#[inline(always)]
 pub fn write(number: Ten) -> Reg
     ensures { holding_of result ≡ Number (units number) }
 {
@@ -140,6 +148,7 @@ pub fn write(number: Ten) -> Reg
 }
 
 /// The register that holds a size with a sign.
+#[inline(always)]
 fn write_size(sign: Sign, x: Magnitude) -> Reg
     ensures { holding_of result ≡ Number (with_sign sign (size x)) }
 {

@@ -13,6 +13,7 @@ use crate::ten::Ten;
 pub const UNIT_SCALE: u32 = 128;
 
 /// Ten to a power from 0 to 19.
+#[inline(always)]
 pub fn power_of_ten(power: u32) -> u64
     requires { power < 20 }
     ensures { result ≡ 10 ^ power }
@@ -74,6 +75,7 @@ pub fn digit_count(number: u64) -> u32
 }
 
 /// The decimal of ten digits whose last stands at a scale: out of range above 99, zero below -99.
+#[inline(always)]
 fn bounded(sign: Sign, mantissa: Mantissa, scale: u32) -> Result<Ten, DecimalFault>
     ensures low { scale < 128 → result ≡ Ok Ten.Zero }
     ensures high { 128 ≤ scale → IsBounded sign mantissa.digits (pos (scale - 128)) result }
@@ -85,13 +87,12 @@ fn bounded(sign: Sign, mantissa: Mantissa, scale: u32) -> Result<Ten, DecimalFau
     if biased > 198 {
         return Err(DecimalFault::Range);
     }
-    let exponent = Exponent {
-        biased: biased as u8,
-    };
+    let exponent = Exponent { biased };
     Ok(Ten::Nonzero(sign, Magnitude { mantissa, exponent }))
 }
 
 /// The nearest decimal of a size that was cut to eleven digits, which stand at a scale.
+#[inline(always)]
 fn round_eleven_digits(sign: Sign, whole: u64, scale: u32) -> Result<Ten, DecimalFault>
     requires at_least { 10 ^ 10 ≤ whole }
     requires below { whole < 10 ^ 11 }
@@ -109,6 +110,7 @@ fn round_eleven_digits(sign: Sign, whole: u64, scale: u32) -> Result<Ten, Decima
 
 /// The nearest decimal of a size above zero that was cut to a whole number at a scale. Where that has fewer than eleven
 /// digits nothing may have been cut off.
+#[inline(always)]
 pub fn round_whole(sign: Sign, whole: u64, scale: u32) -> Result<Ten, DecimalFault>
     requires positive { 0 < whole }
     requires at_least { 10 ≤ scale }

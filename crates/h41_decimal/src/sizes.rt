@@ -19,6 +19,7 @@ use std::cmp::Ordering;
 const COUNTED: u32 = 8;
 
 /// The product of two sizes.
+#[inline(always)]
 pub fn multiply(sign: Sign, x: Magnitude, y: Magnitude) -> Result<Ten, DecimalFault>
     ensures { IsRounded sign (Fraction (size x * size y) one) result }
 {
@@ -33,6 +34,7 @@ pub fn percent(sign: Sign, x: Magnitude, y: Magnitude) -> Result<Ten, DecimalFau
 }
 
 /// The product of the digits of two sizes without its last five, by halves of five digits.
+#[inline(always)]
 fn product_cut(x: Magnitude, y: Magnitude) -> u64
     ensures product { result ≡ x.mantissa.digits * y.mantissa.digits / 10 ^ 5 }
     ensures long { 10 ^ 10 ≤ result }
@@ -45,6 +47,7 @@ fn product_cut(x: Magnitude, y: Magnitude) -> u64
 }
 
 /// The quotient of two sizes.
+#[inline(always)]
 pub fn divide(sign: Sign, x: Magnitude, y: Magnitude) -> Result<Ten, DecimalFault>
     ensures { IsRounded sign (Fraction (size x * size y * one) (size y * size y)) result }
 {
@@ -115,6 +118,7 @@ fn nearer_root(number: u64, root: u64) -> u64
 }
 
 /// The sum of two sizes, the first of which has no lower exponent than the second.
+#[inline(always)]
 pub fn add(sign: Sign, x: Magnitude, y: Magnitude) -> Result<Ten, DecimalFault>
     requires { y.exponent.biased ≤ x.exponent.biased }
     ensures { IsRounded sign (Fraction (size x + size y) 1) result }
@@ -131,6 +135,7 @@ pub fn add(sign: Sign, x: Magnitude, y: Magnitude) -> Result<Ten, DecimalFault>
 }
 
 /// The difference of two sizes that have this sign, the first of which has no lower exponent than the second.
+#[inline(always)]
 pub fn subtract(sign: Sign, x: Magnitude, y: Magnitude) -> Result<Ten, DecimalFault>
     requires { y.exponent.biased ≤ x.exponent.biased }
     ensures { Nearest (with_sign sign (size x) -ℤ with_sign sign (size y)) 1 result }

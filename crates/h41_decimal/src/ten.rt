@@ -120,6 +120,7 @@ impl Ten {
     }
 
     /// The number that a register holds, or nothing where it holds none.
+    #[inline(always)]
     pub fn from_reg(register: Reg) -> Option<Self>
         ensures { option_map units result ≡ worth (holding_of register) }
     {
@@ -127,6 +128,7 @@ impl Ten {
     }
 
     /// The register that holds the number.
+    #[inline(always)]
     pub fn to_reg(self) -> Reg
         ensures { holding_of result ≡ Number (units self) }
     {
@@ -134,6 +136,7 @@ impl Ten {
     }
 
     /// The sum, rounded. Its only fault is Range.
+    #[inline(always)]
     pub fn add(self, other: Self) -> Result<Self, DecimalFault>
         ensures { Nearest (units self +ℤ units other) 1 result }
     {
@@ -145,6 +148,7 @@ impl Ten {
     }
 
     /// The difference, rounded. Its only fault is Range.
+    #[inline(always)]
     pub fn sub(self, other: Self) -> Result<Self, DecimalFault>
         ensures { Nearest (units self -ℤ units other) 1 result }
     {
@@ -152,6 +156,7 @@ impl Ten {
     }
 
     /// The product, rounded. Its only fault is Range.
+    #[inline(always)]
     pub fn mul(self, other: Self) -> Result<Self, DecimalFault>
         ensures { Nearest (units self *ℤ units other) one result }
     {
@@ -176,6 +181,7 @@ impl Ten {
     }
 
     /// The quotient, rounded. Its faults are Data for a zero divisor, and Range.
+    #[inline(always)]
     pub fn div(self, other: Self) -> Result<Self, DecimalFault>
         ensures { NearestQuotient (units self) (units other) result }
     {
@@ -292,6 +298,7 @@ fn compare_signed(x_sign: Sign, x: Magnitude, y_sign: Sign, y: Magnitude) -> Ord
 }
 
 /// The sum of two sizes with signs.
+#[inline(always)]
 fn add_signed(x_sign: Sign, x: Magnitude, y_sign: Sign, y: Magnitude) -> Result<Ten, DecimalFault>
     ensures { Nearest (with_sign x_sign (size x) +ℤ with_sign y_sign (size y)) 1 result }
 {
@@ -303,6 +310,7 @@ fn add_signed(x_sign: Sign, x: Magnitude, y_sign: Sign, y: Magnitude) -> Result<
 }
 
 /// The sum of two sizes with signs, the first of which has no lower exponent than the second.
+#[inline(always)]
 fn add_smaller(x_sign: Sign, x: Magnitude, y_sign: Sign, y: Magnitude) -> Result<Ten, DecimalFault>
     requires { y.exponent.biased ≤ x.exponent.biased }
     ensures { Nearest (with_sign x_sign (size x) +ℤ with_sign y_sign (size y)) 1 result }

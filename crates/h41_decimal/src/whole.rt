@@ -82,7 +82,7 @@ fn decimal(sign: Sign, number: u64, steps: u32) -> Ten
         digits: number * power_of_ten(missing),
     };
     let exponent = Exponent {
-        biased: (steps - missing) as u8,
+        biased: steps - missing,
     };
     Ten::Nonzero(sign, Magnitude { mantissa, exponent })
 }

@@ -18,7 +18,7 @@ const MANTISSA_DIGITS: u8 = 10;
 const EXPONENT_DIGITS: u8 = 2;
 
 /// The exponent 0, counted from -99.
-const EXPONENT_BIAS: u8 = 99;
+const EXPONENT_BIAS: u32 = 99;
 
 /// Digits as one whole number, and how many they are.
 #[derive(Clone, Copy)]
@@ -80,7 +80,7 @@ pub fn number_of(text: &[Character]) -> Ten
 fn exponent_of(text: &[Character]) -> Exponent
     ensures { result.biased ≡ biased_in text.now }
 {
-    let size = first_digits(text, EXPONENT_DIGITS).number as u8;
+    let size = first_digits(text, EXPONENT_DIGITS).number as u32;
     match sign_of(text) {
         Sign::Plus => Exponent {
             biased: EXPONENT_BIAS + size,

@@ -12,8 +12,8 @@ use Rattle.h41_decimal.specs.WholeParts.{IsFraction, IsIntegerPart}
 use Rattle.h41_decimal.specs.declared.ten.Ten.{Ten}
 use Rattle.h41_ram.specs.NamedFlags.{range_ignore}
 use Rattle.h41_ram.specs.RegisterMap.{RegisterMap, flag_of, register_at}
-use Rattle.h41_rows.specs.private.Answers.{KeptOne, KeptTwo, WithoutNumber, sign_of_two, worth_at}
-use Rattle.h41_rows.specs.Computing.{IsAlways, WorksOn, WorksOnOne, WorksOnTwo, value_of_one, value_of_two}
+use Rattle.h41_rows.specs.private.Answers.{KeptOne, KeptTwo, WithoutNumber, WorksOnRegisters, sign_of_two, worth_at}
+use Rattle.h41_rows.specs.Computing.{IsAlways, WorksOn, WorksOnOne, value_of_one, value_of_two}
 use Rattle.h41_rows.specs.Counters.{Up, Down, number_after}
 use Rattle.h41_rows.specs.Places.{RowPlace, amount_in, are_numbers, place_address, register_in}
 use Rattle.h41_rows.specs.Rows.{places_in_value}
@@ -156,7 +156,7 @@ works_without value memory address fault result w f without named a e =
 -- two places
 pub computes_two : (value : ValueOfTwo) (memory : RegisterMap) (named : ℕ) (a b : RowPlace) (x y : Ten) (result : Result (List ℕ) LineFault)
     → units x ≡ amount_in memory named a → units y ≡ amount_in memory named b
-    → KeptTwo value memory x y result → Computes (value_of_two value a b) memory named result
+    → KeptTwo value (flag_of memory range_ignore) x y result → Computes (value_of_two value a b) memory named result
 computes_two twos.Sum memory named a b x y result e f k =
     let together : units x +ℤ units y ≡ amount_in memory named a +ℤ amount_in memory named b = cc in
     record {
@@ -219,53 +219,44 @@ two_asked twos.Quotient memory named a b = refl
 two_asked twos.Remainder memory named a b = refl
 two_asked twos.Percentage memory named a b = refl
 
--- a register that stands elsewhere holds the number that it holds here
-held_elsewhere : (memory other : RegisterMap) (named : ℕ) (a : RowPlace) (address : ℕ) (number : Option ℤ)
-    → register_in other named a ≡ register_at memory address → worth_at memory address ≡ number
+-- a register that stands in a place holds the number that it holds
+held_there : (register : List ℕ) (other : RegisterMap) (named : ℕ) (a : RowPlace) (number : Option ℤ)
+    → register_in other named a ≡ register → worth (holding_of register) ≡ number
     → worth (holding_of (register_in other named a)) ≡ number
-held_elsewhere memory other named a address number e w = ap (λ (r : List ℕ). worth (holding_of r)) e ∙ w
+held_there register other named a number e w = ap (λ (r : List ℕ). worth (holding_of r)) e ∙ w
 
-amount_elsewhere : (memory other : RegisterMap) (named : ℕ) (a : RowPlace) (address : ℕ) (number : ℤ)
-    → register_in other named a ≡ register_at memory address → worth_at memory address ≡ Some number → number ≡ amount_in other named a
-amount_elsewhere memory other named a address number e w =
-    amount_of other named a (place_address named a) number refl (held_elsewhere memory other named a address (Some number) e w)
+amount_there : (register : List ℕ) (other : RegisterMap) (named : ℕ) (a : RowPlace) (number : ℤ)
+    → register_in other named a ≡ register → worth (holding_of register) ≡ Some number → number ≡ amount_in other named a
+amount_there register other named a number e w =
+    amount_of other named a (place_address named a) number refl (held_there register other named a (Some number) e w)
 
-number_elsewhere : (memory other : RegisterMap) (named : ℕ) (a : RowPlace) (address : ℕ) (number : Option ℤ)
-    → register_in other named a ≡ register_at memory address → worth_at memory address ≡ number
+number_there : (register : List ℕ) (other : RegisterMap) (named : ℕ) (a : RowPlace) (number : Option ℤ)
+    → register_in other named a ≡ register → worth (holding_of register) ≡ number
     → number_in (register_in other named a) ≡ number
-number_elsewhere memory other named a address number e w =
-    number_of other named a (place_address named a) number refl (held_elsewhere memory other named a address number e w)
+number_there register other named a number e w =
+    number_of other named a (place_address named a) number refl (held_there register other named a number e w)
 
--- of memory flag 24 alone has a part in what is kept of an answer
-kept_elsewhere : (value : ValueOfTwo) (memory other : RegisterMap) (x y : Ten) (result : Result (List ℕ) LineFault)
-    → flag_of other range_ignore ≡ flag_of memory range_ignore → KeptTwo value memory x y result → KeptTwo value other x y result
-kept_elsewhere value memory other x y result same k =
-    record {
-      answer = k.answer;
-      answers = k.answers;
-      kept = subst (λ (flag : Bool). Kept (sign_of_two value (units x) (units y)) flag k.answer result) (sym same) k.kept;
-    }
-
-pub works_two : (value : ValueOfTwo) (memory : RegisterMap) (first second : ℕ) (x y : Ten) (result : Result (List ℕ) LineFault)
-    → worth_at memory first ≡ Some (units x) → worth_at memory second ≡ Some (units y) → KeptTwo value memory x y result
-    → WorksOnTwo value memory first second result
-works_two value memory first second x y result v w k other named a b e f flag =
+-- a value of the numbers in two registers
+pub works_two : (value : ValueOfTwo) (first second : List ℕ) (ignores_range : Bool) (x y : Ten) (result : Result (List ℕ) LineFault)
+    → worth (holding_of first) ≡ Some (units x) → worth (holding_of second) ≡ Some (units y) → KeptTwo value ignores_range x y result
+    → WorksOnRegisters value first second ignores_range result
+works_two value first second ignores_range x y result v w k other named a b e f flag =
     let are = both_numbers _ _ (units x) (units y)
-    (number_elsewhere memory other named a first (Some (units x)) e v)
-    (number_elsewhere memory other named b second (Some (units y)) f w) in
+    (number_there first other named a (Some (units x)) e v)
+    (number_there second other named b (Some (units y)) f w) in
     where_true _ _ _ (two_asked value other named a b ∙ are)
     (computes_two value other named a b x y result
-    (amount_elsewhere memory other named a first (units x) e v) (amount_elsewhere memory other named b second (units y) f w)
-    (kept_elsewhere value memory other x y result flag k))
+    (amount_there first other named a (units x) e v) (amount_there second other named b (units y) f w)
+    (subst (λ (ignored : Bool). KeptTwo value ignored x y result) (sym flag) k))
 
-pub first_fails : (value : ValueOfTwo) (memory : RegisterMap) (first second : ℕ) (fault : LineFault)
-    → worth_at memory first ≡ None → fault ≡ AlphaData → WorksOnTwo value memory first second (Err fault)
-first_fails value memory first second fault w said other named a b e f flag =
+pub first_fails : (value : ValueOfTwo) (first second : List ℕ) (ignores_range : Bool) (fault : LineFault)
+    → worth (holding_of first) ≡ None → fault ≡ AlphaData → WorksOnRegisters value first second ignores_range (Err fault)
+first_fails value first second ignores_range fault w said other named a b e f flag =
     where_false _ _ _
-    (two_asked value other named a b ∙ first_without _ _ (number_elsewhere memory other named a first None e w)) (ap Err said)
+    (two_asked value other named a b ∙ first_without _ _ (number_there first other named a None e w)) (ap Err said)
 
-pub second_fails : (value : ValueOfTwo) (memory : RegisterMap) (first second : ℕ) (fault : LineFault)
-    → worth_at memory second ≡ None → fault ≡ AlphaData → WorksOnTwo value memory first second (Err fault)
-second_fails value memory first second fault w said other named a b e f flag =
+pub second_fails : (value : ValueOfTwo) (first second : List ℕ) (ignores_range : Bool) (fault : LineFault)
+    → worth (holding_of second) ≡ None → fault ≡ AlphaData → WorksOnRegisters value first second ignores_range (Err fault)
+second_fails value first second ignores_range fault w said other named a b e f flag =
     where_false _ _ _
-    (two_asked value other named a b ∙ second_without _ _ (number_elsewhere memory other named b second None f w)) (ap Err said)
+    (two_asked value other named a b ∙ second_without _ _ (number_there second other named b None f w)) (ap Err said)

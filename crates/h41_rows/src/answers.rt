@@ -8,8 +8,8 @@ ghost use Rattle.h41_decimal.specs.WholeParts.{IsFraction, IsIntegerPart};
 ghost use Rattle.h41_ram.specs.NamedFlags.{range_ignore};
 ghost use Rattle.h41_ram.specs.RegisterMap.{flag_of};
 ghost use Rattle.h41_show.specs.DisplayFormat.{format_of};
-ghost use Rattle.h41_rows.specs.private.Answers.{AnswersOne, AnswersTwo, IsNumberAt, KeptRange};
-ghost use Rattle.h41_rows.specs.private.Answers.{sign_of_one, sign_of_two};
+ghost use Rattle.h41_rows.specs.private.Answers.{AnswersOne, AnswersTwo, IsNumberAt, IsNumberIn};
+ghost use Rattle.h41_rows.specs.private.Answers.{KeptByFlag, KeptRange, sign_of_one, sign_of_two};
 ghost use Rattle.h41_rows.specs.Values.{IsRegisterOf, Kept, places_of, unit_of};
 
 use crate::counters::{counted_down, counted_up};
@@ -27,13 +27,22 @@ use h41_show::{Format, Notation};
 pub fn number_at<const REGS: usize>(ram: &Ram<REGS>, address: u16) -> Result<Ten, LineFault>
     ensures { IsNumberAt ram.now.registers address result }
 {
-    match Ten::from_reg(ram.read(address)) {
+    number_in(ram.read(address))
+}
+
+/// The number in a register, or that it holds none.
+#[inline(always)]
+pub fn number_in(register: Reg) -> Result<Ten, LineFault>
+    ensures { IsNumberIn register result }
+{
+    match Ten::from_reg(register) {
         Some(number) => Ok(number),
         None => Err(LineFault::AlphaData),
     }
 }
 
 /// The register of a number.
+#[inline(always)]
 pub fn register(number: Ten) -> Reg
     ensures { IsRegisterOf (units number) result }
 {
@@ -59,7 +68,14 @@ pub fn kept<const REGS: usize>(
 pub fn out_of_range<const REGS: usize>(ram: &Ram<REGS>, sign: Sign) -> Result<Reg, LineFault>
     ensures { KeptRange ram.now.registers sign result }
 {
-    if ram.flag(RANGE_IGNORE) {
+    kept_by_flag(ram.flag(RANGE_IGNORE), sign)
+}
+
+/// The same where flag 24 is known.
+pub fn kept_by_flag(ignores_range: bool, sign: Sign) -> Result<Reg, LineFault>
+    ensures { KeptByFlag ignores_range sign result }
+{
+    if ignores_range {
         Ok(register(Ten::greatest(sign)))
     } else {
         Err(LineFault::OutOfRange)
@@ -99,6 +115,7 @@ pub fn sign_of_one(value: ValueOfOne, number: Ten) -> Sign
 }
 
 /// The answer for two numbers.
+#[inline(always)]
 pub fn answer_of_two(value: ValueOfTwo, first: Ten, second: Ten) -> Result<Ten, DecimalFault>
     ensures { AnswersTwo value first second result }
 {

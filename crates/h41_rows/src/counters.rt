@@ -15,7 +15,7 @@ use h41_decimal::{DecimalFault, Exponent, Magnitude, Mantissa, Sign, Ten};
 
 /// The highest exponent, counted from -99, with which a size has fewer than ten digits in front of its radix mark once this is
 /// five places further right.
-const HIGHEST_SHIFTED: u8 = 103;
+const HIGHEST_SHIFTED: u32 = 103;
 
 /// A loop's counter, counted up.
 pub fn counted_up(number: Ten) -> Result<Ten, DecimalFault>
@@ -275,8 +275,6 @@ fn whole_number(sign: Sign, ones: u64) -> Ten
     let mantissa = Mantissa {
         digits: ones * 10u64.pow(9 - log),
     };
-    let exponent = Exponent {
-        biased: 99 + log as u8,
-    };
+    let exponent = Exponent { biased: 99 + log };
     Ten::Nonzero(sign, Magnitude { mantissa, exponent })
 }

@@ -13,6 +13,7 @@ use h41_digits::Reg;
 use h41_ram::{Ram, StatusRegister};
 
 /// X takes a register; the stack is lifted first where lift is on.
+#[inline(always)]
 pub fn bring_in<const REGS: usize>(ram: &mut Ram<REGS>, register: Reg, lift: bool)
     ensures change { Took ram.old.registers ram.new.registers register
         (takes_of (coming_in (compute X)) lift) }
@@ -26,6 +27,7 @@ pub fn bring_in<const REGS: usize>(ram: &mut Ram<REGS>, register: Reg, lift: boo
 }
 
 /// X takes the register at an address, as it was before the lift.
+#[inline(always)]
 pub fn bring_in_from<const REGS: usize>(ram: &mut Ram<REGS>, address: u16, lift: bool)
     ensures change { BringsIn ram.old.registers ram.new.registers address lift }
     ensures mark { KeepsMark ram.old ram.new }
@@ -36,6 +38,7 @@ pub fn bring_in_from<const REGS: usize>(ram: &mut Ram<REGS>, address: u16, lift:
 }
 
 /// X takes a register, and LAST X what X held.
+#[inline(always)]
 pub fn keep_last<const REGS: usize>(ram: &mut Ram<REGS>, register: Reg)
     ensures change { Took ram.old.registers ram.new.registers register
         (compute X ∷ copy LastX X ∷ []) }
@@ -48,6 +51,7 @@ pub fn keep_last<const REGS: usize>(ram: &mut Ram<REGS>, register: Reg)
 }
 
 /// X takes a register, LAST X what X held, and the stack drops: T stays.
+#[inline(always)]
 pub fn drop_into<const REGS: usize>(ram: &mut Ram<REGS>, register: Reg)
     ensures change { Took ram.old.registers ram.new.registers register drop_takes }
     ensures mark { KeepsMark ram.old ram.new }
@@ -63,6 +67,7 @@ pub fn drop_into<const REGS: usize>(ram: &mut Ram<REGS>, register: Reg)
 }
 
 /// X and the register at an address change places.
+#[inline(always)]
 pub fn exchange<const REGS: usize>(ram: &mut Ram<REGS>, address: u16)
     ensures change { Exchanges ram.old.registers ram.new.registers address }
     ensures mark { KeepsMark ram.old ram.new }
@@ -75,6 +80,7 @@ pub fn exchange<const REGS: usize>(ram: &mut Ram<REGS>, address: u16)
 }
 
 /// The register at an address takes X.
+#[inline(always)]
 pub fn store_x<const REGS: usize>(ram: &mut Ram<REGS>, address: u16)
     ensures change { Stores ram.old.registers ram.new.registers address }
     ensures mark { KeepsMark ram.old ram.new }
@@ -85,6 +91,7 @@ pub fn store_x<const REGS: usize>(ram: &mut Ram<REGS>, address: u16)
 }
 
 /// X comes from T, and the others go up.
+#[inline(always)]
 pub fn roll_up<const REGS: usize>(ram: &mut Ram<REGS>)
     ensures change { Moved ram.old.registers ram.new.registers
         (copy X T ∷ copy Y X ∷ copy Z Y ∷ copy T Z ∷ []) }
@@ -102,6 +109,7 @@ pub fn roll_up<const REGS: usize>(ram: &mut Ram<REGS>)
 }
 
 /// X goes to T, and the others come down.
+#[inline(always)]
 pub fn roll_down<const REGS: usize>(ram: &mut Ram<REGS>)
     ensures change { Moved ram.old.registers ram.new.registers
         (copy X Y ∷ copy Y Z ∷ copy Z T ∷ copy T X ∷ []) }
@@ -119,6 +127,7 @@ pub fn roll_down<const REGS: usize>(ram: &mut Ram<REGS>)
 }
 
 /// The stack is lifted, and X stays.
+#[inline(always)]
 pub fn enter<const REGS: usize>(ram: &mut Ram<REGS>)
     ensures change { Moved ram.old.registers ram.new.registers
         (copy T Z ∷ copy Z Y ∷ copy Y X ∷ []) }

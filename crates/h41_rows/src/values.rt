@@ -3,12 +3,14 @@
 ghost use Rattle.std.specs.Prelude.{pos};
 ghost use Rattle.h41_decimal.specs.Units.{units};
 ghost use Rattle.h41_rows.specs.private.Answers.{KeptOne, KeptTwo, WithoutNumber};
+ghost use Rattle.h41_rows.specs.private.Answers.{WorksOnRegisters};
 ghost use Rattle.h41_rows.specs.Computing.{IsAlways, WorksOnOne, WorksOnTwo};
 ghost use Rattle.h41_rows.specs.FunctionRows as functions;
 ghost use Rattle.h41_rows.specs.Values.{Given, Written};
 
 use crate::answers::{
-    answer_of_one, answer_of_two, kept, number_at, out_of_range, register, sign_of_one, sign_of_two,
+    answer_of_one, answer_of_two, kept, kept_by_flag, number_at, number_in, register, sign_of_one,
+    sign_of_two,
 };
 use crate::fault::LineFault;
 use h41_codes::Number;
@@ -17,6 +19,7 @@ use h41_decimal::{DecimalFault, Exponent, Magnitude, Mantissa, Sign, Ten};
 use h41_digits::Reg;
 use h41_numbers::number_of;
 use h41_ram::Ram;
+use h41_ram::flags::RANGE_IGNORE;
 
 /// A value of one number.
 #[derive(Clone, Copy, Debug, PartialEq, Eq)]
@@ -86,9 +89,27 @@ pub fn compute_of_two<const REGS: usize>(
 ) -> Result<Reg, LineFault>
     ensures { WorksOnTwo value ram.now.registers first second result }
 {
-    let x = number_at(ram, first)?;
-    let y = number_at(ram, second)?;
-    kept_of_two(ram, value, x, y)
+    of_registers(
+        value,
+        ram.read(first),
+        ram.read(second),
+        ram.flag(RANGE_IGNORE),
+    )
+}
+
+/// The same of the numbers in two registers, where flag 24 is known. All sizes of memory share this code.
+#[inline(never)]
+fn of_registers(
+    value: ValueOfTwo,
+    first: Reg,
+    second: Reg,
+    ignores_range: bool,
+) -> Result<Reg, LineFault>
+    ensures { WorksOnRegisters value first second ignores_range result }
+{
+    let x = number_in(first)?;
+    let y = number_in(second)?;
+    kept_of_two(value, x, y, ignores_range)
 }
 
 /// The register of 3.141592654.
@@ -141,19 +162,22 @@ fn without_number(value: ValueOfOne, fault: LineFault) -> Result<Reg, LineFault>
     }
 }
 
-/// The register of a value of two numbers.
-fn kept_of_two<const REGS: usize>(
-    ram: &Ram<REGS>,
+/// The register of a value of two numbers, where flag 24 is known.
+#[inline(always)]
+fn kept_of_two(
     value: ValueOfTwo,
     first: Ten,
     second: Ten,
+    ignores_range: bool,
 ) -> Result<Reg, LineFault>
-    ensures { KeptTwo value ram.now.registers first second result }
+    ensures { KeptTwo value ignores_range first second result }
 {
     match answer_of_two(value, first, second) {
         Ok(answer) => Ok(register(answer)),
         Err(DecimalFault::Data) => Err(LineFault::DataError),
-        Err(DecimalFault::Range) => out_of_range(ram, sign_of_two(value, first, second)),
+        Err(DecimalFault::Range) => {
+            kept_by_flag(ignores_range, sign_of_two(value, first, second))
+        }
     }
 }
 

@@ -1,6 +1,6 @@
 -- What is answered for numbers, before a register is made of it.
 use Rattle.std.specs.Prelude.{◌≡◌, ℕ, ◌*◌, Option, Some, None, Result, Ok, Err, MatchBool, IsOkAnd}
-use Rattle.std.specs.Prelude.{List, ℤ, pos, neg_ℤ, ◌+ℤ◌, ◌-ℤ◌, ◌*ℤ◌, unsigned_abs}
+use Rattle.std.specs.Prelude.{Bool, List, ℤ, pos, neg_ℤ, ◌+ℤ◌, ◌-ℤ◌, ◌*ℤ◌, unsigned_abs}
 use Rattle.h41_decimal.specs.Holding.{holding_of, worth}
 use Rattle.h41_decimal.specs.NearestDecimal.{Nearest, NearestRoot}
 use Rattle.h41_decimal.specs.NumberEntry.{size_of_greatest}
@@ -15,8 +15,9 @@ use Rattle.h41_decimal.specs.declared.ten.Ten.{Ten}
 use Rattle.h41_ram.specs.NamedFlags.{range_ignore}
 use Rattle.h41_ram.specs.RegisterMap.{RegisterMap, flag_of, register_at}
 use Rattle.h41_show.specs.DisplayFormat.{format_of}
-use Rattle.h41_rows.specs.Computing.{IsAlways}
+use Rattle.h41_rows.specs.Computing.{IsAlways, WorksOn, value_of_two}
 use Rattle.h41_rows.specs.Counters.{Up, Down, number_after}
+use Rattle.h41_rows.specs.Places.{RowPlace, register_in}
 use Rattle.h41_rows.specs.Values.{Given, IsRegisterOf, Kept, places_of, unit_of}
 use Rattle.h41_rows.specs.declared.fault.LineFault.{LineFault}
 use Rattle.h41_rows.specs.declared.fault.LineFault.TheVariants.{AlphaData, OutOfRange}
@@ -32,6 +33,10 @@ worth_at memory address = worth (holding_of (register_at memory address))
 abbrev pub IsNumberAt : RegisterMap → ℕ → Result Ten LineFault → Type 0
 IsNumberAt memory address (Ok number) = worth_at memory address ≡ Some (units number)
 IsNumberAt memory address (Err fault) = (worth_at memory address ≡ None) × (fault ≡ AlphaData)
+
+abbrev pub IsNumberIn : List ℕ → Result Ten LineFault → Type 0
+IsNumberIn register (Ok number) = worth (holding_of register) ≡ Some (units number)
+IsNumberIn register (Err fault) = (worth (holding_of register) ≡ None) × (fault ≡ AlphaData)
 
 -- the answer for one number
 abbrev pub AnswersOne : ValueOfOne → RegisterMap → Ten → Result Ten DecimalFault → Type 0
@@ -73,11 +78,14 @@ sign_of_two twos.Quotient x y = sign_of (x *ℤ y)
 sign_of_two twos.Remainder x y = Plus
 sign_of_two twos.Percentage x y = sign_of (x *ℤ y)
 
--- what stands for a result out of range
-abbrev pub KeptRange : RegisterMap → Sign → Result (List ℕ) LineFault → Type 0
-KeptRange memory sign result =
-    MatchBool (flag_of memory range_ignore)
+-- what stands for a result out of range, by flag 24, or by the memory that it stands in
+abbrev pub KeptByFlag : Bool → Sign → Result (List ℕ) LineFault → Type 0
+KeptByFlag ignores_range sign result =
+    MatchBool ignores_range
     (IsOkAnd result (IsRegisterOf (with_sign sign size_of_greatest))) (result ≡ Err OutOfRange)
+
+abbrev pub KeptRange : RegisterMap → Sign → Result (List ℕ) LineFault → Type 0
+KeptRange memory sign result = KeptByFlag (flag_of memory range_ignore) sign result
 
 -- the register of an answer for one number, or for two
 pub record KeptOne (value : ValueOfOne) (memory : RegisterMap)
@@ -86,12 +94,21 @@ pub record KeptOne (value : ValueOfOne) (memory : RegisterMap)
   pub answers : AnswersOne value memory number answer
   pub kept : Kept (sign_of_one value (units number)) (flag_of memory range_ignore) answer result
 
-pub record KeptTwo (value : ValueOfTwo) (memory : RegisterMap)
+pub record KeptTwo (value : ValueOfTwo) (ignores_range : Bool)
     (x y : Ten) (result : Result (List ℕ) LineFault) : Type 0 where
   pub answer : Result Ten DecimalFault
   pub answers : AnswersTwo value x y answer
-  pub kept :
-      Kept (sign_of_two value (units x) (units y)) (flag_of memory range_ignore) answer result
+  pub kept : Kept (sign_of_two value (units x) (units y)) ignores_range answer result
+
+-- a value of the numbers in two registers, whatever memory with this flag 24 they stand in and
+-- whatever their places are called
+abbrev pub WorksOnRegisters : ValueOfTwo → List ℕ → List ℕ → Bool
+    → Result (List ℕ) LineFault → Type 0
+WorksOnRegisters value first second ignores_range result =
+    (memory : RegisterMap) (named : ℕ) (a b : RowPlace)
+    → register_in memory named a ≡ first → register_in memory named b ≡ second
+    → flag_of memory range_ignore ≡ ignores_range
+    → WorksOn memory named (value_of_two value a b) result
 
 -- what is computed where no number is: the unit is zero
 abbrev pub WithoutNumber : ValueOfOne → LineFault → Result (List ℕ) LineFault → Type 0

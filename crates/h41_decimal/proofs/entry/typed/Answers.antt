@@ -14,7 +14,7 @@ returns-in-Ok c =
       answer = Ok c.in-Ok.number;
       nearest =
           typed_nearest c.args.sign c.args.digits c.args.exponent.biased
-          c.args.places c.args.digits (137 + c.from.result - c.from-2.result)
+          c.args.places c.args.digits (137 + c.args.exponent.biased - c.from.result)
           (Ok c.in-Ok.number) some (omega arith) refl c.in-Ok.ensures;
       value = refl;
     }
@@ -27,7 +27,7 @@ returns-in-Err c =
       answer = Err c.in-Err.field-0;
       nearest =
           typed_nearest c.args.sign c.args.digits c.args.exponent.biased
-          c.args.places c.args.digits (137 + c.from.result - c.from-2.result)
+          c.args.places c.args.digits (137 + c.args.exponent.biased - c.from.result)
           (Err c.in-Err.field-0) some (omega arith) refl c.in-Err.ensures;
       value = c.greatest.ensures;
     }

@@ -14,5 +14,5 @@ pub use addresses::END_OF_FUNCTION;
 pub use base::Base;
 pub use cpu::Cpu;
 pub use keys::Keys;
-pub use machine::step;
+pub use machine::{step, step_to_end};
 pub use refusal::WordRefusal;

@@ -1,11 +1,17 @@
 //! One step: the word at the processor's address, and what it changes.
 
-ghost use Rattle.std.specs.Prelude.{◌≤◌};
+ghost use Rattle.std.specs.Prelude.{◌≡◌, ◌<◌, ◌≤◌, ◌==◌, IfOk, OnOk};
+ghost use Rattle.h41_words.specs.WordTable.{row_of};
+ghost use Rattle.h41_words.specs.declared.rows.Bank.{Bank};
+ghost use Rattle.h41_words.specs.declared.rows.Row.TheVariants.{EnableBank};
 ghost use Rattle.h41_pages.specs.Addresses.{first_address};
-ghost use Rattle.h41_nut.specs.private.RowStep.{Ran};
+ghost use Rattle.h41_pages.specs.PageMap.{with_chosen};
+ghost use Rattle.h41_nut.specs.Addresses.{end_of_function};
+ghost use Rattle.h41_nut.specs.private.RowStep.{ArrivesFrom, Ran, is_jump};
 ghost use Rattle.h41_nut.specs.WordStep.{Stepped};
 ghost use Rattle.h41_ram.specs.RamState.{KeepsMark};
 
+use crate::addresses::END_OF_FUNCTION;
 use crate::base::Base;
 use crate::cpu::Cpu;
 use crate::cpu::pointers::{place_above, place_below};
@@ -16,7 +22,7 @@ use crate::machine::rom::{fetch, fetch_word, write_rom};
 use crate::refusal::WordRefusal;
 use h41_pages::Pages;
 use h41_ram::Ram;
-use h41_words::{Row, SecondWord, row};
+use h41_words::{Row, SecondWord, Word, row};
 
 mod memory;
 mod peripherals;
@@ -36,23 +42,62 @@ pub fn step<const REGS: usize>(
         ram.new.registers pages.new keys.new }
     ensures mark { KeepsMark ram.old ram.new }
 {
-    let word = fetch(pages, cpu.pc())?;
-    execute_row(row(word), cpu, ram, pages, keys)
+    step_to_end(cpu, ram, pages, keys)?;
+    Ok(())
 }
 
-/// Carries out a row of the table of words, that of a word in a page that may be plugged.
+/// The same, and tells whether it arrives at 00F0, where a function ends. That is asked of words alone that jump or return.
+#[inline(always)]
+pub fn step_to_end<const REGS: usize>(
+    cpu: &mut Cpu,
+    ram: &mut Ram<REGS>,
+    pages: &mut Pages,
+    keys: &mut Keys,
+) -> Result<bool, WordRefusal>
+    ensures change { Stepped result cpu.old ram.old.registers pages.old keys.old cpu.new
+        ram.new.registers pages.new keys.new }
+    ensures mark { KeepsMark ram.old ram.new }
+    ensures end { IfOk result (λ ends. ends ≡ (cpu.new.pc == end_of_function)) }
+{
+    let word = fetch(pages, cpu.pc())?;
+    let row = row(word);
+    let jumps = is_jump(row);
+    execute_row(word, row, cpu, ram, pages, keys)?;
+    Ok(jumps && cpu.pc() == END_OF_FUNCTION)
+}
+
+/// Whether a word jumps or returns; each other one goes on with the word behind it.
+#[inline(always)]
+fn is_jump(row: Row) -> bool
+    ensures { result ≡ is_jump row }
+{
+    matches!(
+        row,
+        Row::LongJump(_)
+            | Row::ShortJump(_, _)
+            | Row::ReturnIf(_)
+            | Row::Return
+            | Row::GoToAddress
+            | Row::GoToKey
+    )
+}
+
+/// Carries out a word, in a page that may be plugged, by its row of the table of words.
 #[inline(always)]
 fn execute_row<const REGS: usize>(
+    word: Word,
     row: Row,
     cpu: &mut Cpu,
     ram: &mut Ram<REGS>,
     pages: &mut Pages,
     keys: &mut Keys,
 ) -> Result<(), WordRefusal>
-    requires { first_address ≤ cpu.old.pc }
+    requires held { first_address ≤ cpu.old.pc }
+    requires row { row_of word ≡ row }
     ensures change { Ran row result cpu.old ram.old.registers pages.old keys.old cpu.new
         ram.new.registers pages.new keys.new }
     ensures mark { KeepsMark ram.old ram.new }
+    ensures place { OnOk result (ArrivesFrom row cpu.old cpu.new) }
 {
     match row {
         Row::Arithmetic(operation, field) => cpu.arithmetic(operation, field),
@@ -73,10 +118,10 @@ fn execute_row<const REGS: usize>(
         Row::Constant(word) => Err(constant_refusal(word, cpu.pc())),
         Row::Nop | Row::TestLowBattery => cpu.go_on(),
         Row::WriteRom => write_rom(cpu, pages),
-        Row::EnableBank(bank) => {
+        Row::EnableBank(_) => {
             let page = (cpu.pc() / 0x1000) as u8;
             cpu.go_on()?;
-            pages.choose(page, bank);
+            enable_bank(pages, page, word);
             Ok(())
         }
         Row::ClearStatusByte => cpu.clear_status_byte(),
@@ -112,5 +157,19 @@ fn execute_row<const REGS: usize>(
         Row::Or => cpu.or_with_a(),
         Row::And => cpu.and_with_a(),
         Row::SelectPeripheral => select_peripheral(cpu),
+    }
+}
+
+/// `ENBANK1` to `ENBANK4`: chooses the bank that the word names. Its machine code stands apart and asks the word for the bank, so that
+/// these words have one way, and the words beside them in the table a shorter one.
+#[cold]
+#[inline(never)]
+fn enable_bank(pages: &mut Pages, page: u8, word: Word)
+    requires { page < 16 }
+    ensures { (bank : Bank) → row_of word ≡ EnableBank bank
+        → pages.new ≡ with_chosen pages.old page bank }
+{
+    if let Row::EnableBank(bank) = row(word) {
+        pages.choose(page, bank);
     }
 }

@@ -31,7 +31,7 @@ use crate::refusal::CalculatorRefusal;
 use h41_focal::laws::kept_answers_stay_right;
 use h41_focal::{BriefOutcome, DisplayText, Focal, LineOutcome, Machine};
 use h41_keys::{Action, Flags, Input, Key, TypedEntry, press};
-use h41_nut::{Cpu, END_OF_FUNCTION, Keys, WordRefusal, step};
+use h41_nut::{Cpu, Keys, WordRefusal, step_to_end};
 use h41_pages::{FIRST_ADDRESS, Pages, PlugRefusal, UnplugRefusal};
 use h41_program::{Position, load, set_size};
 use h41_ram::Ram;
@@ -439,13 +439,13 @@ impl<const REGS: usize> Calculator<REGS> {
         ensures unchanged { OnErr result (self.new ≡ self.old) }
     {
         kept_answers_stay_right();
-        step(
+        let ends = step_to_end(
             &mut self.cpu,
             &mut self.machine.ram,
             &mut self.pages,
             &mut self.keys,
         )?;
-        if self.cpu.pc() == END_OF_FUNCTION {
+        if ends {
             self.mode = caller.mode();
             let focal = &mut self.machine.focal;
             focal.lift = true;

@@ -5,7 +5,7 @@ ghost use Rattle.std.specs.Result.{result_err};
 ghost use Rattle.h41_pages.specs.Addresses.{first_address};
 ghost use Rattle.h41_arith.specs.DigitRule.{base_of};
 ghost use Rattle.h41_nut.specs.Arithmetic.{Operates, OperatesOn, base_number};
-ghost use Rattle.h41_nut.specs.Arrivals.{refusal_to_go_on, gone_on};
+ghost use Rattle.h41_nut.specs.Arrivals.{refusal_to_go_on, gone_on, next_address};
 
 use crate::base::Base;
 use crate::cpu::Cpu;
@@ -29,6 +29,7 @@ impl Cpu {
         ensures refusal { result_err result ≡ refusal_to_go_on self.old }
         ensures operates { OnOk result (OperatesOn operation field (gone_on self.old) self.new) }
         ensures unchanged { OnErr result (self.new ≡ self.old) }
+        ensures place { OnOk result (self.new.pc ≡ next_address self.old) }
     {
         let next = self.following()?;
         let places = span(field, self.p, self.q, self.active);

@@ -2,6 +2,7 @@
 
 ghost use Rattle.std.specs.Prelude.{◌≡◌, ◌<◌, ◌≤◌, IfOk};
 ghost use Rattle.std.specs.Result.{result_err};
+ghost use Rattle.h41_nut.specs.Addresses as addresses;
 ghost use Rattle.h41_nut.specs.Addresses.{displaced_address};
 ghost use Rattle.h41_pages.specs.Addresses.{first_address};
 ghost use Rattle.h41_nut.specs.Arrivals as arrivals;
@@ -102,12 +103,13 @@ impl Cpu {
         condition: Condition,
         displacement: Displacement,
     ) -> Result<(), WordRefusal>
+        requires { first_address ≤ self.old.pc }
         ensures { JumpsShort condition displacement self.old self.new result }
     {
         if is_taken(condition, self.carry) {
             self.go_to(displaced(self.pc, displacement))
         } else {
-            self.go_to(self.next_address())
+            self.go_on()
         }
     }
 
@@ -123,20 +125,22 @@ impl Cpu {
 
     /// `?C RTN` and `?NC RTN`: returns where the carry is as the condition says.
     pub(crate) fn return_if(&mut self, condition: Condition) -> Result<(), WordRefusal>
+        requires { first_address ≤ self.old.pc }
         ensures { ReturnsIf condition self.old self.new result }
     {
         if is_taken(condition, self.carry) {
             self.return_to_newest()
         } else {
-            self.go_to(self.next_address())
+            self.go_on()
         }
     }
 
     /// `XQ->GO`: drops the newest return address.
     pub(crate) fn drop_return(&mut self) -> Result<(), WordRefusal>
+        requires { first_address ≤ self.old.pc }
         ensures { GoesOn spec.with_return_popped self.old self.new result }
     {
-        let next = arrival(self.next_address())?;
+        let next = self.following()?;
         self.pop();
         self.arrive(next, false);
         Ok(())
@@ -144,9 +148,10 @@ impl Cpu {
 
     /// `PUSH ADR`: the address in C becomes the newest return address.
     pub(crate) fn push_address(&mut self) -> Result<(), WordRefusal>
+        requires { first_address ≤ self.old.pc }
         ensures { GoesOn with_address_pushed self.old self.new result }
     {
-        let next = arrival(self.next_address())?;
+        let next = self.following()?;
         self.push(self.address_in_c());
         self.arrive(next, false);
         Ok(())
@@ -154,9 +159,10 @@ impl Cpu {
 
     /// `POP ADR`: the newest return address goes to C, and is taken off.
     pub(crate) fn pop_address(&mut self) -> Result<(), WordRefusal>
+        requires { first_address ≤ self.old.pc }
         ensures { GoesOn with_address_popped self.old self.new result }
     {
-        let next = arrival(self.next_address())?;
+        let next = self.following()?;
         let address = self.returns[0];
         self.c = self.c.with_number(3, 6, u64::from(address));
         self.pop();
@@ -218,24 +224,20 @@ pub(crate) fn arrival(address: u16) -> Result<u16, WordRefusal>
     ensures refusal { result_err result ≡ arrivals.arrival_refusal address }
     ensures address { IfOk result (λ arrived. arrived ≡ address) }
 {
-    if address < FIRST_ADDRESS {
-        system_arrival(address)
+    if address < FIRST_ADDRESS && is_closed(address) {
+        Err(WordRefusal::SystemRom(address))
     } else {
         Ok(address)
     }
 }
 
-/// The same in pages 0 to 3, where 00F0 alone can be arrived at. Its machine code stands apart, since few words come there.
+/// Whether an address in pages 0 to 3 is closed to all steps, as each but 00F0 is. Its machine code stands apart, since few words come
+/// there.
 #[cold]
 #[inline(never)]
-fn system_arrival(address: u16) -> Result<u16, WordRefusal>
+fn is_closed(address: u16) -> bool
     requires { address < first_address }
-    ensures refusal { result_err result ≡ arrivals.arrival_refusal address }
-    ensures address { IfOk result (λ arrived. arrived ≡ address) }
+    ensures { result ≡ addresses.is_closed address }
 {
-    if address == END_OF_FUNCTION {
-        Ok(address)
-    } else {
-        Err(WordRefusal::SystemRom(address))
-    }
+    address != END_OF_FUNCTION
 }

@@ -1,6 +1,7 @@
 //! The words that load, copy and rotate registers, and those that switch.
 
-ghost use Rattle.std.specs.Prelude.{◌≡◌, ◌<◌};
+ghost use Rattle.std.specs.Prelude.{◌≡◌, ◌<◌, ◌≤◌};
+ghost use Rattle.h41_pages.specs.Addresses.{first_address};
 ghost use Rattle.h41_words.specs.Counts.{word_count};
 ghost use Rattle.h41_nut.specs.Arrivals.{address_after_both};
 ghost use Rattle.h41_nut.specs.MemoryWords.{block_address, with_selected};
@@ -50,9 +51,10 @@ impl Cpu {
 
     /// `FETCH S&X`: a word goes to C.
     pub(crate) fn load_word(&mut self, word: Word) -> Result<(), WordRefusal>
+        requires { first_address ≤ self.old.pc }
         ensures { GoesOn (spec.with_word_in_c word) self.old self.new result }
     {
-        let next = arrival(self.next_address())?;
+        let next = self.following()?;
         self.put_word(word);
         self.arrive(next, false);
         Ok(())
@@ -60,9 +62,10 @@ impl Cpu {
 
     /// `LD@R n`: a digit goes to C at the active pointer, which goes down.
     pub(crate) fn load_digit(&mut self, digit: LoadedDigit) -> Result<(), WordRefusal>
+        requires { first_address ≤ self.old.pc }
         ensures { GoesOn (spec.with_digit_loaded digit) self.old self.new result }
     {
-        let next = arrival(self.next_address())?;
+        let next = self.following()?;
         let place = self.pointer();
         self.c = self.c.with(place, digit.number());
         self.move_pointer(place_below(place));
@@ -72,9 +75,10 @@ impl Cpu {
 
     /// `C=KEY`: the key's code goes to C's digits 4 and 3.
     pub(crate) fn load_key(&mut self, key: u8) -> Result<(), WordRefusal>
+        requires { first_address ≤ self.old.pc }
         ensures { GoesOn (spec.with_key_in_c key) self.old self.new result }
     {
-        let next = arrival(self.next_address())?;
+        let next = self.following()?;
         self.c = self.c.with_number(3, 4, u64::from(key));
         self.arrive(next, false);
         Ok(())
@@ -82,9 +86,10 @@ impl Cpu {
 
     /// `READ DATA`: a register of the memory goes to C.
     pub(crate) fn load_register(&mut self, register: Reg) -> Result<(), WordRefusal>
+        requires { first_address ≤ self.old.pc }
         ensures { GoesOn (spec.with_c register) self.old self.new result }
     {
-        let next = arrival(self.next_address())?;
+        let next = self.following()?;
         self.c = register;
         self.arrive(next, false);
         Ok(())
@@ -92,9 +97,10 @@ impl Cpu {
 
     /// `RCR n`: rotates C right by so many digits.
     pub(crate) fn rotate_right(&mut self, digits: DigitPlace) -> Result<(), WordRefusal>
+        requires { first_address ≤ self.old.pc }
         ensures { GoesOn (spec.with_c_rotated digits) self.old self.new result }
     {
-        let next = arrival(self.next_address())?;
+        let next = self.following()?;
         self.c = rotated(self.c, usize::from(digits.number()));
         self.arrive(next, false);
         Ok(())
@@ -102,9 +108,10 @@ impl Cpu {
 
     /// `C=C OR A`: C keeps its bits and takes those of A.
     pub(crate) fn or_with_a(&mut self) -> Result<(), WordRefusal>
+        requires { first_address ≤ self.old.pc }
         ensures { GoesOn spec.with_c_or_a self.old self.new result }
     {
-        let next = arrival(self.next_address())?;
+        let next = self.following()?;
         self.c = digits_or(self.c, self.a);
         self.arrive(next, false);
         Ok(())
@@ -112,9 +119,10 @@ impl Cpu {
 
     /// `C=C AND A`: C keeps the bits that A has too.
     pub(crate) fn and_with_a(&mut self) -> Result<(), WordRefusal>
+        requires { first_address ≤ self.old.pc }
         ensures { GoesOn spec.with_c_and_a self.old self.new result }
     {
-        let next = arrival(self.next_address())?;
+        let next = self.following()?;
         self.c = digits_and(self.c, self.a);
         self.arrive(next, false);
         Ok(())
@@ -122,9 +130,10 @@ impl Cpu {
 
     /// `CLRABC`: clears A, B and C.
     pub(crate) fn clear_registers(&mut self) -> Result<(), WordRefusal>
+        requires { first_address ≤ self.old.pc }
         ensures { GoesOn spec.with_abc_clear self.old self.new result }
     {
-        let next = arrival(self.next_address())?;
+        let next = self.following()?;
         self.a = Reg::zero();
         self.b = Reg::zero();
         self.c = Reg::zero();
@@ -134,10 +143,11 @@ impl Cpu {
 
     /// `RAM SLCT`, `WRIT n`: selects an address of the memory.
     pub(crate) fn select(&mut self, address: u16) -> Result<(), WordRefusal>
-        requires { address < word_count }
+        requires held { first_address ≤ self.old.pc }
+        requires address { address < word_count }
         ensures { GoesOn (with_selected address) self.old self.new result }
     {
-        let next = arrival(self.next_address())?;
+        let next = self.following()?;
         self.selected = address;
         self.arrive(next, false);
         Ok(())
@@ -145,10 +155,11 @@ impl Cpu {
 
     /// `READ n`: selects an address of the memory, whose register goes to C.
     pub(crate) fn select_and_load(&mut self, address: u16, register: Reg) -> Result<(), WordRefusal>
-        requires { address < word_count }
+        requires held { first_address ≤ self.old.pc }
+        requires address { address < word_count }
         ensures { GoesOn (selecting_and_loading address register) self.old self.new result }
     {
-        let next = arrival(self.next_address())?;
+        let next = self.following()?;
         self.selected = address;
         self.c = register;
         self.arrive(next, false);
@@ -157,9 +168,10 @@ impl Cpu {
 
     /// `SETHEX` and `SETDEC`: the base that arithmetic counts in from here on.
     pub(crate) fn set_base(&mut self, base: Base) -> Result<(), WordRefusal>
+        requires { first_address ≤ self.old.pc }
         ensures { GoesOn (spec.with_base base) self.old self.new result }
     {
-        let next = arrival(self.next_address())?;
+        let next = self.following()?;
         self.base = base;
         self.arrive(next, false);
         Ok(())
@@ -167,19 +179,22 @@ impl Cpu {
 
     /// `DISOFF` and `DISTOG`: turns the display on or off.
     pub(crate) fn set_display(&mut self, on: bool) -> Result<(), WordRefusal>
+        requires { first_address ≤ self.old.pc }
         ensures { GoesOn (spec.with_display on) self.old self.new result }
     {
-        let next = arrival(self.next_address())?;
+        let next = self.following()?;
         self.display = on;
         self.arrive(next, false);
         Ok(())
     }
 
     /// `G=C`, `C=M`, `ST<>T` and the like: copies a register, or exchanges two.
+    #[inline(always)]
     pub(crate) fn transfer(&mut self, transfer: RegisterTransfer) -> Result<(), WordRefusal>
+        requires { first_address ≤ self.old.pc }
         ensures { GoesOn (spec.after_transfer transfer) self.old self.new result }
     {
-        let next = arrival(self.next_address())?;
+        let next = self.following()?;
         let (c, g, t) = (self.c, self.g, self.t);
         match transfer {
             RegisterTransfer::CToG => self.g = self.byte_at_pointer(),

@@ -1,11 +1,11 @@
 //! The words of the status bits.
 
-ghost use Rattle.std.specs.Prelude.{◌≡◌};
+ghost use Rattle.std.specs.Prelude.{◌≡◌, ◌≤◌};
+ghost use Rattle.h41_pages.specs.Addresses.{first_address};
 ghost use Rattle.h41_nut.specs.private.ProcessorSteps.{GoesOn};
 ghost use Rattle.h41_nut.specs.Pointers as spec;
 
 use crate::cpu::Cpu;
-use crate::cpu::jumps::arrival;
 use crate::refusal::WordRefusal;
 use crate::status_bits::{StatusBits, named};
 use bitflags::Flags;
@@ -21,9 +21,10 @@ impl Cpu {
 
     /// `SETF n` and `CLRF n`: sets or clears a status bit.
     pub(crate) fn set_status(&mut self, bit: StatusBit, on: bool) -> Result<(), WordRefusal>
+        requires { first_address ≤ self.old.pc }
         ensures { GoesOn (spec.with_status bit on) self.old self.new result }
     {
-        let next = arrival(self.next_address())?;
+        let next = self.following()?;
         self.put_status(bit, on);
         self.arrive(next, false);
         Ok(())
@@ -38,9 +39,10 @@ impl Cpu {
 
     /// `ST=0`: clears S0 to S7.
     pub(crate) fn clear_status_byte(&mut self) -> Result<(), WordRefusal>
+        requires { first_address ≤ self.old.pc }
         ensures { GoesOn (spec.with_status_byte 0) self.old self.new result }
     {
-        let next = arrival(self.next_address())?;
+        let next = self.following()?;
         self.set_status_byte(0);
         self.arrive(next, false);
         Ok(())

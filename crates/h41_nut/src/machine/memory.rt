@@ -17,6 +17,7 @@ pub fn write_register<const REGS: usize>(
     ram: &mut Ram<REGS>,
     register: BlockRegister,
 ) -> Result<(), WordRefusal>
+    requires { first_address ≤ cpu.old.pc }
     ensures processor { GoesOn (spec.selecting_in_block register) cpu.old cpu.new result }
     ensures written { OnOk result (ram.new.registers
         ≡ spec.with_c_in_block ram.old.registers register cpu.old) }
@@ -35,6 +36,7 @@ pub fn read_register<const REGS: usize>(
     ram: &Ram<REGS>,
     register: ReadRegister,
 ) -> Result<(), WordRefusal>
+    requires { first_address ≤ cpu.old.pc }
     ensures { GoesOn (spec.with_register_in_c ram.now.registers register) cpu.old cpu.new result }
 {
     let address = cpu.block_address(register.number());

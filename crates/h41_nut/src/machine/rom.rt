@@ -52,6 +52,7 @@ pub fn write_rom(cpu: &mut Cpu, pages: &mut Pages) -> Result<(), WordRefusal>
 /// `FETCH S&X`: the word at the address in C goes to C; 000 where no page is plugged there. Refused as 8 before all else in
 /// the system's pages.
 pub fn fetch_word(cpu: &mut Cpu, pages: &Pages) -> Result<(), WordRefusal>
+    requires { first_address ≤ cpu.old.pc }
     ensures { FetchesWord pages.now cpu.old cpu.new result }
 {
     let word = fetch_or_zero(pages, cpu.address_in_c())?;

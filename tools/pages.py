@@ -29,11 +29,12 @@ class Page:
         self.instructions = self.read(list_words)
         # What begins at a place: a line of data with its count of words.
         self.data, self.labels = {}, {}
-        self.entries = self.table()
-        if self.entries:
+        self.is_module = 1 <= words[0] <= 31 and 1 <= words[1] <= 64
+        self.entries = self.table() if self.is_module else []
+        if self.is_module:
             self.entries += [place for place in range(FIRST_POLLED, min(ID_PLACE, self.end)) if words[place]]
             self.data.update((place, (1, f"CON {words[place]:03X}")) for place in range(ID_PLACE, self.end))
-        self.reached = self.follow() if self.entries else self.sweep()
+        self.reached = self.follow() if self.is_module else self.sweep()
         self.label_targets()
 
     def read(self, list_words):
@@ -50,8 +51,6 @@ class Page:
     def table(self):
         """Reads the table of a module: the places of its functions in microcode. Its lines become data."""
         number, count = self.words[:2]
-        if not (1 <= number <= 31 and 1 <= count <= 64):
-            return []
         self.data[0], self.data[1] = (1, f"CON {number:03X}"), (1, f"CON {count:03X}")
         behind, entries = 2 + 2 * count, []
         first = next(at for at in range(behind, behind + 3) if at == behind + 2 or self.words[at])

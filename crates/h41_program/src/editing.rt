@@ -1,5 +1,5 @@
 //! Lines inserted, replaced and deleted.
-ghost use Rattle.std.specs.Prelude.{◌≡◌, ◌||◌, slice_get, IsTrue, IfOk, IfSome, OnOk};
+ghost use Rattle.std.specs.Prelude.{◌≡◌, ◌||◌, slice_get, IsTrue, IfOk, IfSome, OnOk, OnErr};
 ghost use Rattle.h41_codes.specs.ByteGrammar.{IsLine};
 ghost use Rattle.h41_ram.specs.RegisterMap.{is_sound};
 ghost use Rattle.h41_program.specs.Edits.{Edits, LeavesChanged, Stands, StandsBefore, StandsNew};
@@ -70,6 +70,7 @@ pub fn insert<const REGS: usize>(
         ram.new.registers) }
     ensures answer { IfOk result (StandsNew ram.old.registers before ram.new.registers) }
     ensures stands { IfOk result (Stands ram.new.registers line) }
+    ensures unchanged { OnErr result (ram.new ≡ ram.old) }
     ensures mark { KeepsMark ram.old ram.new }
 {
     put(ram, before, line, Placement::Before)
@@ -86,6 +87,7 @@ pub fn delete<const REGS: usize>(ram: &mut Ram<REGS>, at: u16) -> Result<InFront
     ensures read { OnOk result (LeavesChanged ram.old.registers without_deleted at
         ram.new.registers) }
     ensures answer { IfOk result (StandsBefore ram.old.registers at ram.new.registers) }
+    ensures unchanged { OnErr result (ram.new ≡ ram.old) }
     ensures mark { KeepsMark ram.old ram.new }
 {
     byte_round_trip();
@@ -110,6 +112,7 @@ pub fn replace<const REGS: usize>(
         ram.new.registers) }
     ensures answer { IfOk result (StandsNew ram.old.registers at ram.new.registers) }
     ensures stands { IfOk result (Stands ram.new.registers line) }
+    ensures unchanged { OnErr result (ram.new ≡ ram.old) }
     ensures mark { KeepsMark ram.old ram.new }
 {
     put(ram, at, line, Placement::Instead)
@@ -133,6 +136,7 @@ fn put<const REGS: usize>(
         ram.new.registers) }
     ensures answer { IfOk result (StandsNew ram.old.registers at ram.new.registers) }
     ensures stands { IfOk result (Stands ram.new.registers line) }
+    ensures unchanged { OnErr result (ram.new ≡ ram.old) }
     ensures mark { KeepsMark ram.old ram.new }
 {
     byte_round_trip();
@@ -154,6 +158,7 @@ fn change_at<const REGS: usize>(
         (without_answer result) }
     ensures sound { IsTrue (is_sound ram.new.registers) }
     ensures count { IfOk result (Counts ram.old.registers at) }
+    ensures unchanged { OnErr result (ram.new ≡ ram.old) }
     ensures mark { KeepsMark ram.old ram.new }
 {
     let place = line_at(ram, at)?.position;

@@ -1,5 +1,5 @@
 //! Programs loaded behind those in memory.
-ghost use Rattle.std.specs.Prelude.{◌≡◌, ◌≤◌, drop, length, IsTrue, IfOk, OnOk};
+ghost use Rattle.std.specs.Prelude.{◌≡◌, ◌≤◌, drop, length, IsTrue, IfOk, OnOk, OnErr};
 ghost use Rattle.std.specs.Option.{ForSome};
 ghost use Rattle.h41_codes.specs.ByteGrammar.{IsLine};
 ghost use Rattle.h41_ram.specs.RegisterMap.{is_sound};
@@ -29,6 +29,7 @@ pub fn load<const REGS: usize>(ram: &mut Ram<REGS>, bytes: &[u8]) -> Result<u16,
     ensures lines { Loads ram.old.registers ram.new.registers bytes.now result }
     ensures bound { IfOk result (λ start. start ≤ 2237) }
     ensures sound { IsTrue (is_sound ram.new.registers) }
+    ensures unchanged { OnErr result (ram.new ≡ ram.old) }
     ensures mark { KeepsMark ram.old ram.new }
 {
     let mut packer = packed_program(ram)?;
@@ -57,6 +58,7 @@ pub fn close_last<const REGS: usize>(ram: &mut Ram<REGS>) -> Result<(), ProgramR
     ensures lines { Closes ram.old.registers ram.new.registers result }
     ensures sound { IsTrue (is_sound ram.new.registers) }
     ensures read { OnOk result (LeavesClosed ram.old.registers ram.new.registers) }
+    ensures unchanged { OnErr result (ram.new ≡ ram.old) }
     ensures mark { KeepsMark ram.old ram.new }
 {
     changes_are_read();
@@ -73,6 +75,7 @@ fn write_closed<const REGS: usize>(
 ) -> Result<(), ProgramRefusal>
     requires { IsTrue (is_sound ram.old.registers) }
     ensures change { WritesClosed packer ram.old.registers ram.new.registers result }
+    ensures unchanged { OnErr result (ram.new ≡ ram.old) }
     ensures mark { KeepsMark ram.old ram.new }
 {
     let mut packer = packer;

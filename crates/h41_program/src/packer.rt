@@ -1,5 +1,6 @@
 //! Lines packed one behind the other.
 ghost use Rattle.std.specs.Prelude.{◌≡◌, ◌+◌, ◌∷◌, [], ◌≤◌, List, length, IsTrue, not, false};
+ghost use Rattle.std.specs.Prelude.{OnErr};
 ghost use Rattle.std.specs.Option.{option_map_or};
 ghost use Rattle.h41_program.specs.Lines.{is_number, is_end};
 ghost use Rattle.h41_codes.specs.ByteGrammar.{spelling, IsLine};
@@ -81,6 +82,7 @@ impl Packer {
         requires { IsTrue (is_sound ram.old.registers) }
         ensures lines { Writes self ram.old.registers ram.new.registers result }
         ensures small { curtain_of ram.old.registers ≤ main_start + 320 }
+        ensures unchanged { OnErr result (ram.new ≡ ram.old) }
         ensures mark { KeepsMark ram.old ram.new }
     {
         let Packer { bytes, full, .. } = self;

@@ -1,5 +1,5 @@
 //! The number of data registers.
-ghost use Rattle.std.specs.Prelude.{◌≡◌, ◌-◌, ◌<◌, IsTrue};
+ghost use Rattle.std.specs.Prelude.{◌≡◌, ◌-◌, ◌<◌, IsTrue, OnErr};
 ghost use Rattle.h41_ram.specs.RegisterMap.{IsMemory, is_sound, top_of};
 ghost use Rattle.h41_program.specs.private.ProgramPlaces.{IsMove};
 ghost use Rattle.h41_program.specs.Rewriting.{HasOutcome};
@@ -23,6 +23,7 @@ pub fn set_size<const REGS: usize>(ram: &mut Ram<REGS>, size: u16) -> Result<(),
     ensures size { HasOutcome ram.old.registers ram.new.registers result
         (size_outcome ram.old.registers size) }
     ensures sound { IsTrue (is_sound ram.new.registers) }
+    ensures unchanged { OnErr result (ram.new ≡ ram.old) }
     ensures mark { KeepsMark ram.old ram.new }
 {
     let curtain = ram.curtain();

@@ -21,6 +21,7 @@ const X: u16 = 3;
 const Y: u16 = 2;
 
 /// X takes a value of Y and X, LAST X what X held, and the stack drops.
+#[inline(always)]
 pub fn of_y_and_x<const REGS: usize>(
     machine: &mut Machine<REGS>,
     origin: Origin,

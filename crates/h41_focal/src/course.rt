@@ -14,6 +14,7 @@ use h41_ram::flags::ERROR_IGNORE;
 use h41_rows::LineFault;
 
 /// On to the next line; a typed line stays. Lift stays.
+#[inline(always)]
 pub fn go_on(focal: &mut Focal, origin: Origin)
     ensures state { focal.new.state ≡ on_to_next origin AsItWas focal.old.state }
     ensures labels { focal.new.labels ≡ focal.old.labels }
@@ -24,6 +25,7 @@ pub fn go_on(focal: &mut Focal, origin: Origin)
 }
 
 /// On to the next line, with lift.
+#[inline(always)]
 pub fn go_on_lifting(focal: &mut Focal, origin: Origin)
     ensures state { focal.new.state ≡ on_to_next origin On focal.old.state }
     ensures labels { focal.new.labels ≡ focal.old.labels }
@@ -33,6 +35,7 @@ pub fn go_on_lifting(focal: &mut Focal, origin: Origin)
 }
 
 /// On to the next line, without lift: the next number takes the place of X.
+#[inline(always)]
 pub fn go_on_replacing(focal: &mut Focal, origin: Origin)
     ensures state { focal.new.state ≡ on_to_next origin Off focal.old.state }
     ensures labels { focal.new.labels ≡ focal.old.labels }
@@ -43,6 +46,7 @@ pub fn go_on_replacing(focal: &mut Focal, origin: Origin)
 
 /// A line cannot be done: the display shows why, and the program stops there. Flag 25 is cleared where it is set, and the
 /// program goes on with the next line.
+#[inline(never)]
 pub fn fail<const REGS: usize>(
     machine: &mut Machine<REGS>,
     origin: Origin,

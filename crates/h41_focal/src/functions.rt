@@ -21,6 +21,7 @@ use crate::works::{FunctionWork, work_of};
 use h41_codes::Function;
 
 /// A function is carried out; 13 where it is left out.
+#[inline(never)]
 pub fn plain<const REGS: usize>(
     machine: &mut Machine<REGS>,
     origin: Origin,
@@ -33,13 +34,55 @@ pub fn plain<const REGS: usize>(
     ensures keeps { Keeps machine.old machine.new }
     ensures left { LeavesMark machine.old.ram machine.new.ram }
 {
+    plain_at_once(machine, origin, function)
+}
+
+/// The same where each line of a program that runs comes by: what these do most is done here, and the rest by `perform`.
+#[inline(always)]
+pub fn plain_at_once<const REGS: usize>(
+    machine: &mut Machine<REGS>,
+    origin: Origin,
+    function: Function,
+) -> Result<BriefOutcome, FocalRefusal>
+    requires { IsReady origin (machine_of machine.old) }
+    ensures taken { TakesBriefly origin (Plain function) (machine_of machine.old)
+        (machine_of machine.new) result }
+    ensures unchanged { OnErr result (machine.new ≡ machine.old) }
+    ensures keeps { Keeps machine.old machine.new }
+    ensures left { LeavesMark machine.old.ram machine.new.ram }
+{
     match work_of(function) {
-        Some(work) => perform(machine, origin, work),
+        Some(work) => perform_at_once(machine, origin, work),
         None => Err(FocalRefusal::NotInProfile),
     }
 }
 
+/// What is done for a function, likewise.
+#[inline(always)]
+fn perform_at_once<const REGS: usize>(
+    machine: &mut Machine<REGS>,
+    origin: Origin,
+    work: FunctionWork,
+) -> Result<BriefOutcome, FocalRefusal>
+    requires { IsReady origin (machine_of machine.old) }
+    ensures carried { CarriesWork origin work (machine_of machine.old)
+        (machine_of machine.new) result }
+    ensures unchanged { OnErr result (machine.new ≡ machine.old) }
+    ensures keeps { Keeps machine.old machine.new }
+    ensures left { LeavesMark machine.old.ram machine.new.ram }
+{
+    match work {
+        FunctionWork::OfYAndX(value) => Ok(of_y_and_x(machine, origin, value)),
+        FunctionWork::OfX(value) => Ok(of_x(machine, origin, value)),
+        FunctionWork::Ask(test) => ask(machine, origin, test),
+        FunctionWork::Move(movement) => Ok(move_stack(machine, origin, movement)),
+        FunctionWork::Return => Ok(go_back(machine, origin)),
+        work => perform(machine, origin, work),
+    }
+}
+
 /// What is done for a function.
+#[inline(never)]
 fn perform<const REGS: usize>(
     machine: &mut Machine<REGS>,
     origin: Origin,

@@ -25,6 +25,7 @@ use h41_program::{Position, start_of};
 use h41_rows::LineFault;
 
 /// A line goes to a local label; `NONEXISTENT` where it stands nowhere in the program.
+#[inline(always)]
 pub fn to_label<const REGS: usize>(
     machine: &mut Machine<REGS>,
     origin: Origin,
@@ -83,6 +84,7 @@ pub fn to_name<const REGS: usize>(
 }
 
 /// The label was found. XEQ returns to the next line; typed, it has the program run, with nowhere to return to.
+#[inline(always)]
 fn arrive(focal: &mut Focal, origin: Origin, branch: Branch, position: Position) -> BriefOutcome
     ensures state { focal.new.state ≡ focal_at origin branch position focal.old.state }
     ensures labels { focal.new.labels ≡ focal.old.labels }

@@ -77,6 +77,7 @@ pub fn carry_out<const REGS: usize>(
 }
 
 /// The same, but for the texts of the outcome.
+#[inline(never)]
 pub fn carry_briefly<const REGS: usize>(
     machine: &mut Machine<REGS>,
     origin: Origin,

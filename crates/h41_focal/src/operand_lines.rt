@@ -22,6 +22,7 @@ use h41_codes::{Operand, Parameter, ParameterFunction};
 use h41_rows::{digit_of, flag_of, register_of};
 
 /// A function with an operand is carried out; 13 where it is left out.
+#[inline(always)]
 pub fn with_operand<const REGS: usize>(
     machine: &mut Machine<REGS>,
     origin: Origin,
@@ -47,6 +48,7 @@ pub fn with_operand<const REGS: usize>(
 }
 
 /// Whether a function with an operand is left out.
+#[inline(always)]
 fn is_left_out(function: ParameterFunction, operand: &Operand) -> bool
     ensures { result ≡ is_use_left_out function operand.now }
 {
@@ -76,6 +78,7 @@ pub fn is_parameter_out(parameter: Parameter) -> bool
 }
 
 /// The register of an operand is used, or is NONEXISTENT.
+#[inline(always)]
 fn with_register<const REGS: usize>(
     machine: &mut Machine<REGS>,
     origin: Origin,

@@ -19,6 +19,7 @@ use h41_rows::{
 const X: u16 = 3;
 
 /// X takes the register; the stack is lifted first where lift is on.
+#[inline(always)]
 pub fn recall<const REGS: usize>(
     machine: &mut Machine<REGS>,
     origin: Origin,
@@ -36,6 +37,7 @@ pub fn recall<const REGS: usize>(
 }
 
 /// The register takes X.
+#[inline(always)]
 pub fn store<const REGS: usize>(
     machine: &mut Machine<REGS>,
     origin: Origin,
@@ -54,6 +56,7 @@ pub fn store<const REGS: usize>(
 }
 
 /// The register takes a value of itself and X; X and LAST X stay.
+#[inline(always)]
 pub fn combine<const REGS: usize>(
     machine: &mut Machine<REGS>,
     origin: Origin,

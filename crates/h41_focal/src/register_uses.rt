@@ -14,6 +14,7 @@ use crate::register_lines::{combine, exchange_x, recall, recall_alpha, store, st
 use crate::uses::RegisterUse;
 
 /// The register at an address is used; a loop's line is refused where the line that it would skip cannot be read.
+#[inline(always)]
 pub fn use_register<const REGS: usize>(
     machine: &mut Machine<REGS>,
     origin: Origin,

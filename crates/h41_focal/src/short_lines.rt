@@ -9,7 +9,7 @@ ghost use Rattle.h41_labels.specs.KeptAnswers.{IsRight};
 ghost use Rattle.h41_ram.specs.RamState.{KeepsMark};
 ghost use Rattle.h41_rows.specs.RowMarks.{LeavesMark};
 
-use crate::functions::plain;
+use crate::functions::plain_at_once;
 use crate::labels::to_label;
 use crate::lines::{indirect, short};
 use crate::machine::Machine;
@@ -69,7 +69,7 @@ pub fn carry_short<const REGS: usize>(
     match line {
         ShortLine::LocalLabel(_) => Ok(be_silent(machine, origin)),
         ShortLine::Register(function, register) => short(machine, origin, function, register),
-        ShortLine::Plain(function) => plain(machine, origin, function),
+        ShortLine::Plain(function) => plain_at_once(machine, origin, function),
         ShortLine::WithOperand(function, operand) => {
             with_operand(machine, origin, function, &operand)
         }

@@ -32,6 +32,7 @@ const Y: u16 = 2;
 const LAST_X: u16 = 4;
 
 /// The stack moves. What comes in lifts it where lift is on. Lift is off behind `ENTER^` and `CLX`, and on behind the others.
+#[inline(always)]
 pub fn move_stack<const REGS: usize>(
     machine: &mut Machine<REGS>,
     origin: Origin,
@@ -49,6 +50,7 @@ pub fn move_stack<const REGS: usize>(
 }
 
 /// The registers of the stack move; what comes in lifts them where lift is on.
+#[inline(always)]
 fn move_registers<const REGS: usize>(ram: &mut Ram<REGS>, movement: Movement, lift: bool)
     ensures change { Moves movement ram.old.registers ram.new.registers lift }
     ensures mark { KeepsMark ram.old ram.new }
@@ -67,6 +69,7 @@ fn move_registers<const REGS: usize>(ram: &mut Ram<REGS>, movement: Movement, li
 }
 
 /// On to the next line: the next number takes the place of X behind `ENTER^` and `CLX`.
+#[inline(always)]
 fn go_on_behind(focal: &mut Focal, origin: Origin, movement: Movement)
     ensures state { focal.new.state
         ≡ on_to_next origin (move_row movement).lift focal.old.state }
@@ -129,6 +132,7 @@ pub fn do_nothing<const REGS: usize>(machine: &mut Machine<REGS>, origin: Origin
 }
 
 /// A line that does nothing, and leaves lift.
+#[inline(always)]
 pub fn be_silent<const REGS: usize>(machine: &mut Machine<REGS>, origin: Origin) -> BriefOutcome
     requires { IsReady origin (machine_of machine.old) }
     ensures done { LeavesRow origin silent_row (machine_of machine.old)

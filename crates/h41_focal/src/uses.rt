@@ -77,6 +77,7 @@ pub enum OperandUse {
 }
 
 /// What is done for a function with an operand that is carried out.
+#[inline(always)]
 pub fn use_of(function: ParameterFunction) -> OperandUse
     requires { function ≢ functions.StatisticsRegisters }
     ensures { IsUse function result }

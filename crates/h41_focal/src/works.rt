@@ -87,6 +87,7 @@ pub enum FunctionWork {
 }
 
 /// What is done for a function; `None` where it is not carried out.
+#[inline(always)]
 pub fn work_of(function: Function) -> Option<FunctionWork>
     ensures { option_map row_of_work result ≡ function_row function }
 {

@@ -4,7 +4,7 @@ pub returns-in-LocalLabel-clause-taken : goal.returns-in-LocalLabel-clause-taken
 returns-in-LocalLabel-clause-taken g c = rw c.in-LocalLabel.is (c.be_silent.ensures.done 0)
 
 pub returns-in-Plain-clause-taken : goal.returns-in-Plain-clause-taken
-returns-in-Plain-clause-taken g c = rw c.in-Plain.is c.plain.ensures.taken
+returns-in-Plain-clause-taken g c = rw c.in-Plain.is c.plain_at_once.ensures.taken
 
 pub returns-in-ShortGoTo-clause-taken : goal.returns-in-ShortGoTo-clause-taken
 returns-in-ShortGoTo-clause-taken g c =

@@ -1,5 +1,5 @@
-//! Tests of the bench: what no clause says. Known values of the libraries, by which their definitions can be judged, and jobs
-//! over ends that cut and fail. What the program can run stands in the repository's folder `rows`.
+//! Tests of the bench: what no clause says. Labels that are kept, a deck at each size of memory,
+//! and jobs over ends that cut and fail. What the program can run stands in the repository's folder `rows`.
 #![tactic(auto)]
 
 #[cfg(test)]

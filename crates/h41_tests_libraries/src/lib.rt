@@ -1,0 +1,23 @@
+//! Known values of the libraries below the calculator, by which their definitions can be judged: what decks do not print.
+#![tactic(auto)]
+
+#[cfg(test)]
+mod arithmetic;
+#[cfg(test)]
+mod decimals;
+#[cfg(test)]
+mod display;
+#[cfg(test)]
+mod fields;
+#[cfg(test)]
+mod judge;
+#[cfg(test)]
+mod lister;
+#[cfg(test)]
+mod memory;
+#[cfg(test)]
+mod pages;
+#[cfg(test)]
+mod program_memory;
+#[cfg(test)]
+mod words;

@@ -1,1 +1,2 @@
 pub mod LineValues
+pub mod RegisterPlaces

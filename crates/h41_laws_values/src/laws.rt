@@ -2,6 +2,8 @@
 
 ghost use Rattle.h41_laws_values.specs.LineValues.{NumberLineHasOneNumber, ValueHasOneRegister};
 ghost use Rattle.h41_laws_values.specs.LineValues.{ValueHasOneAnswer};
+ghost use Rattle.h41_laws_values.specs.RegisterPlaces.{AddressHasPlace};
+ghost use Rattle.h41_laws_values.specs.RegisterPlaces.{TwoRegistersHavePlaces};
 
 use h41_laws_numbers::laws::{
     decimal_has_one_register, fraction_has_one_nearest, number_has_one_of_steps, number_has_parts,
@@ -32,3 +34,9 @@ pub fn value_has_one_register()
     decimal_has_one_register();
     values_are_determined();
 }
+
+/// What is promised of the places of a row is promised of each address, and of any two registers.
+pub fn registers_have_places()
+    ensures address { AddressHasPlace }
+    ensures both { TwoRegistersHavePlaces }
+{}

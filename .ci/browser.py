@@ -11,7 +11,7 @@ import urllib.error
 import urllib.request
 
 # The seconds that anything may take. They pass only where something fails.
-PATIENCE = 120
+PATIENCE = 300
 
 ELEMENT = "element-6066-11e4-a52e-4f735466cecf"
 SHIFT_KEYS = {"Enter": "\ue007", "Backspace": "\ue003", "Tab": "\ue004", "Escape": "\ue00c", "ArrowLeft": "\ue012",

@@ -14,8 +14,8 @@ from session import Session, is_whole
 from sources import Labels
 from values import text_of
 
-# The seconds that the bench may take for an answer, and that a piece of a run should take.
-PATIENCE, PIECE = 30, 0.02
+# The seconds that the bench may take for an answer, also on a machine with much else to do, and that a piece of a run should take.
+PATIENCE, PIECE = 120, 0.02
 MOST_STEPS = 9_999_999
 
 # The last steps of a long trace are looked at one by one. Of a long reply its first lines are told, and its last.

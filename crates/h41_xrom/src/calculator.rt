@@ -251,7 +251,7 @@ impl<const REGS: usize> Calculator<REGS> {
 
     /// The line at the position, with what it leaves in the display; or a module's function begins. It is the step while no function
     /// runs, and is refused as that is.
-    #[inline(never)]
+    #[inline(always)]
     pub fn step_line(&mut self) -> Result<(), CalculatorRefusal>
         ensures refusal { RefusesLine self.old (result_err result) }
         ensures change { OnOk result (StepsByLine self.old self.new) }

@@ -1,6 +1,6 @@
 -- The first line end of a text, by what stands before it.
-use Rattle.std.proofs.Common.{inl, inr, ◌≡◌, ℕ, ◌+◌, ◌-◌, ◌<◌, ◌≤◌, ◌%◌, ◌^◌, Bool, true, false, cond, eqb, get_or, nat_lt, List, length, map, drop}
-use Rattle.std.proofs.Common.{not, take, replicate, Option, Some, None, refl, sym, ap, ◌∙◌, arith, w8}
+use Rattle.std.proofs.Common.{inl, inr, ◌≡◌, ℕ, ◌+◌, ◌-◌, ◌<◌, ◌≤◌, ◌%◌, ◌^◌, Bool, true, false, cond, eqb, get_or, List, length, map}
+use Rattle.std.proofs.Common.{not, drop, take, replicate, Option, Some, None, refl, sym, ap, ◌∙◌, arith, w8}
 use Rattle.std.specs.List.{position, position_or_len}
 use Rattle.std.specs.Int.{bit_at}
 use Rattle.std.specs.Simd.Lanes.{mask_l, top, zip2}
@@ -40,7 +40,8 @@ pub ends_at : (text : List ℕ) (at : ℕ) → at < length text → NoneBefore t
 ends_at text at within none here =
     let first : position_or_len is_end_byte text ≡ at =
     position_or_len_is is_end_byte text at 0 (omega arith) none (λ l. here) in
-    ap (λ (n : ℕ). Some n) (sym first) ∙ sym (cond-true _ _ _ (lt-ltb (position_or_len is_end_byte text) (length text) (omega (arith, first))))
+    ap (λ (n : ℕ). Some n) (sym first)
+    ∙ sym (cond-true _ _ _ (lt-ltb (position_or_len is_end_byte text) (length text) (omega (arith, first))))
 
 -- where none stands before a place, it is looked for behind
 pub ends_behind : (text : List ℕ) (at : ℕ) → at ≤ length text → NoneBefore text at
@@ -56,7 +57,9 @@ ends_behind text at within none =
           ap (λ (i : ℕ). is_end_byte (get_or text i 0)) (sym same) ∙ ap is_end_byte (sym (get_or-drop at text (k - at) 0))
           ∙ fails_before_first is_end_byte (drop at text) (k - at) 0 (omega arith)
     ])
-    (λ l. ap is_end_byte (sym (get_or-drop at text n 0)) ∙ passes_at_first is_end_byte (drop at text) 0 (omega (arith, length-drop at text)))
+    (λ l.
+    ap is_end_byte (sym (get_or-drop at text n 0))
+    ∙ passes_at_first is_end_byte (drop at text) 0 (omega (arith, length-drop at text)))
 
 -- what was found behind is found, and nothing where nothing is
 pub found_behind : (text : List ℕ) (at : ℕ) (end : ℕ) → at ≤ length text → NoneBefore text at

@@ -44,7 +44,7 @@ module _ (command : Command) where
   shut_bytes true bytes = refl
   shut_bytes false bytes = refl
 
-  shut_said : (has_long : Bool) (kind : Option BlockKind) (lines : List (List ℕ))
+  pub shut_said : (has_long : Bool) (kind : Option BlockKind) (lines : List (List ℕ))
       → is_open (with_values (unless_long has_long (whole_said kind (said_by kind lines))) command) ≡ false
   shut_said true kind lines = refl
   shut_said false None lines = refl

@@ -13,7 +13,7 @@ use Rattle.h41_commands.specs.Blocks.{TakenBlock, Takes, block_values, judgement
 use Rattle.h41_commands.specs.Commands.{and_then, command_of, is_opening, kind_of}
 use Rattle.h41_commands.specs.DeckLines.{is_end, is_long, is_skipped}
 use Rattle.h41_commands.specs.Entries.{IsTaken}
-use Rattle.h41_commands.specs.ItemReading.{Spell, SpellNext, opened_by}
+use Rattle.h41_commands.specs.ItemReading.{Spell, SpellNext, SpellNothing, opened_by}
 use Rattle.h41_commands.specs.Items.{Spelled, commands, opened_block, opens_first, spelled_by, with_values, without_open_block}
 use Rattle.h41_commands.specs.declared.commands.BlockKind.{BlockKind}
 use Rattle.h41_commands.specs.declared.commands.Command.{Command}
@@ -26,10 +26,6 @@ use Rattle.h41_commands.proofs.BlockLines.{EndsBlock, ends_block, no_end}
 use Rattle.h41_commands.proofs.KeptBytes.{whole_kept}
 use Rattle.h41_commands.proofs.DeckItems.{commands-cons, commands-line, commands-long, commands-opening}
 use Rattle.h41_lines.specs.Words.{words_of}
-
--- lines that spell nothing
-abbrev pub SpellNothing : List (List ℕ) → Type 0
-SpellNothing lines = (more : List (List ℕ)) → commands (lines ++ more) ≡ commands more
 
 pub skips_more : (lines : List (List ℕ)) (line : List ℕ) → SpellNothing lines → is_long line ≡ false → is_skipped line ≡ true
     → SpellNothing (lines ++ line ∷ [])

@@ -3,6 +3,7 @@ pub mod BlocksDetermined
 pub mod ClosedBlocks
 pub mod DeckItems
 pub mod Filling
+pub mod FirstLines
 pub mod ItemLines
 pub mod KeptBytes
 pub mod KeyWords

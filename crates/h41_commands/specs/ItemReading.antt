@@ -1,9 +1,9 @@
 -- What the code answers that reads the items of a deck line by line. It only connects the code with
 -- the other definitions.
 use Rattle.std.specs.Prelude.{◌≡◌, ◌<◌, ℕ, Bool, true, false, List, [], ◌∷◌, ◌++◌}
-use Rattle.std.specs.Prelude.{if◌then◌else◌, Option, Some, None, OnSome, IfSome, Result, Ok, Err}
+use Rattle.std.specs.Prelude.{if◌then◌else◌, Option, Some, None, OnSome, Result, Ok, Err}
 use Rattle.std.specs.List.{list_any, before_first}
-use Rattle.h41_commands.specs.declared.item.Item.{Item}
+use Rattle.h41_commands.specs.declared.line.LineKind.{LineKind}
 use Rattle.h41_commands.specs.declared.commands.Command.{Command}
 use Rattle.h41_commands.specs.declared.fault.ItemFault.{ItemFault}
 use Rattle.h41_commands.specs.declared.fault.ItemFault.TheVariants as fault
@@ -12,16 +12,39 @@ use Rattle.h41_commands.specs.declared.refusal.LineRefusal.TheVariants.{NoEnd}
 use Rattle.h41_commands.specs.Blocks.{block_values}
 use Rattle.h41_commands.specs.Commands.{and_then, kind_of}
 use Rattle.h41_commands.specs.DeckLines.{is_end}
-use Rattle.h41_commands.specs.Entries.{what_is_spelled}
+use Rattle.h41_commands.specs.FirstLines.{line_kind}
 use Rattle.h41_commands.specs.Items.{Spelled, commands, is_open, opens_first, with_values}
 use Rattle.h41_commands.specs.Items.{without_open_block}
-use Rattle.h41_ends.specs.InputLines.{MayFollow, ReadsMore, most_left}
+use Rattle.h41_ends.specs.InputLines.{MayFollow, ReadsMore, line_in, most_left}
 use Rattle.h41_ends.specs.declared.input_lines.InputLines.{InputLines}
 
 -- a refusal as an open block
 abbrev pub is_unended : {A : Type 0} → Result A LineRefusal → Bool
 is_unended (Ok value) = false
 is_unended (Err refusal) = is_open (Err refusal)
+
+-- lines that spell nothing
+abbrev pub SpellNothing : List (List ℕ) → Type 0
+SpellNothing lines = (more : List (List ℕ)) → commands (lines ++ more) ≡ commands more
+
+-- the line that was told behind them, where one was, and what it is
+abbrev pub first_lines : {E : Type 0} → Result (Option LineKind) E → InputLines → List (List ℕ)
+first_lines (Ok None) input = []
+first_lines (Ok (Some kind)) input = line_in input ∷ []
+first_lines (Err fault) input = []
+
+abbrev pub TellsKind : {E : Type 0} → Result (Option LineKind) E → List ℕ → Type 0
+TellsKind (Ok None) line = Unit {0}
+TellsKind (Ok (Some kind)) line = line_kind line ≡ Some kind
+TellsKind (Err fault) line = Unit {0}
+
+-- lines were read on up to the first of an item
+pub record ReadsFirst {E : Type 0} (result : Result (Option LineKind) E)
+    (before after : Option (List ℕ)) (old new : InputLines) : Type 0 where
+  pub skipped : List (List ℕ)
+  pub nothing : SpellNothing skipped
+  pub reads : ReadsMore before after old new (skipped ++ first_lines result new)
+  pub kind : TellsKind result (line_in new)
 
 -- lines spell these items, whatever lines follow
 abbrev pub Spell : Bool → List (List ℕ) → List Spelled → Type 0
@@ -31,27 +54,23 @@ Spell at_end lines items =
 
 -- the lines that were told spell the item that is answered; where reading failed, none but a block
 -- that is open, and where memory was refused, they begin a block
-abbrev pub SpellNext : Result (Option Item) ItemFault → Bool → List (List ℕ) → Type 0
+abbrev pub SpellNext : Result (Option Spelled) ItemFault → Bool → List (List ℕ) → Type 0
 SpellNext (Ok None) at_end lines = Spell at_end lines []
-SpellNext (Ok (Some item)) at_end lines = Spell at_end lines (what_is_spelled item ∷ [])
+SpellNext (Ok (Some item)) at_end lines = Spell at_end lines (item ∷ [])
 SpellNext (Err fault.ReadFault) at_end lines = without_open_block (commands lines) ≡ []
 SpellNext (Err fault.OutOfMemory) at_end lines = opens_first lines ≡ true
 SpellNext (Err fault.WriteFault) at_end lines = Unit {0}
 
 -- lines were read on, and are those of the item that is answered
-pub record ReadsNext (result : Result (Option Item) ItemFault) (before after : Option (List ℕ))
-    (old new : InputLines) : Type 0 where
+pub record ReadsNext (result : Result (Option Spelled) ItemFault)
+    (before after : Option (List ℕ)) (old new : InputLines) : Type 0 where
   pub lines : List (List ℕ)
   pub reads : ReadsMore before after old new lines
   pub spelled : SpellNext result new.at_end lines
 
--- where an item is answered, fewer bytes are left, and a block is open only at the end
-abbrev pub LeavesFewer : InputLines → InputLines → Option Item → Type 0
+-- where a line is told, fewer bytes are left
+abbrev pub LeavesFewer : {A : Type 0} → InputLines → InputLines → Option A → Type 0
 LeavesFewer old new next = OnSome next (most_left new < most_left old)
-
-abbrev pub OpenAtEnd : InputLines → Option Item → Type 0
-OpenAtEnd new next =
-    IfSome next (λ item. is_open (what_is_spelled item) ≡ true → new.at_end ≡ true)
 
 -- a block by what its first line spells, and the lines after that
 abbrev pub opened_by : Result Command LineRefusal → List (List ℕ) → Spelled

@@ -31,6 +31,10 @@ abbrev pub opened_block : List ℕ → List (List ℕ) → Spelled
 opened_block first rest =
     if list_any is_end rest then spelled_by first (before_first is_end rest) else Err NoEnd
 
+-- a line that opens none
+abbrev pub line_spelled : List ℕ → Spelled
+line_spelled line = if is_long line then Err LineTooLong else spelled_by line []
+
 -- what so many lines at the most spell
 abbrev pub spelled_within : ℕ → List (List ℕ) → List Spelled
 spelled_within zero lines = []

@@ -6,6 +6,7 @@ pub mod Contents
 pub mod DeckLines
 pub mod Entries
 pub mod Faults
+pub mod FirstLines
 pub mod ItemReading
 pub mod Items
 pub mod LineLaws

@@ -57,9 +57,38 @@ impl BlockKind {
     }
 }
 
+/// What the first word of a line is the name of.
+#[derive(Clone, Copy, Debug, PartialEq, Eq)]
+pub enum FirstWord {
+    /// A line that opens a block.
+    Opening(BlockKind),
+    /// A command that opens none.
+    Plain(PlainKind),
+    /// No command.
+    Unknown,
+}
+
+impl FirstWord {
+    ghost use Rattle.h41_commands.specs.FirstLines.{first_word};
+
+    /// What this word is the name of.
+    #[inline(always)]
+    pub(crate) fn of_word(word: &[u8]) -> Self
+        ensures { result ≡ first_word word.now }
+    {
+        match BlockKind::of_word(word) {
+            Some(kind) => FirstWord::Opening(kind),
+            None => match PlainKind::of_word(word) {
+                Some(kind) => FirstWord::Plain(kind),
+                None => FirstWord::Unknown,
+            },
+        }
+    }
+}
+
 /// The commands that open no block.
 #[derive(Clone, Copy, Debug, PartialEq, Eq)]
-pub(crate) enum PlainKind {
+pub enum PlainKind {
     /// `unplug`.
     Unplug,
     /// `size`.

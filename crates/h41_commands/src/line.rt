@@ -2,11 +2,39 @@
 
 ghost use Rattle.std.specs.Prelude.{◌≡◌};
 ghost use Rattle.h41_commands.specs.DeckLines.{is_end, is_long, is_skipped};
+ghost use Rattle.h41_commands.specs.FirstLines.{line_kind};
 
+use crate::commands::FirstWord;
 use h41_lines::words::LineWords;
 
 /// The most bytes that a line may have.
 const MOST_BYTES: usize = 200;
+
+/// What the first line of an item is.
+#[derive(Clone, Copy, Debug, PartialEq, Eq)]
+pub enum LineKind {
+    /// It is too long.
+    Long,
+    /// It has a first word, which is the name of this.
+    Named(FirstWord),
+}
+
+/// What a line is; nothing where it says nothing.
+#[inline(always)]
+pub(crate) fn line_kind(line: &[u8]) -> Option<LineKind>
+    ensures { result ≡ line_kind line.now }
+{
+    if is_long(line) {
+        return Some(LineKind::Long);
+    }
+    match line {
+        [b'#', ..] => None,
+        _ => match LineWords::new(line).next() {
+            Some(name) => Some(LineKind::Named(FirstWord::of_word(name))),
+            None => None,
+        },
+    }
+}
 
 /// A line that has too many bytes.
 #[inline(always)]

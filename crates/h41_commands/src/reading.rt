@@ -3,77 +3,105 @@
 ghost use Rattle.std.specs.Prelude.{◌≡◌, ◌≢◌, ◌⊎◌, ◌≤◌, [], IfOk, OnOk, Err, Ok, true, false, None};
 ghost use Rattle.std.specs.Prelude.{length};
 ghost use Rattle.std.specs.Io.KnownBytes.{Keeps};
-ghost use Rattle.h41_ends.specs.InputLines.{IsCounted, IsStopped, IsTold, most_left};
+ghost use Rattle.h41_ends.specs.InputLines.{IsCounted, IsStopped, IsTold, line_in, most_left};
+ghost use Rattle.h41_lines.specs.Words.{words_of};
 ghost use Rattle.h41_commands.specs.BlockReading.{ReadsBlock, ReadsTaken};
 ghost use Rattle.h41_commands.specs.Blocks.{HasTaken};
 ghost use Rattle.h41_commands.specs.Entries.{what_is_spelled};
-ghost use Rattle.h41_commands.specs.ItemReading.{LeavesFewer, OpenAtEnd, ReadsNext, is_unended};
+ghost use Rattle.h41_commands.specs.Commands.{command_of};
+ghost use Rattle.h41_commands.specs.ItemReading.{LeavesFewer, ReadsFirst, is_unended};
 ghost use Rattle.h41_commands.specs.DeckLines.{longest_line};
 ghost use Rattle.h41_commands.specs.Items.{is_open, spelled_by};
 
 use crate::blocks::Block;
 use crate::commands::Command;
-use crate::commands::parse::{is_opening, parse};
+use crate::commands::parse::parse;
 use crate::fault::ItemFault;
 use crate::item::{GivenCommand, Item};
-use crate::line::{is_end, is_long, is_skipped};
+use crate::line::{LineKind, is_end, line_kind};
 use crate::refusal::LineRefusal;
-use h41_ends::{InputLines, Sink, Source};
+use h41_ends::{InputLines, LineFault, Sink, Source};
 use std::alloc::Global;
 
-/// The next item of a deck, by the lines that are left of it; nothing where they have none. Reads up to the end of its last line.
-/// The writer is flushed before each read, unless it is.
+/// Reads up to the end of the first line of the next item, and tells what it is: `input.line()` is that line. Nothing where no line is
+/// left that says something. The writer is flushed before each read, unless it is.
 ///
 /// # Errors
 ///
-/// `OutOfMemory` (21); `ReadFault` (22) where a read fails, or the deck has more than 67,108,864 bytes; `WriteFault` (23) where the
-/// writer cannot be flushed.
-pub fn read_item<R: Source, W: Sink>(
+/// `ReadFault` (22) where a read fails, or the deck has more than 67,108,864 bytes; `WriteFault` (23) where the writer cannot be
+/// flushed.
+#[inline(always)]
+pub fn read_first_line<R: Source, W: Sink>(
+    input: &mut InputLines,
+    reader: &mut R,
+    writer: &mut W,
+) -> Result<Option<LineKind>, LineFault>
+    requires reader_clear { R.failed reader.old ≡ false }
+    requires writer_clear { W.failed writer.old ≡ false }
+    requires counted { IsCounted input.old (R.given reader.old) }
+    ensures line { ReadsFirst result (R.remaining reader.old) (R.remaining reader.new)
+        input.old input.new }
+    ensures shorter { OnOk result (most_left input.new ≤ most_left input.old) }
+    ensures fewer { IfOk result (LeavesFewer input.old input.new) }
+    ensures end { result ≡ Ok None → IsTold input.new }
+
+    // A read fault comes for its cause, behind a flush.
+    ensures stopped { result ≡ Err LineFault.ReadFault → IsStopped input.new }
+    ensures cause { result ≡ Err LineFault.ReadFault
+        → (R.failed reader.new ≡ true) ⊎ (input.new.is_over ≡ true) }
+    ensures flushed { result ≡ Err LineFault.ReadFault → W.flushed writer.new ≡ true }
+
+    ensures kept { Keeps (W.contents writer.old) (W.contents writer.new) }
+    ensures counted { IsCounted input.new (R.given reader.new) }
+    ensures reader { result ≢ Err LineFault.ReadFault → R.failed reader.new ≡ false }
+    ensures writer { result ≢ Err LineFault.WriteFault → W.failed writer.new ≡ false }
+    ensures write_fault { result ≡ Err LineFault.WriteFault → W.failed writer.new ≡ true }
+{
+    while input.next_line(reader, writer)? {
+        if let Some(kind) = line_kind(input.line()) {
+            return Ok(Some(kind));
+        }
+    }
+    Ok(None)
+}
+
+/// The item whose first line was told last and opens a block; reads the block's other lines.
+///
+/// # Errors
+///
+/// `OutOfMemory` (21), and as above.
+#[inline(never)]
+pub fn read_block<R: Source, W: Sink>(
     alloc: Global,
     input: &mut InputLines,
     reader: &mut R,
     writer: &mut W,
-) -> Result<Option<Item>, ItemFault>
+) -> Result<Item, ItemFault>
     requires reader_clear { R.failed reader.old ≡ false }
     requires writer_clear { W.failed writer.old ≡ false }
     requires counted { IsCounted input.old (R.given reader.old) }
-    ensures item { ReadsNext result (R.remaining reader.old) (R.remaining reader.new)
-        input.old input.new }
-    ensures shorter { IfOk result (LeavesFewer input.old input.new) }
-    ensures open { IfOk result (OpenAtEnd input.new) }
-    ensures end { result ≡ Ok None → IsTold input.new }
-
-    // A read fault comes for its cause, behind a flush.
+    requires line { length (line_in input.old) ≤ longest_line }
+    ensures item { ReadsBlock result (command_of (words_of (line_in input.old)))
+        (R.remaining reader.old) (R.remaining reader.new) input.old input.new }
+    ensures bound { OnOk result (most_left input.new ≤ most_left input.old) }
+    ensures open { IfOk result (λ item. is_open (what_is_spelled item) ≡ true
+        → input.new.at_end ≡ true) }
     ensures stopped { result ≡ Err ItemFault.ReadFault → IsStopped input.new }
     ensures cause { result ≡ Err ItemFault.ReadFault
         → (R.failed reader.new ≡ true) ⊎ (input.new.is_over ≡ true) }
     ensures flushed { result ≡ Err ItemFault.ReadFault → W.flushed writer.new ≡ true }
-
     ensures kept { Keeps (W.contents writer.old) (W.contents writer.new) }
     ensures counted { IsCounted input.new (R.given reader.new) }
     ensures reader { result ≢ Err ItemFault.ReadFault → R.failed reader.new ≡ false }
     ensures writer { result ≢ Err ItemFault.WriteFault → W.failed writer.new ≡ false }
     ensures write_fault { result ≡ Err ItemFault.WriteFault → W.failed writer.new ≡ true }
 {
-    while input.next_line(reader, writer)? {
-        let line = input.line();
-        if is_long(line) {
-            return Ok(Some(Item::Refused(LineRefusal::LineTooLong)));
-        }
-        if is_skipped(line) {
-            continue;
-        }
-        if is_opening(line) {
-            let command = parse(line);
-            return Ok(Some(read_block(alloc, command, input, reader, writer)?));
-        }
-        return Ok(Some(line_item(alloc, line)));
-    }
-    Ok(None)
+    let command = parse(input.line());
+    block_item(alloc, command, input, reader, writer)
 }
 
-/// The command of one line.
-fn line_item(alloc: Global, line: &[u8]) -> Item
+/// The item of one line, which opens no block and is not too long.
+pub fn line_item(alloc: Global, line: &[u8]) -> Item
     requires { length line.now ≤ longest_line }
     ensures item { what_is_spelled result ≡ spelled_by line.now [] }
     ensures shut { is_open (what_is_spelled result) ≡ false }
@@ -89,7 +117,7 @@ fn line_item(alloc: Global, line: &[u8]) -> Item
 }
 
 /// The item of a block by what its first line spells; reads the block's other lines.
-fn read_block<R: Source, W: Sink>(
+fn block_item<R: Source, W: Sink>(
     alloc: Global,
     command: Result<Command, LineRefusal>,
     input: &mut InputLines,

@@ -5,13 +5,16 @@ use Rattle.std.specs.Io.KnownBytes.{Appends, Keeps}
 use Rattle.std.proofs.KnownBytes.{Appends-kept}
 use Rattle.std.proofs.lemmas.Bool.{ltb-true}
 use Rattle.std.proofs.lemmas.List.{append-nil, take_all}
-use Rattle.h41_commands.specs.ItemReading.{ReadsNext}
+use Rattle.h41_commands.proofs.FirstLines.{first_fault}
+use Rattle.h41_commands.specs.ItemReading.{ReadsFirst, ReadsNext}
 use Rattle.h41_commands.specs.Items.{Spelled, commands}
 use Rattle.h41_commands.specs.declared.fault.ItemFault.{ItemFault}
 use Rattle.h41_commands.specs.declared.fault.ItemFault.TheVariants as item
 use Rattle.h41_debug.specs.Bench.{BenchState, start}
 use Rattle.h41_ends.specs.Ends.{most_bytes}
 use Rattle.h41_ends.specs.InputLines.{IsCounted, IsStopped, bytes_within}
+use Rattle.h41_ends.specs.declared.fault.LineFault.{LineFault}
+use Rattle.h41_ends.specs.declared.fault.LineFault.TheVariants as read
 use Rattle.h41_ends.specs.declared.input_lines.InputLines.{InputLines}
 use Rattle.h41_ends.specs.declared.sink.Sink as sinks
 use Rattle.h41_ends.specs.declared.source.Source as sources
@@ -19,7 +22,7 @@ use Rattle.h41_ends.proofs.InputReading.{consumes-both, consumes-nothing}
 use Rattle.h41_lines.specs.Lines.{lines}
 use Rattle.h41_deck.specs.Answers.{printed_text}
 use Rattle.h41_deck.specs.Deck.{AnswersInTurn, Deck, DeckEnds, FaultLeaves, WritesText}
-use Rattle.h41_deck.specs.Faults.{of_command, of_item}
+use Rattle.h41_deck.specs.Faults.{of_command, of_item, of_line}
 use Rattle.h41_deck.specs.Replies.{item_takes_memory}
 use Rattle.h41_deck.specs.Writing.{Leaves}
 use Rattle.h41_deck.specs.declared.fault.CommandFault.{CommandFault}
@@ -119,6 +122,23 @@ module _ {R W : Type 0} (registers : ℕ) (source : sources.Ghosts R) (sink : si
         cause = λ is. cc;
         why = λ is. cc;
       }
+
+  -- where its first line was not
+  pub leaves_first : (first mid after : R) (old before new : W) (input next : InputLines) (done : List Spelled) (s : BenchState)
+      (outcome : Outcome) (why : LineFault) → ReadSoFar (source.remaining first) (source.remaining mid) input done
+      → Told registers (sink.contents old) (sink.contents before) done s outcome
+      → ReadsFirst (Err why) (source.remaining mid) (source.remaining after) input next
+      → Keeps (sink.contents before) (sink.contents new) → (why ≡ read.ReadFault → IsStopped next)
+      → (why ≡ read.ReadFault → (source.failed after ≡ true) ⊎ (next.is_over ≡ true)) → IsCounted next (source.given after)
+      → FaultLeaves registers (of_line why) source sink first after old new
+  leaves_first first mid after old before new input next done s outcome read.ReadFault so_far told more kept stopped cause counted =
+      leaves_item first mid after old before new input next done s outcome item.ReadFault so_far told
+      (first_fault (source.remaining mid) (source.remaining after) input next read.ReadFault more) kept
+      (λ is. stopped refl) (λ is. cause refl) counted
+  leaves_first first mid after old before new input next done s outcome read.WriteFault so_far told more kept stopped cause counted =
+      leaves_item first mid after old before new input next done s outcome item.WriteFault so_far told
+      (first_fault (source.remaining mid) (source.remaining after) input next read.WriteFault more) kept
+      (λ is. cc) (λ is. cc) counted
 
   -- where it was not answered
   pub leaves_answer : (first after : R) (old before new : W) (next : InputLines) (done : List Spelled) (s t : BenchState)

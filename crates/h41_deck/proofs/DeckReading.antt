@@ -8,13 +8,11 @@ use Rattle.std.proofs.lemmas.Bool.{false_from_ne_true, ltb-false, or_from, or_pa
 use Rattle.std.proofs.lemmas.List.{append-nil, length-append, take_all}
 use Rattle.std.proofs.lemmas.List.Elements.{filter-append}
 use Rattle.std.proofs.lemmas.List.Folds.{list_any-append}
-use Rattle.h41_commands.specs.Entries.{what_is_spelled}
 use Rattle.h41_commands.specs.ItemReading.{ReadsNext, Spell}
 use Rattle.h41_commands.specs.Commands.{is_opening}
 use Rattle.h41_commands.specs.DeckLines.{is_long, is_skipped}
 use Rattle.h41_commands.specs.Items.{Spelled, commands, is_open, opens_first, without_open_block}
 use Rattle.h41_commands.specs.declared.fault.ItemFault.TheVariants as item
-use Rattle.h41_commands.specs.declared.item.Item.{Item}
 use Rattle.h41_commands.proofs.ToldCommands.{told_commands}
 use Rattle.h41_ends.specs.Ends.{most_bytes}
 use Rattle.h41_ends.specs.InputLines.{HasRead, IsStopped, IsTold, MayFollow, bytes_within, held_in, most_left, told_lines}
@@ -58,7 +56,7 @@ same_commands bytes told is = sym (told_commands (lines bytes)) ∙ ap commands 
 
 module _ (before mid after : Option (List ℕ)) (old new : InputLines) (done : List Spelled) (so_far : ReadSoFar before mid old done) where
   -- before more is told the end was not reached
-  goes_on : (next : Option Item) (more : ReadsNext (Ok next) mid after old new) → most_left new < most_left old → old.at_end ≡ false
+  goes_on : (next : Option Spelled) (more : ReadsNext (Ok next) mid after old new) → most_left new < most_left old → old.at_end ≡ false
   goes_on next more less = false_from_ne_true old.at_end (λ end.
       let read = more.reads.read so_far.bytes so_far.told so_far.read in
       let none : more.reads.bytes ≡ [] = (more.reads.stays end).1 in
@@ -68,8 +66,8 @@ module _ (before mid after : Option (List ℕ)) (old new : InputLines) (done : L
       read.count ∙ ap (λ (bytes : List ℕ). length (bytes_within bytes)) same ∙ sym so_far.read.count in
       absurd (omega (arith, less, count, ap length (held_nothing old end))))
 
-  pub read_item : (next : Item) → ReadsNext (Ok (Some next)) mid after old new → most_left new < most_left old
-      → (is_open (what_is_spelled next) ≡ true → new.at_end ≡ true) → ReadSoFar before after new (done ++ what_is_spelled next ∷ [])
+  pub read_item : (next : Spelled) → ReadsNext (Ok (Some next)) mid after old new → most_left new < most_left old
+      → (is_open next ≡ true → new.at_end ≡ true) → ReadSoFar before after new (done ++ next ∷ [])
   read_item next more less open_at_end =
       let goes = goes_on (Some next) more less in
       record {
@@ -81,12 +79,12 @@ module _ (before mid after : Option (List ℕ)) (old new : InputLines) (done : L
             ap commands (append_assoc so_far.told more.lines rest)
             ∙ so_far.spelled (more.lines ++ rest) (subst (λ (ended : Bool). MayFollow ended (more.lines ++ rest)) (sym goes) tt)
             ∙ ap (λ (items : List Spelled). done ++ items) (more.spelled rest may)
-            ∙ sym (append_assoc done (what_is_spelled next ∷ []) (commands rest));
+            ∙ sym (append_assoc done (next ∷ []) (commands rest));
         shut = λ on.
-            let here : is_open (what_is_spelled next) ≡ false =
-            false_from_ne_true (is_open (what_is_spelled next))
+            let here : is_open next ≡ false =
+            false_from_ne_true (is_open next)
             (λ is. let never : true ≡ false = sym (open_at_end is) ∙ on in cc) in
-            list_any-append is_open done (what_is_spelled next ∷ []) ∙ or_from _ _ (so_far.shut goes) (or_from _ _ here refl);
+            list_any-append is_open done (next ∷ []) ∙ or_from _ _ (so_far.shut goes) (or_from _ _ here refl);
         ended = λ end. elim (more.reads.ended end) [
           | inl ends ↦ let never : true ≡ false = sym ends ∙ goes in cc
           | inr comes ↦ end_comes before mid after so_far.bytes so_far.consumed comes

@@ -9,3 +9,4 @@ pub mod Plugging
 pub mod ProgramWalks
 pub mod Ranges
 pub mod Running
+pub mod ShortLines

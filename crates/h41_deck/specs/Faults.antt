@@ -1,6 +1,8 @@
 -- The faults of a part, as those of the deck.
 use Rattle.h41_ends.specs.declared.fault.InputFault.{InputFault}
 use Rattle.h41_ends.specs.declared.fault.InputFault.TheVariants as input
+use Rattle.h41_ends.specs.declared.fault.LineFault.{LineFault}
+use Rattle.h41_ends.specs.declared.fault.LineFault.TheVariants as line
 use Rattle.h41_commands.specs.declared.fault.ItemFault.{ItemFault}
 use Rattle.h41_commands.specs.declared.fault.ItemFault.TheVariants as item
 use Rattle.h41_deck.specs.declared.fault.CommandFault.{CommandFault}
@@ -11,6 +13,10 @@ use Rattle.h41_deck.specs.declared.fault.Fault.TheVariants.{OutOfMemory, ReadFau
 abbrev pub of_input : InputFault → Fault
 of_input input.OutOfMemory = OutOfMemory
 of_input input.ReadFault = ReadFault
+
+abbrev pub of_line : LineFault → Fault
+of_line line.ReadFault = ReadFault
+of_line line.WriteFault = WriteFault
 
 abbrev pub of_item : ItemFault → Fault
 of_item item.OutOfMemory = OutOfMemory

@@ -65,6 +65,10 @@ Leaves (Err WriteFault) item s t contents old new =
     RepliesInPart item s t (contents old) (contents new)
 Leaves (Err OutOfMemory) item s t contents old new = Keeps (contents old) (contents new)
 
+-- a block that is not refused
+abbrev pub IsAccepted : TakenBlock → Type 0
+IsAccepted block = result_err (judgement block) ≡ None
+
 -- the command that a block makes whole
 abbrev pub item_of : Command → TakenBlock → Spelled
 item_of command block = with_values (judgement block) command

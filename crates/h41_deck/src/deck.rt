@@ -1,15 +1,12 @@
 //! A deck: its commands, answered in turn.
 
 ghost use Rattle.std.specs.Prelude.{◌≡◌, ◌≢◌, ◌≤◌, Err, IfOk, OnOk, true, false};
-ghost use Rattle.h41_commands.specs.Entries.{what_is_spelled};
-ghost use Rattle.h41_deck.specs.AnsweredItems.{AnswersItem};
 ghost use Rattle.h41_deck.specs.Deck.{EndsKnown, LeavesDeck, PassedOn, WritesDeck};
-ghost use Rattle.h41_deck.specs.Replies.{item_takes_memory};
 
-use crate::fault::{CommandFault, Fault};
-use crate::refusal::Refusal;
-use crate::replies::{Outcome, apply, end};
-use h41_commands::{GivenCommand, Item, read_item};
+use crate::fault::Fault;
+use crate::lines::{answer, answer_line, opens_block};
+use crate::replies::Outcome;
+use h41_commands::{read_block, read_first_line};
 use h41_debug::Bench;
 use h41_ends::{InputLines, Sink, Source, flush};
 use std::alloc::Global;
@@ -84,30 +81,16 @@ fn answer_deck<R: Source, W: Sink, const REGS: usize>(
     let mut bench = Bench::<REGS>::new(alloc)?;
     let mut input = InputLines::new();
     let mut outcome = Outcome::Accepted;
-    while let Some(item) = read_item(alloc, &mut input, reader, writer)? {
-        let next = answer(alloc, &mut bench, item, writer)?;
+    while let Some(kind) = read_first_line(&mut input, reader, writer)? {
+        if opens_block(kind) {
+            let item = read_block(alloc, &mut input, reader, writer)?;
+            let answered = answer(alloc, &mut bench, item, writer)?;
+            outcome = outcome.and(answered);
+            continue;
+        }
+        let next = answer_line(alloc, &mut bench, kind, input.line(), writer)?;
         outcome = outcome.and(next);
     }
     flush(writer)?;
     Ok(outcome)
-}
-
-/// Answers one item.
-fn answer<W: Sink, const REGS: usize>(
-    alloc: Global,
-    bench: &mut Bench<REGS>,
-    item: Item,
-    writer: &mut W,
-) -> Result<Outcome, CommandFault>
-    requires { W.failed writer.old ≡ false }
-    ensures reply { AnswersItem result item bench.old bench.new W.contents writer.old writer.new }
-    ensures memory { result ≡ Err CommandFault.OutOfMemory
-        → item_takes_memory (what_is_spelled item) ≡ true }
-    ensures mark { result ≡ Err CommandFault.WriteFault → W.failed writer.new ≡ true }
-    ensures clear { result ≢ Err CommandFault.WriteFault → W.failed writer.new ≡ false }
-{
-    match item {
-        Item::Given(GivenCommand { command, block }) => apply(alloc, bench, command, block, writer),
-        Item::Refused(refusal) => Ok(end(Some(Refusal::from(refusal)), writer)?),
-    }
 }

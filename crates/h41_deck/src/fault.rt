@@ -7,7 +7,7 @@ ghost use Rattle.h41_deck.specs.declared.fault.Fault.TheVariants as deck;
 
 use crate::refusal::Refusal;
 use h41_commands::ItemFault;
-use h41_ends::{InputFault, WriteFault};
+use h41_ends::{InputFault, LineFault, WriteFault};
 use std::alloc::AllocError;
 use std::error::Error;
 use std::fmt;
@@ -115,6 +115,20 @@ impl From<ItemFault> for Fault {
             ItemFault::OutOfMemory => Fault::OutOfMemory,
             ItemFault::ReadFault => Fault::ReadFault,
             ItemFault::WriteFault => Fault::WriteFault,
+        }
+    }
+}
+
+impl From<LineFault> for Fault {
+    ghost use Rattle.std.specs.Prelude.{◌≡◌};
+    ghost use Rattle.h41_deck.specs.Faults.{of_line};
+
+    ghost from_gives = { λ fault own. own ≡ of_line fault };
+
+    fn from(fault: LineFault) -> Self {
+        match fault {
+            LineFault::ReadFault => Fault::ReadFault,
+            LineFault::WriteFault => Fault::WriteFault,
         }
     }
 }

@@ -4,6 +4,7 @@
 mod deck;
 mod fault;
 pub mod laws;
+mod lines;
 mod refusal;
 mod replies;
 

@@ -2,24 +2,25 @@
 
 ghost use Rattle.std.specs.Prelude.{◌≡◌, ◌≢◌, true, false, Err, IfOk, None, Ok, OnOk, OnErr};
 ghost use Rattle.std.specs.Prelude.{vec_len, ◌≤◌, []};
-ghost use Rattle.std.specs.Result.{result_err};
-ghost use Rattle.h41_commands.specs.Blocks.{judgement};
 ghost use Rattle.h41_commands.specs.Commands.{kind_of};
 ghost use Rattle.h41_commands.specs.Contents.{IsForPage, IsForProgram};
 ghost use Rattle.h41_commands.specs.declared.commands.Command.TheVariants as commands;
 ghost use Rattle.h41_ends.specs.Ends.{Writes};
 ghost use Rattle.h41_pages.specs.Addresses.{page_size};
 ghost use Rattle.h41_deck.specs.Answers.{ending_line, ends_by};
+ghost use Rattle.h41_deck.specs.Refusals.{refusal_line};
+ghost use Rattle.h41_deck.specs.Views.{line_of};
 ghost use Rattle.h41_deck.specs.Blocks.{LoadsTaken, PlugsTaken, PlugsWordsOf};
 ghost use Rattle.h41_deck.specs.Replies.{LoadsBytes, Reply, takes_memory};
-ghost use Rattle.h41_deck.specs.Writing.{Acts, SaysAlone, Says, EndsAs, IsRefusalOf, made_text};
+ghost use Rattle.h41_deck.specs.Writing.{Acts, SaysAlone, Says, EndsAs, IsAccepted, IsRefusalOf};
+ghost use Rattle.h41_deck.specs.Writing.{made_text};
 
 use crate::fault::CommandFault;
 use crate::refusal::Refusal;
 use crate::replies::listing::listed;
 use crate::replies::running::{run, set_break, trace, unbreak};
 use crate::replies::view::shown;
-use h41_commands::{Block, Command, PAGE_WORDS, PressedKeys};
+use h41_commands::{Block, Command, PAGE_WORDS, PressedKeys, View};
 use h41_debug::Bench;
 use h41_ends::{Sink, WriteFault, write_whole};
 use h41_pages::PlugRefusal;
@@ -32,7 +33,7 @@ mod listing;
 mod memory;
 mod processor;
 mod program;
-mod running;
+pub(crate) mod running;
 mod view;
 
 /// Whether a refusal was printed.
@@ -80,7 +81,7 @@ pub fn apply<W: Sink, const REGS: usize>(
 
     // Memory is refused to commands that take some, where their blocks are not refused.
     ensures memory { result ≡ Err CommandFault.OutOfMemory → takes_memory command ≡ true }
-    ensures accepted { result ≡ Err CommandFault.OutOfMemory → result_err (judgement block) ≡ None }
+    ensures accepted { result ≡ Err CommandFault.OutOfMemory → IsAccepted block }
     ensures unchanged { result ≡ Err CommandFault.OutOfMemory → bench.new ≡ bench.old }
 
     // The mark tells whether writing failed.
@@ -103,7 +104,7 @@ fn say<W: Sink, const REGS: usize>(
     requires block { block.kind ≡ kind_of command }
     ensures text { Says result command block bench.old bench.new W.contents writer.old writer.new }
     ensures memory { result ≡ Err CommandFault.OutOfMemory → takes_memory command ≡ true }
-    ensures accepted { result ≡ Err CommandFault.OutOfMemory → result_err (judgement block) ≡ None }
+    ensures accepted { result ≡ Err CommandFault.OutOfMemory → IsAccepted block }
     ensures unchanged { result ≡ Err CommandFault.OutOfMemory → bench.new ≡ bench.old }
     ensures mark { result ≡ Err CommandFault.WriteFault → W.failed writer.new ≡ true }
     ensures clear { result ≢ Err CommandFault.WriteFault → W.failed writer.new ≡ false }
@@ -153,10 +154,7 @@ fn say_alone<W: Sink, const REGS: usize>(
             let listing = listed(alloc, bench.calculator().pages(), address, count)?;
             Ok(say_made(listing, writer)?)
         }
-        Command::Show(view) => {
-            let shown = shown(alloc, bench, view)?;
-            Ok(say_made(shown, writer)?)
-        }
+        Command::Show(view) => show(alloc, bench, view, writer),
         Command::Plug { .. } | Command::Load(_) => unreachable!(),
     }
 }
@@ -171,7 +169,7 @@ fn plug<const REGS: usize>(
     writable: bool,
 ) -> Result<Option<Refusal>, AllocError>
     requires kind { IsForPage block }
-    requires accepted { result_err (judgement block) ≡ None }
+    requires accepted { IsAccepted block }
     ensures plugs { IfOk result (PlugsTaken block page bank writable bench.old bench.new) }
     ensures unchanged { OnErr result (bench.new ≡ bench.old) }
 {
@@ -215,7 +213,7 @@ fn load<const REGS: usize>(
     block: Block,
 ) -> Result<Option<Refusal>, AllocError>
     requires kind { IsForProgram block }
-    requires accepted { result_err (judgement block) ≡ None }
+    requires accepted { IsAccepted block }
     ensures loads { IfOk result (LoadsTaken block bench.old bench.new) }
     ensures unchanged { OnErr result (bench.new ≡ bench.old) }
 {
@@ -236,7 +234,7 @@ fn load_bytes<const REGS: usize>(bench: &mut Bench<REGS>, bytes: &[u8]) -> Optio
 }
 
 /// Takes out all banks of a page, or tells why not.
-fn unplug<const REGS: usize>(bench: &mut Bench<REGS>, page: u8) -> Option<Refusal>
+pub(crate) fn unplug<const REGS: usize>(bench: &mut Bench<REGS>, page: u8) -> Option<Refusal>
     ensures { Reply (commands.Unplug page) [] bench.old bench.new (ends_by result) }
 {
     match bench.calculator_mut().unplug(page) {
@@ -256,7 +254,7 @@ fn size<const REGS: usize>(bench: &mut Bench<REGS>, count: u16) -> Option<Refusa
 }
 
 /// Begins anew. It is never refused.
-fn reset<const REGS: usize>(bench: &mut Bench<REGS>) -> Option<Refusal>
+pub(crate) fn reset<const REGS: usize>(bench: &mut Bench<REGS>) -> Option<Refusal>
     ensures { Reply commands.Reset [] bench.old bench.new (ends_by result) }
 {
     bench.calculator_mut().reset();
@@ -284,12 +282,38 @@ fn press<const REGS: usize>(bench: &mut Bench<REGS>, keys: &PressedKeys) -> Opti
 }
 
 /// Single steps, up to the first that is refused, and why that is.
-fn step<const REGS: usize>(bench: &mut Bench<REGS>, count: u32) -> Option<Refusal>
+pub(crate) fn step<const REGS: usize>(bench: &mut Bench<REGS>, count: u32) -> Option<Refusal>
     ensures { Reply (commands.Step count) [] bench.old bench.new (ends_by result) }
 {
     match bench.steps(count) {
         Ok(()) => None,
         Err(refusal) => Some(Refusal::Calculator(refusal)),
+    }
+}
+
+/// Writes a view, or tells why it is refused. Nothing is made of a position first. 21 where memory is refused.
+pub(crate) fn show<W: Sink, const REGS: usize>(
+    alloc: Global,
+    bench: &mut Bench<REGS>,
+    view: View,
+    writer: &mut W,
+) -> Result<Option<Refusal>, CommandFault>
+    requires clear { W.failed writer.old ≡ false }
+    ensures text { SaysAlone result (commands.Show view) bench.old bench.new
+        W.contents writer.old writer.new }
+    ensures unchanged { result ≡ Err CommandFault.OutOfMemory → bench.new ≡ bench.old }
+    ensures mark { result ≡ Err CommandFault.WriteFault → W.failed writer.new ≡ true }
+    ensures clear { result ≢ Err CommandFault.WriteFault → W.failed writer.new ≡ false }
+{
+    match view {
+        View::Position => {
+            write_line(bench.position().as_str(), writer)?;
+            Ok(None)
+        }
+        _ => {
+            let shown = shown(alloc, bench, view)?;
+            Ok(say_made(shown, writer)?)
+        }
     }
 }
 
@@ -314,6 +338,7 @@ fn say_made<W: Sink>(
 }
 
 /// Writes the line of a refusal, where there is one, and tells whether there is.
+#[inline(always)]
 pub(crate) fn end<W: Sink>(refusal: Option<Refusal>, writer: &mut W) -> Result<Outcome, WriteFault>
     requires { W.failed writer.old ≡ false }
     ensures outcome { IfOk result (EndsAs refusal) }
@@ -324,8 +349,35 @@ pub(crate) fn end<W: Sink>(refusal: Option<Refusal>, writer: &mut W) -> Result<O
     match refusal {
         None => Ok(Outcome::Accepted),
         Some(refusal) => {
-            write_whole(writer, refusal.line().as_str().as_bytes())?;
+            tell(refusal, writer)?;
             Ok(Outcome::Refused)
         }
     }
+}
+
+/// Writes the line of a refusal. One that tells no more than its name is not put together first.
+#[inline(never)]
+fn tell<W: Sink>(refusal: Refusal, writer: &mut W) -> Result<(), WriteFault>
+    requires { W.failed writer.old ≡ false }
+    ensures written { Writes result W.contents writer.old writer.new (refusal_line refusal) }
+    ensures clear { OnOk result (W.failed writer.new ≡ false) }
+    ensures mark { OnErr result (W.failed writer.new ≡ true) }
+{
+    match refusal.detail() {
+        None => write_line(refusal.heading(), writer),
+        Some(_) => write_whole(writer, refusal.line().as_str().as_bytes()),
+    }
+}
+
+/// Writes a text as a line of its own.
+#[inline(always)]
+pub(crate) fn write_line<W: Sink>(text: &str, writer: &mut W) -> Result<(), WriteFault>
+    requires { W.failed writer.old ≡ false }
+    ensures written { Writes result W.contents writer.old writer.new (line_of text.now) }
+    ensures clear { OnOk result (W.failed writer.new ≡ false) }
+    ensures mark { OnErr result (W.failed writer.new ≡ true) }
+{
+    write_whole(writer, text.as_bytes())?;
+    write_whole(writer, b"\n")?;
+    Ok(())
 }

@@ -1,11 +1,11 @@
 //! The command that a line's words spell.
 
-ghost use Rattle.std.specs.Prelude.{◌≡◌, ◌≤◌, ◌+◌, ◌*◌, length};
+ghost use Rattle.std.specs.Prelude.{◌≡◌, ◌≤◌, ◌+◌, ◌*◌, ℕ, Ok, drop, length};
 ghost use Rattle.h41_commands.specs.Commands.{break_location, call_command, location_by};
 ghost use Rattle.h41_commands.specs.Commands.{placed_command, read_plain, key_command};
 ghost use Rattle.h41_commands.specs.Commands.{load_command, reset_command, size_command};
-ghost use Rattle.h41_commands.specs.Commands.{unplug_command, is_opening, opening_command};
-ghost use Rattle.h41_commands.specs.Commands.{command_of};
+ghost use Rattle.h41_commands.specs.Commands.{unplug_command, opening_command};
+ghost use Rattle.h41_commands.specs.Commands.{and_then, command_of};
 ghost use Rattle.h41_commands.specs.Commands.{plain_command, counted_command, plug_at};
 ghost use Rattle.h41_commands.specs.Commands.{plug_command, show_command, step_command, view_named};
 ghost use Rattle.h41_commands.specs.Commands.{view_of, list_command, plug_at_bank, plug_with};
@@ -13,6 +13,7 @@ ghost use Rattle.h41_commands.specs.Commands.{bank_number, image_view, image_vie
 ghost use Rattle.h41_lines.specs.Words.{words_of};
 ghost use Rattle.h41_commands.specs.DeckLines.{longest_line, most_keys};
 ghost use Rattle.h41_commands.specs.Numbers as spec;
+ghost use Rattle.h41_commands.specs.declared.commands.Command.{Command};
 ghost use Rattle.h41_commands.specs.declared.commands.Command.TheVariants as commands;
 
 use crate::commands::keys::PressedKeys;
@@ -55,14 +56,14 @@ pub fn parse(line: &[u8]) -> Result<Command, LineRefusal>
     }
 }
 
-/// Whether a line opens a block: its first word is the name of one.
-pub fn is_opening(line: &[u8]) -> bool
-    ensures { result ≡ is_opening (words_of line.now) }
+/// The words behind the first of a line.
+#[inline(always)]
+pub fn operands(line: &[u8]) -> LineWords<'_>
+    ensures { words_of result.rest.now ≡ drop 1 (words_of line.now) }
 {
-    match LineWords::new(line).next() {
-        Some(name) => BlockKind::of_word(name).is_some(),
-        None => false,
-    }
+    let mut words = LineWords::new(line);
+    let _name = words.next();
+    words
 }
 
 /// The command of a line that opens a block of this kind, by the words behind its name.
@@ -190,11 +191,19 @@ fn load(kind: ProgramKind, mut operands: LineWords<'_>) -> Result<Command, LineR
 }
 
 /// `unplug P`.
-fn unplug(mut operands: LineWords<'_>) -> Result<Command, LineRefusal>
+fn unplug(operands: LineWords<'_>) -> Result<Command, LineRefusal>
     ensures { result ≡ unplug_command (words_of operands.entry.rest.now) }
 {
+    Ok(Command::Unplug(unplugged_page(operands)?))
+}
+
+/// The page that `unplug` names.
+pub fn unplugged_page(mut operands: LineWords<'_>) -> Result<u8, LineRefusal>
+    ensures { unplug_command (words_of operands.entry.rest.now)
+        ≡ and_then result (λ page. Ok (commands.Unplug page)) }
+{
     match (operands.next(), operands.next()) {
-        (Some(page), None) => Ok(Command::Unplug(page_number(page)?)),
+        (Some(page), None) => page_number(page),
         _ => Err(LineRefusal::BadCommand),
     }
 }
@@ -220,11 +229,20 @@ fn size(mut operands: LineWords<'_>) -> Result<Command, LineRefusal>
 }
 
 /// `reset`.
-fn reset(mut operands: LineWords<'_>) -> Result<Command, LineRefusal>
+fn reset(operands: LineWords<'_>) -> Result<Command, LineRefusal>
     ensures { result ≡ reset_command (words_of operands.entry.rest.now) }
 {
+    no_operand(operands)?;
+    Ok(Command::Reset)
+}
+
+/// Whether no word stands behind `reset`.
+pub fn no_operand(mut operands: LineWords<'_>) -> Result<(), LineRefusal>
+    ensures { reset_command (words_of operands.entry.rest.now)
+        ≡ and_then result (λ none. Ok commands.Reset) }
+{
     match operands.next() {
-        None => Ok(Command::Reset),
+        None => Ok(()),
         Some(_) => Err(LineRefusal::BadCommand),
     }
 }
@@ -240,32 +258,45 @@ fn call(mut operands: LineWords<'_>) -> Result<Command, LineRefusal>
 }
 
 /// `step [n]`.
-fn step(mut operands: LineWords<'_>) -> Result<Command, LineRefusal>
+fn step(operands: LineWords<'_>) -> Result<Command, LineRefusal>
     ensures { result ≡ step_command (words_of operands.entry.rest.now) }
 {
+    Ok(Command::Step(step_count(operands)?))
+}
+
+/// How many steps `step` makes.
+pub fn step_count(mut operands: LineWords<'_>) -> Result<u32, LineRefusal>
+    ensures { step_command (words_of operands.entry.rest.now)
+        ≡ and_then result (λ count. Ok (commands.Step count)) }
+{
     match (operands.next(), operands.next()) {
-        (None, _) => Ok(Command::Step(1)),
-        (Some(count), None) => Ok(Command::Step(number_up_to(MOST_STEPS, 10, count)?)),
+        (None, _) => Ok(1),
+        (Some(count), None) => number_up_to(MOST_STEPS, 10, count),
         _ => Err(LineRefusal::BadCommand),
     }
 }
 
 /// `run n`.
-fn run(mut operands: LineWords<'_>) -> Result<Command, LineRefusal>
+fn run(operands: LineWords<'_>) -> Result<Command, LineRefusal>
     ensures { result ≡ counted_command commands.Run (words_of operands.entry.rest.now) }
 {
-    match (operands.next(), operands.next()) {
-        (Some(count), None) => Ok(Command::Run(number_up_to(MOST_STEPS, 10, count)?)),
-        _ => Err(LineRefusal::BadCommand),
-    }
+    Ok(Command::Run(most_steps(operands)?))
 }
 
 /// `trace n`.
-fn trace(mut operands: LineWords<'_>) -> Result<Command, LineRefusal>
+fn trace(operands: LineWords<'_>) -> Result<Command, LineRefusal>
     ensures { result ≡ counted_command commands.Trace (words_of operands.entry.rest.now) }
 {
+    Ok(Command::Trace(most_steps(operands)?))
+}
+
+/// How many steps `run` and `trace` make at most.
+pub fn most_steps(mut operands: LineWords<'_>) -> Result<u32, LineRefusal>
+    ensures { (command : ℕ → Command) → counted_command command (words_of operands.entry.rest.now)
+        ≡ and_then result (λ count. Ok (command count)) }
+{
     match (operands.next(), operands.next()) {
-        (Some(count), None) => Ok(Command::Trace(number_up_to(MOST_STEPS, 10, count)?)),
+        (Some(count), None) => number_up_to(MOST_STEPS, 10, count),
         _ => Err(LineRefusal::BadCommand),
     }
 }
@@ -285,7 +316,7 @@ fn unbreak(operands: LineWords<'_>) -> Result<Command, LineRefusal>
 }
 
 /// The location of a breakpoint.
-fn break_location(mut operands: LineWords<'_>) -> Result<Location, LineRefusal>
+pub fn break_location(mut operands: LineWords<'_>) -> Result<Location, LineRefusal>
     ensures { result ≡ break_location (words_of operands.entry.rest.now) }
 {
     match (operands.next(), operands.next(), operands.next()) {
@@ -348,7 +379,7 @@ fn key(operands: LineWords<'_>) -> Result<Command, LineRefusal>
 }
 
 /// The view that the words behind `show` name.
-fn view(mut operands: LineWords<'_>) -> Result<View, LineRefusal>
+pub fn view(mut operands: LineWords<'_>) -> Result<View, LineRefusal>
     ensures { result ≡ view_of (words_of operands.entry.rest.now) }
 {
     match (operands.next(), operands.next(), operands.next()) {

@@ -1,7 +1,7 @@
 use Rattle.std.proofs.Common.{ap, ◌∙◌}
 use Rattle.std.proofs.lemmas.Result.{err_from_is_err_and}
 use Rattle.h41_xrom.specs.Calculator.{CalculatorState}
-use Rattle.h41_deck.proofs.Commanded.{list_said, part_alone, show_said, silent_alone}
+use Rattle.h41_deck.proofs.Commanded.{list_said, part_alone, silent_alone}
 use Rattle.h41_deck.proofs.replies.say_alone.Goals as goal
 
 pub returns-in_err-say_made-in-List-clause-text : goal.returns-in_err-say_made-in-List-clause-text
@@ -12,13 +12,6 @@ returns-in_err-say_made-in-List-clause-text g c =
     (list_said c.args.command values c.in-List.address c.in-List.count c.args.bench.now _
     c.in_ok-listing-in-List.listing c.in-List.is pages_are c.in_ok-listing-in-List.ensures)
     c.in_err-say_made-in-List.ensures.written)
-
-pub returns-in_err-say_made-in-Show-clause-text : goal.returns-in_err-say_made-in-Show-clause-text
-returns-in_err-say_made-in-Show-clause-text g c =
-    let failed = err_from_is_err_and c.from_residual-in_err-say_made-in-Show.result c.from_residual-in_err-say_made-in-Show.ensures.1 in
-    rw (failed.1, failed.2) (λ values. part_alone c.args.command values c.args.bench.now _ _ c.in_ok-shown-in-Show.shown
-    (show_said c.args.command values c.in-Show.view c.args.bench.now c.in_ok-shown-in-Show.shown c.in-Show.is c.in_ok-shown-in-Show.ensures)
-    c.in_err-say_made-in-Show.ensures.written)
 
 pub returns-in-Size-clause-text : goal.returns-in-Size-clause-text
 returns-in-Size-clause-text g c = λ values. silent_alone c.args.command values c.args.bench.now _ _ _ (rw c.in-Size.is c.size.ensures)

@@ -1,8 +1,8 @@
 use Rattle.std.proofs.Common.{◌≡◌, ◌≤◌, ℕ, false, List}
 use Rattle.std.specs.Io.KnownBytes.{Keeps}
 use Rattle.h41_ends.specs.InputLines.{IsCounted, ReadsMore, most_left}
-use Rattle.h41_commands.proofs.ItemLines.{SpellNothing}
-use Rattle.h41_commands.proofs.reading.read_item.Given as goal
+use Rattle.h41_commands.specs.ItemReading.{SpellNothing}
+use Rattle.h41_commands.proofs.reading.read_first_line.Given as goal
 
 -- the lines so far say nothing
 abbrev pub invariant-loop-input : goal.invariant-loop-input

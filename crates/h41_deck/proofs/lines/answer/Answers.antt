@@ -1,7 +1,7 @@
 use Rattle.std.proofs.Common.{Some}
 use Rattle.std.proofs.lemmas.Result.{err_from_is_err_and}
 use Rattle.h41_deck.proofs.Commanded.{ends_part, ends_reply, refused_item}
-use Rattle.h41_deck.proofs.deck.answer.Goals as goal
+use Rattle.h41_deck.proofs.lines.answer.Goals as goal
 
 pub returns-in_ok-end-in-Refused-clause-reply : goal.returns-in_ok-end-in-Refused-clause-reply
 returns-in_ok-end-in-Refused-clause-reply g c =

@@ -1,0 +1,39 @@
+-- What the first line of an item is, by its length and its first word.
+use Rattle.std.specs.Prelude.{ℕ, Bool, true, false, List, [], ◌∷◌, Option, Some, None}
+use Rattle.std.specs.Prelude.{if◌then◌else◌}
+use Rattle.h41_commands.specs.declared.commands.BlockKind.{BlockKind}
+use Rattle.h41_commands.specs.declared.commands.FirstWord.{FirstWord}
+use Rattle.h41_commands.specs.declared.commands.FirstWord.TheVariants.{Opening, Plain, Unknown}
+use Rattle.h41_commands.specs.declared.commands.PlainKind.{PlainKind}
+use Rattle.h41_commands.specs.declared.line.LineKind.{LineKind}
+use Rattle.h41_commands.specs.declared.line.LineKind.TheVariants.{Long, Named}
+use Rattle.h41_commands.specs.Commands.{kind_of_word, plain_of_word}
+use Rattle.h41_commands.specs.DeckLines.{is_long, is_skipped}
+use Rattle.h41_lines.specs.Words.{words_of}
+
+-- a word that opens a block, or is the name of another command, or of none
+abbrev pub word_by : Option BlockKind → Option PlainKind → FirstWord
+word_by (Some kind) plain = Opening kind
+word_by None (Some kind) = Plain kind
+word_by None None = Unknown
+
+abbrev pub first_word : List ℕ → FirstWord
+first_word name = word_by (kind_of_word name) (plain_of_word name)
+
+-- a line by its words
+abbrev pub kind_by_words : List (List ℕ) → Option LineKind
+kind_by_words [] = None
+kind_by_words (name ∷ operands) = Some (Named (first_word name))
+
+-- a line that is too long, or that says something
+abbrev pub line_kind : List ℕ → Option LineKind
+line_kind line =
+    if is_long line then Some Long
+    else (if is_skipped line then None else kind_by_words (words_of line))
+
+-- whether it opens a block
+abbrev pub opens_block : LineKind → Bool
+opens_block Long = false
+opens_block (Named (Opening kind)) = true
+opens_block (Named (Plain kind)) = false
+opens_block (Named Unknown) = false

@@ -1,0 +1,102 @@
+use Rattle.std.proofs.Common.{Some, ap, sym, subst, ◌∙◌}
+use Rattle.std.proofs.lemmas.Result.{err_from_is_err_and}
+use Rattle.h41_commands.proofs.FirstLines.{named_spelled}
+use Rattle.h41_commands.specs.Items.{Spelled}
+use Rattle.h41_commands.specs.declared.commands.FirstWord.TheVariants.{Plain}
+use Rattle.h41_commands.specs.declared.commands.PlainKind.{PlainKind}
+use Rattle.h41_commands.specs.declared.commands.PlainKind.TheVariants as plain
+use Rattle.h41_commands.specs.declared.line.LineKind.TheVariants.{Named}
+use Rattle.h41_deck.specs.Writing.{Leaves}
+use Rattle.h41_deck.proofs.ShortLines.{plain_part, plain_reply, short_part, short_reply}
+use Rattle.h41_deck.proofs.lines.answer_plain.Goals as goal
+
+pub returns-in_ok-end-in-Unplug-clause-reply : goal.returns-in_ok-end-in-Unplug-clause-reply
+returns-in_ok-end-in-Unplug-clause-reply g c =
+    short_reply c.args.line.now plain.Unplug (c.requires.kind ∙ ap (λ (kind : PlainKind). Some (Named (Plain kind))) c.in-Unplug.is)
+    c.args.bench.now c.unplug_named.new.bench _ _ c.unplug_named.result c.in_ok-end-in-Unplug.field-0 (rw c.operands-words.ensures at c.unplug_named.ensures)
+    c.in_ok-end-in-Unplug.ensures.outcome c.in_ok-end-in-Unplug.ensures.written
+
+pub returns-in_err-end-in-Unplug-clause-reply : goal.returns-in_err-end-in-Unplug-clause-reply
+returns-in_err-end-in-Unplug-clause-reply g c =
+    let failed = err_from_is_err_and c.from_residual.result c.from_residual.ensures.1 in
+    rw (failed.1, failed.2)
+    (short_part c.args.line.now plain.Unplug (c.requires.kind ∙ ap (λ (kind : PlainKind). Some (Named (Plain kind))) c.in-Unplug.is)
+    c.args.bench.now c.unplug_named.new.bench _ _ c.unplug_named.result (rw c.operands-words.ensures at c.unplug_named.ensures)
+    c.in_err-end-in-Unplug.ensures.written)
+
+pub returns-in_ok-end-in-Reset-clause-reply : goal.returns-in_ok-end-in-Reset-clause-reply
+returns-in_ok-end-in-Reset-clause-reply g c =
+    short_reply c.args.line.now plain.Reset (c.requires.kind ∙ ap (λ (kind : PlainKind). Some (Named (Plain kind))) c.in-Reset.is)
+    c.args.bench.now c.reset_alone.new.bench _ _ c.reset_alone.result c.in_ok-end-in-Reset.field-0 (rw c.operands-words.ensures at c.reset_alone.ensures)
+    c.in_ok-end-in-Reset.ensures.outcome c.in_ok-end-in-Reset.ensures.written
+
+pub returns-in_err-end-in-Reset-clause-reply : goal.returns-in_err-end-in-Reset-clause-reply
+returns-in_err-end-in-Reset-clause-reply g c =
+    let failed = err_from_is_err_and c.from_residual-in_err-end-in-Reset.result c.from_residual-in_err-end-in-Reset.ensures.1 in
+    rw (failed.1, failed.2)
+    (short_part c.args.line.now plain.Reset (c.requires.kind ∙ ap (λ (kind : PlainKind). Some (Named (Plain kind))) c.in-Reset.is)
+    c.args.bench.now c.reset_alone.new.bench _ _ c.reset_alone.result (rw c.operands-words.ensures at c.reset_alone.ensures)
+    c.in_err-end-in-Reset.ensures.written)
+
+pub returns-in_ok-end-in-Step-clause-reply : goal.returns-in_ok-end-in-Step-clause-reply
+returns-in_ok-end-in-Step-clause-reply g c =
+    short_reply c.args.line.now plain.Step (c.requires.kind ∙ ap (λ (kind : PlainKind). Some (Named (Plain kind))) c.in-Step.is)
+    c.args.bench.now c.step_counted.new.bench _ _ c.step_counted.result c.in_ok-end-in-Step.field-0 (rw c.operands-words.ensures at c.step_counted.ensures)
+    c.in_ok-end-in-Step.ensures.outcome c.in_ok-end-in-Step.ensures.written
+
+pub returns-in_err-end-in-Step-clause-reply : goal.returns-in_err-end-in-Step-clause-reply
+returns-in_err-end-in-Step-clause-reply g c =
+    let failed = err_from_is_err_and c.from_residual-in_err-end-in-Step.result c.from_residual-in_err-end-in-Step.ensures.1 in
+    rw (failed.1, failed.2)
+    (short_part c.args.line.now plain.Step (c.requires.kind ∙ ap (λ (kind : PlainKind). Some (Named (Plain kind))) c.in-Step.is)
+    c.args.bench.now c.step_counted.new.bench _ _ c.step_counted.result (rw c.operands-words.ensures at c.step_counted.ensures)
+    c.in_err-end-in-Step.ensures.written)
+
+pub returns-in_ok-end-in-Break-clause-reply : goal.returns-in_ok-end-in-Break-clause-reply
+returns-in_ok-end-in-Break-clause-reply g c =
+    short_reply c.args.line.now plain.Break (c.requires.kind ∙ ap (λ (kind : PlainKind). Some (Named (Plain kind))) c.in-Break.is)
+    c.args.bench.now c.break_placed.new.bench _ _ c.break_placed.result c.in_ok-end-in-Break.field-0 (rw c.operands-words.ensures at c.break_placed.ensures)
+    c.in_ok-end-in-Break.ensures.outcome c.in_ok-end-in-Break.ensures.written
+
+pub returns-in_err-end-in-Break-clause-reply : goal.returns-in_err-end-in-Break-clause-reply
+returns-in_err-end-in-Break-clause-reply g c =
+    let failed = err_from_is_err_and c.from_residual-in_err-end-in-Break.result c.from_residual-in_err-end-in-Break.ensures.1 in
+    rw (failed.1, failed.2)
+    (short_part c.args.line.now plain.Break (c.requires.kind ∙ ap (λ (kind : PlainKind). Some (Named (Plain kind))) c.in-Break.is)
+    c.args.bench.now c.break_placed.new.bench _ _ c.break_placed.result (rw c.operands-words.ensures at c.break_placed.ensures)
+    c.in_err-end-in-Break.ensures.written)
+
+pub returns-in_ok-end-in-Unbreak-clause-reply : goal.returns-in_ok-end-in-Unbreak-clause-reply
+returns-in_ok-end-in-Unbreak-clause-reply g c =
+    short_reply c.args.line.now plain.Unbreak (c.requires.kind ∙ ap (λ (kind : PlainKind). Some (Named (Plain kind))) c.in-Unbreak.is)
+    c.args.bench.now c.unbreak_placed.new.bench _ _ c.unbreak_placed.result c.in_ok-end-in-Unbreak.field-0 (rw c.operands-words.ensures at c.unbreak_placed.ensures)
+    c.in_ok-end-in-Unbreak.ensures.outcome c.in_ok-end-in-Unbreak.ensures.written
+
+pub returns-in_err-end-in-Unbreak-clause-reply : goal.returns-in_err-end-in-Unbreak-clause-reply
+returns-in_err-end-in-Unbreak-clause-reply g c =
+    let failed = err_from_is_err_and c.from_residual-in_err-end-in-Unbreak.result c.from_residual-in_err-end-in-Unbreak.ensures.1 in
+    rw (failed.1, failed.2)
+    (short_part c.args.line.now plain.Unbreak (c.requires.kind ∙ ap (λ (kind : PlainKind). Some (Named (Plain kind))) c.in-Unbreak.is)
+    c.args.bench.now c.unbreak_placed.new.bench _ _ c.unbreak_placed.result (rw c.operands-words.ensures at c.unbreak_placed.ensures)
+    c.in_err-end-in-Unbreak.ensures.written)
+
+pub returns-in_ok-run_counted-in-Run-clause-reply : goal.returns-in_ok-run_counted-in-Run-clause-reply
+returns-in_ok-run_counted-in-Run-clause-reply g c =
+    plain_reply c.args.line.now plain.Run (c.requires.kind ∙ ap (λ (kind : PlainKind). Some (Named (Plain kind))) c.in-Run.is)
+    c.args.bench.now c.run_counted.new.bench _ _ c.in_ok-run_counted-in-Run.field-0
+    (rw c.operands-words.ensures at c.in_ok-run_counted-in-Run.ensures.reply)
+
+pub returns-in_err-run_counted-in-Run-clause-reply : goal.returns-in_err-run_counted-in-Run-clause-reply
+returns-in_err-run_counted-in-Run-clause-reply g c =
+    let failed = err_from_is_err_and c.from_residual-in_err-run_counted-in-Run.result
+    c.from_residual-in_err-run_counted-in-Run.ensures.1 in
+    rw (failed.1, failed.2)
+    (plain_part c.args.line.now plain.Run (c.requires.kind ∙ ap (λ (kind : PlainKind). Some (Named (Plain kind))) c.in-Run.is)
+    c.args.bench.now c.run_counted.new.bench _ _ (rw c.operands-words.ensures at c.in_err-run_counted-in-Run.ensures.reply))
+
+pub returns-in-Show-clause-reply : goal.returns-in-Show-clause-reply
+returns-in-Show-clause-reply g c =
+    let is = c.requires.kind ∙ ap (λ (kind : PlainKind). Some (Named (Plain kind))) c.in-Show.is in
+    subst (λ (item : Spelled). Leaves c.show_named.result item c.args.bench.now c.show_named.new.bench g.W.Sink.contents
+    c.args.writer.now c.show_named.new.writer) (sym (named_spelled c.args.line.now plain.Show is))
+    (rw c.operands-words.ensures at c.show_named.ensures.reply)

@@ -1,0 +1,286 @@
+//! The lines of a deck, answered as they stand: a short command without the value that would hold every command.
+
+ghost use Rattle.std.specs.Prelude.{◌≡◌, ◌≢◌, ◌≤◌, true, false, Err, IfOk, OnErr, OnOk, Some, length};
+ghost use Rattle.h41_ends.specs.Ends.{Writes};
+ghost use Rattle.h41_commands.specs.DeckLines.{longest_line};
+ghost use Rattle.h41_commands.specs.Entries.{what_is_spelled};
+ghost use Rattle.h41_commands.specs.FirstLines.{line_kind, opens_block};
+ghost use Rattle.h41_commands.specs.Items.{line_spelled};
+ghost use Rattle.h41_commands.specs.declared.commands.FirstWord.TheVariants.{Plain};
+ghost use Rattle.h41_commands.specs.declared.commands.PlainKind.TheVariants as plain;
+ghost use Rattle.h41_commands.specs.declared.refusal.LineRefusal.TheVariants.{BadCommand};
+ghost use Rattle.h41_commands.specs.declared.line.LineKind.TheVariants.{Named};
+ghost use Rattle.h41_lines.specs.Words.{words_of};
+ghost use Rattle.h41_deck.specs.AnsweredItems.{AnswersItem, AnswersLine, AnswersPlain, AnswersShort};
+ghost use Rattle.h41_deck.specs.AnsweredItems.{AnswersWritten, plain_takes_memory};
+ghost use Rattle.h41_deck.specs.Answers.{ending_line};
+ghost use Rattle.h41_deck.specs.Replies.{item_takes_memory};
+ghost use Rattle.h41_deck.specs.Writing.{EndsAs};
+ghost use Rattle.h41_deck.specs.declared.refusal.Refusal.TheVariants as refusals;
+
+use crate::fault::CommandFault;
+use crate::refusal::Refusal;
+use crate::replies::running::{run, set_break, unbreak};
+use crate::replies::{Outcome, apply, end, reset, show, step, unplug};
+use h41_commands::{
+    FirstWord, GivenCommand, Item, LineKind, LineRefusal, PlainKind, break_location, line_item,
+    most_steps, no_operand, operands, step_count, unplugged_page, view,
+};
+use h41_debug::Bench;
+use h41_ends::{Sink, WriteFault, write_whole};
+use h41_lines::words::LineWords;
+use std::alloc::Global;
+
+/// Whether a line of this kind opens a block.
+#[inline(always)]
+pub fn opens_block(kind: LineKind) -> bool
+    ensures { result ≡ opens_block kind }
+{
+    matches!(kind, LineKind::Named(FirstWord::Opening(_)))
+}
+
+/// Answers a line that opens no block.
+#[inline(always)]
+pub fn answer_line<W: Sink, const REGS: usize>(
+    alloc: Global,
+    bench: &mut Bench<REGS>,
+    kind: LineKind,
+    line: &[u8],
+    writer: &mut W,
+) -> Result<Outcome, CommandFault>
+    requires clear { W.failed writer.old ≡ false }
+    requires kind { line_kind line.now ≡ Some kind }
+    requires plain { opens_block kind ≡ false }
+    ensures reply { AnswersLine result line.now bench.old bench.new
+        W.contents writer.old writer.new }
+    ensures memory { result ≡ Err CommandFault.OutOfMemory
+        → item_takes_memory (line_spelled line.now) ≡ true }
+    ensures mark { result ≡ Err CommandFault.WriteFault → W.failed writer.new ≡ true }
+    ensures clear { result ≢ Err CommandFault.WriteFault → W.failed writer.new ≡ false }
+{
+    match kind {
+        LineKind::Named(FirstWord::Plain(kind)) => answer_plain(alloc, bench, kind, line, writer),
+        LineKind::Named(FirstWord::Unknown) => Ok(refuse_unknown(writer)?),
+        LineKind::Long => Ok(refuse(LineRefusal::LineTooLong, writer)?),
+        LineKind::Named(FirstWord::Opening(_)) => unreachable!(),
+    }
+}
+
+/// Answers a line that is a command without a block.
+fn answer_plain<W: Sink, const REGS: usize>(
+    alloc: Global,
+    bench: &mut Bench<REGS>,
+    kind: PlainKind,
+    line: &[u8],
+    writer: &mut W,
+) -> Result<Outcome, CommandFault>
+    requires clear { W.failed writer.old ≡ false }
+    requires kind { line_kind line.now ≡ Some (Named (Plain kind)) }
+    ensures reply { AnswersLine result line.now bench.old bench.new
+        W.contents writer.old writer.new }
+    ensures memory { result ≡ Err CommandFault.OutOfMemory
+        → item_takes_memory (line_spelled line.now) ≡ true }
+    ensures mark { result ≡ Err CommandFault.WriteFault → W.failed writer.new ≡ true }
+    ensures clear { result ≢ Err CommandFault.WriteFault → W.failed writer.new ≡ false }
+{
+    let words = operands(line);
+    match kind {
+        PlainKind::Unplug => Ok(end(unplug_named(bench, words), writer)?),
+        PlainKind::Reset => Ok(end(reset_alone(bench, words), writer)?),
+        PlainKind::Step => Ok(end(step_counted(bench, words), writer)?),
+        PlainKind::Break => Ok(end(break_placed(bench, words), writer)?),
+        PlainKind::Unbreak => Ok(end(unbreak_placed(bench, words), writer)?),
+        PlainKind::Run => Ok(run_counted(bench, words, writer)?),
+        PlainKind::Show => show_named(alloc, bench, words, writer),
+        PlainKind::Size | PlainKind::Call | PlainKind::Trace | PlainKind::List | PlainKind::Key => {
+            answer_whole(alloc, bench, line, writer)
+        }
+    }
+}
+
+/// Answers a line by the command that it is.
+#[inline(never)]
+fn answer_whole<W: Sink, const REGS: usize>(
+    alloc: Global,
+    bench: &mut Bench<REGS>,
+    line: &[u8],
+    writer: &mut W,
+) -> Result<Outcome, CommandFault>
+    requires clear { W.failed writer.old ≡ false }
+    requires short { length line.now ≤ longest_line }
+    ensures reply { AnswersLine result line.now bench.old bench.new
+        W.contents writer.old writer.new }
+    ensures memory { result ≡ Err CommandFault.OutOfMemory
+        → item_takes_memory (line_spelled line.now) ≡ true }
+    ensures mark { result ≡ Err CommandFault.WriteFault → W.failed writer.new ≡ true }
+    ensures clear { result ≢ Err CommandFault.WriteFault → W.failed writer.new ≡ false }
+{
+    answer(alloc, bench, line_item(alloc, line), writer)
+}
+
+/// Answers one item.
+pub fn answer<W: Sink, const REGS: usize>(
+    alloc: Global,
+    bench: &mut Bench<REGS>,
+    item: Item,
+    writer: &mut W,
+) -> Result<Outcome, CommandFault>
+    requires { W.failed writer.old ≡ false }
+    ensures reply { AnswersItem result item bench.old bench.new W.contents writer.old writer.new }
+    ensures memory { result ≡ Err CommandFault.OutOfMemory
+        → item_takes_memory (what_is_spelled item) ≡ true }
+    ensures mark { result ≡ Err CommandFault.WriteFault → W.failed writer.new ≡ true }
+    ensures clear { result ≢ Err CommandFault.WriteFault → W.failed writer.new ≡ false }
+{
+    match item {
+        Item::Given(GivenCommand { command, block }) => apply(alloc, bench, command, block, writer),
+        Item::Refused(refusal) => Ok(end(Some(Refusal::from(refusal)), writer)?),
+    }
+}
+
+/// Tells that a line is no command.
+fn refuse_unknown<W: Sink>(writer: &mut W) -> Result<Outcome, WriteFault>
+    requires { W.failed writer.old ≡ false }
+    ensures outcome { IfOk result (EndsAs (Some (refusals.Line BadCommand))) }
+    ensures written { Writes result W.contents writer.old writer.new
+        (ending_line (Some (refusals.Line BadCommand))) }
+    ensures clear { OnOk result (W.failed writer.new ≡ false) }
+    ensures mark { OnErr result (W.failed writer.new ≡ true) }
+{
+    write_whole(writer, b"! 50 BadCommand\n")?;
+    Ok(Outcome::Refused)
+}
+
+/// Tells why a line is refused.
+fn refuse<W: Sink>(refusal: LineRefusal, writer: &mut W) -> Result<Outcome, WriteFault>
+    requires { W.failed writer.old ≡ false }
+    ensures outcome { IfOk result (EndsAs (Some (refusals.Line refusal))) }
+    ensures written { Writes result W.contents writer.old writer.new
+        (ending_line (Some (refusals.Line refusal))) }
+    ensures clear { OnOk result (W.failed writer.new ≡ false) }
+    ensures mark { OnErr result (W.failed writer.new ≡ true) }
+{
+    end(Some(Refusal::Line(refusal)), writer)
+}
+
+/// Takes out the page that the words behind `unplug` name, or tells why not.
+#[inline(never)]
+fn unplug_named<const REGS: usize>(
+    bench: &mut Bench<REGS>,
+    operands: LineWords<'_>,
+) -> Option<Refusal>
+    ensures { AnswersShort plain.Unplug (words_of operands.entry.rest.now)
+        bench.old bench.new result }
+{
+    match unplugged_page(operands) {
+        Ok(page) => unplug(bench, page),
+        Err(refusal) => Some(Refusal::Line(refusal)),
+    }
+}
+
+/// Begins anew where no word stands behind `reset`, or tells why not.
+#[inline(never)]
+fn reset_alone<const REGS: usize>(
+    bench: &mut Bench<REGS>,
+    operands: LineWords<'_>,
+) -> Option<Refusal>
+    ensures { AnswersShort plain.Reset (words_of operands.entry.rest.now)
+        bench.old bench.new result }
+{
+    match no_operand(operands) {
+        Ok(()) => reset(bench),
+        Err(refusal) => Some(Refusal::Line(refusal)),
+    }
+}
+
+/// Makes the steps that the words behind `step` count, or tells why not.
+#[inline(never)]
+fn step_counted<const REGS: usize>(
+    bench: &mut Bench<REGS>,
+    operands: LineWords<'_>,
+) -> Option<Refusal>
+    ensures { AnswersShort plain.Step (words_of operands.entry.rest.now)
+        bench.old bench.new result }
+{
+    match step_count(operands) {
+        Ok(count) => step(bench, count),
+        Err(refusal) => Some(Refusal::Line(refusal)),
+    }
+}
+
+/// Sets the breakpoint that the words behind `break` place, or tells why not.
+#[inline(never)]
+fn break_placed<const REGS: usize>(
+    bench: &mut Bench<REGS>,
+    operands: LineWords<'_>,
+) -> Option<Refusal>
+    ensures { AnswersShort plain.Break (words_of operands.entry.rest.now)
+        bench.old bench.new result }
+{
+    match break_location(operands) {
+        Ok(location) => set_break(bench, location),
+        Err(refusal) => Some(Refusal::Line(refusal)),
+    }
+}
+
+/// Takes the breakpoint away that the words behind `unbreak` place, or tells why not.
+#[inline(never)]
+fn unbreak_placed<const REGS: usize>(
+    bench: &mut Bench<REGS>,
+    operands: LineWords<'_>,
+) -> Option<Refusal>
+    ensures { AnswersShort plain.Unbreak (words_of operands.entry.rest.now)
+        bench.old bench.new result }
+{
+    match break_location(operands) {
+        Ok(location) => unbreak(bench, location),
+        Err(refusal) => Some(Refusal::Line(refusal)),
+    }
+}
+
+/// Makes the run that the words behind `run` count, and writes its reply.
+#[inline(never)]
+fn run_counted<W: Sink, const REGS: usize>(
+    bench: &mut Bench<REGS>,
+    operands: LineWords<'_>,
+    writer: &mut W,
+) -> Result<Outcome, WriteFault>
+    requires { W.failed writer.old ≡ false }
+    ensures reply { AnswersWritten result plain.Run (words_of operands.entry.rest.now)
+        bench.old bench.new W.contents writer.old writer.new }
+    ensures clear { OnOk result (W.failed writer.new ≡ false) }
+    ensures mark { OnErr result (W.failed writer.new ≡ true) }
+{
+    match most_steps(operands) {
+        Ok(limit) => {
+            let refusal = run(bench, limit, writer)?;
+            end(refusal, writer)
+        }
+        Err(refusal) => refuse(refusal, writer),
+    }
+}
+
+/// Writes the view that the words behind `show` name, or why there is none.
+#[inline(never)]
+fn show_named<W: Sink, const REGS: usize>(
+    alloc: Global,
+    bench: &mut Bench<REGS>,
+    operands: LineWords<'_>,
+    writer: &mut W,
+) -> Result<Outcome, CommandFault>
+    requires clear { W.failed writer.old ≡ false }
+    ensures reply { AnswersPlain result plain.Show (words_of operands.entry.rest.now)
+        bench.old bench.new W.contents writer.old writer.new }
+    ensures memory { result ≡ Err CommandFault.OutOfMemory
+        → plain_takes_memory plain.Show (words_of operands.entry.rest.now) ≡ true }
+    ensures mark { result ≡ Err CommandFault.WriteFault → W.failed writer.new ≡ true }
+    ensures clear { result ≢ Err CommandFault.WriteFault → W.failed writer.new ≡ false }
+{
+    match view(operands) {
+        Ok(view) => {
+            let refusal = show(alloc, bench, view, writer)?;
+            Ok(end(refusal, writer)?)
+        }
+        Err(refusal) => Ok(refuse(refusal, writer)?),
+    }
+}

@@ -1,12 +1,12 @@
 -- The first line end of a text, by what stands before it.
 use Rattle.std.proofs.Common.{inl, inr, ◌≡◌, ℕ, ◌+◌, ◌-◌, ◌<◌, ◌≤◌, ◌%◌, ◌^◌, Bool, true, false, cond, eqb, get_or, List, length, map}
-use Rattle.std.proofs.Common.{not, drop, take, replicate, Option, Some, None, refl, sym, ap, ◌∙◌, arith, w8}
+use Rattle.std.proofs.Common.{not, drop, take, replicate, Some, None, refl, sym, ap, ◌∙◌, arith, w8}
 use Rattle.std.specs.List.{position, position_or_len}
 use Rattle.std.specs.Int.{bit_at}
 use Rattle.std.specs.Simd.Lanes.{mask_l, top, zip2}
 use Rattle.std.proofs.Math.ListN.{get_or-map}
 use Rattle.std.proofs.lemmas.Bool.{cases_lt, cond-false, cond-true, le-ltb, lt-ltb, ne_eqb}
-use Rattle.std.proofs.lemmas.List.{get_or-drop, get_or-take, length-drop, length-take-le}
+use Rattle.std.proofs.lemmas.List.{get_or-drop, length-drop, length-take-le}
 use Rattle.std.proofs.lemmas.List.Sums.{fails_before_first, passes_at_first, position_or_len_is, prefix_len-le-length}
 use Rattle.std.proofs.lemmas.Simd.{bit_mask_l, bitmask_splat}
 use Rattle.h41_lines.proofs.Positions.{position_none, position_some}

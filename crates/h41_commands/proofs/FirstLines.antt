@@ -1,6 +1,6 @@
 -- What was read up to the first line of an item, as the next of a deck's items.
 use Rattle.std.proofs.Common.{inl, inr, ◌≡◌, ◌⊎◌, ◌≤◌, ℕ, Bool, true, false, if◌then◌else◌, List, [], ◌∷◌, ◌++◌, drop, length, Option, Some}
-use Rattle.std.proofs.Common.{None, Result, Ok, Err, refl, sym, ap, subst, ◌∙◌, arith}
+use Rattle.std.proofs.Common.{None, Result, Ok, Err, refl, sym, ap, subst, ◌∙◌}
 use Rattle.std.specs.Option.{is_some}
 use Rattle.std.proofs.lemmas.Bool.{cond-true, cond-false, eq-eqb, le-ltb, ltb-false, or_left}
 use Rattle.h41_ends.specs.InputLines.{line_in}
@@ -156,7 +156,8 @@ shut_line line = by_length (is_long line)
     by_length false = shut_command (command_of (words_of line)) (never_unended (words_of line))
 
 -- it is too long, or a line of its own
-shut_words : (words : List (List ℕ)) (kind : LineKind) → kind_by_words words ≡ Some kind → opens_block kind ≡ false → is_opening words ≡ false
+shut_words : (words : List (List ℕ)) (kind : LineKind) → kind_by_words words ≡ Some kind → opens_block kind ≡ false
+    → is_opening words ≡ false
 shut_words [] kind e shut = cc
 shut_words (name ∷ operands) Long e shut = cc
 shut_words (name ∷ operands) (Named (Opening kind)) e shut = cc

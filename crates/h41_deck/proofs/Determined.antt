@@ -1,5 +1,5 @@
 -- Why a deck determines what it prints, where steps, loads, blocks and lists of lines are determined.
-use Rattle.std.proofs.Common.{◌≡◌, ℕ, Bool, Result, Option, Some, Ok, Err, List, [], ◌∷◌, ◌++◌, if◌then◌else◌, flat_map, refl, sym, ap}
+use Rattle.std.proofs.Common.{◌≡◌, ℕ, Bool, Result, Option, Ok, Err, List, [], ◌∷◌, ◌++◌, flat_map, refl, sym, ap}
 use Rattle.std.proofs.Common.{subst, ◌∙◌}
 use Rattle.std.specs.Prelude.{option_map}
 use Rattle.std.proofs.lemmas.Grind.{flat_map-append}

@@ -1,5 +1,5 @@
 -- Ranges of numbers.
-use Rattle.std.proofs.Common.{◌≡◌, ℕ, zero, suc, ◌+◌, List, [], ◌∷◌, ◌++◌, arith, ap, ◌∙◌}
+use Rattle.std.proofs.Common.{◌≡◌, ℕ, zero, suc, ◌+◌, [], ◌∷◌, ◌++◌, arith, ap, ◌∙◌}
 use Rattle.std.specs.List.{range_with_len}
 
 -- one number more

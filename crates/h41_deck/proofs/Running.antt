@@ -1,18 +1,17 @@
 -- How a run and a trace are answered.
-use Rattle.std.proofs.Common.{◌≡◌, ◌<◌, Ok, ℕ, suc, ◌-◌, ◌+◌, List, [], ◌++◌, length, length-append, take, Option, Some, None, refl, sym}
-use Rattle.std.proofs.Common.{ap, subst, append-nil, append_assoc, ◌∙◌, arith}
+use Rattle.std.proofs.Common.{◌≡◌, Ok, ℕ, suc, List, [], ◌++◌, Option, Some, None, refl, sym}
+use Rattle.std.proofs.Common.{ap, subst, append-nil, append_assoc, ◌∙◌}
 use Rattle.std.proofs.KnownBytes.{Appends-nil, Appends-trans}
-use Rattle.std.proofs.Math.Seq.{take-append-add}
 use Rattle.std.specs.Prelude.{option_map}
 use Rattle.std.specs.Io.KnownBytes.{Appends}
 use Rattle.h41_commands.specs.declared.commands.Command.TheVariants as commands
 use Rattle.h41_debug.specs.Bench.{BenchState, Steps, with_calculator}
 use Rattle.h41_debug.specs.BenchLaws.{StepsAreTraced}
 use Rattle.h41_debug.specs.Run.{Run}
-use Rattle.h41_debug.specs.Traces.{TellsStep, Traces, traced_line}
+use Rattle.h41_debug.specs.Traces.{Traces, traced_line}
 use Rattle.h41_debug.specs.declared.run.Stop.{Stop}
 use Rattle.h41_ends.specs.Ends.{AppendsPart}
-use Rattle.h41_xrom.specs.Calculator.{CalculatorState, RefusesStep, Step}
+use Rattle.h41_xrom.specs.Calculator.{RefusesStep, Step}
 use Rattle.h41_xrom.specs.declared.refusal.CalculatorRefusal.{CalculatorRefusal}
 use Rattle.h41_deck.specs.declared.refusal.Refusal.{Refusal}
 use Rattle.h41_deck.specs.declared.refusal.Refusal.TheVariants.{Calculator}

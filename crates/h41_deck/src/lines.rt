@@ -1,6 +1,7 @@
 //! The lines of a deck, answered as they stand: a short command without the value that would hold every command.
 
-ghost use Rattle.std.specs.Prelude.{◌≡◌, ◌≢◌, ◌≤◌, true, false, Err, IfOk, OnErr, OnOk, Some, length};
+ghost use Rattle.std.specs.Prelude.{◌≡◌, ◌≢◌, ◌≤◌, true, false, length};
+ghost use Rattle.std.specs.Prelude.{Err, IfOk, OnErr, OnOk, Some};
 ghost use Rattle.h41_ends.specs.Ends.{Writes};
 ghost use Rattle.h41_commands.specs.DeckLines.{longest_line};
 ghost use Rattle.h41_commands.specs.Entries.{what_is_spelled};
@@ -11,8 +12,8 @@ ghost use Rattle.h41_commands.specs.declared.commands.PlainKind.TheVariants as p
 ghost use Rattle.h41_commands.specs.declared.refusal.LineRefusal.TheVariants.{BadCommand};
 ghost use Rattle.h41_commands.specs.declared.line.LineKind.TheVariants.{Named};
 ghost use Rattle.h41_lines.specs.Words.{words_of};
-ghost use Rattle.h41_deck.specs.AnsweredItems.{AnswersItem, AnswersLine, AnswersPlain, AnswersShort};
-ghost use Rattle.h41_deck.specs.AnsweredItems.{AnswersWritten, plain_takes_memory};
+ghost use Rattle.h41_deck.specs.AnsweredItems.{AnswersItem, AnswersLine, AnswersPlain};
+ghost use Rattle.h41_deck.specs.AnsweredItems.{AnswersShort, AnswersWritten, plain_takes_memory};
 ghost use Rattle.h41_deck.specs.Answers.{ending_line};
 ghost use Rattle.h41_deck.specs.Replies.{item_takes_memory};
 ghost use Rattle.h41_deck.specs.Writing.{EndsAs};

@@ -4,7 +4,7 @@ use Rattle.std.proofs.Common.{◌∙◌, arith, length-append, length-take, leng
 use Rattle.std.specs.List.{copy_within}
 use Rattle.std.specs.Str.Lines.{strip_carriage_return}
 use Rattle.std.proofs.lemmas.Bool.{cases_Bool, cond-true, cond-false}
-use Rattle.std.proofs.lemmas.List.{drop-drop, drop-take, drop_all, take_all, take-append-le, take-append-drop}
+use Rattle.std.proofs.lemmas.List.{drop-drop, drop-take, drop_all, take_all}
 use Rattle.std.proofs.lemmas.List.Edits.{take-paste}
 use Rattle.std.proofs.Math.Seq.{take-append-add}
 use Rattle.std.proofs.lemmas.Slice.{take-put_mid, take-put_mid_below}

@@ -1,13 +1,12 @@
 -- The first line end of a text, by what stands before it.
-use Rattle.std.proofs.Common.{inl, inr, ◌≡◌, ℕ, ◌+◌, ◌-◌, ◌<◌, ◌≤◌, ◌%◌, ◌^◌, Bool, true, false, cond, eqb}
-use Rattle.std.proofs.Common.{get_or, nat_lt, List, length, map, drop}
-use Rattle.std.proofs.Common.{not, take, replicate, Option, Some, None, refl, sym, ap, ◌∙◌, arith, w8}
+use Rattle.std.proofs.Common.{inl, inr, ◌≡◌, ℕ, ◌+◌, ◌-◌, ◌<◌, ◌≤◌, ◌%◌, ◌^◌, Bool, true, false, cond, eqb, get_or, List, length, map}
+use Rattle.std.proofs.Common.{not, drop, take, replicate, Some, None, refl, sym, ap, ◌∙◌, arith, w8}
 use Rattle.std.specs.List.{position, position_or_len}
 use Rattle.std.specs.Int.{bit_at}
 use Rattle.std.specs.Simd.Lanes.{mask_l, top, zip2}
 use Rattle.std.proofs.Math.ListN.{get_or-map}
 use Rattle.std.proofs.lemmas.Bool.{cases_lt, cond-false, cond-true, le-ltb, lt-ltb, ne_eqb}
-use Rattle.std.proofs.lemmas.List.{get_or-drop, get_or-take, length-drop, length-take-le}
+use Rattle.std.proofs.lemmas.List.{get_or-drop, length-drop, length-take-le}
 use Rattle.std.proofs.lemmas.List.Sums.{fails_before_first, passes_at_first, position_or_len_is, prefix_len-le-length}
 use Rattle.std.proofs.lemmas.Simd.{bit_mask_l, bitmask_splat}
 use Rattle.h41_lines.proofs.Positions.{position_none, position_some}
@@ -58,7 +57,8 @@ ends_behind text at within none =
           ap (λ (i : ℕ). is_end_byte (get_or text i 0)) (sym same) ∙ ap is_end_byte (sym (get_or-drop at text (k - at) 0))
           ∙ fails_before_first is_end_byte (drop at text) (k - at) 0 (omega arith)
     ])
-    (λ l. ap is_end_byte (sym (get_or-drop at text n 0))
+    (λ l.
+    ap is_end_byte (sym (get_or-drop at text n 0))
     ∙ passes_at_first is_end_byte (drop at text) 0 (omega (arith, length-drop at text)))
 
 -- what was found behind is found, and nothing where nothing is

@@ -1,14 +1,13 @@
 -- The lines of what is held, whatever follows.
-use Rattle.std.proofs.Common.{inl, inr, not, ◌≡◌, ◌⊎◌, ℕ, ◌+◌, ◌-◌, ◌<◌, ◌≤◌, Bool, true, false, nat_lt, List, [], ◌∷◌, ◌++◌, length, take}
-use Rattle.std.proofs.Common.{drop, map, ◌==◌, slice_index, if◌then◌else◌, Some, None, refl, sym, subst, ap, ◌∙◌, arith, append_assoc}
-use Rattle.std.proofs.Common.{append-nil, length-append, length-take, length-drop}
+use Rattle.std.proofs.Common.{inl, inr, not, ◌≡◌, ℕ, ◌+◌, ◌-◌, ◌<◌, ◌≤◌, Bool, true, false, nat_lt, List, [], ◌∷◌, ◌++◌, length, take}
+use Rattle.std.proofs.Common.{drop, map, ◌==◌, slice_index, Some, None, refl, sym, ap, ◌∙◌, arith}
+use Rattle.std.proofs.Common.{length-append, length-take}
 use Rattle.std.specs.List.{position, position_or_len}
 use Rattle.std.specs.Str.Lines.{strip_carriage_return}
 use Rattle.std.proofs.lemmas.Bool.{cases_Bool, cases_lt, cond-true, cond-false, eq-eqb, ne_eqb, lt-ltb, le-ltb}
 use Rattle.std.proofs.lemmas.List.{take-append-le, take-append-drop, drop-append-le, take_all}
 use Rattle.std.proofs.lemmas.List.Folds.{prefix_len-append}
 use Rattle.std.proofs.Math.Seq.{take-append-add, drop-append-add}
-use Rattle.h41_lines.specs.Lines.{lines}
 use Rattle.h41_lines.proofs.FirstLine.{lines_at, lines_last}
 use Rattle.h41_lines.proofs.Positions.{position_some, position_none}
 use Rattle.h41_ends.specs.InputLines.{IsUnended, told_lines, told_part}

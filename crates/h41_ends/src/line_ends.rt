@@ -1,7 +1,7 @@
 //! Where the first line of some bytes ends: sixteen bytes are looked at at once, as long as there are as many.
 
-ghost use Rattle.std.specs.Prelude.{◌≡◌, ◌≢◌, ◌↔◌, ◌≤◌, ◌<◌, ◌==◌, ℕ};
-ghost use Rattle.std.specs.Prelude.{position, length, slice_index};
+ghost use Rattle.std.specs.Prelude.{◌≡◌, ◌≢◌, ◌↔◌, ◌≤◌, ◌<◌, ◌==◌, ℕ, length, position};
+ghost use Rattle.std.specs.Prelude.{slice_index};
 ghost use Rattle.std.specs.Int.{bit_at};
 
 use h41_lines::lines;

@@ -1,5 +1,5 @@
 use Rattle.h41_commands.specs.Blocks.{judgement}
-use Rattle.h41_deck.proofs.Commanded.{alone_text, load_text, plug_text, refused_text}
+use Rattle.h41_deck.proofs.Commanded.{load_text, plug_text, refused_text}
 use Rattle.h41_deck.proofs.replies.say.Goals as goal
 
 pub returns-in-Some-clause-text : goal.returns-in-Some-clause-text

@@ -1,9 +1,9 @@
-use Rattle.std.proofs.Common.{inl, inr, ◌≡◌, ◌+◌, ◌<◌, ℕ, false, drop, length, get_or, ap, arith, sym, ◌∙◌}
+use Rattle.std.proofs.Common.{◌+◌, ℕ, ap, arith, sym, ◌∙◌}
 use Rattle.std.specs.Int.{bit_at}
 use Rattle.std.proofs.lemmas.Bool.{eq-eqb}
 use Rattle.std.proofs.lemmas.List.{get_or-drop, take_rest}
 use Rattle.std.proofs.lemmas.Nat.Bits.{bit_at-zero}
-use Rattle.h41_ends.proofs.LineEnds.{NoneBefore, ends_at, found_behind, none_behind, none_more, other_byte}
+use Rattle.h41_ends.proofs.LineEnds.{ends_at, found_behind, none_behind, none_more, other_byte}
 use Rattle.h41_ends.proofs.line_ends.line_end.Goals as goal
 
 pub returns-then-ends-ne0 : goal.returns-then-ends-ne0

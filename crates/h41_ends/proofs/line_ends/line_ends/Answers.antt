@@ -1,5 +1,4 @@
-use Rattle.std.proofs.Common.{inl, inr, ◌≡◌, ◌<◌, ℕ, cond, get_or, take, ap, arith, sym, ◌∙◌}
-use Rattle.std.specs.Int.{bit_at}
+use Rattle.std.proofs.Common.{inl, inr, ◌≡◌, ℕ, cond, get_or, take, ap, arith, sym, ◌∙◌}
 use Rattle.std.proofs.lemmas.Bool.{cases_lt, eq-eqb, eqb-true}
 use Rattle.std.proofs.lemmas.List.{get_or-take, get_or_past, length-take-le}
 use Rattle.h41_ends.proofs.LineEnds.{bit_of_byte, is_end_byte, set_is_end}

@@ -1,10 +1,8 @@
-use Rattle.std.proofs.Common.{◌≡◌, ℕ, suc, ◌+◌, ◌-◌, List, Some, None, sym, ap, subst, ◌∙◌, arith, rules}
+use Rattle.std.proofs.Common.{◌≡◌, ℕ, suc, ◌+◌, ◌-◌, List, subst, ◌∙◌, arith, rules}
 use Rattle.std.specs.Io.KnownBytes.{Appends}
 use Rattle.std.specs.Result.{result_err}
 use Rattle.h41_ends.specs.Ends.{AppendsPart}
-use Rattle.h41_xrom.specs.Calculator.{RefusesStep, Step}
 use Rattle.h41_debug.specs.Bench.{Steps}
-use Rattle.h41_deck.specs.Writing.{SaysText, IsTraceLine}
 use Rattle.h41_deck.proofs.Running.{TracesOn, traces_end, traces_in_part, traces_more, traces_refused}
 use Rattle.h41_deck.proofs.replies.running.trace.Goals as goal
 

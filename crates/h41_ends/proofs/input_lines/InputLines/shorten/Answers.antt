@@ -1,4 +1,4 @@
-use Rattle.std.proofs.Common.{◌≡◌, ◌+◌, ◌-◌, drop, take, min, ap, sym, ◌∙◌, arith, refl}
+use Rattle.std.proofs.Common.{take, ap, ◌∙◌, arith, refl}
 use Rattle.h41_ends.proofs.InputBuffers.{moved_front}
 use Rattle.h41_ends.proofs.input_lines.InputLines.shorten.Goals as goal
 

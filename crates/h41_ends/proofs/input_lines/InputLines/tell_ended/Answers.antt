@@ -1,6 +1,4 @@
-use Rattle.std.proofs.Common.{◌≡◌, ◌<◌, ℕ, ◌+◌, ◌-◌, drop, take, length, min, ap, sym, ◌∙◌, arith, refl}
-use Rattle.std.proofs.lemmas.List.{take_rest}
-use Rattle.std.specs.Str.Lines.{strip_carriage_return}
+use Rattle.std.proofs.Common.{ℕ, ◌+◌, drop, take, length, ap, ◌∙◌, arith, refl}
 use Rattle.h41_lines.proofs.Positions.{position_some}
 use Rattle.h41_ends.specs.InputLines.{held_in}
 use Rattle.h41_ends.proofs.InputBuffers.{between_long, held_behind, line_told}

@@ -1,4 +1,4 @@
-use Rattle.std.proofs.Common.{◌≡◌, ℕ, ◌+◌, ◌-◌, drop, take, min, nat_lt, ap, sym, ◌∙◌, arith, refl}
+use Rattle.std.proofs.Common.{ℕ, ◌+◌, drop, take, nat_lt, ap, sym, ◌∙◌, arith, refl}
 use Rattle.h41_ends.proofs.InputBuffers.{between_long, last_line, nothing_behind}
 use Rattle.h41_ends.proofs.input_lines.InputLines.tell_last.Goals as goal
 

@@ -82,15 +82,6 @@ impl<const REGS: usize> Bench<REGS> {
         }
     }
 
-    /// The same while a function runs: before the next word.
-    #[inline(always)]
-    pub(crate) fn word_location(&self) -> Location
-        requires { runs_function self.now.calculator.mode ≡ true }
-        ensures { result ≡ location_of self.now.calculator }
-    {
-        Location::Word(self.calculator.cpu().pc())
-    }
-
     /// One single step. What is refused changes nothing.
     pub fn step(&mut self) -> Result<(), CalculatorRefusal>
         ensures refusal { RefusesStep self.old.calculator (result_err result) }

@@ -107,7 +107,7 @@ impl<const REGS: usize> Bench<REGS> {
                 }
             }
             made = until;
-            if watched && self.has_breakpoint(self.word_location()) {
+            if watched && self.has_breakpoint(self.location()) {
                 return (made, None);
             }
         }

@@ -100,7 +100,7 @@ fn execute_row<const REGS: usize>(
     ensures place { OnOk result (ArrivesFrom row cpu.old cpu.new) }
 {
     match row {
-        Row::Arithmetic(operation, field) => cpu.arithmetic(operation, field),
+        Row::Arithmetic(operation, field) => cpu.arithmetic::<REGS>(operation, field),
         Row::LongJump(low_byte) => {
             let second = fetch(pages, cpu.next_address())?;
             cpu.long_jump(low_byte, SecondWord::of(second))

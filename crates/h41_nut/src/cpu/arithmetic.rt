@@ -18,9 +18,10 @@ use h41_fields::{Field, span};
 use h41_words::Operation;
 
 impl Cpu {
-    /// `OPERATION FIELD`: works on a field in the base that is set.
+    /// `OPERATION FIELD`: works on a field in the base that is set. There is one for each size of memory, though it has nothing of it: so
+    /// each loop over words has its own, in one piece.
     #[inline(always)]
-    pub(crate) fn arithmetic(
+    pub(crate) fn arithmetic<const REGS: usize>(
         &mut self,
         operation: Operation,
         field: Field,

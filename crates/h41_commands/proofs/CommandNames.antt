@@ -1,6 +1,6 @@
 -- How long the names of commands are, and the words behind a name.
 use Rattle.std.proofs.Common.{inl, inr, not, ◌≡◌, ℕ, ◌+◌, ◌≤◌, List, [], ◌∷◌, length, length-take, take, drop}
-use Rattle.std.proofs.Common.{Option, Some, None, refl, sym, ap, ◌∙◌, arith}
+use Rattle.std.proofs.Common.{Some, None, refl, sym, ap, ◌∙◌, arith}
 use Rattle.std.proofs.lemmas.Bool.{cases_Bool, cond-true, cond-false}
 use Rattle.std.proofs.lemmas.List.{drop-drop, length-drop}
 use Rattle.std.proofs.lemmas.Slice.Eq.{bytes_eq-Decides}

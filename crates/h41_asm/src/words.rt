@@ -4,7 +4,7 @@ ghost use Rattle.std.specs.Iterator.{YieldsFirstRef, item_count};
 ghost use Rattle.std.specs.Prelude.{◌≡◌, ◌≤◌, false, length};
 ghost use Rattle.h41_asm.specs.SourceLines.{part_length, words_of};
 
-use h41_lines::words::{is_blank, word_start};
+use h41_lines::words::word_start;
 
 /// The words that are left of a line. Blanks and tabs outside quotes part them, and a `;` outside quotes begins a comment.
 #[derive(Clone, Copy, Debug)]
@@ -51,11 +51,10 @@ fn word_end(line: &[u8]) -> usize
 {
     let mut quoted = false;
     for (i, byte) in line.iter().enumerate() {
-        if !quoted && (is_blank(*byte) || *byte == b';') {
-            return i;
-        }
-        if *byte == b'"' {
-            quoted = !quoted;
+        match *byte {
+            b' ' | b'\t' | b';' if !quoted => return i,
+            b'"' => quoted = !quoted,
+            _ => {}
         }
     }
     line.len()

@@ -1,6 +1,7 @@
 pub mod BlockLines
 pub mod BlocksDetermined
 pub mod ClosedBlocks
+pub mod CommandNames
 pub mod DeckItems
 pub mod Filling
 pub mod FirstLines

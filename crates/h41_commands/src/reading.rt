@@ -97,7 +97,14 @@ pub fn read_block<R: Source, W: Sink>(
     ensures write_fault { result ≡ Err ItemFault.WriteFault → W.failed writer.new ≡ true }
 {
     let command = parse(input.line());
-    block_item(alloc, command, input, reader, writer)
+    let block = Block::of_kind(alloc, command.ok().and_then(Command::block_kind));
+    let Some(block) = read_lines(block, input, reader, writer)? else {
+        return Ok(Item::Refused(LineRefusal::NoEnd));
+    };
+    Ok(match command {
+        Ok(command) => Item::Given(GivenCommand { command, block }),
+        Err(refusal) => Item::Refused(refusal),
+    })
 }
 
 /// The item of one line, which opens no block and is not too long.
@@ -114,43 +121,6 @@ pub fn line_item(alloc: Global, line: &[u8]) -> Item
         }
         Err(refusal) => Item::Refused(refusal),
     }
-}
-
-/// The item of a block by what its first line spells; reads the block's other lines.
-fn block_item<R: Source, W: Sink>(
-    alloc: Global,
-    command: Result<Command, LineRefusal>,
-    input: &mut InputLines,
-    reader: &mut R,
-    writer: &mut W,
-) -> Result<Item, ItemFault>
-    requires reader_clear { R.failed reader.old ≡ false }
-    requires writer_clear { W.failed writer.old ≡ false }
-    requires counted { IsCounted input.old (R.given reader.old) }
-    requires shut { is_unended command ≡ false }
-    ensures item { ReadsBlock result command (R.remaining reader.old) (R.remaining reader.new)
-        input.old input.new }
-    ensures bound { OnOk result (most_left input.new ≤ most_left input.old) }
-    ensures open { IfOk result (λ item. is_open (what_is_spelled item) ≡ true
-        → input.new.at_end ≡ true) }
-    ensures stopped { result ≡ Err ItemFault.ReadFault → IsStopped input.new }
-    ensures cause { result ≡ Err ItemFault.ReadFault
-        → (R.failed reader.new ≡ true) ⊎ (input.new.is_over ≡ true) }
-    ensures flushed { result ≡ Err ItemFault.ReadFault → W.flushed writer.new ≡ true }
-    ensures kept { Keeps (W.contents writer.old) (W.contents writer.new) }
-    ensures counted { IsCounted input.new (R.given reader.new) }
-    ensures reader { result ≢ Err ItemFault.ReadFault → R.failed reader.new ≡ false }
-    ensures writer { result ≢ Err ItemFault.WriteFault → W.failed writer.new ≡ false }
-    ensures write_fault { result ≡ Err ItemFault.WriteFault → W.failed writer.new ≡ true }
-{
-    let block = Block::of_kind(alloc, command.ok().and_then(Command::block_kind));
-    let Some(block) = read_lines(block, input, reader, writer)? else {
-        return Ok(Item::Refused(LineRefusal::NoEnd));
-    };
-    Ok(match command {
-        Ok(command) => Item::Given(GivenCommand { command, block }),
-        Err(refusal) => Item::Refused(refusal),
-    })
 }
 
 /// Reads the lines of a block up to its end; nothing where it has none.

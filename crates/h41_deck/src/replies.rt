@@ -1,7 +1,7 @@
 //! The replies to commands: what each does to the bench, and what it prints.
 
 ghost use Rattle.std.specs.Prelude.{◌≡◌, ◌≢◌, true, false, Err, IfOk, None, Ok, OnOk, OnErr};
-ghost use Rattle.std.specs.Prelude.{vec_len, ◌≤◌, []};
+ghost use Rattle.std.specs.Prelude.{length, vec_len, ◌≤◌, []};
 ghost use Rattle.h41_commands.specs.Commands.{kind_of};
 ghost use Rattle.h41_commands.specs.Contents.{IsForPage, IsForProgram};
 ghost use Rattle.h41_commands.specs.declared.commands.Command.TheVariants as commands;
@@ -20,11 +20,15 @@ use crate::refusal::Refusal;
 use crate::replies::listing::listed;
 use crate::replies::running::{run, set_break, trace, unbreak};
 use crate::replies::view::shown;
+use arrayvec::ArrayString;
 use h41_commands::{Block, Command, PAGE_WORDS, PressedKeys, View};
 use h41_debug::Bench;
 use h41_ends::{Sink, WriteFault, write_whole};
 use h41_pages::PlugRefusal;
 use std::alloc::{AllocError, Global};
+
+/// The most bytes of a line that is put together before it is written.
+const SHORT_LINE: usize = 23;
 
 mod digits;
 mod functions;
@@ -369,15 +373,17 @@ fn tell<W: Sink>(refusal: Refusal, writer: &mut W) -> Result<(), WriteFault>
     }
 }
 
-/// Writes a text as a line of its own.
+/// Writes a short text as a line of its own, at once.
 #[inline(always)]
-pub(crate) fn write_line<W: Sink>(text: &str, writer: &mut W) -> Result<(), WriteFault>
-    requires { W.failed writer.old ≡ false }
+fn write_line<W: Sink>(text: &str, writer: &mut W) -> Result<(), WriteFault>
+    requires clear { W.failed writer.old ≡ false }
+    requires short { length text.now ≤ 22 }
     ensures written { Writes result W.contents writer.old writer.new (line_of text.now) }
     ensures clear { OnOk result (W.failed writer.new ≡ false) }
     ensures mark { OnErr result (W.failed writer.new ≡ true) }
 {
-    write_whole(writer, text.as_bytes())?;
-    write_whole(writer, b"\n")?;
-    Ok(())
+    let mut line = ArrayString::<SHORT_LINE>::new();
+    line.push_str(text);
+    line.push_str("\n");
+    write_whole(writer, line.as_str().as_bytes())
 }

@@ -1,1 +1,2 @@
+pub mod LineEndBits
 pub mod ReadingOn

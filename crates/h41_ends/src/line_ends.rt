@@ -1,8 +1,8 @@
 //! Where the first line of some bytes ends: sixteen bytes are looked at at once, as long as there are as many.
 
-ghost use Rattle.std.specs.Prelude.{◌≡◌, ◌≢◌, ◌↔◌, ◌≤◌, ◌<◌, ◌==◌, ℕ, length, position};
-ghost use Rattle.std.specs.Prelude.{slice_index};
+ghost use Rattle.std.specs.Prelude.{◌≡◌, ◌≢◌, ◌≤◌, ◌<◌, ◌==◌, ℕ, length, position};
 ghost use Rattle.std.specs.Int.{bit_at};
+ghost use Rattle.h41_ends.specs.private.LineEndBits.{MarksEnds};
 
 use h41_lines::lines;
 use std::simd::prelude::*;
@@ -34,7 +34,7 @@ pub(crate) fn line_end(text: &[u8]) -> Option<usize>
 fn line_ends(text: &[u8]) -> u64
     requires { 16 ≤ length text.now }
     ensures within { (k : ℕ) → bit_at result k ≡ 1 → k < 16 }
-    ensures bits { (k : ℕ) → k < 16 → (bit_at result k ≡ 1) ↔ (slice_index text.now k ≡ 10) }
+    ensures bits { MarksEnds text.now result }
 {
     u8x16::from_slice(text)
         .simd_eq(u8x16::splat(b'\n'))

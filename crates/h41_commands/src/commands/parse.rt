@@ -1,6 +1,6 @@
 //! The command that a line's words spell.
 
-ghost use Rattle.std.specs.Prelude.{◌≡◌, ◌≤◌, ◌+◌, ◌*◌, ℕ, Ok, drop, length};
+ghost use Rattle.std.specs.Prelude.{◌≡◌, ◌≤◌, ◌+◌, ◌*◌, ◌∷◌, ℕ, Ok, Some, drop, length};
 ghost use Rattle.h41_commands.specs.Commands.{break_location, call_command, location_by};
 ghost use Rattle.h41_commands.specs.Commands.{placed_command, read_plain, key_command};
 ghost use Rattle.h41_commands.specs.Commands.{load_command, reset_command, size_command};
@@ -12,9 +12,12 @@ ghost use Rattle.h41_commands.specs.Commands.{view_of, list_command, plug_at_ban
 ghost use Rattle.h41_commands.specs.Commands.{bank_number, image_view, image_view_at, is_bank_word};
 ghost use Rattle.h41_lines.specs.Words.{words_of};
 ghost use Rattle.h41_commands.specs.DeckLines.{longest_line, most_keys};
+ghost use Rattle.h41_commands.specs.FirstLines.{line_kind};
 ghost use Rattle.h41_commands.specs.Numbers as spec;
 ghost use Rattle.h41_commands.specs.declared.commands.Command.{Command};
 ghost use Rattle.h41_commands.specs.declared.commands.Command.TheVariants as commands;
+ghost use Rattle.h41_commands.specs.declared.commands.FirstWord.TheVariants.{Plain};
+ghost use Rattle.h41_commands.specs.declared.line.LineKind.TheVariants.{Named};
 
 use crate::commands::keys::PressedKeys;
 use crate::commands::number::{count_up_to, hexadecimal, number_up_to};
@@ -22,7 +25,7 @@ use crate::commands::{BlockKind, Command, PageKind, PlainKind, ProgramKind, View
 use crate::refusal::LineRefusal;
 use h41_breakpoints::Location;
 use h41_keys::Key;
-use h41_lines::words::LineWords;
+use h41_lines::words::{LineWords, word_start};
 use h41_program::Position;
 
 /// The most single steps of one command.
@@ -56,14 +59,16 @@ pub fn parse(line: &[u8]) -> Result<Command, LineRefusal>
     }
 }
 
-/// The words behind the first of a line.
+/// The words behind the first of a line, which is the name of this command.
 #[inline(always)]
-pub fn operands(line: &[u8]) -> LineWords<'_>
+pub fn operands(kind: PlainKind, line: &[u8]) -> LineWords<'_>
+    requires { line_kind line.now ≡ Some (Named (Plain kind)) }
     ensures { words_of result.rest.now ≡ drop 1 (words_of line.now) }
 {
-    let mut words = LineWords::new(line);
-    let _name = words.next();
-    words
+    match word_start(line) {
+        Some(start) => LineWords::new(&line[start + kind.name_length()..]),
+        None => unreachable!(),
+    }
 }
 
 /// The command of a line that opens a block of this kind, by the words behind its name.
@@ -382,13 +387,21 @@ fn key(operands: LineWords<'_>) -> Result<Command, LineRefusal>
 pub fn view(mut operands: LineWords<'_>) -> Result<View, LineRefusal>
     ensures { result ≡ view_of (words_of operands.entry.rest.now) }
 {
-    match (operands.next(), operands.next(), operands.next()) {
-        (Some(what), None, _) => view_named(what),
-        (Some(b"ram"), Some(address), None) => Ok(View::Register(hexadecimal(3, 3, address)?)),
-        (Some(b"image"), Some(page), None) => image_view(page, FIRST_BANK),
-        (Some(b"image"), Some(page), Some(bank)) if operands.next().is_none() => {
-            image_view_at(page, bank)
-        }
+    match (operands.next(), operands.next()) {
+        (Some(what), None) => view_named(what),
+        (Some(what), Some(operand)) => view_with(what, operand, operands),
+        _ => Err(LineRefusal::BadCommand),
+    }
+}
+
+/// `ram hhh` and `image P [bN]`: the view that a word names with those behind it.
+fn view_with(what: &[u8], operand: &[u8], mut others: LineWords<'_>) -> Result<View, LineRefusal>
+    ensures { result ≡ view_of (what.now ∷ operand.now ∷ words_of others.entry.rest.now) }
+{
+    match (what, others.next()) {
+        (b"ram", None) => Ok(View::Register(hexadecimal(3, 3, operand)?)),
+        (b"image", None) => image_view(operand, FIRST_BANK),
+        (b"image", Some(bank)) if others.next().is_none() => image_view_at(operand, bank),
         _ => Err(LineRefusal::BadCommand),
     }
 }

@@ -18,6 +18,7 @@ use std::alloc::{AllocError, Global};
 use std::fmt;
 
 /// The text of a view, or why it is refused. 21 where memory is refused.
+#[inline(never)]
 pub fn shown<const REGS: usize>(
     alloc: Global,
     bench: &Bench<REGS>,

@@ -1,7 +1,64 @@
-use Rattle.std.proofs.Common.{ap, ◌∙◌}
+use Rattle.std.proofs.Common.{◌≡◌, ℕ, Bool, false, List, Ok, Some, ap, refl, rules, subst, sym, ◌∙◌}
+use Rattle.std.specs.Result.{result_ok}
+use Rattle.h41_ends.specs.InputLines.{MayFollow}
+use Rattle.h41_commands.specs.Commands.{command_of, kind_of}
+use Rattle.h41_commands.proofs.ItemLines.{block_given, block_open, block_refused}
+use Rattle.h41_commands.specs.BlockReading.{SpellBlock}
+use Rattle.h41_lines.specs.Words.{words_of}
+use Rattle.h41_commands.specs.declared.fault.ItemFault.{ItemFault}
 use Rattle.h41_commands.specs.ItemReading.{is_unended}
 use Rattle.h41_commands.proofs.ParsedCommands.{never_unended}
 use Rattle.h41_commands.proofs.reading.read_block.Goals as goal
+use Rattle.h41_commands.proofs.reading.read_block.Goals.{in-Ok, in-Err+in-Words-1, in-Err+in-Image-1, in-Err+in-Source-1, in-Err+in-Bytes-1}
+use Rattle.h41_commands.proofs.reading.read_block.Goals.{in-Err+in-Text-1}
+use Rattle.h41_commands.proofs.reading.read_block.Goals.{in-Err+in-Nothing-1}
 
-pub block_item-requires-clause-shut : goal.block_item-requires-clause-shut
-block_item-requires-clause-shut g c = ap is_unended c.parse-command.ensures ∙ never_unended _
+pub returns-in_default-clause-item : goal.returns-in_default-clause-item
+returns-in_default-clause-item g c =
+    let is = sym (c.parse-command.ensures ∙ ap (λ (line : List ℕ). command_of (words_of line)) c.line.ensures) in
+    let taken = rw c.in_default.is at c.in_ok-block.ensures.block in
+    let end = rw c.in_default.is at c.in_ok-block.ensures.end in
+    rw is (record {
+      lines = taken.lines;
+      reads = taken.reads;
+      spelled = λ more may.
+          block_open taken.lines c.parse-command.result more taken.taken (subst (λ (ended : Bool). MayFollow ended more) (end refl) may);
+    })
+
+pub returns-clause-item : goal.returns-clause-item
+returns-clause-item g c =
+    let is = sym (c.parse-command.ensures ∙ ap (λ (line : List ℕ). command_of (words_of line)) c.line.ensures) in
+    let taken = rw c.in-Some.is at c.in_ok-block.ensures.block in
+    let spelled : SpellBlock {E = ItemFault} c.parse-command.result (Ok c.match-command.result) c.read_lines.new.input.at_end taken.lines =
+    elim c.match-command.branch [
+      | in-Ok w ↦
+          let parsed : c.ok.result ≡ Some w.in-Ok.command = c.ok.ensures.value ∙ ap result_ok w.in-Ok.is in
+          let kind : c.and_then.result ≡ kind_of w.in-Ok.command = rw parsed at c.and_then.ensures in
+          rw w.result-is
+          (λ more may.
+          block_given _ taken.lines c.in-Some.block c.parse-command.result w.in-Ok.command more taken.taken w.in-Ok.is
+          (c.of_kind-block.ensures.kind_is ∙ kind))
+      | in-Err+in-Words-1 w ↦
+          rw w.result-is
+          (λ more may. block_refused _ taken.lines c.in-Some.block c.parse-command.result w.in-Err.refusal more taken.taken w.in-Err.is)
+      | in-Err+in-Image-1 w ↦
+          rw w.result-is
+          (λ more may. block_refused _ taken.lines c.in-Some.block c.parse-command.result w.in-Err.refusal more taken.taken w.in-Err.is)
+      | in-Err+in-Source-1 w ↦
+          rw w.result-is
+          (λ more may. block_refused _ taken.lines c.in-Some.block c.parse-command.result w.in-Err.refusal more taken.taken w.in-Err.is)
+      | in-Err+in-Bytes-1 w ↦
+          rw w.result-is
+          (λ more may. block_refused _ taken.lines c.in-Some.block c.parse-command.result w.in-Err.refusal more taken.taken w.in-Err.is)
+      | in-Err+in-Text-1 w ↦
+          rw w.result-is
+          (λ more may. block_refused _ taken.lines c.in-Some.block c.parse-command.result w.in-Err.refusal more taken.taken w.in-Err.is)
+      | in-Err+in-Nothing-1 w ↦
+          rw w.result-is
+          (λ more may. block_refused _ taken.lines c.in-Some.block c.parse-command.result w.in-Err.refusal more taken.taken w.in-Err.is)
+    ] in
+    rw is (record { lines = taken.lines; reads = taken.reads; spelled = spelled })
+
+pub returns-clause-open : goal.returns-clause-open
+returns-clause-open g c =
+    let shut : is_unended c.parse-command.result ≡ false = ap is_unended c.parse-command.ensures ∙ never_unended _ in search rules

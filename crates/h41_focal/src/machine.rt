@@ -112,18 +112,34 @@ impl<const REGS: usize> Machine<REGS> {
                 self.begin();
                 carry_short(self, Origin::Program(next), line)
             }
-            None => match number_standing(self) {
-                Some((number, next)) => {
-                    kept_answers_stay_right();
-                    self.begin();
-                    Ok(number_line(self, Origin::Program(next), number))
-                }
-                None => self.step_whole(),
-            },
+            None => self.step_long(),
         }
     }
 
-    /// The same for any line.
+    /// The same for any line, apart from the short ones' machine code.
+    #[inline(never)]
+    fn step_long(&mut self) -> Result<BriefOutcome, FocalRefusal>
+        requires { AreRight self.old }
+        ensures line { StepsBriefly (machine_of self.old) (machine_of self.new) result }
+        ensures unchanged { OnErr result (machine_of self.new ≡ machine_of self.old) }
+        ensures elsewhere { result ≡ Ok Elsewhere
+            → machine_of self.new ≡ machine_of self.old }
+        ensures kept { StepKeeps None self.old self.new }
+        ensures mark { KeepsMark (begun_ram self.old.ram) self.new.ram }
+        ensures clear { self.new.ram.touched ≡ false }
+        ensures right { AreRight self.new }
+    {
+        match number_standing(self) {
+            Some((number, next)) => {
+                kept_answers_stay_right();
+                self.begin();
+                Ok(number_line(self, Origin::Program(next), number))
+            }
+            None => self.step_whole(),
+        }
+    }
+
+    /// The same where the line is read whole.
     #[inline(never)]
     fn step_whole(&mut self) -> Result<BriefOutcome, FocalRefusal>
         requires { AreRight self.old }

@@ -55,7 +55,7 @@ fn short_standing_at<const REGS: usize>(
 }
 
 /// The register of the number line that stands at the position, and the position of the next, where the number is read in one pass.
-#[inline(never)]
+#[inline(always)]
 pub fn number_standing<const REGS: usize>(machine: &Machine<REGS>) -> Option<(Reg, Position)>
     ensures { IfSome result (λ found. StandsNumber (machine_of machine.now) found.0 found.1) }
 {

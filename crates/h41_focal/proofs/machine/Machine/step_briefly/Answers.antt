@@ -1,6 +1,5 @@
 use Rattle.std.proofs.Common.{◌≡◌, ap, subst, sym, Ok, None, ◌∙◌}
 use Rattle.h41_codes.specs.ShortLines.{line_of}
-use Rattle.h41_codes.specs.declared.line.Line.TheVariants.{Number}
 use Rattle.h41_focal.specs.BriefOutcomes.{StepsBriefly}
 use Rattle.h41_focal.specs.LabelSearches.{search_of}
 use Rattle.h41_focal.specs.LabelledMachine.{LabelledMachine, machine_of}
@@ -34,34 +33,6 @@ returns-in-Some-clause-right g c =
     c.kept_answers_stay_right.ensures.searching c.begin.new.self c.carry_short.new.machine _ c.begin.ensures.right
     c.carry_short.ensures.kept c.carry_short.ensures.mark
 
-pub returns-in-Some-number_standing-clause-line : goal.returns-in-Some-number_standing-clause-line
-returns-in-Some-number_standing-clause-line g c =
-    let found = c.in-Some-number_standing.ensures in
-    let begun = c.begin-in-Some-number_standing in
-    subst (λ (machine : Machine). StepsBriefly machine (machine_of c.number_line.new.machine) (Ok c.number_line.result))
-    (ap machine_of begun.ensures.begun) (
-      called_by begun.new.self.ram.registers (Number found.0),
-      calls_elsewhere begun.new.self.ram.registers (Number found.0),
-      step_taken None _ (Number found.0) c.in-Some-number_standing.next _
-          (subst (λ (machine : Machine). Stands machine (Ok (Number found.0, c.in-Some-number_standing.next)))
-          (sym (ap machine_of begun.ensures.begun)) found.1) (c.number_line.ensures.done found.0 found.2 0),
-    )
-
-pub returns-in-Some-number_standing-clause-elsewhere : goal.returns-in-Some-number_standing-clause-elsewhere
-returns-in-Some-number_standing-clause-elsewhere g c = λ elsewhere.
-    let found = c.in-Some-number_standing.ensures in
-    let begun = c.begin-in-Some-number_standing in
-    subst (λ (machine : Machine). machine_of c.number_line.new.machine ≡ machine) (ap machine_of begun.ensures.begun)
-    (call_changes_nothing (Program c.in-Some-number_standing.next) (Number found.0) (machine_of begun.new.self)
-    (machine_of c.number_line.new.machine) (Ok c.number_line.result) (c.number_line.ensures.done found.0 found.2 0) elsewhere)
-
-pub returns-in-Some-number_standing-clause-right : goal.returns-in-Some-number_standing-clause-right
-returns-in-Some-number_standing-clause-right g c =
-    let begun = c.begin-in-Some-number_standing in
-    let keeps = c.number_line.ensures.keeps in
-    c.kept_answers_stay_right-in-Some-number_standing.ensures.searching begun.new.self c.number_line.new.machine None begun.ensures.right
-    keeps.labels keeps.mark
-
 pub returns-in-Some-clause-kept : goal.returns-in-Some-clause-kept
 returns-in-Some-clause-kept g c =
     let stands = c.in-Some.ensures in
@@ -69,10 +40,3 @@ returns-in-Some-clause-kept g c =
     let kept = subst (λ (m : LabelledMachine). KeepsSearch m.ram.registers (search_of m.ram.registers next (line_of c.in-Some.line))
     m.focal.labels c.carry_short.new.machine.focal.labels) c.begin.ensures.begun c.carry_short.ensures.kept in
     rw stands.0 (Ok stands.1.0, stands.1.1, (next, stands.2, rw stands.1.2 kept))
-
-pub returns-in-Some-number_standing-clause-kept : goal.returns-in-Some-number_standing-clause-kept
-returns-in-Some-number_standing-clause-kept g c =
-    let stands = c.in-Some-number_standing.ensures.1 in
-    let labels = c.number_line.ensures.keeps.labels
-    ∙ ap (λ (m : LabelledMachine). m.focal.labels) c.begin-in-Some-number_standing.ensures.begun in
-    rw stands.0 (Ok stands.1.0, stands.1.1, (c.in-Some-number_standing.next, stands.2, rw stands.1.2 labels))

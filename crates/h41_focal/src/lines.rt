@@ -28,7 +28,7 @@ use crate::stack_lines::{be_silent, do_nothing, number_line};
 use h41_codes::{Branch, Line, NameFunction, Parameter, RegisterFunction, ShortRegister, Text};
 use h41_program::{Position, line_and_next};
 use h41_ram::Ram;
-use h41_rows::{BranchTarget, branch_target, data_address};
+use h41_rows::{BranchTarget, branch_target, data_address, written};
 
 /// The line at the position, and the position of the next: 15 where memory is not sound, 14 where no line stands there.
 #[inline(always)]
@@ -96,7 +96,7 @@ pub fn carry_briefly<const REGS: usize>(
         Line::Null => Ok(do_nothing(machine, origin)),
         Line::LocalLabel(_) => Ok(be_silent(machine, origin)),
         Line::GlobalLabel(_, _, _) => Ok(be_silent(machine, origin)),
-        Line::Number(number) => Ok(number_line(machine, origin, number)),
+        Line::Number(number) => Ok(number_line(machine, origin, written(number))),
         Line::Named(function, name) => named(machine, origin, *function, *name),
         Line::Register(function, register) => short(machine, origin, *function, *register),
         Line::Plain(function) => plain(machine, origin, *function),

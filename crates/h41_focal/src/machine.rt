@@ -20,7 +20,8 @@ use crate::lines::{carry_briefly, carry_out, standing};
 use crate::origin::Origin;
 use crate::outcome::{BriefOutcome, LineOutcome};
 use crate::refusal::FocalRefusal;
-use crate::short_lines::{carry_short, short_standing};
+use crate::short_lines::{carry_short, number_standing, short_standing};
+use crate::stack_lines::number_line;
 use h41_codes::{Function, Line};
 use h41_ram::Ram;
 use h41_rows::LineFault;
@@ -105,11 +106,54 @@ impl<const REGS: usize> Machine<REGS> {
         ensures clear { self.new.ram.touched ≡ false }
         ensures right { AreRight self.new }
     {
+        match short_standing(self) {
+            Some((line, next)) => {
+                kept_answers_stay_right();
+                self.begin();
+                carry_short(self, Origin::Program(next), line)
+            }
+            None => self.step_long(),
+        }
+    }
+
+    /// The same for any line, apart from the short ones' machine code.
+    #[inline(never)]
+    fn step_long(&mut self) -> Result<BriefOutcome, FocalRefusal>
+        requires { AreRight self.old }
+        ensures line { StepsBriefly (machine_of self.old) (machine_of self.new) result }
+        ensures unchanged { OnErr result (machine_of self.new ≡ machine_of self.old) }
+        ensures elsewhere { result ≡ Ok Elsewhere
+            → machine_of self.new ≡ machine_of self.old }
+        ensures kept { StepKeeps None self.old self.new }
+        ensures mark { KeepsMark (begun_ram self.old.ram) self.new.ram }
+        ensures clear { self.new.ram.touched ≡ false }
+        ensures right { AreRight self.new }
+    {
+        match number_standing(self) {
+            Some((number, next)) => {
+                kept_answers_stay_right();
+                self.begin();
+                Ok(number_line(self, Origin::Program(next), number))
+            }
+            None => self.step_whole(),
+        }
+    }
+
+    /// The same where the line is read whole.
+    #[inline(never)]
+    fn step_whole(&mut self) -> Result<BriefOutcome, FocalRefusal>
+        requires { AreRight self.old }
+        ensures line { StepsBriefly (machine_of self.old) (machine_of self.new) result }
+        ensures unchanged { OnErr result (machine_of self.new ≡ machine_of self.old) }
+        ensures elsewhere { result ≡ Ok Elsewhere
+            → machine_of self.new ≡ machine_of self.old }
+        ensures kept { StepKeeps None self.old self.new }
+        ensures mark { KeepsMark (begun_ram self.old.ram) self.new.ram }
+        ensures clear { self.new.ram.touched ≡ false }
+        ensures right { AreRight self.new }
+    {
         kept_answers_stay_right();
         self.begin();
-        if let Some((line, next)) = short_standing(self) {
-            return carry_short(self, Origin::Program(next), line);
-        }
         let (line, next) = standing(self)?;
         carry_briefly(self, Origin::Program(next), &line)
     }

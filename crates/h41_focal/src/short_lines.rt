@@ -3,7 +3,8 @@
 ghost use Rattle.std.specs.Prelude.{◌≡◌, IfSome, Ok, OnErr};
 ghost use Rattle.h41_codes.specs.ShortLines.{line_of};
 ghost use Rattle.h41_focal.specs.LabelledMachine.{machine_of};
-ghost use Rattle.h41_focal.specs.private.Carrying.{IsReady, Stands, StandsAt, TakesBriefly};
+ghost use Rattle.h41_focal.specs.private.Carrying.{IsReady, Stands, StandsAt, StandsNumber};
+ghost use Rattle.h41_focal.specs.private.Carrying.{StandsNumberAt, TakesBriefly};
 ghost use Rattle.h41_focal.specs.private.Searching.{AsksOf};
 ghost use Rattle.h41_labels.specs.KeptAnswers.{IsRight};
 ghost use Rattle.h41_ram.specs.RamState.{KeepsMark};
@@ -19,8 +20,11 @@ use crate::outcome::BriefOutcome;
 use crate::refusal::FocalRefusal;
 use crate::stack_lines::be_silent;
 use h41_codes::{Branch, Parameter, ShortLine};
+use h41_digits::Reg;
+use h41_numbers::plain_number;
 use h41_program::{Position, short_line};
 use h41_ram::Ram;
+use h41_rows::number_register;
 
 /// The short line that stands at the position itself, and the position of the next, as `standing` answers them; `None` also where
 /// `standing` has to tell more.
@@ -46,6 +50,28 @@ fn short_standing_at<const REGS: usize>(
     }
     match short_line(ram, at) {
         Some((line, next)) => Some((line, next)),
+        None => None,
+    }
+}
+
+/// The register of the number line that stands at the position, and the position of the next, where the number is read in one pass.
+#[inline(always)]
+pub fn number_standing<const REGS: usize>(machine: &Machine<REGS>) -> Option<(Reg, Position)>
+    ensures { IfSome result (λ found. StandsNumber (machine_of machine.now) found.0 found.1) }
+{
+    number_standing_at(&machine.ram, machine.focal.position)
+}
+
+/// The same at a position.
+#[inline(always)]
+fn number_standing_at<const REGS: usize>(ram: &Ram<REGS>, at: Position) -> Option<(Reg, Position)>
+    ensures { IfSome result (λ found. StandsNumberAt ram.now.registers at found.0 found.1) }
+{
+    if !ram.is_sound() {
+        return None;
+    }
+    match plain_number(ram, at) {
+        Some((number, next)) => Some((number_register(number), next)),
         None => None,
     }
 }

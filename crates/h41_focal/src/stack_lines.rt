@@ -1,11 +1,14 @@
 //! Lines that move the stack, and lines that do little else.
 
-ghost use Rattle.std.specs.Prelude.{◌≡◌, ℕ};
+ghost use Rattle.std.specs.Prelude.{◌≡◌, ℕ, List};
+ghost use Rattle.h41_codes.specs.declared.characters.Character.{Character};
 ghost use Rattle.h41_codes.specs.declared.line.Line.TheVariants as lines;
 ghost use Rattle.h41_focal.specs.LabelledMachine.{Keeps, machine_of};
 ghost use Rattle.h41_focal.specs.private.Carrying.{DoesLine, DoesWork, IsReady, LeavesRow};
 ghost use Rattle.h41_focal.specs.private.Carrying.{on_to_next};
+ghost use Rattle.h41_rows.specs.Computing.{IsAlways};
 ghost use Rattle.h41_rows.specs.Rows.{lifting_row, silent_row};
+ghost use Rattle.h41_rows.specs.Values.{Written};
 ghost use Rattle.h41_focal.specs.private.StackMoves.{Moves};
 ghost use Rattle.h41_focal.specs.private.Works.{move_row};
 ghost use Rattle.h41_focal.specs.declared.works.FunctionWork.TheVariants.{ClearRegisters, Move};
@@ -18,11 +21,10 @@ use crate::machine::Machine;
 use crate::origin::Origin;
 use crate::outcome::BriefOutcome;
 use crate::works::Movement;
-use h41_codes::Number;
+use h41_digits::Reg;
 use h41_ram::{Ram, StatusRegister};
 use h41_rows::{
-    bring_in, bring_in_from, clear_data, clear_stack, enter, exchange, pi, roll_down, roll_up,
-    written, zero,
+    bring_in, bring_in_from, clear_data, clear_stack, enter, exchange, pi, roll_down, roll_up, zero,
 };
 
 /// The address of Y.
@@ -90,15 +92,16 @@ fn go_on_behind(focal: &mut Focal, origin: Origin, movement: Movement)
 pub fn number_line<const REGS: usize>(
     machine: &mut Machine<REGS>,
     origin: Origin,
-    number: &Number,
+    number: Reg,
 ) -> BriefOutcome
     requires { IsReady origin (machine_of machine.old) }
-    ensures done { DoesLine origin (lines.Number number.now) (machine_of machine.old)
+    ensures done { (text : List Character) → IsAlways (Written text) number
+        → DoesLine origin (lines.Number text) (machine_of machine.old)
         (machine_of machine.new) result }
     ensures keeps { Keeps machine.old machine.new }
     ensures left { LeavesMark machine.old.ram machine.new.ram }
 {
-    bring_in(&mut machine.ram, written(number), machine.focal.lift);
+    bring_in(&mut machine.ram, number, machine.focal.lift);
     go_on_lifting(&mut machine.focal, origin);
     BriefOutcome::Done
 }

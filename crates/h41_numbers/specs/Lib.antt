@@ -1,3 +1,4 @@
+pub mod MemoryNumbers
 pub mod NumberLaws
 pub mod NumberLines
 pub mod private

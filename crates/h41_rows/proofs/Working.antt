@@ -5,14 +5,16 @@ use Rattle.std.specs.Prelude.{ℤ, pos, neg_ℤ, ◌+ℤ◌, ◌-ℤ◌, ◌*ℤ
 use Rattle.std.specs.Option.{option_map_or}
 use Rattle.h41_decimal.specs.Holding.{Holding, Text, Other, holding, holding_of, number_in, text_in, worth}
 use Rattle.h41_decimal.specs.NearestDecimal.{Nearest, NearestRoot}
-use Rattle.h41_decimal.specs.Operations.{NearestQuotient}
+use Rattle.h41_decimal.specs.Operations.{NearestQuotient, RoundsTo, step_of}
 use Rattle.h41_decimal.specs.Signs.{sign_of}
 use Rattle.h41_decimal.specs.Units.{one, units}
 use Rattle.h41_decimal.specs.WholeParts.{IsFraction, IsIntegerPart}
+use Rattle.h41_decimal.specs.declared.places.Places.{Places}
 use Rattle.h41_decimal.specs.declared.ten.Ten.{Ten}
 use Rattle.h41_ram.specs.NamedFlags.{range_ignore}
 use Rattle.h41_ram.specs.RegisterMap.{RegisterMap, flag_of, register_at}
-use Rattle.h41_rows.specs.private.Answers.{KeptOne, KeptTwo, WithoutNumber, WorksOnRegisters, sign_of_two, worth_at}
+use Rattle.h41_rows.specs.private.Answers.{KeptOne, KeptTwo, RoundsAt, WithoutNumber, WorksOnRegister, WorksOnRegisters}
+use Rattle.h41_rows.specs.private.Answers.{sign_of_two}
 use Rattle.h41_rows.specs.Computing.{IsAlways, WorksOn, WorksOnOne, value_of_one, value_of_two}
 use Rattle.h41_rows.specs.Counters.{Up, Down, number_after}
 use Rattle.h41_rows.specs.Places.{RowPlace, amount_in, are_numbers, place_address, register_in}
@@ -42,6 +44,10 @@ worth_is_number : (number : Option ℤ) (register : List ℕ) → worth (holding
 worth_is_number (Some number) register = refl
 worth_is_number None register = no_worth (slice_index register 13 == 1) (Text (text_in register)) refl
 
+-- the number in the register at an address
+abbrev worth_at : RegisterMap → ℕ → Option ℤ
+worth_at memory address = worth (holding_of (register_at memory address))
+
 -- the number in a place
 pub amount_of : (memory : RegisterMap) (named : ℕ) (a : RowPlace) (address : ℕ) (number : ℤ) → place_address named a ≡ address
     → worth_at memory address ≡ Some number → number ≡ amount_in memory named a
@@ -53,56 +59,81 @@ pub number_of : (memory : RegisterMap) (named : ℕ) (a : RowPlace) (address : �
 number_of memory named a address number e w =
     sym (worth_is_number (number_in (register_in memory named a)) (register_in memory named a)) ∙ (ap (λ k. worth_at memory k) e ∙ w)
 
+-- a register that stands in a place holds the number that it holds
+held_there : (register : List ℕ) (other : RegisterMap) (named : ℕ) (a : RowPlace) (number : Option ℤ)
+    → register_in other named a ≡ register → worth (holding_of register) ≡ number
+    → worth (holding_of (register_in other named a)) ≡ number
+held_there register other named a number e w = ap (λ (r : List ℕ). worth (holding_of r)) e ∙ w
+
+amount_there : (register : List ℕ) (other : RegisterMap) (named : ℕ) (a : RowPlace) (number : ℤ)
+    → register_in other named a ≡ register → worth (holding_of register) ≡ Some number → number ≡ amount_in other named a
+amount_there register other named a number e w =
+    amount_of other named a (place_address named a) number refl (held_there register other named a (Some number) e w)
+
+number_there : (register : List ℕ) (other : RegisterMap) (named : ℕ) (a : RowPlace) (number : Option ℤ)
+    → register_in other named a ≡ register → worth (holding_of register) ≡ number
+    → number_in (register_in other named a) ≡ number
+number_there register other named a number e w =
+    number_of other named a (place_address named a) number refl (held_there register other named a number e w)
+
 -- one place
 pub computes_one : (value : ValueOfOne) (memory : RegisterMap) (named : ℕ) (a : RowPlace) (number : Ten)
-    (result : Result (List ℕ) LineFault)
+    (places : Places) (result : Result (List ℕ) LineFault)
     → units number ≡ amount_in memory named a → worth (holding_of (register_in memory named a)) ≡ Some (units number)
-    → KeptOne value memory number result → Computes (value_of_one value a) memory named result
-computes_one ones.Root memory named a number result e w k =
+    → RoundsAt value memory places → KeptOne value places (flag_of memory range_ignore) number result
+    → Computes (value_of_one value a) memory named result
+computes_one ones.Root memory named a number places result e w at k =
     record { answer = k.answer; nearest = subst (λ (t : ℤ). NearestRoot t k.answer) e k.answers; kept = k.kept }
-computes_one ones.Inverse memory named a number result e w k =
+computes_one ones.Inverse memory named a number places result e w at k =
     record { answer = k.answer; nearest = subst (λ (t : ℤ). NearestQuotient (pos one) t k.answer) e k.answers; kept = k.kept }
-computes_one ones.Negative memory named a number result e w k =
+computes_one ones.Negative memory named a number places result e w at k =
     record { answer = k.answer; nearest = subst (λ (t : ℤ). Nearest (neg_ℤ t) 1 k.answer) e k.answers; kept = k.kept }
-computes_one ones.AbsoluteValue memory named a number result e w k =
+computes_one ones.AbsoluteValue memory named a number places result e w at k =
     record { answer = k.answer; nearest = subst (λ (t : ℤ). Nearest (pos (unsigned_abs t)) 1 k.answer) e k.answers; kept = k.kept }
-computes_one ones.IntegerPart memory named a number result e w k =
+computes_one ones.IntegerPart memory named a number places result e w at k =
     record {
       answer = k.answer;
       nearest = subst (λ (t : ℤ). (part : ℤ) × IsIntegerPart t part × Nearest part 1 k.answer) e k.answers;
       kept = k.kept;
     }
-computes_one ones.Fraction memory named a number result e w k =
+computes_one ones.Fraction memory named a number places result e w at k =
     record {
       answer = k.answer;
       nearest = subst (λ (t : ℤ). (rest : ℤ) × IsFraction t rest × Nearest rest 1 k.answer) e k.answers;
       kept = k.kept;
     }
-computes_one ones.Displayed memory named a number result e w k =
+computes_one ones.Displayed memory named a number places result e w at k =
     record {
       answer = k.answer;
-      nearest = (number, e, k.answers);
+      nearest = (
+        number,
+        e,
+        subst (λ (rounded : Places). RoundsTo (step_of rounded number) (units number) k.answer) at k.answers,
+      );
       kept = subst (λ (t : ℤ). Kept (sign_of t) (flag_of memory range_ignore) k.answer result) e k.kept;
     }
-computes_one ones.Unit memory named a number result e w k =
+computes_one ones.Unit memory named a number places result e w at k =
     record {
       answer = k.answer;
       nearest = subst (λ (o : Option ℤ). Nearest (option_map_or unit_of o (pos 0)) 1 k.answer) (sym w) k.answers;
       kept = k.kept;
     }
-computes_one ones.CountedUp memory named a number result e w k =
+computes_one ones.CountedUp memory named a number places result e w at k =
     record { answer = k.answer; nearest = subst (λ (t : ℤ). Nearest (number_after Up t) 1 k.answer) e k.answers; kept = k.kept }
-computes_one ones.CountedDown memory named a number result e w k =
+computes_one ones.CountedDown memory named a number places result e w at k =
     record { answer = k.answer; nearest = subst (λ (t : ℤ). Nearest (number_after Down t) 1 k.answer) e k.answers; kept = k.kept }
 
-pub works_one : (value : ValueOfOne) (memory : RegisterMap) (address : ℕ) (number : Ten) (result : Result (List ℕ) LineFault)
-    → worth_at memory address ≡ Some (units number) → KeptOne value memory number result → WorksOnOne value memory address result
-works_one value memory address number result w k named a e =
-    let amount = amount_of memory named a address (units number) e w in
-    let there : worth (holding_of (register_in memory named a)) ≡ Some (units number) = ap (λ (n : ℕ). worth_at memory n) e ∙ w in
+pub works_one : (value : ValueOfOne) (register : List ℕ) (places : Places) (ignores_range : Bool) (number : Ten)
+    (result : Result (List ℕ) LineFault)
+    → worth (holding_of register) ≡ Some (units number) → KeptOne value places ignores_range number result
+    → WorksOnRegister value register places ignores_range result
+works_one value register places ignores_range number result w k memory named a e at flag =
+    let amount = amount_there register memory named a (units number) e w in
+    let there = held_there register memory named a (Some (units number)) e w in
     let is_one : are_numbers memory named (a ∷ []) ≡ true =
-    ap (λ (o : Option ℤ). is_some o && true) (number_of memory named a address (Some (units number)) e w) in
-    worked value is_one (computes_one value memory named a number result amount there k)
+    ap (λ (o : Option ℤ). is_some o && true) (number_there register memory named a (Some (units number)) e w) in
+    let kept = subst (λ (ignored : Bool). KeptOne value places ignored number result) (sym flag) k in
+    worked value is_one (computes_one value memory named a number places result amount there at kept)
   where
     worked : (value : ValueOfOne) → are_numbers memory named (a ∷ []) ≡ true → Computes (value_of_one value a) memory named result
         → WorksOn memory named (value_of_one value a) result
@@ -130,12 +161,14 @@ unit_of_none memory named a (Ok register) none always =
     }
 unit_of_none memory named a (Err fault) none always = absurd always
 
-pub works_without : (value : ValueOfOne) (memory : RegisterMap) (address : ℕ) (fault : LineFault) (result : Result (List ℕ) LineFault)
-    → worth_at memory address ≡ None → fault ≡ AlphaData → WithoutNumber value fault result → WorksOnOne value memory address result
-works_without value memory address fault result w f without named a e =
-    let there : worth (holding_of (register_in memory named a)) ≡ None = ap (λ (n : ℕ). worth_at memory n) e ∙ w in
+pub works_without : (value : ValueOfOne) (register : List ℕ) (places : Places) (ignores_range : Bool) (fault : LineFault)
+    (result : Result (List ℕ) LineFault)
+    → worth (holding_of register) ≡ None → fault ≡ AlphaData → WithoutNumber value fault result
+    → WorksOnRegister value register places ignores_range result
+works_without value register places ignores_range fault result w f without memory named a e at flag =
+    let there = held_there register memory named a None e w in
     let is_none : are_numbers memory named (a ∷ []) ≡ false =
-    ap (λ (o : Option ℤ). is_some o && true) (number_of memory named a address None e w) in
+    ap (λ (o : Option ℤ). is_some o && true) (number_there register memory named a None e w) in
     let said : Err fault ≡ Err AlphaData = ap Err f in
     refused value is_none there said without
   where
@@ -152,6 +185,14 @@ works_without value memory address fault result w f without named a e =
     refused ones.Unit t none said without = unit_of_none memory named a result none without
     refused ones.CountedUp t none said without = where_false _ _ _ t (without ∙ said)
     refused ones.CountedDown t none said without = where_false _ _ _ t (without ∙ said)
+
+-- the same of the register at an address
+pub one_at : (value : ValueOfOne) (memory : RegisterMap) (address : ℕ) (register : List ℕ) (places : Places) (ignores_range : Bool)
+    (result : Result (List ℕ) LineFault)
+    → register ≡ register_at memory address → RoundsAt value memory places → ignores_range ≡ flag_of memory range_ignore
+    → WorksOnRegister value register places ignores_range result → WorksOnOne value memory address result
+one_at value memory address register places ignores_range result same at flag works named a e =
+    works memory named a (ap (register_at memory) e ∙ sym same) at (sym flag)
 
 -- two places
 pub computes_two : (value : ValueOfTwo) (memory : RegisterMap) (named : ℕ) (a b : RowPlace) (x y : Ten) (result : Result (List ℕ) LineFault)
@@ -218,23 +259,6 @@ two_asked twos.Product memory named a b = refl
 two_asked twos.Quotient memory named a b = refl
 two_asked twos.Remainder memory named a b = refl
 two_asked twos.Percentage memory named a b = refl
-
--- a register that stands in a place holds the number that it holds
-held_there : (register : List ℕ) (other : RegisterMap) (named : ℕ) (a : RowPlace) (number : Option ℤ)
-    → register_in other named a ≡ register → worth (holding_of register) ≡ number
-    → worth (holding_of (register_in other named a)) ≡ number
-held_there register other named a number e w = ap (λ (r : List ℕ). worth (holding_of r)) e ∙ w
-
-amount_there : (register : List ℕ) (other : RegisterMap) (named : ℕ) (a : RowPlace) (number : ℤ)
-    → register_in other named a ≡ register → worth (holding_of register) ≡ Some number → number ≡ amount_in other named a
-amount_there register other named a number e w =
-    amount_of other named a (place_address named a) number refl (held_there register other named a (Some number) e w)
-
-number_there : (register : List ℕ) (other : RegisterMap) (named : ℕ) (a : RowPlace) (number : Option ℤ)
-    → register_in other named a ≡ register → worth (holding_of register) ≡ number
-    → number_in (register_in other named a) ≡ number
-number_there register other named a number e w =
-    number_of other named a (place_address named a) number refl (held_there register other named a number e w)
 
 -- a value of the numbers in two registers
 pub works_two : (value : ValueOfTwo) (first second : List ℕ) (ignores_range : Bool) (x y : Ten) (result : Result (List ℕ) LineFault)

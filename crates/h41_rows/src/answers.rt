@@ -5,11 +5,9 @@ ghost use Rattle.h41_decimal.specs.NearestDecimal.{Nearest};
 ghost use Rattle.h41_decimal.specs.Operations.{NearestQuotient};
 ghost use Rattle.h41_decimal.specs.Units.{one, units};
 ghost use Rattle.h41_decimal.specs.WholeParts.{IsFraction, IsIntegerPart};
-ghost use Rattle.h41_ram.specs.NamedFlags.{range_ignore};
-ghost use Rattle.h41_ram.specs.RegisterMap.{flag_of};
 ghost use Rattle.h41_show.specs.DisplayFormat.{format_of};
-ghost use Rattle.h41_rows.specs.private.Answers.{AnswersOne, AnswersTwo, IsNumberAt, IsNumberIn};
-ghost use Rattle.h41_rows.specs.private.Answers.{KeptByFlag, KeptRange, sign_of_one, sign_of_two};
+ghost use Rattle.h41_rows.specs.private.Answers.{AnswersOne, AnswersTwo, IsNumberIn};
+ghost use Rattle.h41_rows.specs.private.Answers.{KeptByFlag, RoundsAt, sign_of_one, sign_of_two};
 ghost use Rattle.h41_rows.specs.Values.{IsRegisterOf, Kept, places_of, unit_of};
 
 use crate::counters::{counted_down, counted_up};
@@ -20,15 +18,7 @@ use h41_decimal::{DecimalFault, Places, Sign, Ten};
 use h41_digits::Reg;
 use h41_numbers::{sign_of_difference, sign_of_product, sign_of_sum};
 use h41_ram::Ram;
-use h41_ram::flags::RANGE_IGNORE;
 use h41_show::{Format, Notation};
-
-/// The number in the register at an address, or that it holds none.
-pub fn number_at<const REGS: usize>(ram: &Ram<REGS>, address: u16) -> Result<Ten, LineFault>
-    ensures { IsNumberAt ram.now.registers address result }
-{
-    number_in(ram.read(address))
-}
 
 /// The number in a register, or that it holds none.
 #[inline(always)]
@@ -49,29 +39,23 @@ pub fn register(number: Ten) -> Reg
     number.to_reg()
 }
 
-/// The register of an answer with a sign, or the fault that stands for it.
-pub fn kept<const REGS: usize>(
-    ram: &Ram<REGS>,
+/// The register of an answer with a sign, or the fault that stands for it, where flag 24 is known.
+#[inline(always)]
+pub fn kept(
     answer: Result<Ten, DecimalFault>,
     sign: Sign,
+    ignores_range: bool,
 ) -> Result<Reg, LineFault>
-    ensures { Kept sign (flag_of ram.now.registers range_ignore) answer result }
+    ensures { Kept sign ignores_range answer result }
 {
     match answer {
         Ok(number) => Ok(register(number)),
         Err(DecimalFault::Data) => Err(LineFault::DataError),
-        Err(DecimalFault::Range) => out_of_range(ram, sign),
+        Err(DecimalFault::Range) => kept_by_flag(ignores_range, sign),
     }
 }
 
 /// What stands for a result out of range with a sign: the greatest number where flag 24 is set.
-pub fn out_of_range<const REGS: usize>(ram: &Ram<REGS>, sign: Sign) -> Result<Reg, LineFault>
-    ensures { KeptRange ram.now.registers sign result }
-{
-    kept_by_flag(ram.flag(RANGE_IGNORE), sign)
-}
-
-/// The same where flag 24 is known.
 pub fn kept_by_flag(ignores_range: bool, sign: Sign) -> Result<Reg, LineFault>
     ensures { KeptByFlag ignores_range sign result }
 {
@@ -82,13 +66,10 @@ pub fn kept_by_flag(ignores_range: bool, sign: Sign) -> Result<Reg, LineFault>
     }
 }
 
-/// The answer for one number.
-pub fn answer_of_one<const REGS: usize>(
-    ram: &Ram<REGS>,
-    value: ValueOfOne,
-    number: Ten,
-) -> Result<Ten, DecimalFault>
-    ensures { AnswersOne value ram.now.registers number result }
+/// The answer for one number, where it is known to how many decimals or digits the display format rounds.
+#[inline(always)]
+pub fn answer_of_one(value: ValueOfOne, number: Ten, places: Places) -> Result<Ten, DecimalFault>
+    ensures { AnswersOne value places number result }
 {
     match value {
         ValueOfOne::Root => number.sqrt(),
@@ -97,7 +78,7 @@ pub fn answer_of_one<const REGS: usize>(
         ValueOfOne::AbsoluteValue => absolute_value(number),
         ValueOfOne::IntegerPart => integer_part(number),
         ValueOfOne::Fraction => fraction(number),
-        ValueOfOne::Displayed => number.round_to(display_places(ram)),
+        ValueOfOne::Displayed => number.round_to(places),
         ValueOfOne::Unit => unit(number),
         ValueOfOne::CountedUp => counted_up(number),
         ValueOfOne::CountedDown => counted_down(number),
@@ -192,6 +173,16 @@ fn unit(number: Ten) -> Result<Ten, DecimalFault>
     ensures { Nearest (unit_of (units number)) 1 result }
 {
     exact(number.signum())
+}
+
+/// To how many decimals or digits a value rounds: the displayed one as the display format says.
+pub fn places_of<const REGS: usize>(ram: &Ram<REGS>, value: ValueOfOne) -> Places
+    ensures { RoundsAt value ram.now.registers result }
+{
+    match value {
+        ValueOfOne::Displayed => display_places(ram),
+        _ => Places::Decimals(0),
+    }
 }
 
 /// To how many decimals or digits the display format rounds.

@@ -7,12 +7,13 @@ ghost use Rattle.h41_rows.specs.Results.{result_map};
 ghost use Rattle.h41_rows.specs.declared.values.ValueOfOne.TheVariants.{CountedDown, CountedUp};
 ghost use Rattle.h41_rows.specs.private.Counting.{value_along, way_of};
 
-use crate::answers::{kept, number_at};
+use crate::answers::{kept, number_in};
 use crate::counters::{counted, five_decimals, goes_on};
 use crate::fault::LineFault;
 use h41_decimal::Sign;
 use h41_digits::Reg;
 use h41_ram::Ram;
+use h41_ram::flags::RANGE_IGNORE;
 
 /// A loop's counter, counted.
 #[derive(Clone, Copy, Debug, PartialEq, Eq)]
@@ -55,10 +56,11 @@ fn loop_along<const REGS: usize>(
         (λ counted. counted.goes_on
         ≡ goes_on (way_of direction) (amount_at ram.now.registers address)) }
 {
-    match number_at(ram, address) {
+    match number_in(ram.read(address)) {
         Ok(number) => {
             let decimals = five_decimals(number);
-            match kept(ram, counted(number, direction, decimals), Sign::Plus) {
+            let answer = counted(number, direction, decimals);
+            match kept(answer, Sign::Plus, ram.flag(RANGE_IGNORE)) {
                 Ok(register) => {
                     let goes_on = goes_on(number, direction, decimals);
                     Ok(CountedLoop { register, goes_on })

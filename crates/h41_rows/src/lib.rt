@@ -27,4 +27,6 @@ pub use stack::{
     bring_in, bring_in_from, clear_stack, drop_into, enter, exchange, keep_last, roll_down,
     roll_up, store_x,
 };
-pub use values::{ValueOfOne, ValueOfTwo, compute_of_one, compute_of_two, pi, written, zero};
+pub use values::{
+    ValueOfOne, ValueOfTwo, compute_of_one, compute_of_two, number_register, pi, written, zero,
+};

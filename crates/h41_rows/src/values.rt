@@ -1,21 +1,23 @@
 //! The values that lines compute.
 
-ghost use Rattle.std.specs.Prelude.{pos};
+ghost use Rattle.std.specs.Prelude.{List, pos};
+ghost use Rattle.h41_codes.specs.declared.characters.Character.{Character};
 ghost use Rattle.h41_decimal.specs.Units.{units};
+ghost use Rattle.h41_numbers.specs.NumberLines.{IsNumberOf};
 ghost use Rattle.h41_rows.specs.private.Answers.{KeptOne, KeptTwo, WithoutNumber};
-ghost use Rattle.h41_rows.specs.private.Answers.{WorksOnRegisters};
+ghost use Rattle.h41_rows.specs.private.Answers.{WorksOnRegister, WorksOnRegisters};
 ghost use Rattle.h41_rows.specs.Computing.{IsAlways, WorksOnOne, WorksOnTwo};
 ghost use Rattle.h41_rows.specs.FunctionRows as functions;
 ghost use Rattle.h41_rows.specs.Values.{Given, Written};
 
 use crate::answers::{
-    answer_of_one, answer_of_two, kept, kept_by_flag, number_at, number_in, register, sign_of_one,
+    answer_of_one, answer_of_two, kept, kept_by_flag, number_in, places_of, register, sign_of_one,
     sign_of_two,
 };
 use crate::fault::LineFault;
 use h41_codes::Number;
 use h41_decimal::laws::decimal_is_its_nearest;
-use h41_decimal::{DecimalFault, Exponent, Magnitude, Mantissa, Sign, Ten};
+use h41_decimal::{DecimalFault, Exponent, Magnitude, Mantissa, Places, Sign, Ten};
 use h41_digits::Reg;
 use h41_numbers::number_of;
 use h41_ram::Ram;
@@ -73,8 +75,27 @@ pub fn compute_of_one<const REGS: usize>(
 ) -> Result<Reg, LineFault>
     ensures { WorksOnOne value ram.now.registers address result }
 {
-    match number_at(ram, address) {
-        Ok(number) => kept_of_one(ram, value, number),
+    of_register(
+        value,
+        ram.read(address),
+        places_of(ram, value),
+        ram.flag(RANGE_IGNORE),
+    )
+}
+
+/// The same of the number in a register, where it is known to how many places the value rounds, and flag 24. All sizes of memory
+/// share this code.
+#[inline(never)]
+fn of_register(
+    value: ValueOfOne,
+    register: Reg,
+    places: Places,
+    ignores_range: bool,
+) -> Result<Reg, LineFault>
+    ensures { WorksOnRegister value register places ignores_range result }
+{
+    match number_in(register) {
+        Ok(number) => kept_of_one(value, number, places, ignores_range),
         Err(fault) => without_number(value, fault),
     }
 }
@@ -137,18 +158,27 @@ pub fn written(number: &Number) -> Reg
     register(number_of(number.characters()))
 }
 
-/// The register of a value of one number.
-fn kept_of_one<const REGS: usize>(
-    ram: &Ram<REGS>,
+/// The register of the number of a number line.
+pub fn number_register(number: Ten) -> Reg
+    ensures { (text : List Character) → IsNumberOf text number → IsAlways (Written text) result }
+{
+    register(number)
+}
+
+/// The register of a value of one number, likewise.
+#[inline(always)]
+fn kept_of_one(
     value: ValueOfOne,
     number: Ten,
+    places: Places,
+    ignores_range: bool,
 ) -> Result<Reg, LineFault>
-    ensures { KeptOne value ram.now.registers number result }
+    ensures { KeptOne value places ignores_range number result }
 {
     kept(
-        ram,
-        answer_of_one(ram, value, number),
+        answer_of_one(value, number, places),
         sign_of_one(value, number),
+        ignores_range,
     )
 }
 

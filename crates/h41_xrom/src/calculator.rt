@@ -220,7 +220,10 @@ impl<const REGS: usize> Calculator<REGS> {
     fn end_entry(&mut self)
         ensures { self.new ≡ not_typing self.old }
     {
-        self.input.entry = TypedEntry::Nothing;
+        match self.input.entry {
+            TypedEntry::Nothing => {}
+            _ => self.input.entry = TypedEntry::Nothing,
+        }
     }
 
     /// The function at an address runs.

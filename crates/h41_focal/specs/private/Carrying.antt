@@ -1,6 +1,7 @@
 -- What private functions promise one another.
 use Rattle.std.specs.Prelude.{◌≡◌, ◌≤◌, ℕ, length, Some, Bool, false, IsTrue, List, [], MatchBool}
 use Rattle.std.specs.Prelude.{Result, Ok, Err, ⊤}
+use Rattle.h41_codes.specs.declared.characters.Character.{Character}
 use Rattle.h41_codes.specs.declared.functions.Branch.{Branch}
 use Rattle.h41_codes.specs.declared.functions.NameFunction.{NameFunction}
 use Rattle.h41_codes.specs.declared.functions.ParameterFunction.{ParameterFunction}
@@ -19,9 +20,10 @@ use Rattle.h41_rows.specs.Operands.{Address, Count, DigitKind, FlagKind, Meant, 
 use Rattle.h41_rows.specs.Operands.{RegisterKind, meant_as, meant_of}
 use Rattle.h41_focal.specs.Outcomes.{Answer}
 use Rattle.h41_focal.specs.Outcomes as answers
-use Rattle.h41_rows.specs.Computing.{meant_by}
+use Rattle.h41_rows.specs.Computing.{IsAlways, meant_by}
 use Rattle.h41_rows.specs.RowEffects.{lift_after, with_alpha_change}
 use Rattle.h41_rows.specs.Rows.{Appends, Becomes, Lift, LineRow}
+use Rattle.h41_rows.specs.Values.{Written}
 use Rattle.h41_focal.specs.private.Works.{digits_use_row, flag_use_row, highest_of}
 use Rattle.h41_focal.specs.private.Works.{register_use_row}
 use Rattle.h41_focal.specs.private.Works.{row_of_work}
@@ -181,6 +183,17 @@ StandsAt memory at (Err refusal) =
 
 abbrev pub Stands : Machine → Result (Line × Position) FocalRefusal → Type 0
 Stands machine result = StandsAt machine.memory machine.focal.position result
+
+-- the line that stands there is a number line, and this is the register of its number
+abbrev pub StandsNumberAt : RegisterMap → Position → List ℕ → Position → Type 0
+StandsNumberAt memory at register next =
+    (text : List Character)
+    × StandsAt memory at (Ok (lines.Number text, next))
+    × IsAlways (Written text) register
+
+abbrev pub StandsNumber : Machine → List ℕ → Position → Type 0
+StandsNumber machine register next =
+    StandsNumberAt machine.memory machine.focal.position register next
 
 -- the same of a row that names no register, of a line without an operand, of the work of a
 -- function, of the use of a register or a flag

@@ -1,6 +1,6 @@
 -- What is answered for numbers, before a register is made of it.
-use Rattle.std.specs.Prelude.{◌≡◌, ℕ, ◌*◌, Option, Some, None, Result, Ok, Err, MatchBool, IsOkAnd}
-use Rattle.std.specs.Prelude.{Bool, List, ℤ, pos, neg_ℤ, ◌+ℤ◌, ◌-ℤ◌, ◌*ℤ◌, unsigned_abs}
+use Rattle.std.specs.Prelude.{◌≡◌, ℕ, ◌*◌, Some, None, Result, Ok, Err, MatchBool, IsOkAnd}
+use Rattle.std.specs.Prelude.{⊤, Bool, List, ℤ, pos, neg_ℤ, ◌+ℤ◌, ◌-ℤ◌, ◌*ℤ◌, unsigned_abs}
 use Rattle.h41_decimal.specs.Holding.{holding_of, worth}
 use Rattle.h41_decimal.specs.NearestDecimal.{Nearest, NearestRoot}
 use Rattle.h41_decimal.specs.NumberEntry.{size_of_greatest}
@@ -9,13 +9,14 @@ use Rattle.h41_decimal.specs.Signs.{sign_of, with_sign}
 use Rattle.h41_decimal.specs.Units.{one, units}
 use Rattle.h41_decimal.specs.WholeParts.{IsFraction, IsIntegerPart}
 use Rattle.h41_decimal.specs.declared.fault.DecimalFault.{DecimalFault}
+use Rattle.h41_decimal.specs.declared.places.Places.{Places}
 use Rattle.h41_decimal.specs.declared.sign.Sign.{Sign}
 use Rattle.h41_decimal.specs.declared.sign.Sign.TheVariants.{Plus}
 use Rattle.h41_decimal.specs.declared.ten.Ten.{Ten}
 use Rattle.h41_ram.specs.NamedFlags.{range_ignore}
 use Rattle.h41_ram.specs.RegisterMap.{RegisterMap, flag_of, register_at}
 use Rattle.h41_show.specs.DisplayFormat.{format_of}
-use Rattle.h41_rows.specs.Computing.{IsAlways, WorksOn, value_of_two}
+use Rattle.h41_rows.specs.Computing.{IsAlways, WorksOn, value_of_one, value_of_two}
 use Rattle.h41_rows.specs.Counters.{Up, Down, number_after}
 use Rattle.h41_rows.specs.Places.{RowPlace, register_in}
 use Rattle.h41_rows.specs.Values.{Given, IsRegisterOf, Kept, places_of, unit_of}
@@ -26,34 +27,27 @@ use Rattle.h41_rows.specs.declared.values.ValueOfOne.TheVariants as ones
 use Rattle.h41_rows.specs.declared.values.ValueOfTwo.{ValueOfTwo}
 use Rattle.h41_rows.specs.declared.values.ValueOfTwo.TheVariants as twos
 
--- the number in the register at an address, or that it holds none
-abbrev pub worth_at : RegisterMap → ℕ → Option ℤ
-worth_at memory address = worth (holding_of (register_at memory address))
-
-abbrev pub IsNumberAt : RegisterMap → ℕ → Result Ten LineFault → Type 0
-IsNumberAt memory address (Ok number) = worth_at memory address ≡ Some (units number)
-IsNumberAt memory address (Err fault) = (worth_at memory address ≡ None) × (fault ≡ AlphaData)
-
+-- the number in a register, or that it holds none
 abbrev pub IsNumberIn : List ℕ → Result Ten LineFault → Type 0
 IsNumberIn register (Ok number) = worth (holding_of register) ≡ Some (units number)
 IsNumberIn register (Err fault) = (worth (holding_of register) ≡ None) × (fault ≡ AlphaData)
 
--- the answer for one number
-abbrev pub AnswersOne : ValueOfOne → RegisterMap → Ten → Result Ten DecimalFault → Type 0
-AnswersOne ones.Root memory number answer = NearestRoot (units number) answer
-AnswersOne ones.Inverse memory number answer = NearestQuotient (pos one) (units number) answer
-AnswersOne ones.Negative memory number answer = Nearest (neg_ℤ (units number)) 1 answer
-AnswersOne ones.AbsoluteValue memory number answer =
+-- the answer for one number, which is rounded to these places where it is as the display has it
+abbrev pub AnswersOne : ValueOfOne → Places → Ten → Result Ten DecimalFault → Type 0
+AnswersOne ones.Root places number answer = NearestRoot (units number) answer
+AnswersOne ones.Inverse places number answer = NearestQuotient (pos one) (units number) answer
+AnswersOne ones.Negative places number answer = Nearest (neg_ℤ (units number)) 1 answer
+AnswersOne ones.AbsoluteValue places number answer =
     Nearest (pos (unsigned_abs (units number))) 1 answer
-AnswersOne ones.IntegerPart memory number answer =
+AnswersOne ones.IntegerPart places number answer =
     (part : ℤ) × IsIntegerPart (units number) part × Nearest part 1 answer
-AnswersOne ones.Fraction memory number answer =
+AnswersOne ones.Fraction places number answer =
     (rest : ℤ) × IsFraction (units number) rest × Nearest rest 1 answer
-AnswersOne ones.Displayed memory number answer =
-    RoundsTo (step_of (places_of (format_of memory)) number) (units number) answer
-AnswersOne ones.Unit memory number answer = Nearest (unit_of (units number)) 1 answer
-AnswersOne ones.CountedUp memory number answer = Nearest (number_after Up (units number)) 1 answer
-AnswersOne ones.CountedDown memory number answer =
+AnswersOne ones.Displayed places number answer =
+    RoundsTo (step_of places number) (units number) answer
+AnswersOne ones.Unit places number answer = Nearest (unit_of (units number)) 1 answer
+AnswersOne ones.CountedUp places number answer = Nearest (number_after Up (units number)) 1 answer
+AnswersOne ones.CountedDown places number answer =
     Nearest (number_after Down (units number)) 1 answer
 
 -- and its sign, where it can be out of range
@@ -78,27 +72,40 @@ sign_of_two twos.Quotient x y = sign_of (x *ℤ y)
 sign_of_two twos.Remainder x y = Plus
 sign_of_two twos.Percentage x y = sign_of (x *ℤ y)
 
--- what stands for a result out of range, by flag 24, or by the memory that it stands in
+-- to how many places a value rounds: as the display format says where it is displayed
+abbrev pub RoundsAt : ValueOfOne → RegisterMap → Places → Type 0
+RoundsAt ones.Displayed memory places = places ≡ places_of (format_of memory)
+RoundsAt value memory places = ⊤
+
+-- what stands for a result out of range, by flag 24
 abbrev pub KeptByFlag : Bool → Sign → Result (List ℕ) LineFault → Type 0
 KeptByFlag ignores_range sign result =
     MatchBool ignores_range
     (IsOkAnd result (IsRegisterOf (with_sign sign size_of_greatest))) (result ≡ Err OutOfRange)
 
-abbrev pub KeptRange : RegisterMap → Sign → Result (List ℕ) LineFault → Type 0
-KeptRange memory sign result = KeptByFlag (flag_of memory range_ignore) sign result
-
 -- the register of an answer for one number, or for two
-pub record KeptOne (value : ValueOfOne) (memory : RegisterMap)
+pub record KeptOne (value : ValueOfOne) (places : Places) (ignores_range : Bool)
     (number : Ten) (result : Result (List ℕ) LineFault) : Type 0 where
   pub answer : Result Ten DecimalFault
-  pub answers : AnswersOne value memory number answer
-  pub kept : Kept (sign_of_one value (units number)) (flag_of memory range_ignore) answer result
+  pub answers : AnswersOne value places number answer
+  pub kept : Kept (sign_of_one value (units number)) ignores_range answer result
 
 pub record KeptTwo (value : ValueOfTwo) (ignores_range : Bool)
     (x y : Ten) (result : Result (List ℕ) LineFault) : Type 0 where
   pub answer : Result Ten DecimalFault
   pub answers : AnswersTwo value x y answer
   pub kept : Kept (sign_of_two value (units x) (units y)) ignores_range answer result
+
+-- a value of the number in a register, whatever memory it stands in with this flag 24 and a display
+-- format that rounds so, and whatever its place is called
+abbrev pub WorksOnRegister : ValueOfOne → List ℕ → Places → Bool
+    → Result (List ℕ) LineFault → Type 0
+WorksOnRegister value register places ignores_range result =
+    (memory : RegisterMap) (named : ℕ) (a : RowPlace)
+    → register_in memory named a ≡ register
+    → RoundsAt value memory places
+    → flag_of memory range_ignore ≡ ignores_range
+    → WorksOn memory named (value_of_one value a) result
 
 -- a value of the numbers in two registers, whatever memory with this flag 24 they stand in and
 -- whatever their places are called

@@ -10,9 +10,9 @@ use Rattle.h41_rows.specs.Operands.{NoOperand}
 use Rattle.h41_focal.specs.declared.outcome.BriefOutcome.TheVariants as briefs
 
 pub returns-clause-done : goal.returns-clause-done
-returns-clause-done g c = λ named.
+returns-clause-done g c = λ text always named.
     let opened = ap (λ (inside : Inside g.row.REGS). machine_with inside.ram.registers inside.focal.state) c.machine-inside.view_is
     ∙ (ap machine_of c.machine.view_is) in
-    row_done _ (row_of (lines.Number c.args.number.now) NoOperand) named _ _ _ c.written.result briefs.Done _ _ opened
-    c.requires.next refl (c.written.ensures _ named) refl (c.bring_in.ensures.change named)
+    row_done _ (row_of (lines.Number text) NoOperand) named _ _ _ c.args.number briefs.Done _ _ opened
+    c.requires.next refl (always _ named) refl (c.bring_in.ensures.change named)
     c.go_on_lifting.ensures.state

@@ -1,11 +1,7 @@
-use Rattle.h41_rows.proofs.Working.{works_one, works_without}
+use Rattle.h41_rows.proofs.Working.{one_at}
 use Rattle.h41_rows.proofs.values.compute_of_one.Goals as goal
 
-pub returns-in-Ok : goal.returns-in-Ok
-returns-in-Ok g c =
-    works_one c.args.value c.args.ram.now.registers c.args.address c.in-Ok.number c.kept_of_one.result c.in-Ok.ensures c.kept_of_one.ensures
-
-pub returns-in-Err : goal.returns-in-Err
-returns-in-Err g c =
-    works_without c.args.value c.args.ram.now.registers c.args.address c.in-Err.fault
-    c.without_number.result c.in-Err.ensures.0 c.in-Err.ensures.1 c.without_number.ensures
+pub returns : goal.returns
+returns g c =
+    one_at c.args.value c.args.ram.now.registers c.args.address c.read.result c.places_of.result c.flag.result c.of_register.result
+    c.read.ensures c.places_of.ensures c.flag.ensures c.of_register.ensures

@@ -1,13 +1,14 @@
-use Rattle.std.proofs.Common.{◌≡◌, ap, subst, Err, None, refl}
-use Rattle.std.proofs.lemmas.Result.{err_from_is_err_and}
+use Rattle.std.proofs.Common.{◌≡◌, ap, subst, sym, Ok, None, ◌∙◌}
 use Rattle.h41_codes.specs.ShortLines.{line_of}
 use Rattle.h41_focal.specs.BriefOutcomes.{StepsBriefly}
-use Rattle.h41_focal.specs.LabelledMachine.{machine_of}
-use Rattle.h41_focal.specs.LineStep.{Machine, StepsLine}
+use Rattle.h41_focal.specs.LabelSearches.{search_of}
+use Rattle.h41_focal.specs.LabelledMachine.{LabelledMachine, machine_of}
+use Rattle.h41_focal.specs.LineStep.{Machine}
 use Rattle.h41_focal.proofs.Briefly.{call_changes_nothing, calls_elsewhere}
-use Rattle.h41_focal.proofs.LinesTaken.{step_refused, step_taken}
+use Rattle.h41_focal.proofs.LinesTaken.{step_taken}
 use Rattle.h41_focal.proofs.machine.Machine.step_briefly.Goals as goal
-use Rattle.h41_focal.specs.private.Carrying.{called_by, nowhere}
+use Rattle.h41_focal.specs.private.Carrying.{Stands, called_by}
+use Rattle.h41_labels.specs.KeptAnswers.{KeepsSearch}
 use Rattle.h41_focal.specs.declared.origin.Origin.TheVariants.{Program}
 
 pub returns-in-Some-clause-line : goal.returns-in-Some-clause-line
@@ -16,7 +17,9 @@ returns-in-Some-clause-line g c =
     (ap machine_of c.begin.ensures.begun) (
       called_by c.begin.new.self.ram.registers (line_of c.in-Some.line),
       calls_elsewhere c.begin.new.self.ram.registers (line_of c.in-Some.line),
-      step_taken None _ (line_of c.in-Some.line) c.in-Some.next _ c.in-Some.ensures c.carry_short.ensures.taken,
+      step_taken None _ (line_of c.in-Some.line) c.in-Some.next _
+          (subst (λ (machine : Machine). Stands machine (Ok (line_of c.in-Some.line, c.in-Some.next)))
+          (sym (ap machine_of c.begin.ensures.begun)) c.in-Some.ensures) c.carry_short.ensures.taken,
     )
 
 pub returns-in-Some-clause-elsewhere : goal.returns-in-Some-clause-elsewhere
@@ -30,35 +33,10 @@ returns-in-Some-clause-right g c =
     c.kept_answers_stay_right.ensures.searching c.begin.new.self c.carry_short.new.machine _ c.begin.ensures.right
     c.carry_short.ensures.kept c.carry_short.ensures.mark
 
-pub returns-in_err-line-clause-line : goal.returns-in_err-line-clause-line
-returns-in_err-line-clause-line g c =
-    let refused = err_from_is_err_and c.from_residual.result c.from_residual.ensures.1 in (
-      nowhere,
-      refl,
-      rw (refused.1, refused.2)
-          (subst (λ (machine : Machine). StepsLine None machine (Err c.in_err-line.field-0.0)) (ap machine_of c.begin.ensures.begun)
-          (step_refused None (machine_of c.begin.new.self) c.in_err-line.field-0.0 c.in_err-line.ensures)),
-    )
-
-pub returns-in_err-line-clause-right : goal.returns-in_err-line-clause-right
-returns-in_err-line-clause-right g c = λ clear. c.begin.ensures.right
-
-pub returns-clause-line : goal.returns-clause-line
-returns-clause-line g c =
-    subst (λ (machine : Machine). StepsBriefly machine (machine_of c.carry_briefly.new.machine) c.carry_briefly.result)
-    (ap machine_of c.begin.ensures.begun) (
-      called_by c.begin.new.self.ram.registers c.in_ok-line.line,
-      calls_elsewhere c.begin.new.self.ram.registers c.in_ok-line.line,
-      step_taken None _ c.in_ok-line.line c.in_ok-line.next _ c.in_ok-line.ensures c.carry_briefly.ensures.taken,
-    )
-
-pub returns-clause-elsewhere : goal.returns-clause-elsewhere
-returns-clause-elsewhere g c = λ elsewhere.
-    subst (λ (machine : Machine). machine_of c.carry_briefly.new.machine ≡ machine) (ap machine_of c.begin.ensures.begun)
-    (call_changes_nothing (Program c.in_ok-line.next) c.in_ok-line.line (machine_of c.begin.new.self)
-    (machine_of c.carry_briefly.new.machine) c.carry_briefly.result c.carry_briefly.ensures.taken elsewhere)
-
-pub returns-clause-right : goal.returns-clause-right
-returns-clause-right g c =
-    c.kept_answers_stay_right.ensures.searching c.begin.new.self c.carry_briefly.new.machine _ c.begin.ensures.right
-    c.carry_briefly.ensures.kept c.carry_briefly.ensures.mark
+pub returns-in-Some-clause-kept : goal.returns-in-Some-clause-kept
+returns-in-Some-clause-kept g c =
+    let stands = c.in-Some.ensures in
+    let next = c.in-Some.next in
+    let kept = subst (λ (m : LabelledMachine). KeepsSearch m.ram.registers (search_of m.ram.registers next (line_of c.in-Some.line))
+    m.focal.labels c.carry_short.new.machine.focal.labels) c.begin.ensures.begun c.carry_short.ensures.kept in
+    rw stands.0 (Ok stands.1.0, stands.1.1, (next, stands.2, rw stands.1.2 kept))

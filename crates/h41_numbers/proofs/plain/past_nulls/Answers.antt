@@ -1,0 +1,13 @@
+use Rattle.std.proofs.Common.{◌≡◌, Err, Ok, Result, subst}
+use Rattle.h41_program.specs.Positions.{LineAt}
+use Rattle.h41_program.specs.declared.position.PlacedLine.{PlacedLine}
+use Rattle.h41_program.specs.declared.position.Position.TheVariants.{Memory}
+use Rattle.h41_program.specs.declared.refusal.ProgramRefusal.{ProgramRefusal}
+use Rattle.h41_numbers.proofs.PlainLines.{none_past, past_found}
+use Rattle.h41_numbers.proofs.plain.past_nulls.Goals as goal
+
+pub returns-in-Ok : goal.returns-in-Ok
+returns-in-Ok g c = past_found c.args.ram.now.registers c.args.at c.in-Ok.first c.in-Ok.ensures
+
+pub returns-in-Err : goal.returns-in-Err
+returns-in-Err g c = none_past c.args.ram.now.registers c.args.at c.in-Err.field-0 c.in-Err.ensures

@@ -41,16 +41,19 @@ impl Span {
     /// The places that have this mask; where none have it, all those of a register.
     #[cold]
     pub fn from_mask(mask: u64) -> Self
-        ensures { (lo hi : ℕ) → IsFilled mask lo hi → (result.lo ≡ lo) × (result.hi ≡ hi) }
+        ensures places { (lo hi : ℕ) → IsFilled mask lo hi → (result.lo ≡ lo) × (result.hi ≡ hi) }
+        ensures none { ((lo hi : ℕ) → IsFilled mask lo hi → ⊥)
+            → (result.lo ≡ 0) × (result.hi ≡ 13) }
     {
         let first = mask & mask.wrapping_neg();
         let lo = place_of(first);
         let next = place_of(mask.wrapping_add(first));
-        if lo < next && next <= PLACES {
-            Span::new(lo, next - 1)
-        } else {
-            Span::new(0, PLACES - 1)
+        let whole = Span::new(0, PLACES - 1);
+        if next <= lo || PLACES < next {
+            return whole;
         }
+        let span = Span::new(lo, next - 1);
+        if span.mask == mask { span } else { whole }
     }
 
     /// A one at the first place: 16 to the power of `lo`.

@@ -3,7 +3,7 @@ use Rattle.h41_arith.proofs.sums.DigitOperation.digit_by_digit.Goals as goal
 
 pub returns-then-carry_out : goal.returns-then-carry_out
 returns-then-carry_out c lo hi mask =
-    let is = c.from_mask-span.ensures lo hi mask in
+    let is = c.from_mask-span.ensures.places lo hi mask in
     let made = c.over_places-digits in record {
       digits = made.result.0;
       carry_out = made.result.1;
@@ -15,7 +15,7 @@ returns-then-carry_out c lo hi mask =
 
 pub returns-else-carry_out : goal.returns-else-carry_out
 returns-else-carry_out c lo hi mask =
-    let is = c.from_mask-span.ensures lo hi mask in
+    let is = c.from_mask-span.ensures.places lo hi mask in
     let made = c.over_places-digits in record {
       digits = made.result.0;
       carry_out = made.result.1;

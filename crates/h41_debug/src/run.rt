@@ -1,14 +1,16 @@
 //! Runs: single steps up to a reason to stop.
 
-ghost use Rattle.std.specs.Prelude.{◌≡◌, ◌<◌, ◌≤◌, ◌+◌, false, if◌then◌else◌, nat_lt, None};
+ghost use Rattle.std.specs.Prelude.{◌≡◌, ◌<◌, ◌≤◌, ◌+◌, false, true, if◌then◌else◌, nat_lt, None};
 ghost use Rattle.std.specs.FinSet.{len};
 ghost use Rattle.h41_debug.specs.private.Advancing.{Advances, EndsFor, IfRunning};
 ghost use Rattle.h41_debug.specs.Bench.{Steps};
+ghost use Rattle.h41_debug.specs.Positions.{location_of};
 ghost use Rattle.h41_debug.specs.Run.{Run};
 ghost use Rattle.h41_debug.specs.private.Running.{runs_function, stop_behind, stop_running};
 ghost use Rattle.h41_xrom.specs.declared.calculator.Mode.TheVariants.{Micro};
 
 use crate::bench::Bench;
+use h41_breakpoints::Location;
 use h41_xrom::laws::step_is_determined;
 use h41_xrom::{CalculatorRefusal, Caller, Mode};
 
@@ -107,11 +109,20 @@ impl<const REGS: usize> Bench<REGS> {
                 }
             }
             made = until;
-            if watched && self.has_breakpoint(self.location()) {
+            if watched && self.has_breakpoint(self.word_location()) {
                 return (made, None);
             }
         }
         (limit, None)
+    }
+
+    /// Where the calculator is while a function runs, with no look at its mode.
+    #[inline(always)]
+    fn word_location(&self) -> Location
+        requires { runs_function self.now.calculator.mode ≡ true }
+        ensures { result ≡ location_of self.now.calculator }
+    {
+        Location::Word(self.calculator().cpu().pc())
     }
 
     /// The same, while no function runs: lines up to the limit, to one behind which no program runs or a breakpoint is set, or to one that

@@ -53,7 +53,7 @@ loop-made-preserved g c =
     let free : is_set c.loop-word.self.breakpoints (location_of c.loop-word.self.calculator) ≡ false = elim c.else-watched.branch [
       | else-watched-via-then-watched+else-has_breakpoint w ↦
           subst (λ at. is_set c.loop-word.self.breakpoints at ≡ false)
-          w.location.ensures (sym w.has_breakpoint.ensures ∙ w.if-has_breakpoint.false)
+          w.word_location.ensures (sym w.has_breakpoint.ensures ∙ w.if-has_breakpoint.false)
       | else-watched-via-else-watched w ↦
           rw kept
           (sym (none_set c.args.self.now.breakpoints (location_of c.loop-word.self.calculator) (c.requires.free w.if-watched.false)))

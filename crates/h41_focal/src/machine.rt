@@ -24,7 +24,7 @@ use crate::short_lines::{carry_short, number_standing, short_standing};
 use crate::stack_lines::number_line;
 use h41_codes::{Function, Line};
 use h41_ram::Ram;
-use h41_rows::LineFault;
+use h41_rows::{LineFault, number_register};
 use std::marker::Model;
 
 /// Memory and what lines work on beside it.
@@ -133,7 +133,8 @@ impl<const REGS: usize> Machine<REGS> {
             Some((number, next)) => {
                 kept_answers_stay_right();
                 self.begin();
-                Ok(number_line(self, Origin::Program(next), number))
+                let register = number_register(number);
+                Ok(number_line(self, Origin::Program(next), register))
             }
             None => self.step_whole(),
         }

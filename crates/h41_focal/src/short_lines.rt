@@ -20,11 +20,10 @@ use crate::outcome::BriefOutcome;
 use crate::refusal::FocalRefusal;
 use crate::stack_lines::be_silent;
 use h41_codes::{Branch, Parameter, ShortLine};
-use h41_digits::Reg;
+use h41_decimal::Ten;
 use h41_numbers::plain_number;
 use h41_program::{Position, short_line};
 use h41_ram::Ram;
-use h41_rows::number_register;
 
 /// The short line that stands at the position itself, and the position of the next, as `standing` answers them; `None` also where
 /// `standing` has to tell more.
@@ -54,9 +53,9 @@ fn short_standing_at<const REGS: usize>(
     }
 }
 
-/// The register of the number line that stands at the position, and the position of the next, where the number is read in one pass.
+/// The number of the number line that stands at the position, and the position of the next, where it is read in one pass.
 #[inline(always)]
-pub fn number_standing<const REGS: usize>(machine: &Machine<REGS>) -> Option<(Reg, Position)>
+pub fn number_standing<const REGS: usize>(machine: &Machine<REGS>) -> Option<(Ten, Position)>
     ensures { IfSome result (λ found. StandsNumber (machine_of machine.now) found.0 found.1) }
 {
     number_standing_at(&machine.ram, machine.focal.position)
@@ -64,14 +63,14 @@ pub fn number_standing<const REGS: usize>(machine: &Machine<REGS>) -> Option<(Re
 
 /// The same at a position.
 #[inline(always)]
-fn number_standing_at<const REGS: usize>(ram: &Ram<REGS>, at: Position) -> Option<(Reg, Position)>
+fn number_standing_at<const REGS: usize>(ram: &Ram<REGS>, at: Position) -> Option<(Ten, Position)>
     ensures { IfSome result (λ found. StandsNumberAt ram.now.registers at found.0 found.1) }
 {
     if !ram.is_sound() {
         return None;
     }
     match plain_number(ram, at) {
-        Some((number, next)) => Some((number_register(number), next)),
+        Some((number, next)) => Some((number, next)),
         None => None,
     }
 }

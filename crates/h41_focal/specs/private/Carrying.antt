@@ -9,6 +9,8 @@ use Rattle.h41_codes.specs.declared.functions.RegisterFunction.{RegisterFunction
 use Rattle.h41_codes.specs.declared.line.Line.{Line}
 use Rattle.h41_codes.specs.declared.line.Line.TheVariants as lines
 use Rattle.h41_codes.specs.declared.line.Operand.{Operand}
+use Rattle.h41_decimal.specs.declared.ten.Ten.{Ten}
+use Rattle.h41_numbers.specs.NumberLines.{IsNumberOf}
 use Rattle.h41_rows.specs.Results.{result_map}
 use Rattle.h41_focal.specs.Destinations.{Manner}
 use Rattle.h41_focal.specs.Destinations as destinations
@@ -20,10 +22,9 @@ use Rattle.h41_rows.specs.Operands.{Address, Count, DigitKind, FlagKind, Meant, 
 use Rattle.h41_rows.specs.Operands.{RegisterKind, meant_as, meant_of}
 use Rattle.h41_focal.specs.Outcomes.{Answer}
 use Rattle.h41_focal.specs.Outcomes as answers
-use Rattle.h41_rows.specs.Computing.{IsAlways, meant_by}
+use Rattle.h41_rows.specs.Computing.{meant_by}
 use Rattle.h41_rows.specs.RowEffects.{lift_after, with_alpha_change}
 use Rattle.h41_rows.specs.Rows.{Appends, Becomes, Lift, LineRow}
-use Rattle.h41_rows.specs.Values.{Written}
 use Rattle.h41_focal.specs.private.Works.{digits_use_row, flag_use_row, highest_of}
 use Rattle.h41_focal.specs.private.Works.{register_use_row}
 use Rattle.h41_focal.specs.private.Works.{row_of_work}
@@ -184,16 +185,16 @@ StandsAt memory at (Err refusal) =
 abbrev pub Stands : Machine → Result (Line × Position) FocalRefusal → Type 0
 Stands machine result = StandsAt machine.memory machine.focal.position result
 
--- the line that stands there is a number line, and this is the register of its number
-abbrev pub StandsNumberAt : RegisterMap → Position → List ℕ → Position → Type 0
-StandsNumberAt memory at register next =
+-- the line that stands there is a number line, of this number
+abbrev pub StandsNumberAt : RegisterMap → Position → Ten → Position → Type 0
+StandsNumberAt memory at number next =
     (text : List Character)
     × StandsAt memory at (Ok (lines.Number text, next))
-    × IsAlways (Written text) register
+    × IsNumberOf text number
 
-abbrev pub StandsNumber : Machine → List ℕ → Position → Type 0
-StandsNumber machine register next =
-    StandsNumberAt machine.memory machine.focal.position register next
+abbrev pub StandsNumber : Machine → Ten → Position → Type 0
+StandsNumber machine number next =
+    StandsNumberAt machine.memory machine.focal.position number next
 
 -- the same of a row that names no register, of a line without an operand, of the work of a
 -- function, of the use of a register or a flag

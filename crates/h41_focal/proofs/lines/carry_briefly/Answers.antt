@@ -21,7 +21,7 @@ pub returns-in-GlobalLabel-clause-taken : goal.returns-in-GlobalLabel-clause-tak
 returns-in-GlobalLabel-clause-taken g c = rw c.in-GlobalLabel.is (c.be_silent-in-GlobalLabel.ensures.done 0)
 
 pub returns-in-Number-clause-taken : goal.returns-in-Number-clause-taken
-returns-in-Number-clause-taken g c = rw c.in-Number.is (c.number_line.ensures.done c.in-Number.number.now c.written.ensures 0)
+returns-in-Number-clause-taken g c = rw c.in-Number.is (c.number_line.ensures.done _ c.written.ensures 0)
 
 pub returns-in-End-clause-taken : goal.returns-in-End-clause-taken
 returns-in-End-clause-taken g c = rw c.in-End.is (c.go_back.ensures.done 0)

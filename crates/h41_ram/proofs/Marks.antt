@@ -1,11 +1,10 @@
 -- A write of all registers of main memory keeps the mark, and what a kept mark promises adds up.
 use Rattle.std.proofs.Common.{◌≡◌, ℕ, ◌+◌, ◌-◌, ◌<◌, ◌≤◌, true, false, List, length, get_or, refl, sym, ap, arith, ◌∙◌, rules}
 use Rattle.std.proofs.Common.{if◌then◌else◌}
-use Rattle.std.specs.Prelude.{nat_lt, nat_le, ◌&&◌, ◌||◌, IsTrue, IsFalse}
-use Rattle.std.proofs.lemmas.Bool.{and_parts, ltb-true, leb-true}
+use Rattle.std.specs.Prelude.{nat_lt, IsFalse}
 use Rattle.std.proofs.lemmas.Bool.Decides.{nat_tests}
 use Rattle.std.proofs.lemmas.List.{get_or_past}
-use Rattle.h41_ram.specs.RegisterMap.{RegisterMap, zeros, register_at, curtain_of, end_of, three_digits, top_of}
+use Rattle.h41_ram.specs.RegisterMap.{RegisterMap, zeros, register_at, curtain_of, end_of, three_digits}
 use Rattle.h41_ram.specs.MarkLaws.{MarkIsKeptInTurn, MarkStays}
 use Rattle.h41_ram.specs.RamState.{RamState, KeepsMark, SameProgram, has_main_program, with_main_written}
 

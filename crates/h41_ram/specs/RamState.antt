@@ -1,6 +1,6 @@
 -- What a contract sees of a memory: its registers, and a mark by which it is known whether its
 -- program may have changed. The mark is this project's own: the calculator has none.
-use Rattle.std.specs.Prelude.{◌≡◌, ℕ, ◌<◌, ◌≤◌, Bool, true, false, ◌&&◌, ◌||◌, List, [], ◌∷◌}
+use Rattle.std.specs.Prelude.{◌≡◌, ℕ, ◌<◌, ◌≤◌, Bool, true, ◌&&◌, ◌||◌, List, [], ◌∷◌}
 use Rattle.std.specs.Prelude.{length, nat_lt, nat_le, ◌==◌, IsTrue, IsFalse}
 use Rattle.std.specs.List.{list_any}
 use Rattle.h41_ram.specs.RegisterMap.{RegisterMap, c_address, c_of, curtain_of, d_address, end_of}

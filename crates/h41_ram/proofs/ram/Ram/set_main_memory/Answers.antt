@@ -1,5 +1,4 @@
-use Rattle.std.proofs.Common.{rules, ◌≡◌, length, sym, ◌∙◌, arith}
-use Rattle.h41_ram.specs.RamState.{KeepsMark}
+use Rattle.std.proofs.Common.{rules}
 use Rattle.h41_ram.proofs.Marks.{main_keeps}
 use Rattle.h41_ram.proofs.ram.Ram.set_main_memory.Goals as goal
 

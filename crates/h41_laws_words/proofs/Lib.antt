@@ -1,2 +1,5 @@
 pub mod Spans
 pub mod Stepped
+pub mod Registers
+pub mod Whole
+pub mod Places

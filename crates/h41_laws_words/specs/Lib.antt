@@ -1,1 +1,3 @@
 pub mod WordAnswers
+pub mod WholeStates
+pub mod FieldPlaces

@@ -76,7 +76,7 @@ opening_by kind (Some own) plain e = let same : own ≡ kind = cc in ap (λ (of 
 opening_by kind None (Some other) e = cc
 opening_by kind None None e = cc
 
-pub plain_by : (kind : PlainKind) (own : Option BlockKind) (plain : Option PlainKind) → word_by own plain ≡ Plain kind
+plain_by : (kind : PlainKind) (own : Option BlockKind) (plain : Option PlainKind) → word_by own plain ≡ Plain kind
     → (own ≡ None) × (plain ≡ Some kind)
 plain_by kind (Some own) plain e = cc
 plain_by kind None (Some other) e = let same : other ≡ kind = cc in (refl, ap (λ (of : PlainKind). Some of) same)

@@ -1,7 +1,6 @@
 pub mod BlockLines
 pub mod BlocksDetermined
 pub mod ClosedBlocks
-pub mod CommandNames
 pub mod DeckItems
 pub mod Filling
 pub mod FirstLines

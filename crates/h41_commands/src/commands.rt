@@ -116,7 +116,7 @@ pub enum PlainKind {
 }
 
 impl PlainKind {
-    ghost use Rattle.std.specs.Prelude.{◌≤◌, ℕ, List, Some, length, IsSome};
+    ghost use Rattle.std.specs.Prelude.{◌≤◌, length, IsSome};
     ghost use Rattle.h41_commands.specs.Commands.{plain_of_word};
 
     /// The command whose first word this is; nothing where it is that of none.
@@ -139,27 +139,6 @@ impl PlainKind {
             b"show" => Some(PlainKind::Show),
             b"key" => Some(PlainKind::Key),
             _ => None,
-        }
-    }
-
-    /// How many bytes the word has that is its name.
-    #[inline(always)]
-    pub(crate) fn name_length(self) -> usize
-        ensures { (word : List ℕ) → plain_of_word word ≡ Some self → length word ≡ result }
-    {
-        match self {
-            PlainKind::Unplug => 6,
-            PlainKind::Size => 4,
-            PlainKind::Reset => 5,
-            PlainKind::Call => 4,
-            PlainKind::Step => 4,
-            PlainKind::Run => 3,
-            PlainKind::Trace => 5,
-            PlainKind::Break => 5,
-            PlainKind::Unbreak => 7,
-            PlainKind::List => 4,
-            PlainKind::Show => 4,
-            PlainKind::Key => 3,
         }
     }
 }

@@ -1,12 +1,11 @@
 -- What the code that goes through a deck has answered. It only connects the code with the other
 -- definitions.
-use Rattle.std.specs.Prelude.{ℕ, Bool, true, false, List, [], Option, Result, Ok, Err}
+use Rattle.std.specs.Prelude.{ℕ, Bool, List, [], Option, Result, Ok, Err}
 use Rattle.h41_ends.specs.declared.fault.WriteFault as fault
 use Rattle.h41_commands.specs.Blocks.{block_values}
 use Rattle.h41_commands.specs.Commands.{and_then, kind_of, read_plain}
 use Rattle.h41_commands.specs.Items.{Spelled, line_spelled, with_values}
 use Rattle.h41_commands.specs.declared.commands.PlainKind.{PlainKind}
-use Rattle.h41_commands.specs.declared.commands.PlainKind.TheVariants as plain
 use Rattle.h41_commands.specs.declared.item.Item.{Item}
 use Rattle.h41_commands.specs.Entries.{what_is_spelled}
 use Rattle.h41_debug.specs.Bench.{BenchState}
@@ -48,15 +47,6 @@ AnswersWritten (Ok outcome) kind operands s t contents old new =
     Replies (plain_spelled kind operands) s t (contents old) (contents new) outcome
 AnswersWritten (Err failed) kind operands s t contents old new =
     RepliesInPart (plain_spelled kind operands) s t (contents old) (contents new)
-
--- those that write nothing but their refusal and are answered without a command
-abbrev pub is_short : PlainKind → Bool
-is_short plain.Unplug = true
-is_short plain.Reset = true
-is_short plain.Step = true
-is_short plain.Break = true
-is_short plain.Unbreak = true
-is_short kind = false
 
 -- the answer to one that writes nothing but its refusal
 abbrev pub AnswersShort : PlainKind → List (List ℕ) → BenchState → BenchState → Option Refusal

@@ -14,7 +14,6 @@ ghost use Rattle.h41_commands.specs.declared.line.LineKind.TheVariants.{Named};
 ghost use Rattle.h41_lines.specs.Words.{words_of};
 ghost use Rattle.h41_deck.specs.AnsweredItems.{AnswersItem, AnswersLine, AnswersPlain};
 ghost use Rattle.h41_deck.specs.AnsweredItems.{AnswersShort, AnswersWritten, plain_takes_memory};
-ghost use Rattle.h41_deck.specs.AnsweredItems.{is_short};
 ghost use Rattle.h41_deck.specs.Answers.{ending_line};
 ghost use Rattle.h41_deck.specs.Replies.{item_takes_memory};
 ghost use Rattle.h41_deck.specs.Writing.{EndsAs};
@@ -85,13 +84,13 @@ fn answer_plain<W: Sink, const REGS: usize>(
     ensures mark { result ≡ Err CommandFault.WriteFault → W.failed writer.new ≡ true }
     ensures clear { result ≢ Err CommandFault.WriteFault → W.failed writer.new ≡ false }
 {
-    let words = operands(kind, line);
+    let words = operands(line);
     match kind {
-        PlainKind::Unplug
-        | PlainKind::Reset
-        | PlainKind::Step
-        | PlainKind::Break
-        | PlainKind::Unbreak => Ok(end(act(bench, kind, words), writer)?),
+        PlainKind::Unplug => Ok(end(unplug_named(bench, words), writer)?),
+        PlainKind::Reset => Ok(end(reset_alone(bench, words), writer)?),
+        PlainKind::Step => Ok(end(step_counted(bench, words), writer)?),
+        PlainKind::Break => Ok(end(break_placed(bench, words), writer)?),
+        PlainKind::Unbreak => Ok(end(unbreak_placed(bench, words), writer)?),
         PlainKind::Run => Ok(run_counted(bench, words, writer)?),
         PlainKind::Show => show_named(alloc, bench, words, writer),
         PlainKind::Size | PlainKind::Call | PlainKind::Trace | PlainKind::List | PlainKind::Key => {
@@ -163,32 +162,6 @@ fn refuse<W: Sink>(refusal: LineRefusal, writer: &mut W) -> Result<Outcome, Writ
     ensures mark { OnErr result (W.failed writer.new ≡ true) }
 {
     end(Some(Refusal::Line(refusal)), writer)
-}
-
-/// Does what a command says that writes nothing but its refusal, by the words behind its name, or tells why not.
-#[inline(always)]
-fn act<const REGS: usize>(
-    bench: &mut Bench<REGS>,
-    kind: PlainKind,
-    operands: LineWords<'_>,
-) -> Option<Refusal>
-    requires { is_short kind ≡ true }
-    ensures { AnswersShort kind (words_of operands.entry.rest.now) bench.old bench.new result }
-{
-    match kind {
-        PlainKind::Unplug => unplug_named(bench, operands),
-        PlainKind::Reset => reset_alone(bench, operands),
-        PlainKind::Step => step_counted(bench, operands),
-        PlainKind::Break => break_placed(bench, operands),
-        PlainKind::Unbreak => unbreak_placed(bench, operands),
-        PlainKind::Size
-        | PlainKind::Call
-        | PlainKind::Run
-        | PlainKind::Trace
-        | PlainKind::List
-        | PlainKind::Show
-        | PlainKind::Key => unreachable!(),
-    }
 }
 
 /// Takes out the page that the words behind `unplug` name, or tells why not.

@@ -1,6 +1,6 @@
 //! The command that a line's words spell.
 
-ghost use Rattle.std.specs.Prelude.{◌≡◌, ◌≤◌, ◌+◌, ◌*◌, ◌∷◌, ℕ, Ok, Some, drop, length};
+ghost use Rattle.std.specs.Prelude.{◌≡◌, ◌≤◌, ◌+◌, ◌*◌, ◌∷◌, ℕ, Ok, drop, length};
 ghost use Rattle.h41_commands.specs.Commands.{break_location, call_command, location_by};
 ghost use Rattle.h41_commands.specs.Commands.{placed_command, read_plain, key_command};
 ghost use Rattle.h41_commands.specs.Commands.{load_command, reset_command, size_command};
@@ -12,12 +12,9 @@ ghost use Rattle.h41_commands.specs.Commands.{view_of, list_command, plug_at_ban
 ghost use Rattle.h41_commands.specs.Commands.{bank_number, image_view, image_view_at, is_bank_word};
 ghost use Rattle.h41_lines.specs.Words.{words_of};
 ghost use Rattle.h41_commands.specs.DeckLines.{longest_line, most_keys};
-ghost use Rattle.h41_commands.specs.FirstLines.{line_kind};
 ghost use Rattle.h41_commands.specs.Numbers as spec;
 ghost use Rattle.h41_commands.specs.declared.commands.Command.{Command};
 ghost use Rattle.h41_commands.specs.declared.commands.Command.TheVariants as commands;
-ghost use Rattle.h41_commands.specs.declared.commands.FirstWord.TheVariants.{Plain};
-ghost use Rattle.h41_commands.specs.declared.line.LineKind.TheVariants.{Named};
 
 use crate::commands::keys::PressedKeys;
 use crate::commands::number::{count_up_to, hexadecimal, number_up_to};
@@ -25,7 +22,7 @@ use crate::commands::{BlockKind, Command, PageKind, PlainKind, ProgramKind, View
 use crate::refusal::LineRefusal;
 use h41_breakpoints::Location;
 use h41_keys::Key;
-use h41_lines::words::{LineWords, word_start};
+use h41_lines::words::LineWords;
 use h41_program::Position;
 
 /// The most single steps of one command.
@@ -59,16 +56,14 @@ pub fn parse(line: &[u8]) -> Result<Command, LineRefusal>
     }
 }
 
-/// The words behind the first of a line, which is the name of this command.
+/// The words behind the first of a line.
 #[inline(always)]
-pub fn operands(kind: PlainKind, line: &[u8]) -> LineWords<'_>
-    requires { line_kind line.now ≡ Some (Named (Plain kind)) }
+pub fn operands(line: &[u8]) -> LineWords<'_>
     ensures { words_of result.rest.now ≡ drop 1 (words_of line.now) }
 {
-    match word_start(line) {
-        Some(start) => LineWords::new(&line[start + kind.name_length()..]),
-        None => unreachable!(),
-    }
+    let mut words = LineWords::new(line);
+    let _name = words.next();
+    words
 }
 
 /// The command of a line that opens a block of this kind, by the words behind its name.

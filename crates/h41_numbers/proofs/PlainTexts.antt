@@ -1,7 +1,7 @@
 -- The number of a text of digits and radix marks, by its codes.
-use Rattle.std.proofs.Common.{◌≡◌, ℕ, zero, suc, ◌+◌, ◌-◌, ◌*◌, ◌<◌, ◌≤◌, Bool, true, false, List, [], ◌∷◌, length, take, map, not, cond}
+use Rattle.std.proofs.Common.{◌≡◌, ℕ, zero, suc, ◌+◌, ◌-◌, ◌<◌, ◌≤◌, Bool, true, false, List, [], ◌∷◌, length, take, map, not, cond}
 use Rattle.std.proofs.Common.{filter, ◌++◌}
-use Rattle.std.proofs.Common.{if◌then◌else◌, refl, sym, ◌∙◌, ap, subst, arith, length-take}
+use Rattle.std.proofs.Common.{if◌then◌else◌, refl, sym, ◌∙◌, ap, arith}
 use Rattle.std.specs.Prelude.{◌==◌, ◌%◌}
 use Rattle.std.specs.List.{list_any, position_or_len, range_with_len, take_while}
 use Rattle.std.proofs.lemmas.List.Sums.{take_while-cons}
@@ -11,8 +11,6 @@ use Rattle.h41_codes.specs.Codes.{character_code}
 use Rattle.h41_codes.specs.NumberCharacters.{exponent_part, is_exponent, is_minus, is_point}
 use Rattle.h41_codes.specs.declared.characters.Character.{Character}
 use Rattle.h41_codes.specs.declared.characters.Character.TheVariants as characters
-use Rattle.h41_decimal.specs.NumberEntry.{IsTyped}
-use Rattle.h41_decimal.specs.declared.sign.Sign.{Sign}
 use Rattle.h41_decimal.specs.declared.sign.Sign.TheVariants.{Plus, Minus}
 use Rattle.h41_decimal.specs.declared.ten.Ten.{Ten}
 use Rattle.h41_numbers.specs.NumberLines.{IsNumberOf, digits_in, mantissa_digits, number_from, sign_in, whole_digits}

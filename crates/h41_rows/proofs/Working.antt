@@ -14,7 +14,6 @@ use Rattle.h41_decimal.specs.declared.ten.Ten.{Ten}
 use Rattle.h41_ram.specs.NamedFlags.{range_ignore}
 use Rattle.h41_ram.specs.RegisterMap.{RegisterMap, flag_of, register_at}
 use Rattle.h41_rows.specs.private.Answers.{KeptOne, KeptTwo, RoundsAt, WithoutNumber, WorksOnRegister, WorksOnRegisters}
-use Rattle.h41_rows.specs.private.Answers.{sign_of_two}
 use Rattle.h41_rows.specs.Computing.{IsAlways, WorksOn, WorksOnOne, value_of_one, value_of_two}
 use Rattle.h41_rows.specs.Counters.{Up, Down, number_after}
 use Rattle.h41_rows.specs.Places.{RowPlace, amount_in, are_numbers, place_address, register_in}

@@ -14,7 +14,7 @@ use Rattle.h41_decimal.specs.declared.sign.Sign.{Sign}
 use Rattle.h41_decimal.specs.declared.sign.Sign.TheVariants.{Plus}
 use Rattle.h41_decimal.specs.declared.ten.Ten.{Ten}
 use Rattle.h41_ram.specs.NamedFlags.{range_ignore}
-use Rattle.h41_ram.specs.RegisterMap.{RegisterMap, flag_of, register_at}
+use Rattle.h41_ram.specs.RegisterMap.{RegisterMap, flag_of}
 use Rattle.h41_show.specs.DisplayFormat.{format_of}
 use Rattle.h41_rows.specs.Computing.{IsAlways, WorksOn, value_of_one, value_of_two}
 use Rattle.h41_rows.specs.Counters.{Up, Down, number_after}

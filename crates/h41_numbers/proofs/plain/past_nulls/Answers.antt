@@ -1,8 +1,3 @@
-use Rattle.std.proofs.Common.{◌≡◌, Err, Ok, Result, subst}
-use Rattle.h41_program.specs.Positions.{LineAt}
-use Rattle.h41_program.specs.declared.position.PlacedLine.{PlacedLine}
-use Rattle.h41_program.specs.declared.position.Position.TheVariants.{Memory}
-use Rattle.h41_program.specs.declared.refusal.ProgramRefusal.{ProgramRefusal}
 use Rattle.h41_numbers.proofs.PlainLines.{none_past, past_found}
 use Rattle.h41_numbers.proofs.plain.past_nulls.Goals as goal
 

@@ -1,4 +1,3 @@
-use Rattle.std.proofs.Common.{arith, ◌∙◌}
 use Rattle.h41_numbers.proofs.PlainLines.{plain_stands}
 use Rattle.h41_numbers.proofs.plain.plain_number_at.Goals as goal
 

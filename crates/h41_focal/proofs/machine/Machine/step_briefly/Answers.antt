@@ -1,4 +1,4 @@
-use Rattle.std.proofs.Common.{◌≡◌, ap, subst, sym, Ok, None, ◌∙◌}
+use Rattle.std.proofs.Common.{◌≡◌, ap, subst, sym, Ok, None}
 use Rattle.h41_codes.specs.ShortLines.{line_of}
 use Rattle.h41_focal.specs.BriefOutcomes.{StepsBriefly}
 use Rattle.h41_focal.specs.LabelSearches.{search_of}

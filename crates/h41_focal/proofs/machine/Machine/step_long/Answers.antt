@@ -19,7 +19,8 @@ returns-in-Some-clause-line g c =
       calls_elsewhere begun.new.self.ram.registers (Number found.0),
       step_taken None _ (Number found.0) c.in-Some.next _
           (subst (λ (machine : Machine). Stands machine (Ok (Number found.0, c.in-Some.next)))
-          (sym (ap machine_of begun.ensures.begun)) found.1) (c.number_line.ensures.done found.0 (c.number_register-register.ensures found.0 found.2) 0),
+          (sym (ap machine_of begun.ensures.begun)) found.1)
+          (c.number_line.ensures.done found.0 (c.number_register-register.ensures found.0 found.2) 0),
     )
 
 pub returns-in-Some-clause-elsewhere : goal.returns-in-Some-clause-elsewhere
@@ -28,7 +29,8 @@ returns-in-Some-clause-elsewhere g c = λ elsewhere.
     let begun = c.begin in
     subst (λ (machine : Machine). machine_of c.number_line.new.machine ≡ machine) (ap machine_of begun.ensures.begun)
     (call_changes_nothing (Program c.in-Some.next) (Number found.0) (machine_of begun.new.self)
-    (machine_of c.number_line.new.machine) (Ok c.number_line.result) (c.number_line.ensures.done found.0 (c.number_register-register.ensures found.0 found.2) 0) elsewhere)
+    (machine_of c.number_line.new.machine) (Ok c.number_line.result)
+    (c.number_line.ensures.done found.0 (c.number_register-register.ensures found.0 found.2) 0) elsewhere)
 
 pub returns-in-Some-clause-right : goal.returns-in-Some-clause-right
 returns-in-Some-clause-right g c =

@@ -1,6 +1,5 @@
 use Rattle.std.proofs.Common.{◌≡◌, ap, subst, Err, None, refl}
 use Rattle.std.proofs.lemmas.Result.{err_from_is_err_and}
-use Rattle.h41_codes.specs.ShortLines.{line_of}
 use Rattle.h41_focal.specs.BriefOutcomes.{StepsBriefly}
 use Rattle.h41_focal.specs.LabelledMachine.{machine_of}
 use Rattle.h41_focal.specs.LineStep.{Machine, StepsLine}

@@ -36,20 +36,20 @@ abbrev pub reader_of : {R : Type 0} → FromRead R → R
 reader_of s = s.reader
 
 -- its mark
-abbrev pub read_failed : {R : Type 0} → FromRead R → Bool
-read_failed s = is_some s.error
+abbrev pub has_read_failed : {R : Type 0} → FromRead R → Bool
+has_read_failed s = is_some s.error
 
 -- the writer of a `ToWrite`
 abbrev pub writer_of : {W : Type 0} → ToWrite W → W
 writer_of s = s.writer
 
 -- its mark
-abbrev pub write_failed : {W : Type 0} → ToWrite W → Bool
-write_failed s = s.has_failed
+abbrev pub has_write_failed : {W : Type 0} → ToWrite W → Bool
+has_write_failed s = s.has_failed
 
 -- whether a `ToWrite` was flushed after its last write
-abbrev pub write_flushed : {W : Type 0} → ToWrite W → Bool
-write_flushed s = s.is_flushed
+abbrev pub is_write_flushed : {W : Type 0} → ToWrite W → Bool
+is_write_flushed s = s.is_flushed
 
 -- the text is written
 abbrev pub Appended : {W : Type 0} → (W → Option (List ℕ)) → W → W → List ℕ → Type 0

@@ -53,13 +53,13 @@ pub struct ToWrite<W> {
 }
 
 impl<W> ToWrite<W> {
-    ghost use Rattle.h41_ends.specs.Ends.{writer_of, write_failed, write_flushed};
+    ghost use Rattle.h41_ends.specs.Ends.{writer_of, has_write_failed, is_write_flushed};
 
     /// Makes a sink of a writer, with a clear mark.
     pub fn new(writer: W) -> Self
         ensures writer { writer_of result ≡ writer }
-        ensures clear { write_failed result ≡ false }
-        ensures flushed { write_flushed result ≡ false }
+        ensures clear { has_write_failed result ≡ false }
+        ensures flushed { is_write_flushed result ≡ false }
     {
         ToWrite {
             writer,

@@ -46,12 +46,12 @@ pub struct FromRead<R> {
 }
 
 impl<R> FromRead<R> {
-    ghost use Rattle.h41_ends.specs.Ends.{reader_of, read_failed};
+    ghost use Rattle.h41_ends.specs.Ends.{reader_of, has_read_failed};
 
     /// Makes a source of a reader, with a clear mark.
     pub fn new(reader: R) -> Self
         ensures reader { reader_of result ≡ reader }
-        ensures clear { read_failed result ≡ false }
+        ensures clear { has_read_failed result ≡ false }
     {
         FromRead {
             reader,
@@ -69,7 +69,7 @@ impl<R> FromRead<R> {
 
     /// What the system said of a call that has failed, if one has.
     pub fn error(&self) -> Option<&io::Error>
-        ensures { is_some result ≡ read_failed self.now }
+        ensures { is_some result ≡ has_read_failed self.now }
     {
         self.error.as_ref()
     }

@@ -11,7 +11,6 @@ use Rattle.h41_program.specs.declared.refusal.ProgramRefusal.TheVariants.{Broken
 use Rattle.h41_program.specs.Edits.{lines_of, memory_with_answer, before_end, close_behind, close_outcome, with_last_end, is_open, Closes}
 use Rattle.h41_program.specs.LastProgram.{open_before}
 use Rattle.h41_program.specs.Lines.{is_end}
-use Rattle.h41_program.specs.private.LoadSteps.{WritesClosed}
 use Rattle.h41_program.specs.private.Packers.{Packs}
 use Rattle.h41_program.specs.Rewriting.{with_program_lines, HasOutcome}
 use Rattle.h41_program.proofs.Outcomes.{written_outcome}
@@ -52,7 +51,8 @@ closed_some old left result lines some has =
 pub close_ok : (old left : RegisterMap) (before : Option (List ListedLine))
     (first : Result Packer ProgramRefusal) (packer : Packer) (result : Result (Unit {0}) ProgramRefusal)
     → MatchOption before (first ≡ Err BrokenProgram) (λ listed. IsOkAnd first (λ held. Packs held (lines_of listed))) → first ≡ Ok packer
-    → WritesClosed packer old left result → HasOutcome old left result (close_behind old before)
+    → ((lines : List Line) → Packs packer lines → HasOutcome old left result (close_outcome old lines))
+    → HasOutcome old left result (close_behind old before)
 close_ok old left None first packer result matches ok closes = absurd (not_both first packer BrokenProgram ok matches)
 close_ok old left (Some listed) first packer result matches ok closes =
     closes (lines_of listed) (subst (λ (r : Result Packer ProgramRefusal). IsOkAnd r (λ held. Packs held (lines_of listed))) ok matches)

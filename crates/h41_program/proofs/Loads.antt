@@ -13,12 +13,12 @@ use Rattle.h41_program.specs.declared.listed_line.ListedLine.{ListedLine}
 use Rattle.h41_program.specs.declared.packer.Packer.{Packer}
 use Rattle.h41_program.specs.Edits.{lines_of, before_end, end_of_lines, without_end, loaded_of}
 use Rattle.h41_program.specs.Lines.{is_end, is_final_end}
-use Rattle.h41_program.specs.private.LoadSteps.{listed_option, kept_option}
+use Rattle.h41_program.specs.private.LoadSteps.{PutsLoaded, listed_option, kept_option}
 use Rattle.h41_program.specs.private.Packers.{Packs}
 use Rattle.h41_program.specs.Packing.{last_line}
 use Rattle.h41_program.specs.ProgramLines.{behind}
 use Rattle.h41_program.proofs.Packings.{last_line-more}
-use Rattle.h41_program.proofs.Walks.{UpTo, up_to_none, up_to_more, before_end-final}
+use Rattle.h41_program.proofs.Walks.{UpTo, all_final, up_to_none, up_to_more, before_end-final}
 
 -- lines but for the last
 abbrev pub but_last : List Line → List Line
@@ -122,7 +122,7 @@ loaded_by bytes at given lines end same =
     ∙ ap (λ (l : List Line). if list_all (λ byte. byte == 0) (drop at bytes) then Some l else None) same
 
 -- the outcome of such a test
-pub tested : (b : Bool) (lines : List Line) (front : List Line) (new : Packer) → (b ≡ true → Packs new (front ++ lines))
+tested : (b : Bool) (lines : List Line) (front : List Line) (new : Packer) → (b ≡ true → Packs new (front ++ lines))
     → MatchOption (if b then Some lines else None)
     (◌≡◌ {A = Result (Unit {0}) ProgramRefusal} (if b then Ok tt else Err BrokenProgram) (Err BrokenProgram))
     (λ loaded. (◌≡◌ {A = Result (Unit {0}) ProgramRefusal} (if b then Ok tt else Err BrokenProgram) (Ok tt)) × Packs new (front ++ loaded))
@@ -130,7 +130,7 @@ tested true lines front new packs = (refl, packs refl)
 tested false lines front new packs = refl
 
 -- .END. is met
-pub loaded_final : (bytes : List ℕ) (old mid new : Packer) (pending : Option Line)
+loaded_final : (bytes : List ℕ) (old mid new : Packer) (pending : Option Line)
     (at : ℕ) (before : List ListedLine) (taken : Taken) (front : List Line)
     → Loaded bytes old mid pending at before → BytesHaveFirst bytes at taken → is_final_end taken.line ≡ true
     → ((front : List Line) → Packs mid front → Packs new (front ++ listed_option pending)) → Packs old front
@@ -148,6 +148,22 @@ loaded_final bytes old mid new pending at before taken front loaded is last puts
       loaded_by bytes taken.behind (before ++ listed ∷ []) lines end same,
       subst (λ (l : List Line). Packs new (front ++ l)) again
           (subst (λ (l : List Line). Packs new l) (append_assoc front (but_last lines) (listed_option pending)) put),
+    )
+
+-- what is put then, by whether nothing but nulls is behind it
+pub final_puts : (bytes : List ℕ) (old mid new : Packer) (pending : Option Line)
+    (at : ℕ) (before : List ListedLine) (taken : Taken)
+    → Loaded bytes old mid pending at before → BytesHaveFirst bytes at taken → is_final_end taken.line ≡ true
+    → ((front : List Line) → Packs mid front → Packs new (front ++ listed_option pending))
+    → (b : Bool) → list_all (λ byte. byte == 0) (drop taken.behind bytes) ≡ b
+    → PutsLoaded old new bytes (if b then Ok tt else Err BrokenProgram)
+final_puts bytes old mid new pending at before taken loaded is last puts b test =
+    let listed : ListedLine = record { position = taken.position; line = taken.line } in (
+      before ++ listed ∷ [],
+      all_final bytes (length bytes) 0 at taken.behind before listed loaded.read is last,
+      λ front packs.
+          let known = loaded_final bytes old mid new pending at before taken front loaded is last puts packs in
+          rw (known.0, test) (tested b (lines_of before) front new (λ _. known.1)),
     )
 
 -- no more line is met

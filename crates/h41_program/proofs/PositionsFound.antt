@@ -19,6 +19,11 @@ use Rattle.h41_program.specs.declared.refusal.ProgramRefusal.TheVariants.{Broken
 use Rattle.h41_ram.specs.RegisterMap.{RegisterMap}
 use Rattle.h41_program.proofs.FoundOnce
 
+-- the next position is one
+pub same_next : (once : IsReadOnce) (memory : RegisterMap) (at a b : Position)
+    → NextAt memory at (Ok a) → NextAt memory at (Ok b) → a ≡ b
+same_next once memory at a b p q = let same = once.next memory at (Ok a) (Ok b) p q in cc
+
 module _ (one : OneLine) where
   line : HasOneAnswer LineAt
   line memory (Memory at) result other p q =

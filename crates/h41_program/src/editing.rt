@@ -1,9 +1,9 @@
 //! Lines inserted, replaced and deleted.
-ghost use Rattle.std.specs.Prelude.{◌≡◌, ◌||◌, slice_get, IsTrue, IfOk, IfSome, OnOk, OnErr};
+ghost use Rattle.std.specs.Prelude.{◌≡◌, slice_get, IsTrue, IfOk, IfSome, OnOk, OnErr};
 ghost use Rattle.h41_codes.specs.ByteGrammar.{IsLine};
 ghost use Rattle.h41_ram.specs.RegisterMap.{is_sound};
 ghost use Rattle.h41_program.specs.Edits.{Edits, LeavesChanged, Stands, StandsBefore, StandsNew};
-ghost use Rattle.h41_program.specs.Edits.{count_before, without_answer, front_behind};
+ghost use Rattle.h41_program.specs.Edits.{count_before, without_answer};
 ghost use Rattle.h41_program.specs.Edits.{position_in_front};
 ghost use Rattle.h41_program.specs.Edits.{with_inserted, with_replaced, without_deleted};
 ghost use Rattle.h41_program.specs.private.EditSteps.{Counts, IsChange, PacksChanged};
@@ -220,21 +220,10 @@ fn in_front<const REGS: usize>(ram: &Ram<REGS>, count: u16) -> InFront
         return InFront::Start(0);
     }
     match line_behind(ram, count - 1) {
-        Some(found) => behind_line(&found),
+        Some(found) if is_end(&found.listed.line) => InFront::Start(found.behind),
+        Some(found) => InFront::Line(found.listed.position),
         None => InFront::Start(0),
     }
-}
-
-/// What stands in front of the line behind another.
-fn behind_line(found: &Found) -> InFront
-    requires { found.now.behind ≡ behind found.now.listed }
-    ensures { result ≡ front_behind found.now.listed }
-{
-    let Found { listed, behind } = *found;
-    if is_end(&listed.line) {
-        return InFront::Start(behind);
-    }
-    InFront::Line(listed.position)
 }
 
 /// The lines of memory before `.END.`, changed at the line at its own position.
@@ -253,7 +242,7 @@ fn packed_changed<const REGS: usize>(
     while let Some(found) = first_from(ram, at) {
         let Found { listed, behind } = found;
         let here = listed.position == place;
-        met = is_met(met, here);
+        met |= here;
         put_new(&mut packer, change, here);
         if is_final_end(listed.line) {
             return if met {
@@ -266,13 +255,6 @@ fn packed_changed<const REGS: usize>(
         at = behind;
     }
     Err(ProgramRefusal::BrokenProgram)
-}
-
-/// Whether the line at the position was met before, or is met here.
-fn is_met(before: bool, here: bool) -> bool
-    ensures { result ≡ (before || here) }
-{
-    before || here
 }
 
 /// Puts a line behind others where it is wanted.

@@ -1,12 +1,12 @@
 //! Programs loaded behind those in memory.
-ghost use Rattle.std.specs.Prelude.{◌≡◌, ◌≤◌, drop, length, IsTrue, IfOk, OnOk, OnErr};
+ghost use Rattle.std.specs.Prelude.{◌≡◌, ◌≤◌, IsTrue, IfOk, OnOk, OnErr};
 ghost use Rattle.std.specs.Option.{ForSome};
 ghost use Rattle.h41_codes.specs.ByteGrammar.{IsLine};
 ghost use Rattle.h41_ram.specs.RegisterMap.{is_sound};
 ghost use Rattle.h41_program.specs.Edits.{Closes, Loads};
 ghost use Rattle.h41_program.specs.LastProgram.{LeavesClosed, open_in};
-ghost use Rattle.h41_program.specs.private.LoadSteps.{PacksProgram, WritesClosed, PutsLoaded};
-ghost use Rattle.h41_program.specs.private.LoadSteps.{listed_option, kept_option, checked_nulls};
+ghost use Rattle.h41_program.specs.private.LoadSteps.{PacksProgram, PutsLoaded};
+ghost use Rattle.h41_program.specs.private.LoadSteps.{listed_option, kept_option};
 ghost use Rattle.h41_program.specs.private.Packers.{Puts};
 ghost use Rattle.h41_program.specs.ProgramLines.{AnswersOf};
 ghost use Rattle.h41_ram.specs.RamState.{KeepsMark};
@@ -62,23 +62,7 @@ pub fn close_last<const REGS: usize>(ram: &mut Ram<REGS>) -> Result<(), ProgramR
     ensures mark { KeepsMark ram.old ram.new }
 {
     changes_are_read();
-    match packed_program(ram) {
-        Ok(packer) => write_closed(packer, ram),
-        Err(refusal) => Err(refusal),
-    }
-}
-
-/// Writes lines with an END behind them where there are some and the last is none; else nothing changes.
-fn write_closed<const REGS: usize>(
-    packer: Packer,
-    ram: &mut Ram<REGS>,
-) -> Result<(), ProgramRefusal>
-    requires { IsTrue (is_sound ram.old.registers) }
-    ensures change { WritesClosed packer ram.old.registers ram.new.registers result }
-    ensures unchanged { OnErr result (ram.new ≡ ram.old) }
-    ensures mark { KeepsMark ram.old ram.new }
-{
-    let mut packer = packer;
+    let mut packer = packed_program(ram)?;
     if !packer.is_open() {
         return Ok(());
     }
@@ -114,7 +98,11 @@ fn put_loaded(packer: &mut Packer, bytes: &[u8]) -> Result<(), ProgramRefusal>
         put_pending(packer, pending);
         at = taken.behind;
         if is_final_end(taken.line) {
-            return nulls_from(bytes, at);
+            return if are_nulls(bytes, at) {
+                Ok(())
+            } else {
+                Err(ProgramRefusal::BrokenProgram)
+            };
         }
         pending = Some(taken.line);
     }
@@ -144,17 +132,5 @@ fn put_last(packer: &mut Packer, pending: Option<Line>)
         if !is_end(&line) {
             packer.put(line);
         }
-    }
-}
-
-/// 14 where bytes from a position on are not all nulls.
-fn nulls_from(bytes: &[u8], at: usize) -> Result<(), ProgramRefusal>
-    requires { at ≤ length bytes.now }
-    ensures { result ≡ checked_nulls (drop at bytes.now) }
-{
-    if are_nulls(bytes, at) {
-        Ok(())
-    } else {
-        Err(ProgramRefusal::BrokenProgram)
     }
 }

@@ -1,5 +1,5 @@
 //! The ranges of a line's parts.
-ghost use Rattle.h41_codes.specs.ByteGrammar.{IsLine, IsOperand};
+ghost use Rattle.h41_codes.specs.ByteGrammar.{IsLine};
 
 use h41_codes::{Line, Operand};
 
@@ -21,7 +21,9 @@ pub fn know_ranges(line: &Line)
         Line::Register(_, register) => {
             register.number();
         }
-        Line::WithOperand(_, operand) => know_operand(operand),
+        Line::WithOperand(_, Operand::Direct(parameter) | Operand::Indirect(parameter)) => {
+            parameter.number();
+        }
         Line::Module(number, entry) => {
             number.number();
             entry.number();
@@ -52,17 +54,6 @@ pub fn know_ranges(line: &Line)
         }
         Line::Text(text) => {
             text.characters();
-        }
-    }
-}
-
-/// The same of an operand.
-fn know_operand(operand: &Operand)
-    ensures { IsOperand operand.now }
-{
-    match operand {
-        Operand::Direct(parameter) | Operand::Indirect(parameter) => {
-            parameter.number();
         }
     }
 }

@@ -4,9 +4,10 @@ ghost use Rattle.h41_ram.specs.RegisterMap as spec;
 ghost use Rattle.h41_program.specs.Rewriting.{program_register};
 
 use h41_digits::Reg;
+use h41_ram::StatusRegister;
 
 /// The address of register c, which holds the curtain and the end of program memory.
-pub const C: u16 = 0x00D;
+pub const C: u16 = StatusRegister::C as u16;
 
 /// Where the address of the register with `.END.` stands in register c.
 pub const END_PLACE: usize = 0;

@@ -1,7 +1,6 @@
 -- What the functions that load promise one another.
-use Rattle.std.specs.Prelude.{◌≡◌, ℕ, List, [], ◌∷◌, ◌++◌, length, ◌==◌, if◌then◌else◌, Option}
+use Rattle.std.specs.Prelude.{◌≡◌, ℕ, List, [], ◌∷◌, ◌++◌, length, if◌then◌else◌, Option}
 use Rattle.std.specs.Prelude.{Some, None, MatchOption, IsOkAnd, Result, Ok, Err}
-use Rattle.std.specs.List.{list_all}
 use Rattle.h41_program.specs.Lines.{is_end}
 use Rattle.h41_codes.specs.declared.line.Line.{Line}
 use Rattle.h41_ram.specs.RegisterMap.{RegisterMap}
@@ -9,10 +8,9 @@ use Rattle.h41_program.specs.declared.listed_line.ListedLine.{ListedLine}
 use Rattle.h41_program.specs.declared.packer.Packer.{Packer}
 use Rattle.h41_program.specs.declared.refusal.ProgramRefusal.{ProgramRefusal}
 use Rattle.h41_program.specs.declared.refusal.ProgramRefusal.TheVariants.{BrokenProgram}
-use Rattle.h41_program.specs.Edits.{lines_of, before_end, close_outcome, loaded_of}
+use Rattle.h41_program.specs.Edits.{lines_of, before_end, loaded_of}
 use Rattle.h41_program.specs.private.Packers.{Packs}
 use Rattle.h41_program.specs.ProgramLines.{LinesFrom, Reads}
-use Rattle.h41_program.specs.Rewriting.{HasOutcome}
 
 -- a packer has the lines of memory before .END., or the list has none
 abbrev pub PacksProgram : RegisterMap → Result Packer ProgramRefusal → Type 0
@@ -29,12 +27,6 @@ PutsLoaded old new bytes result =
     → MatchOption (loaded_of bytes given) (result ≡ Err BrokenProgram)
     (λ loaded. (result ≡ Ok tt) × Packs new (front ++ loaded)))
 
--- the lines of a packer are written, closed, where they want an END
-abbrev pub WritesClosed : Packer → RegisterMap → RegisterMap → Result (Unit {0}) ProgramRefusal
-    → Type 0
-WritesClosed packer old new result =
-    (lines : List Line) → Packs packer lines → HasOutcome old new result (close_outcome old lines)
-
 -- a line that may be there, and whether it is kept as the last
 abbrev pub listed_option : Option Line → List Line
 listed_option None = []
@@ -43,7 +35,3 @@ listed_option (Some line) = line ∷ []
 abbrev pub kept_option : Option Line → List Line
 kept_option None = []
 kept_option (Some line) = if is_end line then [] else line ∷ []
-
--- whether bytes are nulls
-abbrev pub checked_nulls : List ℕ → Result (Unit {0}) ProgramRefusal
-checked_nulls bytes = if list_all (λ byte. byte == 0x00) bytes then Ok tt else Err BrokenProgram

@@ -25,7 +25,7 @@ loop-found-preserved g c =
     let before = c.loop-found.invariant in
     let running = sym c.is_final_end.ensures ∙ c.if-is_final_end.false in
     let here = found.listed.position == c.args.place in
-    let met = c.is_met-met.ensures ∙ ap (λ b. b || here) before.1.found in (
+    let met = ap (λ b. b || here) before.1.found in (
       before.0 ++ found.listed ∷ [],
       record {
         read =
@@ -47,14 +47,14 @@ returns-then-met g c =
     let lines = before.0 ++ found.listed ∷ [] in
     let final = sym c.is_final_end.ensures ∙ c.if-is_final_end.true in
     let here = found.listed.position == c.args.place in
-    let met = c.is_met-met.ensures ∙ ap (λ b. b || here) before.1.found in
+    let met = ap (λ b. b || here) before.1.found in
     let reads =
     all_final (program_bytes memory) (final_position memory) 0 c.loop-found.at
     found.behind before.0 found.listed before.1.read c.in-Some.ensures.first final in (
       lines,
       from_reads memory 0 lines c.requires.sound reads,
       changed_final (program_bytes memory) (final_position memory) c.loop-found.at found.behind c.put_new.new.packer
-          c.is_met-met.result (lines_of_change c.args.change.now c.args.place) c.args.place before.0 lines found.listed
+          _ (lines_of_change c.args.change.now c.args.place) c.args.place before.0 lines found.listed
           before.1.read c.in-Some.ensures.first final
           (last_packs c.put_new.new.packer c.args.change.now c.args.place before.0 found.listed here refl final
           (c.put_new.ensures (flat_map (lines_of_change c.args.change.now c.args.place) before.0) before.1.packs))
@@ -69,14 +69,14 @@ returns-else-met g c =
     let lines = before.0 ++ found.listed ∷ [] in
     let final = sym c.is_final_end.ensures ∙ c.if-is_final_end.true in
     let here = found.listed.position == c.args.place in
-    let met = c.is_met-met.ensures ∙ ap (λ b. b || here) before.1.found in
+    let met = ap (λ b. b || here) before.1.found in
     let reads =
     all_final (program_bytes memory) (final_position memory) 0 c.loop-found.at
     found.behind before.0 found.listed before.1.read c.in-Some.ensures.first final in (
       lines,
       from_reads memory 0 lines c.requires.sound reads,
       changed_final (program_bytes memory) (final_position memory) c.loop-found.at found.behind c.put_new.new.packer
-          c.is_met-met.result (lines_of_change c.args.change.now c.args.place) c.args.place before.0 lines found.listed
+          _ (lines_of_change c.args.change.now c.args.place) c.args.place before.0 lines found.listed
           before.1.read c.in-Some.ensures.first final
           (last_packs c.put_new.new.packer c.args.change.now c.args.place before.0 found.listed here refl final
           (c.put_new.ensures (flat_map (lines_of_change c.args.change.now c.args.place) before.0) before.1.packs))

@@ -1,27 +1,27 @@
-use Rattle.h41_program.specs.Edits.{before_end}
+use Rattle.std.proofs.Common.{sym, ◌∙◌}
+use Rattle.h41_program.specs.Edits.{before_end, with_last_end}
 use Rattle.h41_program.proofs.ClosedRead.{close_leaves}
-use Rattle.h41_program.proofs.Closings.{close_err, close_ok, close_sound}
+use Rattle.h41_program.proofs.Closings.{close_ok, close_sound, closed_some, open_test}
 use Rattle.h41_program.proofs.loading.close_last.Goals as goal
 
-pub returns-in-Ok-clause-lines : goal.returns-in-Ok-clause-lines
-returns-in-Ok-clause-lines g c =
-    let packs = c.packed_program.ensures in (
+pub returns-clause-lines : goal.returns-clause-lines
+returns-clause-lines g c =
+    let packs = c.packed_program.ensures in
+    let packer = c.in_ok-packer.packer in (
       packs.0,
       packs.1,
-      close_ok c.args.ram.now.registers c.write_closed.new.ram.registers (before_end packs.0) c.packed_program.result
-          c.in-Ok.packer c.write_closed.result packs.2 c.in-Ok.is c.write_closed.ensures.change,
+      close_ok c.args.ram.now.registers c.write.new.ram.registers (before_end packs.0) c.packed_program.result packer
+          c.write.result packs.2 c.in_ok-packer.was
+          (λ lines held. closed_some c.args.ram.now.registers c.write.new.ram.registers c.write.result lines
+          (sym (open_test packer lines c.is_open.result held c.is_open.ensures) ∙ c.if-not-is_open.false)
+          (c.write.ensures.lines (with_last_end lines) (c.close.ensures lines held))),
     )
 
-pub returns-in-Err-clause-lines : goal.returns-in-Err-clause-lines
-returns-in-Err-clause-lines g c =
-    let packs = c.packed_program.ensures in
-    (packs.0, packs.1, close_err c.args.ram.now.registers (before_end packs.0) c.packed_program.result c.in-Err.refusal packs.2 c.in-Err.is)
+pub returns-clause-sound : goal.returns-clause-sound
+returns-clause-sound g c =
+    close_sound c.args.ram.now.registers c.write.new.ram.registers c.write.result c.requires (returns-clause-lines g c)
 
-pub returns-in-Ok-clause-sound : goal.returns-in-Ok-clause-sound
-returns-in-Ok-clause-sound g c =
-    close_sound c.args.ram.now.registers c.write_closed.new.ram.registers c.write_closed.result c.requires (returns-in-Ok-clause-lines g c)
-
-pub returns-in-Ok-clause-read : goal.returns-in-Ok-clause-read
-returns-in-Ok-clause-read g c =
-    close_leaves c.changes_are_read.ensures.closed c.args.ram.now.registers c.write_closed.new.ram.registers c.write_closed.result
-    (returns-in-Ok-clause-lines g c)
+pub returns-clause-read : goal.returns-clause-read
+returns-clause-read g c =
+    close_leaves c.changes_are_read.ensures.closed c.args.ram.now.registers c.write.new.ram.registers c.write.result
+    (returns-clause-lines g c)

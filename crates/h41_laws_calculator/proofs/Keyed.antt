@@ -1,0 +1,242 @@
+-- What a key makes.
+use Rattle.std.proofs.Common.{◌≡◌, ℕ, Bool, true, false, List, Option, Some, None, Result, Ok, Err, MatchOption, refl}
+use Rattle.std.specs.Prelude.{◌&&◌, not, IfSome, IsOkAnd}
+use Rattle.std.specs.Bool.{then_some}
+use Rattle.h41_codes.specs.declared.characters.Character.{Character}
+use Rattle.h41_codes.specs.declared.functions.Function.{Function}
+use Rattle.h41_codes.specs.declared.functions.Function.TheVariants.{ClearX}
+use Rattle.h41_codes.specs.declared.functions.NameFunction.TheVariants.{ExecuteName}
+use Rattle.h41_codes.specs.declared.line.Line.{Line}
+use Rattle.h41_codes.specs.declared.line.Line.TheVariants as lines
+use Rattle.h41_decimal.specs.declared.fault.DecimalFault.{DecimalFault}
+use Rattle.h41_decimal.specs.declared.sign.Sign.{Sign}
+use Rattle.h41_decimal.specs.declared.ten.Ten.{Ten}
+use Rattle.h41_editor.specs.Changes.{Deletes, Inserts, Replaces}
+use Rattle.h41_editor.specs.Moves.{GoesToEnd, ShowsBefore, ShowsNext}
+use Rattle.h41_focal.specs.LineStep.{Machine}
+use Rattle.h41_keys.specs.Keyboard.{row_of}
+use Rattle.h41_keys.specs.KeyPress.{presses, while_in_microcode, while_running}
+use Rattle.h41_keys.specs.declared.action.Action.{Action}
+use Rattle.h41_keys.specs.declared.action.Action.TheVariants as actions
+use Rattle.h41_keys.specs.declared.input.Input.{Input}
+use Rattle.h41_keys.specs.declared.input.Pressed.{Pressed}
+use Rattle.h41_keys.specs.declared.key.Key.{Key}
+use Rattle.h41_keys.specs.declared.meaning.Meaning.{Meaning}
+use Rattle.h41_keys.specs.declared.meaning.Meaning.TheVariants as meanings
+use Rattle.h41_numbers.specs.NumberLines.{IsNumberOf}
+use Rattle.h41_pages.specs.FunctionTables.{AreNumbers, function_of_name}
+use Rattle.h41_pages.specs.PageMap.{PageMap}
+use Rattle.h41_program.specs.ProgramLaws.{IsInner}
+use Rattle.h41_program.specs.Searches.{named_in, position_of}
+use Rattle.h41_program.specs.declared.refusal.ProgramRefusal.{ProgramRefusal}
+use Rattle.h41_ram.specs.NamedFlags.{range_ignore}
+use Rattle.h41_ram.specs.RegisterMap.{RegisterMap, flag_of, is_sound}
+use Rattle.h41_rows.specs.Values.{Computes, Kept, Written, sign_of_value}
+use Rattle.h41_rows.specs.declared.fault.LineFault.{LineFault}
+use Rattle.h41_xrom.specs.Calculator.{CalculatorState, is_idle, machine_of}
+use Rattle.h41_xrom.specs.CalculatorLaws.{KeyIsDetermined}
+use Rattle.h41_xrom.specs.KeyActions.{Acts, BeginsNumber, Carries, ChangesNumber, Edits, IsStoredAs}
+use Rattle.h41_xrom.specs.KeyActions.{KeyMakes, KeyOutcome}
+use Rattle.h41_xrom.specs.KeyActions.{Leaves, StoredElsewhere}
+use Rattle.h41_xrom.specs.KeyActions.{StoredFunction, StoredName, StoresLine, activity_of}
+use Rattle.h41_xrom.specs.KeyActions.{after_outcome, edit_effect, flags_of, line_effect, press_of}
+use Rattle.h41_xrom.specs.KeyActions.{Presses}
+use Rattle.h41_xrom.specs.KeyActions.{with_key_told, with_line_begun, with_line_changed}
+use Rattle.h41_xrom.specs.declared.calculator.Caller.{Caller}
+use Rattle.h41_xrom.specs.declared.calculator.Mode.{Mode}
+use Rattle.h41_xrom.specs.declared.calculator.Mode.TheVariants as modes
+use Rattle.h41_xrom.specs.declared.lines.LineSource.{LineSource}
+use Rattle.h41_xrom.specs.declared.lines.LineSource.TheVariants as sources
+use Rattle.h41_xrom.specs.declared.refusal.CalculatorRefusal.{CalculatorRefusal}
+use Rattle.h41_xrom.specs.declared.refusal.CalculatorRefusal.TheVariants.{KeyNotHeld, MemoryLost}
+use Rattle.h41_laws_numbers.specs.HasOne.{HasOne}
+use Rattle.h41_laws_numbers.proofs.Answering.{Has}
+use Rattle.h41_laws_programs.specs.ProgramAnswers.{MemoryHasOneAnswer}
+use Rattle.h41_laws_values.specs.LineValues.{ValueHasOneRegister}
+use Rattle.h41_laws_calculator.specs.Keys.{KeyHasOneOutcome, KeyLeaves, PressStoresInner, StoresInner}
+use Rattle.h41_laws_calculator.specs.LineEnds.{LineHasOneEnd, NameHasOneFunction}
+use Rattle.h41_laws_calculator.specs.ProgramMode.{ChangeHasOneOutcome, MoveHasOneOutcome}
+use Rattle.h41_laws_calculator.proofs.Chosen.{alone, either, one_there}
+use Rattle.h41_laws_calculator.proofs.Loading.{becomes, becomes-right, same_left}
+use Rattle.h41_laws_calculator.proofs.Numbered.{are_numbers}
+
+-- what an action makes
+abbrev Made : Type 0
+Made = Result KeyOutcome CalculatorRefusal
+
+edits : (Edit : Machine → Result Machine ProgramRefusal → Type 0) (machine : Machine) → Has (Edit machine) → Has (Edits Edit machine)
+edits Edit machine edited = record { answer = edit_effect edited.answer; right = (edited.answer, edited.right, refl) }
+
+-- a number that is typed is always worth one, so it has a register
+never_fault : (characters : List Character) (sign : Sign) (ignored : Bool) (fault : LineFault) (answer : Result Ten DecimalFault)
+    → IsOkAnd answer (IsNumberOf characters) → Kept sign ignored answer (Err fault) → ⊥
+never_fault characters sign ignored fault (Ok number) is kept = kept
+never_fault characters sign ignored fault (Err why) is kept = is
+
+abbrev Register : List Character → RegisterMap → Type 0
+Register text memory = (register : List ℕ) × Computes (Written text) memory 0 (Ok register)
+
+register_of : (text : List Character) (memory : RegisterMap) (result : Result (List ℕ) LineFault)
+    → Computes (Written text) memory 0 result → Register text memory
+register_of text memory (Ok register) computes = (register, computes)
+register_of text memory (Err fault) computes =
+    absurd (never_fault text (sign_of_value (Written text) memory 0) (flag_of memory range_ignore) fault computes.answer
+    computes.nearest computes.kept)
+
+module _ (ends : LineHasOneEnd) (names : NameHasOneFunction) (labels : MemoryHasOneAnswer (Option ℕ)) (values : ValueHasOneRegister)
+    (next : MoveHasOneOutcome ShowsNext) (before : MoveHasOneOutcome ShowsBefore) (end : MoveHasOneOutcome GoesToEnd)
+    (deletion : MoveHasOneOutcome Deletes) (insertion : ChangeHasOneOutcome Inserts) (replacement : ChangeHasOneOutcome Replaces) where
+  carries : (source : LineSource) (pages : PageMap) (machine : Machine) → Has (Carries source pages machine)
+  carries source pages machine =
+      let ended = ends source pages machine in
+      record { answer = line_effect ended.answer; right = (ended.answer, ended.right, refl) }
+
+  begins : (text : List Character) (machine : Machine) → Has (BeginsNumber text machine)
+  begins text machine =
+      let found = values (Written text) machine.memory 0 in
+      let of = register_of text machine.memory found.answer found.right in
+      record { answer = Ok (Leaves (with_line_begun machine of.0)); right = (of.0, of.1, refl) }
+
+  changes : (text : List Character) (machine : Machine) → Has (ChangesNumber text machine)
+  changes text machine =
+      let found = values (Written text) machine.memory 0 in
+      let of = register_of text machine.memory found.answer found.right in
+      record { answer = Ok (Leaves (with_line_changed machine of.0)); right = (of.0, of.1, refl) }
+
+  -- the line that is stored, which is one that programs have too
+  abbrev Stored : (Line → Type 0) → Type 0
+  Stored IsStored = (stored : Line) × IsStored stored × IsInner stored
+
+  stored_function : (line : Line) (function : Option Function) → IsInner line → Stored (StoredFunction line function)
+  stored_function line (Some function) inner = (lines.Plain function, refl, record { valid = tt; inner = refl })
+  stored_function line None inner = (line, refl, inner)
+
+  stored_elsewhere : (line : Line) (name : List ℕ) (numbers : Option (ℕ × ℕ)) → IsInner line → IfSome numbers AreNumbers
+      → Stored (StoredElsewhere line name numbers)
+  stored_elsewhere line name (Some numbers) inner are =
+      (lines.Module numbers.0 numbers.1, refl, record { valid = (are.1, are.2); inner = refl })
+  stored_elsewhere line name None inner are =
+      let function = names name in
+      let of = stored_function line function.answer inner in
+      (of.0, (function.answer, function.right, of.1), of.2)
+
+  stored_name : (pages : PageMap) (line : Line) (name : List ℕ) (label : Option ℕ) → IsInner line
+      → Stored (StoredName pages line name label)
+  stored_name pages line name (Some position) inner = (line, refl, inner)
+  stored_name pages line name None inner =
+      stored_elsewhere line name (function_of_name pages name) inner (are_numbers pages name)
+
+  stored_as : (pages : PageMap) (memory : RegisterMap) (line : Line) → IsInner line → Stored (IsStoredAs pages memory line)
+  stored_as pages memory (lines.Named ExecuteName name) inner =
+      let label = labels (λ listed. position_of (named_in name listed)) memory 0 in
+      let of = stored_name pages (lines.Named ExecuteName name) name label.answer inner in
+      (of.0, (label.answer, label.right, of.1), of.2)
+  stored_as pages memory line inner = (line, refl, inner)
+
+  stores : (pages : PageMap) (line : Line) (machine : Machine) → IsInner line → is_sound machine.memory ≡ true
+      → Has (StoresLine pages line machine)
+  stores pages line machine inner sound =
+      let stored = stored_as pages machine.memory line inner in
+      let made = edits (Inserts stored.0) machine (one_there (insertion stored.0 machine stored.2 sound)) in
+      record { answer = made.answer; right = (stored.0, stored.1, made.right) }
+
+  -- each action
+  acts : (pages : PageMap) (program_mode : Bool) (action : Action) (machine : Machine) → StoresInner action
+      → is_sound machine.memory ≡ true → Has (Acts pages program_mode action machine)
+  acts pages program_mode actions.Nothing machine inner sound = alone _
+  acts pages program_mode actions.Stop machine inner sound = alone _
+  acts pages program_mode actions.Run machine inner sound = alone _
+  acts pages program_mode actions.Step machine inner sound =
+      either program_mode (Edits ShowsNext machine) (Carries sources.Program pages machine)
+      (edits ShowsNext machine (one_there (next machine))) (carries sources.Program pages machine)
+  acts pages program_mode actions.StepBack machine inner sound = edits ShowsBefore machine (one_there (before machine))
+  acts pages program_mode actions.GoToEnd machine inner sound = edits GoesToEnd machine (one_there (end machine))
+  acts pages program_mode (actions.CarryOut line) machine inner sound = carries (sources.Keys line) pages machine
+  acts pages program_mode (actions.Insert line) machine inner sound = stores pages line machine inner sound
+  acts pages program_mode (actions.Replace line) machine inner sound =
+      edits (Replaces line) machine (one_there (replacement line machine inner sound))
+  acts pages program_mode actions.Delete machine inner sound = edits Deletes machine (one_there (deletion machine))
+  acts pages program_mode (actions.BeginNumber text) machine inner sound = begins text machine
+  acts pages program_mode (actions.ChangeNumber text) machine inner sound = changes text machine
+  acts pages program_mode actions.EndNumber machine inner sound = carries (sources.Keys (lines.Plain ClearX)) pages machine
+  acts pages program_mode actions.ToggleAlpha machine inner sound = alone _
+  acts pages program_mode (actions.BeginText letter) machine inner sound = alone _
+  acts pages program_mode (actions.AddLetter letter) machine inner sound = alone _
+  acts pages program_mode actions.TakeLetter machine inner sound = alone _
+  acts pages program_mode actions.ClearAlpha machine inner sound = alone _
+
+  -- what a key makes, in a mode
+  abbrev Makes : CalculatorState → Key → Action → Input → Result CalculatorState CalculatorRefusal → Type 0
+  Makes s key action input made =
+      (effect : Made) × Acts s.nut.pages input.program_mode action (machine_of s) effect
+      × (made ≡ after_outcome (with_key_told key input s) effect)
+
+  abbrev MakesIn : Mode → CalculatorState → Key → Option Pressed → Result CalculatorState CalculatorRefusal → Type 0
+  MakesIn mode s key None made = made ≡ Err KeyNotHeld
+  MakesIn mode s key (Some press) made =
+      MatchOption (then_some (is_idle mode && not (is_sound s.nut.ram)) MemoryLost) (Makes s key press.action press.input made)
+      (λ why. made ≡ Err why)
+
+  makes : (s : CalculatorState) (key : Key) (action : Action) (input : Input)
+      → Has (Acts s.nut.pages input.program_mode action (machine_of s)) → Has (Makes s key action input)
+  makes s key action input effect =
+      record { answer = after_outcome (with_key_told key input s) effect.answer; right = (effect.answer, effect.right, refl) }
+
+  made_if : (sound : Bool) (s : CalculatorState) (key : Key) (press : Pressed) → is_sound s.nut.ram ≡ sound → StoresInner press.action
+      → Has (λ made. MatchOption (then_some (not sound) MemoryLost) (Makes s key press.action press.input made) (λ why. made ≡ Err why))
+  made_if true s key press is inner =
+      makes s key press.action press.input (acts s.nut.pages press.input.program_mode press.action (machine_of s) inner is)
+  made_if false s key press is inner = alone (Err MemoryLost)
+
+  -- where something runs, a key stops it or only tells its code
+  while_run : (s : CalculatorState) (key : Key) (meaning : Meaning) → Has (MakesIn modes.Run s key (while_running s.input meaning))
+  while_run s key meanings.Nothing = alone (Err KeyNotHeld)
+  while_run s key meanings.RunStop = makes s key actions.Stop s.input (alone _)
+  while_run s key other = makes s key actions.Nothing s.input (alone _)
+
+  while_micro : (s : CalculatorState) (key : Key) (meaning : Meaning) → Has (MakesIn modes.Run s key (while_in_microcode s.input meaning))
+  while_micro s key meanings.Nothing = alone (Err KeyNotHeld)
+  while_micro s key other = makes s key actions.Nothing s.input (alone _)
+
+  in_idle : (s : CalculatorState) (key : Key) (of : Option Pressed) → PressStoresInner of → Has (MakesIn modes.Idle s key of)
+  in_idle s key None inner = alone (Err KeyNotHeld)
+  in_idle s key (Some press) inner = made_if (is_sound s.nut.ram) s key press refl inner
+
+  in_micro : (s : CalculatorState) (key : Key) (caller : Caller) (of : Option Pressed) → Has (MakesIn modes.Run s key of)
+      → Has (MakesIn (modes.Micro caller) s key of)
+  in_micro s key caller None made = record { answer = made.answer; right = made.right }
+  in_micro s key caller (Some press) made = record { answer = made.answer; right = made.right }
+
+  in_mode : (mode : Mode) (s : CalculatorState) (key : Key) → PressStoresInner (presses s.input key (activity_of mode) (flags_of s))
+      → Has (MakesIn mode s key (presses s.input key (activity_of mode) (flags_of s)))
+  in_mode modes.Idle s key inner = in_idle s key _ inner
+  in_mode modes.Run s key inner = while_run s key (row_of key).plain
+  in_mode (modes.Micro caller) s key inner =
+      in_micro s key caller (while_in_microcode s.input (row_of key).plain) (while_micro s key (row_of key).plain)
+
+  key_makes : (s : CalculatorState) (key : Key) (of : Option Pressed) → Has (MakesIn s.mode s key of) → Has (KeyMakes s key of)
+  key_makes s key None made = record { answer = made.answer; right = made.right }
+  key_makes s key (Some press) made = record { answer = made.answer; right = made.right }
+
+  pub one_key : KeyIsDetermined → KeyHasOneOutcome
+  one_key determined key s inner =
+      let made = key_makes s key (press_of s key) (in_mode s.mode s key inner) in
+      let right : KeyLeaves key s (becomes made.answer s) = (made.answer, made.right, becomes-right made.answer s) in
+      record {
+        answer = becomes made.answer s;
+        right = right;
+        only = λ other again.
+            let same = determined key s other.0 (becomes made.answer s).0 other.1 (becomes made.answer s).1 again right in
+            same_left other (becomes made.answer s) same.0 same.1;
+      }
+
+-- a key that was pressed
+pub one_pressed : KeyIsDetermined → (key : Key) (s t : CalculatorState) (refusal : Option CalculatorRefusal) → Presses key s t refusal
+    → HasOne (KeyLeaves key s)
+one_pressed determined key s t refusal presses = record {
+  answer = (t, refusal);
+  right = presses;
+  only = λ other again.
+      let same = determined key s other.0 t other.1 refusal again presses in
+      same_left other (t, refusal) same.0 same.1;
+}

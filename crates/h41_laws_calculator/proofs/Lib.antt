@@ -1,0 +1,9 @@
+pub mod Chosen
+pub mod Named
+pub mod Ended
+pub mod Moved
+pub mod Changed
+pub mod Stepping
+pub mod Loading
+pub mod Numbered
+pub mod Keyed

@@ -1,0 +1,31 @@
+-- What a key does exists.
+use Rattle.std.specs.Prelude.{Option, Some, None}
+use Rattle.h41_keys.specs.declared.action.Action.{Action}
+use Rattle.h41_keys.specs.declared.action.Action.TheVariants.{Insert, Replace}
+use Rattle.h41_keys.specs.declared.input.Pressed.{Pressed}
+use Rattle.h41_keys.specs.declared.key.Key.{Key}
+use Rattle.h41_program.specs.ProgramLaws.{IsInner}
+use Rattle.h41_xrom.specs.Calculator.{CalculatorState}
+use Rattle.h41_xrom.specs.KeyActions.{Presses, press_of}
+use Rattle.h41_xrom.specs.declared.refusal.CalculatorRefusal.{CalculatorRefusal}
+use Rattle.h41_laws_numbers.specs.HasOne.{HasOne}
+
+-- the line that an action stores, where it stores one, has bytes, and is one that programs have
+abbrev pub StoresInner : Action → Type 0
+StoresInner (Insert line) = IsInner line
+StoresInner (Replace line) = IsInner line
+StoresInner other = Unit {0}
+
+-- so it is of a key that is accepted
+abbrev pub PressStoresInner : Option Pressed → Type 0
+PressStoresInner None = Unit {0}
+PressStoresInner (Some press) = StoresInner press.action
+
+-- a state and a refusal are those of a key
+abbrev pub KeyLeaves : Key → CalculatorState → CalculatorState × Option CalculatorRefusal → Type 0
+KeyLeaves key s left = Presses key s left.0 left.1
+
+-- each key has one outcome from each state: a change, or a refusal
+abbrev pub KeyHasOneOutcome : Type 0
+KeyHasOneOutcome =
+    (key : Key) (s : CalculatorState) → PressStoresInner (press_of s key) → HasOne (KeyLeaves key s)

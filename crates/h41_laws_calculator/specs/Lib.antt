@@ -1,0 +1,4 @@
+pub mod LineEnds
+pub mod ProgramMode
+pub mod CalculatorAnswers
+pub mod Keys

@@ -1,0 +1,17 @@
+-- How a line ends exists, where it may call what memory does not have.
+use Rattle.std.specs.Prelude.{ℕ, List}
+use Rattle.h41_focal.specs.LineStep.{Machine}
+use Rattle.h41_pages.specs.PageMap.{PageMap}
+use Rattle.h41_xrom.specs.Lines.{CarriesLine, IsNamed}
+use Rattle.h41_xrom.specs.declared.lines.LineSource.{LineSource}
+use Rattle.h41_laws_numbers.specs.HasOne.{HasOne}
+
+-- any characters name one function of the calculator, or none
+abbrev pub NameHasOneFunction : Type 0
+NameHasOneFunction = (name : List ℕ) → HasOne (IsNamed name)
+
+-- the line at the position, and one that was typed, have one end, whatever is plugged
+abbrev pub LineHasOneEnd : Type 0
+LineHasOneEnd =
+    (source : LineSource) (pages : PageMap) (machine : Machine)
+    → HasOne (CarriesLine source pages machine)

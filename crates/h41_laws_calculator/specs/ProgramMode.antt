@@ -1,0 +1,19 @@
+-- What keys do in program mode exists.
+use Rattle.std.specs.Prelude.{IsTrue, Result}
+use Rattle.h41_codes.specs.declared.line.Line.{Line}
+use Rattle.h41_focal.specs.LineStep.{Machine}
+use Rattle.h41_program.specs.ProgramLaws.{IsInner}
+use Rattle.h41_program.specs.declared.refusal.ProgramRefusal.{ProgramRefusal}
+use Rattle.h41_ram.specs.RegisterMap.{is_sound}
+use Rattle.h41_laws_numbers.specs.HasOne.{HasOne}
+
+-- a move of the position, and BACK, have one outcome, from any machine
+abbrev pub MoveHasOneOutcome : (Machine → Result Machine ProgramRefusal → Type 0) → Type 0
+MoveHasOneOutcome Moves = (machine : Machine) → HasOne (Moves machine)
+
+-- a line that has bytes, neither a null nor .END., is inserted, or comes in another's place, in
+-- one way, where memory is sound
+abbrev pub ChangeHasOneOutcome : (Line → Machine → Result Machine ProgramRefusal → Type 0) → Type 0
+ChangeHasOneOutcome Makes =
+    (line : Line) (machine : Machine) → IsInner line → IsTrue (is_sound machine.memory)
+    → HasOne (Makes line machine)

@@ -1,0 +1,118 @@
+//! The laws: each is the contract of a function with nothing to do but to call the laws that it rests on.
+
+ghost use Rattle.h41_laws_numbers.specs.HasOne.{HasOne};
+ghost use Rattle.h41_editor.specs.Changes.{Deletes, Inserts, Replaces};
+ghost use Rattle.h41_editor.specs.Moves.{GoesToEnd, ShowsBefore, ShowsNext};
+ghost use Rattle.h41_laws_calculator.specs.CalculatorAnswers.{AcceptedStepHasOneState};
+ghost use Rattle.h41_laws_calculator.specs.CalculatorAnswers.{DisplayHasOneText};
+ghost use Rattle.h41_laws_calculator.specs.CalculatorAnswers.{LoadHasOneOutcome};
+ghost use Rattle.h41_laws_calculator.specs.CalculatorAnswers.{SizeHasOneOutcome};
+ghost use Rattle.h41_laws_calculator.specs.CalculatorAnswers.{StepHasOneOutcome};
+ghost use Rattle.h41_laws_calculator.specs.CalculatorAnswers.{StepHasOneRefusal};
+ghost use Rattle.h41_laws_calculator.specs.Keys.{KeyHasOneOutcome, KeyLeaves};
+ghost use Rattle.h41_laws_calculator.specs.LineEnds.{LineHasOneEnd, NameHasOneFunction};
+ghost use Rattle.h41_laws_calculator.specs.ProgramMode.{ChangeHasOneOutcome, MoveHasOneOutcome};
+
+use h41_codes::laws::byte_round_trip;
+use h41_editor::laws::{changes_are_determined, moves_are_determined};
+use h41_focal::laws::line_is_determined;
+use h41_keys::Key;
+use h41_laws_lines::laws::line_has_one_outcome;
+use h41_laws_programs::laws::{
+    changes_have_one_outcome, positions_have_one_answer, searches_have_one_answer,
+};
+use h41_laws_values::laws::value_has_one_register;
+use h41_laws_words::laws::word_has_one_answer;
+use h41_program::laws::{one_list, positions_are_read};
+use h41_text::laws::line_text_round_trip;
+use h41_xrom::Calculator;
+use h41_xrom::laws::{
+    display_is_determined, key_is_determined, load_is_determined, step_is_determined,
+};
+
+/// Any characters name one function of the calculator, or none.
+pub fn names_have_one_function()
+    ensures { NameHasOneFunction }
+{
+    line_is_determined();
+    line_text_round_trip();
+}
+
+/// A line that stands at the position or was typed has one end, whatever is plugged: it answers, or a module's function begins, or
+/// it is refused.
+pub fn line_has_one_end()
+    ensures { LineHasOneEnd }
+{
+    names_have_one_function();
+    line_has_one_outcome();
+    line_is_determined();
+    line_text_round_trip();
+}
+
+/// SST, BST, `GTO . .` and BACK have one outcome each in program mode, from any machine; so have a line that is inserted and one
+/// that comes in the place of another, where memory is sound.
+pub fn program_mode_has_one_outcome()
+    ensures next { MoveHasOneOutcome ShowsNext }
+    ensures before { MoveHasOneOutcome ShowsBefore }
+    ensures end { MoveHasOneOutcome GoesToEnd }
+    ensures deletion { MoveHasOneOutcome Deletes }
+    ensures insertion { ChangeHasOneOutcome Inserts }
+    ensures replacement { ChangeHasOneOutcome Replaces }
+{
+    byte_round_trip();
+    one_list();
+    positions_are_read();
+    positions_have_one_answer();
+    changes_have_one_outcome();
+    moves_are_determined();
+    changes_are_determined();
+}
+
+/// A step has one refusal or none, from any state; from one whose registers A, B and C are registers it leaves one state, where it
+/// is not refused (`state`), and with the refusal (`outcome`).
+pub fn step_has_one_outcome()
+    ensures refusal { StepHasOneRefusal }
+    ensures state { AcceptedStepHasOneState }
+    ensures outcome { StepHasOneOutcome }
+{
+    line_has_one_end();
+    word_has_one_answer();
+    step_is_determined();
+}
+
+/// A load of any bytes has one outcome, and so has a new number of data registers, from any state.
+pub fn load_has_one_outcome()
+    ensures load { LoadHasOneOutcome }
+    ensures size { SizeHasOneOutcome }
+{
+    changes_have_one_outcome();
+    load_is_determined();
+}
+
+/// The display shows one text, from any state.
+pub fn display_has_one_text()
+    ensures { DisplayHasOneText }
+{
+    positions_have_one_answer();
+    display_is_determined();
+}
+
+/// A key has one outcome from any state, a change or a refusal, where the line that it stores, if it stores one, has bytes.
+pub fn key_has_one_outcome()
+    ensures { KeyHasOneOutcome }
+{
+    line_has_one_end();
+    names_have_one_function();
+    searches_have_one_answer();
+    value_has_one_register();
+    program_mode_has_one_outcome();
+    key_is_determined();
+}
+
+/// So each key has from each calculator that there is: the lines that a keyboard stores have bytes.
+pub fn key_has_one_effect<const REGS: usize>(calculator: &mut Calculator<REGS>, key: Key)
+    ensures { HasOne (KeyLeaves key calculator.old) }
+{
+    key_is_determined();
+    let _ = calculator.key(key);
+}

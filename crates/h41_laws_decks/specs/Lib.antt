@@ -1,0 +1,2 @@
+pub mod DeckAnswers
+pub mod DeckTexts

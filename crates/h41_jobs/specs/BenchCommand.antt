@@ -19,19 +19,16 @@ use Rattle.h41_jobs.specs.WordTexts.{origin_value}
 abbrev pub file_rule : Rule
 file_rule = record (new_rule (codes "FILE")) { required = true; action = Some Set }
 
+-- an option of this name, which has a value
+abbrev pub option_rule : Text → Rule
+option_rule name =
+    record (new_rule name) { long = Some name; action = Some Set; value_names = 1 }
+
 abbrev pub origin_rule : Rule
-origin_rule = record (new_rule (codes "origin")) {
-  long = Some (codes "origin");
-  action = Some Set;
-  value_names = 1;
-}
+origin_rule = option_rule (codes "origin")
 
 abbrev pub memory_rule : Rule
-memory_rule = record (new_rule (codes "memory")) {
-  long = Some (codes "memory");
-  action = Some Set;
-  value_names = 1;
-}
+memory_rule = option_rule (codes "memory")
 
 -- a command that takes an option beside FILE
 abbrev pub option_app : Text → Rule → App

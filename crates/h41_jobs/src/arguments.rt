@@ -2,13 +2,14 @@
 
 ghost use Rattle.std.specs.Prelude.{◌≡◌, ◌≢◌, [], true, false, codes, map, IfOk, IfSome, IfNone};
 ghost use Rattle.std.specs.Prelude.{IsErr, option_map};
-ghost use Rattle.clap.specs.Words.{FailsBy, HasMatchesOf, app_of, fault_of, kind_of, rule_of};
+ghost use Rattle.clap.specs.Words.{FailsBy, HasMatchesOf, app_of, fault_of, first_of, found_of};
+ghost use Rattle.clap.specs.Words.{kind_of, rows_of, rule_of};
 ghost use Rattle.clap.specs.Words.{subcommand_rows_of};
 ghost use Rattle.clap.specs.declared.error.kind.ErrorKind.TheVariants as kind;
 ghost use Rattle.h41_jobs.specs.BenchCommand.{bench_app, file_rule, has_globals, job_in};
-ghost use Rattle.h41_jobs.specs.BenchCommand.{memory_asked, memory_in, memory_rule};
+ghost use Rattle.h41_jobs.specs.BenchCommand.{memory_asked, memory_in, option_app};
 ghost use Rattle.h41_jobs.specs.BenchCommand.{origin_app, origin_asked, origin_in, origin_rule};
-ghost use Rattle.h41_jobs.specs.BenchCommand.{run_app, task_asked};
+ghost use Rattle.h41_jobs.specs.BenchCommand.{option_rule, run_app, task_asked};
 ghost use Rattle.h41_jobs.specs.CommandLine.{asks_help, asks_version, asm_file, dis_file};
 ghost use Rattle.h41_jobs.specs.CommandLine.{file_to_run, give_memory, is_mistake};
 ghost use Rattle.h41_jobs.specs.Ending.{AsksForNoRun, AsksTo, AsksToRun, EndsAtOnce, EndsWith};
@@ -193,12 +194,17 @@ fn run_command<'a>(alloc: Global) -> Result<Command<'a>, AllocError>
     ensures app { IfOk result (λ command. app_of command ≡ run_app) }
     ensures local { IfOk result (λ command. has_globals command ≡ false) }
 {
-    Command::new(alloc, "run")
-        .about("Runs a deck of commands")
-        .override_usage("bench run [--memory N] FILE")
-        .after_help(DECKS)
-        .arg(memory_argument(alloc))?
-        .arg(file_argument(alloc))
+    let usage = "bench run [--memory N] FILE";
+    let help = "The registers of memory: 64, 128, 192, 256 or 320, and 320 if not given";
+    let memory = option_argument(alloc, "memory", "N", help);
+    option_command(
+        alloc,
+        "run",
+        "Runs a deck of commands",
+        usage,
+        DECKS,
+        memory,
+    )
 }
 
 /// The command that assembles a source.
@@ -207,7 +213,8 @@ fn assemble_command<'a>(alloc: Global) -> Result<Command<'a>, AllocError>
     ensures local { IfOk result (λ command. has_globals command ≡ false) }
 {
     let usage = "bench asm [--origin HHHH] FILE";
-    origin_command(alloc, "asm", "Assembles a source", usage, SOURCES)
+    let origin = origin_argument(alloc);
+    option_command(alloc, "asm", "Assembles a source", usage, SOURCES, origin)
 }
 
 /// The command that lists words.
@@ -216,38 +223,37 @@ fn list_command<'a>(alloc: Global) -> Result<Command<'a>, AllocError>
     ensures local { IfOk result (λ command. has_globals command ≡ false) }
 {
     let usage = "bench dis [--origin HHHH] FILE";
-    origin_command(alloc, "dis", "Lists words as instructions", usage, WORDS)
+    let origin = origin_argument(alloc);
+    option_command(
+        alloc,
+        "dis",
+        "Lists words as instructions",
+        usage,
+        WORDS,
+        origin,
+    )
 }
 
-/// A command that takes an origin beside FILE. Help says what it is about, its usage, and the text behind that.
-fn origin_command<'a>(
+/// A command that takes an option beside FILE. Help says what it is about, its usage, and the text behind that.
+fn option_command<'a>(
     alloc: Global,
     name: &'a str,
     about: &'a str,
     usage: &'a str,
     text: &'a str,
+    option: Arg<'a>,
 ) -> Result<Command<'a>, AllocError>
-    ensures app { IfOk result (λ command. app_of command ≡ origin_app name.now) }
+    requires { option.global ≡ false }
+    ensures app { IfOk result
+        (λ command. app_of command ≡ option_app name.now (rule_of option.entry)) }
     ensures local { IfOk result (λ command. has_globals command ≡ false) }
 {
     Command::new(alloc, name)
         .about(about)
         .override_usage(usage)
         .after_help(text)
-        .arg(origin_argument(alloc))?
+        .arg(option)?
         .arg(file_argument(alloc))
-}
-
-/// The argument `--memory`.
-fn memory_argument<'a>(alloc: Global) -> Arg<'a>
-    ensures rule { rule_of result ≡ memory_rule }
-    ensures local { result.global ≡ false }
-{
-    Arg::new(alloc, "memory")
-        .long("memory")
-        .value_name("N")
-        .help("The registers of memory: 64, 128, 192, 256 or 320, and 320 if not given")
-        .action(ArgAction::Set)
 }
 
 /// The argument `--origin`.
@@ -255,10 +261,19 @@ fn origin_argument<'a>(alloc: Global) -> Arg<'a>
     ensures rule { rule_of result ≡ origin_rule }
     ensures local { result.global ≡ false }
 {
-    Arg::new(alloc, "origin")
-        .long("origin")
-        .value_name("HHHH")
-        .help("The address of the first word, in four hexadecimal digits: 8000 if not given")
+    let help = "The address of the first word, in four hexadecimal digits: 8000 if not given";
+    option_argument(alloc, "origin", "HHHH", help)
+}
+
+/// An option by its name, with what help calls its value and says of it.
+fn option_argument<'a>(alloc: Global, name: &'a str, value: &'a str, help: &'a str) -> Arg<'a>
+    ensures rule { rule_of result ≡ option_rule name.now }
+    ensures local { result.global ≡ false }
+{
+    Arg::new(alloc, name)
+        .long(name)
+        .value_name(value)
+        .help(help)
         .action(ArgAction::Set)
 }
 
@@ -287,7 +302,7 @@ fn job_of<'a>(matches: &ArgMatches<'a>) -> Option<Job<'a>>
 {
     let (name, command) = matches.subcommand()?;
     let task = task_of(name, command)?;
-    let file = command.get_str("FILE")?;
+    let file = value_of(command, "FILE")?;
     Some(Job { task, file })
 }
 
@@ -309,11 +324,19 @@ fn task_of(name: &str, command: &ArgMatches<'_>) -> Option<Task>
     }
 }
 
+/// The value of an argument of a command, where it has one.
+fn value_of<'a>(command: &ArgMatches<'a>, name: &str) -> Option<&'a str>
+    ensures { option_map (λ text. text.now) result
+        ≡ first_of name.now (rows_of (found_of command.now)) }
+{
+    command.get_str(name)
+}
+
 /// The size of memory: 320 registers where it is not given. None where the one that is given is no size.
 fn memory_of(command: &ArgMatches<'_>) -> Option<MemorySize>
     ensures { result ≡ memory_asked (memory_in command.now) }
 {
-    match command.get_str("memory") {
+    match value_of(command, "memory") {
         Some(text) => written_size(text),
         None => Some(MEMORY),
     }
@@ -323,7 +346,7 @@ fn memory_of(command: &ArgMatches<'_>) -> Option<MemorySize>
 fn origin_of(command: &ArgMatches<'_>) -> Option<u16>
     ensures { result ≡ origin_asked (origin_in command.now) }
 {
-    match command.get_str("origin") {
+    match value_of(command, "origin") {
         Some(digits) => origin_value(digits),
         None => Some(ORIGIN),
     }

@@ -1,6 +1,5 @@
 use Rattle.std.proofs.Common.{◌≡◌, codes, Some, None, ap, sym, option_map, ◌∙◌}
 use Rattle.std.specs.Prelude.{option_and_then}
-use Rattle.clap.proofs.WalkLemmas.{first_value-rows}
 use Rattle.clap.specs.Words.{first_of, found_of, rows_of, subcommand_rows_of}
 use Rattle.h41_jobs.specs.BenchCommand.{job_in, task_asked}
 use Rattle.h41_jobs.specs.Ending.{parts_of}
@@ -13,8 +12,7 @@ returns c =
     let met : subcommand_rows_of c.args.matches.now ≡ Some (c.in_ok-name.name.now, rows_of command) =
     met_row (subcommand_rows_of c.args.matches.now) c.in_ok-name.name.now (rows_of command)
     (c.in_ok-name.ensures.name ∙ sym (named_rows c.args.matches.now)) c.in_ok-name.ensures.rows in
-    let file : Some c.in_ok-file.file.now ≡ first_of (codes "FILE") (rows_of command) =
-    c.in_ok-file.ensures ∙ first_value-rows command (codes "FILE") in
+    let file : Some c.in_ok-file.file.now ≡ first_of (codes "FILE") (rows_of command) = c.in_ok-file.ensures in
     let task : Some c.in_ok-task.task
     ≡ task_asked c.in_ok-name.name.now (first_of (codes "memory") (rows_of command)) (first_of (codes "origin") (rows_of command)) =
     c.in_ok-task.ensures in
@@ -27,7 +25,7 @@ returns-in_err-file c =
     met_row (subcommand_rows_of c.args.matches.now) c.in_ok-name.name.now (rows_of command)
     (c.in_ok-name.ensures.name ∙ sym (named_rows c.args.matches.now)) c.in_ok-name.ensures.rows in
     let none : None ≡ first_of (codes "FILE") (rows_of command) =
-    sym (ap (option_map (λ s. s.now)) c.in_err-file.was) ∙ c.get_str.ensures ∙ first_value-rows command (codes "FILE") in
+    sym (ap (option_map (λ s. s.now)) c.in_err-file.was) ∙ c.value_of.ensures in
     let task : Some c.in_ok-task.task
     ≡ task_asked c.in_ok-name.name.now (first_of (codes "memory") (rows_of command)) (first_of (codes "origin") (rows_of command)) =
     c.in_ok-task.ensures in

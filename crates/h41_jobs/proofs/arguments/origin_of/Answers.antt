@@ -1,17 +1,9 @@
-use Rattle.std.proofs.Common.{◌≡◌, codes, Some, None, ap, sym, option_map, ◌∙◌}
-use Rattle.clap.proofs.WalkLemmas.{first_value-rows}
-use Rattle.clap.specs.Words.{first_of, found_of, rows_of}
+use Rattle.std.proofs.Common.{ap, sym, option_map, ◌∙◌}
 use Rattle.h41_jobs.specs.BenchCommand.{origin_asked}
 use Rattle.h41_jobs.proofs.arguments.origin_of.Goals as goal
 
 pub returns-in-Some : goal.returns-in-Some
-returns-in-Some c =
-    let read : Some c.in-Some.digits.now ≡ first_of (codes "origin") (rows_of (found_of c.args.command.now)) =
-    sym (ap (option_map (λ s. s.now)) c.in-Some.is) ∙ c.get_str.ensures ∙ first_value-rows (found_of c.args.command.now) (codes "origin") in
-    c.origin_value.ensures ∙ ap origin_asked read
+returns-in-Some c = c.origin_value.ensures ∙ ap origin_asked (sym (ap (option_map (λ text. text.now)) c.in-Some.is) ∙ c.value_of.ensures)
 
 pub returns-in-None : goal.returns-in-None
-returns-in-None c =
-    let read : None ≡ first_of (codes "origin") (rows_of (found_of c.args.command.now)) =
-    sym (ap (option_map (λ s. s.now)) c.in-None.is) ∙ c.get_str.ensures ∙ first_value-rows (found_of c.args.command.now) (codes "origin") in
-    ap origin_asked read
+returns-in-None c = ap origin_asked (sym (ap (option_map (λ text. text.now)) c.in-None.is) ∙ c.value_of.ensures)

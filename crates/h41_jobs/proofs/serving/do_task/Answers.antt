@@ -1,7 +1,5 @@
-use Rattle.std.proofs.Common.{◌≡◌, Err, refl, rules, subst, sym, ◌∙◌}
+use Rattle.std.proofs.Common.{◌≡◌, Err, rules, sym, ◌∙◌}
 use Rattle.std.proofs.lemmas.Result.{err_from_is_err_and}
-use Rattle.h41_deck.specs.Deck.{FaultLeaves}
-use Rattle.h41_deck.specs.declared.fault.Fault.{Fault}
 use Rattle.h41_deck.specs.declared.fault.Fault.TheVariants.{ReadFault, WriteFault}
 use Rattle.h41_jobs.specs.declared.arguments.Task.TheVariants as tasks
 use Rattle.h41_jobs.specs.Inputs.{IsUnread}

@@ -8,10 +8,8 @@ use Rattle.std.specs.Str.{bytes_eq}
 use Rattle.h41_labels.specs.declared.search.KeptAnswer.{KeptAnswer}
 use Rattle.h41_labels.specs.declared.search.Search.{Search}
 use Rattle.h41_labels.specs.declared.search.Search.TheVariants.{Global, Local}
-use Rattle.h41_program.specs.Positions.{LocalFrom}
 use Rattle.h41_program.specs.ProgramLines.{AnswersOf}
-use Rattle.h41_program.specs.Searches.{named_in, position_of}
-use Rattle.h41_program.specs.declared.position.Position.TheVariants.{Memory}
+use Rattle.h41_program.specs.Searches.{AnswersLocal, named_in, position_of}
 use Rattle.h41_ram.specs.RegisterMap.{RegisterMap}
 
 -- whether two searches are the same: for LBL n from one byte on, or for one name
@@ -43,7 +41,7 @@ after_search search answer kept =
 
 -- what a search finds in memory
 abbrev pub Finds : RegisterMap → Search → Option ℕ → Type 0
-Finds memory (Local at n) answer = LocalFrom n memory (Memory at) (option_map Memory answer)
+Finds memory (Local at n) answer = AnswersLocal memory at n answer
 Finds memory (Global name) answer =
     AnswersOf (λ lines. position_of (named_in name lines)) memory 0 answer
 

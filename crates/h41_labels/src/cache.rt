@@ -1,21 +1,18 @@
 //! The searches that are kept, with their answers.
 
 ghost use Rattle.std.specs.Prelude.{◌≡◌, ◌≤◌, List, [], length, map, IsTrue, Option};
-ghost use Rattle.std.specs.Option.{option_map};
 ghost use Rattle.h41_labels.specs.KeptAnswers.{Answers, Finds, IsRight, after_search};
 ghost use Rattle.h41_labels.specs.KeptAnswers.{answer_of, most_answers, with_answer};
 ghost use Rattle.h41_labels.specs.private.Slots.{mark_beside};
 ghost use Rattle.h41_labels.specs.declared.search.Search.TheVariants.{Global, Local};
-ghost use Rattle.h41_program.specs.Positions.{LocalFrom};
 ghost use Rattle.h41_program.specs.ProgramLines.{AnswersOf};
-ghost use Rattle.h41_program.specs.Searches.{named_in, position_of};
-ghost use Rattle.h41_program.specs.declared.position.Position.TheVariants.{Memory};
+ghost use Rattle.h41_program.specs.Searches.{AnswersLocal, named_in, position_of};
 ghost use Rattle.h41_ram.specs.RegisterMap.{RegisterMap, is_sound};
 
 use crate::search::{KeptAnswer, Search};
 use arrayvec::ArrayVec;
 use h41_codes::{Parameter, Text};
-use h41_program::{Position, global, local};
+use h41_program::{global, local};
 use h41_ram::Ram;
 use std::marker::Model;
 
@@ -73,7 +70,7 @@ impl LabelCache {
 
         // Where each kept answer is the search's, this one is too, and all stay so.
         ensures found { IsRight self.old ram.now.registers
-            → LocalFrom label ram.now.registers (Memory at) (option_map Memory result) }
+            → AnswersLocal ram.now.registers at label result }
         ensures right { IsRight self.old ram.now.registers → IsRight self.new ram.now.registers }
     {
         self.answer(ram, Search::Local(at, label))
@@ -185,10 +182,7 @@ fn found<const REGS: usize>(ram: &Ram<REGS>, search: &Search) -> Option<u16>
     ensures { Finds ram.now.registers search.now result }
 {
     match search {
-        Search::Local(at, label) => match local(ram, Position::Memory(*at), *label) {
-            Some(Position::Memory(byte)) => Some(byte),
-            None => None,
-        },
+        Search::Local(at, label) => local(ram, *at, *label),
         Search::Global(name) => global(ram, name.characters()),
     }
 }

@@ -17,35 +17,12 @@ use Rattle.h41_numbers.specs.private.PlainReading.{EndsPlain, IsTypedPlain, Stan
 use Rattle.h41_numbers.proofs.PlainTexts.{ArePlain, plain_number_is, plain_range}
 use Rattle.h41_program.specs.ProgramBytes.{byte_count, final_position, program_byte}
 use Rattle.h41_program.specs.ProgramLines.{HasFirst, PositionFrom}
-use Rattle.h41_program.specs.Positions.{LineAt, in_memory}
-use Rattle.h41_program.specs.declared.position.PlacedLine.{PlacedLine}
-use Rattle.h41_program.specs.declared.position.Position.{Position}
-use Rattle.h41_program.specs.declared.position.Position.TheVariants.{Memory}
-use Rattle.h41_program.specs.declared.refusal.ProgramRefusal.{ProgramRefusal}
 use Rattle.h41_program.specs.private.Reading.{BeginsSized, bytes_seen}
 use Rattle.h41_program.proofs.Memory.{Looked, looked_first}
 use Rattle.h41_program.proofs.Places.{number_there}
-use Rattle.h41_program.proofs.PositionsRead.{both_found, byte_of}
+use Rattle.h41_program.proofs.PositionsRead.{both_found}
 use Rattle.h41_program.proofs.ShortLines.{answers_alone}
 use Rattle.h41_ram.specs.RegisterMap.{RegisterMap, is_sound}
-
-ok_no_error : (placed : PlacedLine) (refusal : ProgramRefusal) → ◌≡◌ {A = Result PlacedLine ProgramRefusal} (Ok placed) (Err refusal) → ⊥
-ok_no_error placed refusal same = cc
-
-ok_same : (placed other : PlacedLine) → ◌≡◌ {A = Result PlacedLine ProgramRefusal} (Ok placed) (Ok other) → placed ≡ other
-ok_same placed other same = cc
-
--- a line that was found behind nulls
-pub past_found : (memory : RegisterMap) (at : ℕ) (placed : PlacedLine) → LineAt memory (Memory at) (Ok placed)
-    → PositionFrom memory at (byte_of placed.position)
-past_found memory at placed (Ok first, is, same) =
-    inl (first, is, ap (λ (there : PlacedLine). byte_of there.position) (ok_same placed (in_memory first) same))
-past_found memory at placed (Err refusal, is, same) = absurd (ok_no_error placed refusal same)
-
-pub none_past : (memory : RegisterMap) (at : ℕ) (refusal : ProgramRefusal) → LineAt memory (Memory at) (Err refusal)
-    → PositionFrom memory at at
-none_past memory at refusal (Ok first, is, same) = absurd (ok_no_error (in_memory first) refusal (sym same))
-none_past memory at refusal (Err other, is, same) = inr (is.1, refl)
 
 -- a number has its characters
 characters_of : (line : Line) → IsNumber line → (text : List Character) × (line ≡ Number text)
@@ -141,11 +118,11 @@ module _ (one : OneLine) (numbers : NumberBegins) (memory : RegisterMap) (at las
         worth = plain_number_is text digits value plain (ends.reads ∙ ap (with_codes no_digits) spelled_text) ends.few typed;
       }
 
-pub plain_found : (memory : RegisterMap) (at : Position) (value : Ten) (next : ℕ) → StandsPlain memory (byte_of at) value next
-    → HasNumber memory at value (Memory next)
+pub plain_found : (memory : RegisterMap) (at : ℕ) (value : Ten) (next : ℕ) → StandsPlain memory at value next
+    → HasNumber memory at value next
 plain_found memory at value next stands = (
   stands.text,
-  both_found memory at (record { listed = record { position = byte_of at; line = Number stands.text }; behind = stands.behind }) next
+  both_found memory at (record { listed = record { position = at; line = Number stands.text }; behind = stands.behind }) next
       stands.first stands.follows,
   stands.worth,
 )

@@ -12,7 +12,7 @@ ghost use Rattle.h41_ram.specs.RegisterMap.{curtain_of, is_sound, register_at};
 use h41_codes::laws::{byte_round_trip, first_bytes, line_or_none};
 use h41_decimal::{Exponent, Sign, Ten};
 use h41_digits::Reg;
-use h41_program::{Position, final_position, line_at};
+use h41_program::{final_position, line_at};
 use h41_ram::Ram;
 
 /// How many digits count.
@@ -90,19 +90,17 @@ impl PlainDigits {
 /// The number of the number line that a position stands for, and the position of the next line. `None` where another line stands
 /// there or none, and where the number is to be read otherwise: one with a sign, an exponent or more than ten digits.
 #[inline(never)]
-pub fn plain_number<const REGS: usize>(ram: &Ram<REGS>, at: Position) -> Option<(Ten, Position)>
+pub fn plain_number<const REGS: usize>(ram: &Ram<REGS>, at: u16) -> Option<(Ten, u16)>
     requires { IsTrue (is_sound ram.now.registers) }
     ensures { IfSome result (λ found. HasNumber ram.now.registers at found.0 found.1) }
 {
-    match at {
-        Position::Memory(at) => match plain_number_at(ram, at) {
-            Some((number, next)) => Some((number, Position::Memory(next))),
-            None => None,
-        },
+    match plain_number_at(ram, at) {
+        Some((number, next)) => Some((number, next)),
+        None => None,
     }
 }
 
-/// The same at a byte of program memory.
+/// The same, by the bytes that were read.
 #[inline(always)]
 fn plain_number_at<const REGS: usize>(ram: &Ram<REGS>, at: u16) -> Option<(Ten, u16)>
     requires { IsTrue (is_sound ram.now.registers) }
@@ -188,10 +186,8 @@ fn past_nulls<const REGS: usize>(ram: &Ram<REGS>, at: u16) -> u16
     requires { IsTrue (is_sound ram.now.registers) }
     ensures { PositionFrom ram.now.registers at result }
 {
-    match line_at(ram, Position::Memory(at)) {
-        Ok(first) => match first.position {
-            Position::Memory(position) => position,
-        },
+    match line_at(ram, at) {
+        Ok(first) => first.position,
         Err(_) => at,
     }
 }

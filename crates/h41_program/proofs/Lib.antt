@@ -26,7 +26,6 @@ pub mod Outcomes
 pub mod Packings
 pub mod Places
 pub mod PlacesFound
-pub mod PositionsFound
 pub mod PositionsRead
 pub mod Resized
 pub mod Rewritten

@@ -16,15 +16,12 @@ use Rattle.h41_codes.specs.declared.short_lines.ShortLine.{ShortLine}
 use Rattle.h41_codes.specs.declared.short_lines.ShortLine.TheVariants as short
 use Rattle.h41_digits.specs.Register.{byte_at}
 use Rattle.h41_program.specs.ProgramBytes.{byte_count, final_position, program_byte, program_bytes}
-use Rattle.h41_program.specs.ProgramLines.{HasFirst, PositionFrom}
-use Rattle.h41_program.specs.Positions.{LineAndNext}
+use Rattle.h41_program.specs.ProgramLines.{AnswersBoth, HasFirst, PositionFrom}
 use Rattle.h41_program.specs.ShortLines.{HasNoShort, HasShort}
-use Rattle.h41_program.specs.declared.position.Position.{Position}
-use Rattle.h41_program.specs.declared.position.Position.TheVariants.{Memory}
 use Rattle.h41_program.specs.private.Reading.{bytes_seen, FoundBehind}
 use Rattle.h41_program.proofs.Memory.{Looked, looked_first}
 use Rattle.h41_program.proofs.PlacesFound.{begins_own}
-use Rattle.h41_program.proofs.PositionsRead.{both_found, byte_of}
+use Rattle.h41_program.proofs.PositionsRead.{both_found}
 use Rattle.h41_program.proofs.ShortLines.{BeginsNoNumber, seen_narrow}
 use Rattle.h41_program.proofs.Windows.{begins_count, begins_least, drop-map-range}
 use Rattle.h41_ram.specs.RegisterMap.{RegisterMap, curtain_of, is_sound, register_at}
@@ -121,13 +118,13 @@ size_most bytes line size begins = (
   omega (arith, three line, begins_count bytes (line_of line) size begins),
 )
 
--- what was found at the byte of a position
+-- a short line that was found, and the next position
 pub short_found :
-    (memory : RegisterMap) (at : Position) (line : ShortLine) (next : ℕ)
-    → HasShort memory (byte_of at) line next → LineAndNext memory at (Ok (line_of line, Memory next))
+    (memory : RegisterMap) (at : ℕ) (line : ShortLine) (next : ℕ)
+    → HasShort memory at line next → AnswersBoth memory at (Ok (line_of line, next))
 short_found memory at line next has =
-    both_found memory at (record { listed = record { position = byte_of at; line = line_of line }; behind = has.0 }) next has.1
-    (goes_on memory line (byte_of at) has.0 next has.2)
+    both_found memory at (record { listed = record { position = at; line = line_of line }; behind = has.0 }) next has.1
+    (goes_on memory line at has.0 next has.2)
 
 module _ (one : OneLine) (memory : RegisterMap) (at last first second third : ℕ)
     (last_is : last ≡ final_position memory) (count : last + 3 ≡ byte_count memory) (before : at < last)

@@ -4,8 +4,6 @@ pub mod LastProgram
 pub mod Lines
 pub mod Numbering
 pub mod Packing
-pub mod PositionLaws
-pub mod Positions
 pub mod ProgramBytes
 pub mod ProgramLaws
 pub mod ProgramLines

@@ -127,6 +127,13 @@ AnswersNext memory at (Ok position) =
     × PositionBehind memory first position
 AnswersNext memory at (Err refusal) = (refusal ≡ BrokenProgram) × HasNoLine memory at
 
+-- both in one
+abbrev pub AnswersBoth : RegisterMap → ℕ → Result (Line × ℕ) ProgramRefusal → Type 0
+AnswersBoth memory at (Ok both) =
+    ((first : ListedLine) × AnswersFirst memory at (Ok first) × (first.line ≡ both.0))
+    × AnswersNext memory at (Ok both.1)
+AnswersBoth memory at (Err refusal) = AnswersFirst memory at (Err refusal)
+
 -- an answer is that of the list of lines from a position on
 abbrev pub AnswersOf : {A : Type 0} → (List ListedLine → A) → RegisterMap → ℕ → A → Type 0
 AnswersOf answer memory at result =

@@ -2,11 +2,8 @@
 use Rattle.std.specs.Prelude.{ℕ, Option, Some, None, Ok, slice_range}
 use Rattle.h41_codes.specs.ShortLines.{BeginsNoShort, line_of}
 use Rattle.h41_codes.specs.declared.short_lines.ShortLine.{ShortLine}
-use Rattle.h41_program.specs.Positions.{LineAndNext}
 use Rattle.h41_program.specs.ProgramBytes.{final_position, program_bytes}
-use Rattle.h41_program.specs.ProgramLines.{HasFirst, PositionFrom}
-use Rattle.h41_program.specs.declared.position.Position.{Position}
-use Rattle.h41_program.specs.declared.position.Position.TheVariants.{Memory}
+use Rattle.h41_program.specs.ProgramLines.{AnswersBoth, HasFirst, PositionFrom}
 use Rattle.h41_ram.specs.RegisterMap.{RegisterMap}
 
 -- memory has this short line at a position itself, and the first line from the byte behind it on,
@@ -25,6 +22,6 @@ HasNoShort memory at =
 
 -- an answer is the short line that stands at a position itself, and the position of the next; none
 -- where other lines stand there, nulls, or bytes that are no line
-abbrev pub ShortLineAt : RegisterMap → Position → Option (ShortLine × Position) → Type 0
-ShortLineAt memory at (Some found) = LineAndNext memory at (Ok (line_of found.0, found.1))
-ShortLineAt memory (Memory at) None = HasNoShort memory at
+abbrev pub AnswersShort : RegisterMap → ℕ → Option (ShortLine × ℕ) → Type 0
+AnswersShort memory at (Some found) = AnswersBoth memory at (Ok (line_of found.0, found.1))
+AnswersShort memory at None = HasNoShort memory at

@@ -8,9 +8,6 @@ ghost use Rattle.h41_program.specs.LastProgram.{CloseIsRead, ClosedIsNotOpen};
 ghost use Rattle.h41_program.specs.SearchLaws.{AnswersAreDetermined, LineIsDetermined};
 ghost use Rattle.h41_program.specs.SearchLaws.{LineIsOfList, LocalIsDetermined, NextIsDetermined};
 ghost use Rattle.h41_program.specs.SearchLaws.{NextIsOfList, ProgramIsDetermined};
-ghost use Rattle.h41_program.specs.PositionLaws.{EachIsRead, HasOneAnswer, HasOneAnswerEach};
-ghost use Rattle.h41_program.specs.PositionLaws.{IsReadOnce, LinesHaveNext};
-ghost use Rattle.h41_program.specs.Positions.{EndOf, LineBefore, LocalFrom, NumberAt, StartOf};
 ghost use Rattle.h41_program.specs.ProgramLaws.{EditsAreDetermined, FirstIsDetermined};
 ghost use Rattle.h41_program.specs.ProgramLaws.{GoesOnFromNext, ListsAreDetermined, LoadIsRead};
 ghost use Rattle.h41_program.specs.ProgramLaws.{LoadsAreDetermined, OneList, PackingFills};
@@ -76,22 +73,6 @@ pub fn searches_are_determined()
     ensures program { ProgramIsDetermined (Option ℕ) }
 {
     byte_round_trip();
-}
-
-/// Each position is read, and what is found from it is determined, over any memory: its line and the next position, which there
-/// is for each line, where its program begins and ends, where labels and the line before stand, and its line's number.
-pub fn positions_are_read()
-    ensures each { EachIsRead }
-    ensures read { IsReadOnce }
-    ensures onward { LinesHaveNext }
-    ensures start { HasOneAnswer StartOf }
-    ensures local { HasOneAnswerEach LocalFrom }
-    ensures end { HasOneAnswer EndOf }
-    ensures before { HasOneAnswer LineBefore }
-    ensures number { HasOneAnswer NumberAt }
-{
-    byte_round_trip();
-    one_list();
 }
 
 /// The line at a position is the first of the list from there on, and the next position that of the second. The list from a

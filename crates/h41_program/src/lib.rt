@@ -10,7 +10,6 @@ mod listed_line;
 mod loading;
 mod numbering;
 mod packer;
-mod position;
 mod positions;
 mod ranges;
 mod reading;
@@ -24,11 +23,9 @@ pub use editing::{InFront, delete, insert, replace};
 pub use kinds::{is_end, is_final_end, is_inner, is_label, is_named, is_number};
 pub use listed_line::ListedLine;
 pub use loading::{close_last, is_last_open, load};
-pub use position::{PlacedLine, Position};
-pub use positions::{
-    end_of, line_and_next, line_at, line_before, line_number, local, next, short_line, start_of,
-};
-pub use reading::{Found, final_position, first_from};
+pub use numbering::line_before;
+pub use positions::{end_of, line_and_next, line_number, next, short_line};
+pub use reading::{Found, final_position, first_from, line_at};
 pub use refusal::ProgramRefusal;
-pub use searches::global;
+pub use searches::{global, local, start_of};
 pub use size::set_size;

@@ -12,7 +12,8 @@ use crate::searches::start_of;
 use h41_codes::laws::byte_round_trip;
 use h41_ram::Ram;
 
-/// Where the line before one stands in memory, as `positions::line_before` answers it.
+/// Where the line before the one at a position stands in its program. `None` where the list has no line at the position, or it
+/// is the first.
 pub fn line_before<const REGS: usize>(ram: &Ram<REGS>, position: u16) -> Option<u16>
     requires { IsTrue (is_sound ram.now.registers) }
     ensures { AnswersProgram (before_in position) ram.now.registers position result }

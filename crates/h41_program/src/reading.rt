@@ -351,7 +351,7 @@ fn first_decoded<const REGS: usize>(ram: &Ram<REGS>, at: u16) -> Option<Found>
     }
 }
 
-/// The line at a byte of memory, as `positions::line_at` answers it.
+/// The line that a position stands for: the first from there on, nulls passed over. 14 where there is none.
 pub fn line_at<const REGS: usize>(ram: &Ram<REGS>, at: u16) -> Result<ListedLine, ProgramRefusal>
     requires { IsTrue (is_sound ram.now.registers) }
     ensures { AnswersFirst ram.now.registers at result }

@@ -14,7 +14,8 @@ use h41_codes::Parameter;
 use h41_codes::laws::byte_round_trip;
 use h41_ram::Ram;
 
-/// Where the program of a byte of memory begins, as `positions::start_of` answers it.
+/// Where the program of a position begins: behind the last END whose first byte is before the position, or at 0. `.END.` is
+/// no END here.
 pub fn start_of<const REGS: usize>(ram: &Ram<REGS>, at: u16) -> u16
     requires { IsTrue (is_sound ram.now.registers) }
     ensures { AnswersOf (start_in at) ram.now.registers 0 result }
@@ -56,7 +57,7 @@ pub fn end_from<const REGS: usize>(ram: &Ram<REGS>, from: u16) -> Option<u16>
     None
 }
 
-/// Where the `LBL n` stands that a byte of memory finds, as `positions::local` answers it.
+/// Where the `LBL n` stands that a position finds: the first from there to the END, else the first of its program.
 pub fn local<const REGS: usize>(ram: &Ram<REGS>, at: u16, label: Parameter) -> Option<u16>
     requires { IsTrue (is_sound ram.now.registers) }
     ensures { AnswersLocal ram.now.registers at label result }

@@ -1,4 +1,5 @@
-use Rattle.h41_program.proofs.PositionsRead.{both_found, no_next}
+use Rattle.std.proofs.Common.{refl}
+use Rattle.h41_program.proofs.PositionsRead.{both_found}
 use Rattle.h41_program.proofs.positions.next.Goals as goal
 
 pub returns-in-Some : goal.returns-in-Some
@@ -7,4 +8,4 @@ returns-in-Some g c =
     c.position_behind.ensures).1
 
 pub returns-in-None : goal.returns-in-None
-returns-in-None g c = no_next c.args.ram.now.registers c.args.at c.in-None.ensures.none
+returns-in-None g c = (refl, c.in-None.ensures.none)

@@ -1,0 +1,100 @@
+-- The lines of a page: they are read from its keystroke code, up to an END or .END., which both end
+-- a program there, to the page's end, or to bytes that are no line. Where a program of a page
+-- begins, and that nulls stand for the line behind them, is this project's choice.
+use Rattle.std.specs.Prelude.{◌≡◌, ◌⊎◌, ℕ, ◌+◌, ◌*◌, ◌%◌, ◌≤◌, Bool, IsTrue, MatchBool, ◌||◌, ◌==◌}
+use Rattle.std.specs.Prelude.{All, List, length, Option, is_some, Result, Ok, Err}
+use Rattle.std.specs.List.{list_any}
+use Rattle.std.specs.Option.{option_or}
+use Rattle.h41_codes.specs.declared.line.Line.{Line}
+use Rattle.h41_pages.specs.Addresses.{page_size}
+use Rattle.h41_program.specs.Lines.{is_end, is_final_end}
+use Rattle.h41_program.specs.Numbering.{number_in}
+use Rattle.h41_program.specs.ProgramLines.{FirstFrom, NoneFrom, ReadsTo, behind}
+use Rattle.h41_program.specs.Searches.{label_in, position_of}
+use Rattle.h41_program.specs.declared.listed_line.ListedLine.{ListedLine}
+use Rattle.h41_program.specs.declared.refusal.ProgramRefusal.{ProgramRefusal}
+use Rattle.h41_program.specs.declared.refusal.ProgramRefusal.TheVariants.{BrokenProgram}
+
+-- the lines that end a program of a page
+abbrev pub is_page_end : Line → Bool
+is_page_end line = is_end line || is_final_end line
+
+-- the first line of keystroke code from an offset on, that there is none, and all lines from there
+abbrev pub IsFirstLine : List ℕ → ℕ → ListedLine → Type 0
+IsFirstLine code at first = FirstFrom code (length code) at first
+
+abbrev pub HasNoLine : List ℕ → ℕ → Type 0
+HasNoLine code at = NoneFrom code (length code) at
+
+abbrev pub LinesIn : List ℕ → ℕ → List ListedLine → Type 0
+LinesIn code at lines = ReadsTo is_page_end code (length code) at lines
+
+-- an answer is the first line from an offset on, or a refusal where there is none
+abbrev pub AnswersLine : List ℕ → ℕ → Result ListedLine ProgramRefusal → Type 0
+AnswersLine code at (Ok first) = IsFirstLine code at first
+AnswersLine code at (Err refusal) = (refusal ≡ BrokenProgram) × HasNoLine code at
+
+-- the offset of the first line from an offset on, or that offset where no line follows
+abbrev pub OffsetFrom : List ℕ → ℕ → ℕ → Type 0
+OffsetFrom code at offset =
+    ((first : ListedLine) × IsFirstLine code at first × (offset ≡ first.position))
+    ⊎ (HasNoLine code at × (offset ≡ at))
+
+-- the offset of the line behind a line, or that behind the line where no line follows or it ends
+-- its program
+abbrev pub OffsetBehind : List ℕ → ListedLine → ℕ → Type 0
+OffsetBehind code first offset =
+    MatchBool (is_page_end first.line) (offset ≡ behind first)
+    (OffsetFrom code (behind first) offset)
+
+-- an answer is the offset behind the first line from an offset on, or a refusal where there is none
+abbrev pub AnswersOffset : List ℕ → ℕ → Result ℕ ProgramRefusal → Type 0
+AnswersOffset code at (Ok offset) =
+    (first : ListedLine) × IsFirstLine code at first × OffsetBehind code first offset
+AnswersOffset code at (Err refusal) = (refusal ≡ BrokenProgram) × HasNoLine code at
+
+-- a function of the page begins at or before an offset, and the lines from there on have the one
+-- that the offset stands for
+pub record Reaches (code : List ℕ) (at begin : ℕ) : Type 0 where
+  pub before : begin ≤ at
+  pub first : ListedLine
+  pub lines : List ListedLine
+  pub stands : IsFirstLine code at first
+  pub from : LinesIn code begin lines
+  pub has : IsTrue (is_some (number_in first.position lines))
+
+-- where the program of an offset begins: at the first of the page's functions in keystroke code
+-- that reaches it, or there itself where none does
+abbrev pub IsLeast : List ℕ → List ℕ → ℕ → ℕ → Type 0
+IsLeast code begins at start =
+    IsTrue (list_any (λ begin. begin == start) begins)
+    × Reaches code at start
+    × All (λ begin. Reaches code at begin → start ≤ begin) begins
+
+abbrev pub StartsAt : List ℕ → List ℕ → ℕ → ℕ → Type 0
+StartsAt code begins at start =
+    IsLeast code begins at start
+    ⊎ (All (λ begin. Reaches code at begin → ⊥) begins × (start ≡ at))
+
+-- an answer on the program of an offset: it is that of the lines from the program's start on
+pub record AnswersOwn {A : Type 0} (answer : List ListedLine → A)
+    (code begins : List ℕ) (at : ℕ) (result : A) : Type 0 where
+  pub start : ℕ
+  pub own : List ListedLine
+  pub starts : StartsAt code begins at start
+  pub program : LinesIn code start own
+  pub is : result ≡ answer own
+
+-- where LBL n stands that an offset finds: the first from there on, else the first of its program
+pub record AnswersLabel (code begins : List ℕ) (at n : ℕ) (result : Option ℕ) : Type 0 where
+  pub start : ℕ
+  pub onward : List ListedLine
+  pub own : List ListedLine
+  pub starts : StartsAt code begins at start
+  pub from : LinesIn code at onward
+  pub program : LinesIn code start own
+  pub is : result ≡ position_of (option_or (label_in n onward) (label_in n own))
+
+-- the address of an offset of a page; behind the last page comes the first
+abbrev pub address_of : ℕ → ℕ → ℕ
+address_of page offset = (page * page_size + offset) % 0x10000

@@ -14,7 +14,7 @@ use Rattle.h41_program.specs.Edits.{LoadsBehind}
 use Rattle.h41_program.specs.Lines.{is_final_end}
 use Rattle.h41_program.specs.ProgramBytes.{program_bytes, final_position}
 use Rattle.h41_program.specs.ProgramLaws.{EditsAreDetermined, FirstIsDetermined, ListsAreDetermined, LoadsAreDetermined}
-use Rattle.h41_program.specs.ProgramLines.{line_bytes, FirstFrom, Reads, behind}
+use Rattle.h41_program.specs.ProgramLines.{line_bytes, FirstFrom, ReadsTo, behind}
 use Rattle.h41_program.proofs.FirstLines.{first_inside, first_byte, only_null}
 use Rattle.h41_program.proofs.Windows.{begins_least}
 
@@ -49,36 +49,36 @@ first_determined one bytes final at first other is is_other =
     (length (spelling first.line)) (length (spelling other.line)) is.begins begins).0 in
     (λ i. record { position = here i; line = line i })
 
-module _ (one : OneLine) (bytes : List ℕ) (final : ℕ) where
-  pub read_determined : (at : ℕ) (lines others : List ListedLine) → Reads bytes final at lines → Reads bytes final at others
+module _ (one : OneLine) (ends : Line → Bool) (bytes : List ℕ) (final : ℕ) where
+  pub read_determined : (at : ℕ) (lines others : List ListedLine) → ReadsTo ends bytes final at lines → ReadsTo ends bytes final at others
       → lines ≡ others
   read_determined at [] [] reads again = refl
   read_determined at [] (other ∷ others) reads again = absurd (reads other again.0)
   read_determined at (first ∷ rest) [] reads again = absurd (again first reads.0)
   read_determined at (first ∷ rest) (other ∷ others) reads again =
       let same = first_determined one bytes final at first other reads.0 again.0 in
-      let rests : rest ≡ others = elim (cases_Bool (is_final_end first.line)) [
+      let rests : rest ≡ others = elim (cases_Bool (ends first.line)) [
         | inl last ↦
             let final_rest : rest ≡ [] =
-            subst (λ (b : Bool). MatchBool b (rest ≡ []) (Reads bytes final (behind first) rest)) last reads.1 in
+            subst (λ (b : Bool). MatchBool b (rest ≡ []) (ReadsTo ends bytes final (behind first) rest)) last reads.1 in
             let final_others : others ≡ [] =
-            subst (λ (b : Bool). MatchBool b (others ≡ []) (Reads bytes final (behind other) others))
-            (ap (λ (l : ListedLine). is_final_end l.line) (sym same) ∙ last) again.1 in
+            subst (λ (b : Bool). MatchBool b (others ≡ []) (ReadsTo ends bytes final (behind other) others))
+            (ap (λ (l : ListedLine). ends l.line) (sym same) ∙ last) again.1 in
             final_rest ∙ sym final_others
         | inr running ↦
-            let more : Reads bytes final (behind first) rest =
-            subst (λ (b : Bool). MatchBool b (rest ≡ []) (Reads bytes final (behind first) rest)) running reads.1 in
-            let others_more : Reads bytes final (behind other) others =
-            subst (λ (b : Bool). MatchBool b (others ≡ []) (Reads bytes final (behind other) others))
-            (ap (λ (l : ListedLine). is_final_end l.line) (sym same) ∙ running) again.1 in
+            let more : ReadsTo ends bytes final (behind first) rest =
+            subst (λ (b : Bool). MatchBool b (rest ≡ []) (ReadsTo ends bytes final (behind first) rest)) running reads.1 in
+            let others_more : ReadsTo ends bytes final (behind other) others =
+            subst (λ (b : Bool). MatchBool b (others ≡ []) (ReadsTo ends bytes final (behind other) others))
+            (ap (λ (l : ListedLine). ends l.line) (sym same) ∙ running) again.1 in
             read_determined (behind first) rest others more
-            (subst (λ (l : ListedLine). Reads bytes final (behind l) others) (sym same) others_more)
+            (subst (λ (l : ListedLine). ReadsTo ends bytes final (behind l) others) (sym same) others_more)
       ] in
       ap (λ (l : ListedLine). l ∷ rest) same ∙ ap (λ (l : List ListedLine). other ∷ l) rests
 
 pub lists_determined : OneLine → ListsAreDetermined
 lists_determined one memory at lines others from again = elim (cases_Bool (is_sound memory)) [
-  | inl sound ↦ read_determined one (program_bytes memory) (final_position memory) at lines others (from.sound sound) (again.sound sound)
+  | inl sound ↦ read_determined one is_final_end (program_bytes memory) (final_position memory) at lines others (from.sound sound) (again.sound sound)
   | inr lost ↦ from.lost lost ∙ sym (again.lost lost)
 ]
 
@@ -87,7 +87,7 @@ loads_behind_determined : OneLine
     → LoadsBehind memory bytes before outcome → LoadsBehind memory bytes before other → outcome ≡ other
 loads_behind_determined one memory bytes None outcome other loads again = loads ∙ sym again
 loads_behind_determined one memory bytes (Some lines) outcome other loads again =
-    let same = read_determined one bytes (length bytes) 0 loads.0 again.0 loads.1 again.1 in
+    let same = read_determined one is_final_end bytes (length bytes) 0 loads.0 again.0 loads.1 again.1 in
     loads.2 ∙ ap (λ (given : List ListedLine). load_outcome memory lines (loaded_of bytes given)) same ∙ sym again.2
 
 pub loads_determined : OneLine → LoadsAreDetermined

@@ -6,7 +6,7 @@ use Rattle.std.specs.List.{list_all}
 use Rattle.h41_program.specs.declared.given.Taken.{Taken}
 use Rattle.h41_program.specs.declared.refusal.ProgramRefusal.{ProgramRefusal}
 use Rattle.h41_program.specs.declared.refusal.ProgramRefusal.TheVariants.{BrokenProgram}
-use Rattle.h41_program.specs.private.Reading.{BytesHaveFirst}
+use Rattle.h41_program.specs.GivenLines.{BytesHaveFirst}
 use Rattle.h41_codes.specs.ByteGrammar.{IsLine}
 use Rattle.h41_codes.specs.declared.line.Line.{Line}
 use Rattle.h41_program.specs.declared.listed_line.ListedLine.{ListedLine}

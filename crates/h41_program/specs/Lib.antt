@@ -1,5 +1,6 @@
 pub mod Dependence
 pub mod Edits
+pub mod GivenLines
 pub mod LastProgram
 pub mod Lines
 pub mod Numbering

@@ -1,6 +1,6 @@
 -- Laws of lists of lines.
-use Rattle.std.specs.Prelude.{◌≡◌, ℕ, ◌-◌, ◌*◌, ◌≤◌, All, IsTrue, List, [], ◌∷◌, ◌++◌, length}
-use Rattle.std.specs.Prelude.{replicate, Some, Result, Ok}
+use Rattle.std.specs.Prelude.{◌≡◌, ◌⊎◌, ℕ, ◌-◌, ◌*◌, ◌≤◌, All, Bool, IsTrue, List, [], ◌∷◌, ◌++◌}
+use Rattle.std.specs.Prelude.{length, replicate, Some, Result, Ok}
 use Rattle.h41_codes.specs.ByteGrammar.{IsLine}
 use Rattle.h41_codes.specs.declared.line.Line.{Line}
 use Rattle.h41_codes.specs.declared.line.Line.TheVariants.{FinalEnd}
@@ -11,7 +11,7 @@ use Rattle.h41_program.specs.Edits.{LoadGives}
 use Rattle.h41_program.specs.declared.refusal.ProgramRefusal.{ProgramRefusal}
 use Rattle.h41_program.specs.Lines.{is_inner}
 use Rattle.h41_program.specs.Packing.{packed_lines, packing, written_end}
-use Rattle.h41_program.specs.ProgramLines.{FirstFrom, LinesFrom, Reads}
+use Rattle.h41_program.specs.ProgramLines.{FirstFrom, LinesFrom, NoneFrom, Reads, ReadsTo}
 use Rattle.h41_program.specs.Rewriting.{with_program_lines}
 use Rattle.h41_program.specs.Size.{size_outcome}
 
@@ -97,11 +97,23 @@ FirstIsDetermined =
     (bytes : List ℕ) (final at : ℕ) (first other : ListedLine)
     → FirstFrom bytes final at first → FirstFrom bytes final at other → first ≡ other
 
--- no bytes are read as two lists of lines, and no memory has two from a position on
+-- no bytes are read as two lists of lines, whichever lines end a list, and no memory has two from a
+-- position on
 abbrev pub ReadIsDetermined : Type 0
 ReadIsDetermined =
-    (bytes : List ℕ) (final at : ℕ) (lines others : List ListedLine)
-    → Reads bytes final at lines → Reads bytes final at others → lines ≡ others
+    (ends : Line → Bool) (bytes : List ℕ) (final at : ℕ) (lines others : List ListedLine)
+    → ReadsTo ends bytes final at lines → ReadsTo ends bytes final at others → lines ≡ others
+
+-- bytes have a first line from each position on or none, and a list of lines, whatever ends it
+abbrev pub EachHasFirst : Type 0
+EachHasFirst =
+    (bytes : List ℕ) (final at : ℕ)
+    → ((first : ListedLine) × FirstFrom bytes final at first) ⊎ NoneFrom bytes final at
+
+abbrev pub EachIsListed : Type 0
+EachIsListed =
+    (ends : Line → Bool) (bytes : List ℕ) (final at : ℕ)
+    → (lines : List ListedLine) × ReadsTo ends bytes final at lines
 
 abbrev pub ListsAreDetermined : Type 0
 ListsAreDetermined =

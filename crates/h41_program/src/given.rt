@@ -2,13 +2,13 @@
 ghost use Rattle.std.specs.Prelude.{◌≡◌, ◌≢◌, ℕ, ◌<◌, ◌≤◌, length, slice_index, IfSome, IfNone};
 ghost use Rattle.std.specs.Prelude.{drop, ◌==◌};
 ghost use Rattle.std.specs.List.{list_all};
-ghost use Rattle.h41_program.specs.private.Reading.{BytesHaveFirst, BytesHaveNone};
+ghost use Rattle.h41_program.specs.GivenLines.{BytesHaveFirst, BytesHaveNone};
 
 use h41_codes::laws::byte_round_trip;
 use h41_codes::{Line, decode};
 
 /// A line that was taken of bytes.
-#[derive(Clone, Copy)]
+#[derive(Clone, Copy, Debug, PartialEq, Eq)]
 pub struct Taken {
     /// Where it begins.
     pub position: usize,
@@ -34,7 +34,7 @@ fn past_nulls(bytes: &[u8], at: usize) -> usize
     bytes.len()
 }
 
-/// The first line of bytes from a position on, nulls passed over.
+/// The first line of bytes from a position on, nulls passed over. `None` where no line begins there.
 pub fn line_in(bytes: &[u8], at: usize) -> Option<Taken>
     requires { at ≤ length bytes.now }
     ensures first { IfSome result (λ taken. BytesHaveFirst bytes.now at taken) }

@@ -8,7 +8,8 @@ ghost use Rattle.h41_program.specs.LastProgram.{CloseIsRead, ClosedIsNotOpen};
 ghost use Rattle.h41_program.specs.SearchLaws.{AnswersAreDetermined, LineIsDetermined};
 ghost use Rattle.h41_program.specs.SearchLaws.{LineIsOfList, LocalIsDetermined, NextIsDetermined};
 ghost use Rattle.h41_program.specs.SearchLaws.{NextIsOfList, ProgramIsDetermined};
-ghost use Rattle.h41_program.specs.ProgramLaws.{EditsAreDetermined, FirstIsDetermined};
+ghost use Rattle.h41_program.specs.ProgramLaws.{EachHasFirst, EachIsListed, EditsAreDetermined};
+ghost use Rattle.h41_program.specs.ProgramLaws.{FirstIsDetermined};
 ghost use Rattle.h41_program.specs.ProgramLaws.{GoesOnFromNext, ListsAreDetermined, LoadIsRead};
 ghost use Rattle.h41_program.specs.ProgramLaws.{LoadsAreDetermined, OneList, PackingFills};
 ghost use Rattle.h41_program.specs.ProgramLaws.{PackingHasFewNulls, PackingRoundTrip};
@@ -46,6 +47,15 @@ pub fn changes_are_read()
 /// Any memory has one list of lines from each position on, and no other.
 pub fn one_list()
     ensures { OneList }
+{
+    byte_round_trip();
+    line_or_none();
+}
+
+/// Bytes have a first line from each position on, or none, and a list of lines, whichever lines end it.
+pub fn each_is_listed()
+    ensures first { EachHasFirst }
+    ensures lines { EachIsListed }
 {
     byte_round_trip();
     line_or_none();

@@ -20,6 +20,7 @@ mod searches;
 mod size;
 
 pub use editing::{InFront, delete, insert, replace};
+pub use given::{Taken, line_in};
 pub use kinds::{is_end, is_final_end, is_inner, is_label, is_named, is_number};
 pub use listed_line::ListedLine;
 pub use loading::{close_last, is_last_open, load};

@@ -1,17 +1,16 @@
 -- What the functions that read program memory promise one another.
-use Rattle.std.specs.Prelude.{◌≡◌, ◌≤◌, ◌<◌, ℕ, ◌+◌, ◌-◌, ◌/◌, false, MatchBool, List, length}
+use Rattle.std.specs.Prelude.{◌≡◌, ◌≤◌, ◌<◌, ℕ, ◌+◌, ◌-◌, ◌/◌, false, MatchBool, List}
 use Rattle.std.specs.Prelude.{map, min}
 use Rattle.std.specs.List.{range_with_len}
 use Rattle.h41_ram.specs.RegisterMap.{RegisterMap, curtain_of, register_at}
 use Rattle.h41_codes.specs.declared.line.Line.{Line}
-use Rattle.h41_program.specs.declared.given.Taken.{Taken}
 use Rattle.h41_program.specs.declared.listed_line.ListedLine.{ListedLine}
 use Rattle.h41_codes.specs.ByteGrammar.{Begins}
 use Rattle.h41_program.specs.declared.reading.Found.{Found}
 use Rattle.h41_program.specs.declared.reading.LinePlace.{LinePlace}
 use Rattle.h41_program.specs.Lines.{is_end, is_final_end}
 use Rattle.h41_program.specs.ProgramBytes.{program_byte}
-use Rattle.h41_program.specs.ProgramLines.{HasFirst, NoneFrom, IsFirst, LinesFrom, PositionFrom}
+use Rattle.h41_program.specs.ProgramLines.{HasFirst, LinesFrom, PositionFrom}
 
 -- a line ends neither a program nor memory
 abbrev pub EndsNothing : Line → Type 0
@@ -36,16 +35,6 @@ OfPlace memory at place holds =
 abbrev pub AnswersFrom : {A : Type 0} → (List ListedLine → A) → RegisterMap → ℕ → A → Type 0
 AnswersFrom answer memory at result =
     (lines : List ListedLine) → LinesFrom memory at lines → result ≡ answer lines
-
--- bytes have this line first from a position on
-abbrev pub BytesHaveFirst : List ℕ → ℕ → Taken → Type 0
-BytesHaveFirst bytes at taken =
-    IsFirst bytes (length bytes) at (record { position = taken.position; line = taken.line })
-    taken.behind
-
--- bytes have no line from a position on
-abbrev pub BytesHaveNone : List ℕ → ℕ → Type 0
-BytesHaveNone bytes at = NoneFrom bytes (length bytes) at
 
 -- the register that has the byte at a position; at the end the one below it
 abbrev pub register_holding : RegisterMap → ℕ → List ℕ

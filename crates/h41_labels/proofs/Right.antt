@@ -1,12 +1,17 @@
 -- Answers that are those of the searches.
 use Rattle.std.proofs.Common.{◌≡◌, ℕ, Bool, true, false, None, Some, refl, sym, subst, arith}
 use Rattle.std.proofs.Common.{List, [], ◌∷◌, drop, length}
-use Rattle.std.specs.Prelude.{MatchOption, Option, is_some, nat_lt, if◌then◌else◌}
+use Rattle.std.specs.Prelude.{MatchOption, Option, is_some, nat_lt, if◌then◌else◌, slice_index_or}
 use Rattle.std.proofs.lemmas.List.Elements.{All-drop, All-push, All-tail}
 use Rattle.h41_labels.specs.KeptAnswers.{Finds, IsRight, KeepsSearch, answer_of, is_same, with_answer}
 use Rattle.h41_labels.specs.declared.search.KeptAnswer.{KeptAnswer}
+use Rattle.h41_labels.specs.KeptLaws.{RightnessDepends}
 use Rattle.h41_labels.specs.declared.search.Search.{Search}
+use Rattle.h41_labels.specs.declared.search.Search.TheVariants.{Global, Local}
 use Rattle.h41_labels.proofs.Kept.{same_search}
+use Rattle.h41_program.specs.Dependence.{AnswersDepend, LocalDepends}
+use Rattle.h41_program.specs.Searches.{named_in, position_of}
+use Rattle.h41_ram.specs.RamState.{SameProgram}
 use Rattle.h41_ram.specs.RegisterMap.{RegisterMap}
 
 -- a kept answer is the search's
@@ -52,3 +57,15 @@ stays_right memory (Some search) old new (answer, answers, is) right =
         → IsRight (if is_some known then old else with_answer search answer old) memory
     by_known None finds = right_put memory search answer old right finds
     by_known (Some one) same = right
+
+-- what a search finds depends on the program alone
+finds_depend : (memory other : RegisterMap) (search : Search) (answer : Option ℕ) → AnswersDepend (Option ℕ) → LocalDepends
+    → SameProgram memory other → Finds memory search answer → Finds other search answer
+finds_depend memory other (Local at n) answer lists labels same finds = labels memory other at n answer same finds
+finds_depend memory other (Global name) answer lists labels same finds =
+    lists memory other (λ lines. position_of (named_in name lines)) 0 answer same finds
+
+pub right_depends : AnswersDepend (Option ℕ) → LocalDepends → RightnessDepends
+right_depends lists labels memory other kept same right k d inside =
+    let one = slice_index_or kept k d in
+    finds_depend memory other one.search one.answer lists labels same (right k d inside)

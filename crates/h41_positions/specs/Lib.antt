@@ -1,4 +1,2 @@
 pub mod PageLines
-pub mod PositionLaws
-pub mod Positions
 pub mod private

@@ -1,9 +1,8 @@
 -- The lines of a page: they are read from its keystroke code, up to an END or .END., which both end
 -- a program there, to the page's end, or to bytes that are no line. Where a program of a page
 -- begins, and that nulls stand for the line behind them, is this project's choice.
-use Rattle.std.specs.Prelude.{◌≡◌, ◌⊎◌, ℕ, ◌+◌, ◌*◌, ◌%◌, ◌≤◌, Bool, IsTrue, MatchBool, ◌||◌, ◌==◌}
-use Rattle.std.specs.Prelude.{All, List, length, Option, is_some, Result, Ok, Err}
-use Rattle.std.specs.List.{list_any}
+use Rattle.std.specs.Prelude.{◌≡◌, ◌⊎◌, ℕ, ◌+◌, ◌*◌, ◌%◌, ◌<◌, ◌≤◌, Bool, IsTrue, MatchBool, ◌||◌}
+use Rattle.std.specs.Prelude.{List, length, slice_index, Option, is_some, Result, Ok, Err}
 use Rattle.std.specs.Option.{option_or}
 use Rattle.h41_codes.specs.declared.line.Line.{Line}
 use Rattle.h41_pages.specs.Addresses.{page_size}
@@ -63,18 +62,24 @@ pub record Reaches (code : List ℕ) (at begin : ℕ) : Type 0 where
   pub from : LinesIn code begin lines
   pub has : IsTrue (is_some (number_in first.position lines))
 
+-- one of the offsets where functions begin
+abbrev pub IsAmong : List ℕ → ℕ → Type 0
+IsAmong begins begin = (k : ℕ) × (k < length begins) × (slice_index begins k ≡ begin)
+
 -- where the program of an offset begins: at the first of the page's functions in keystroke code
 -- that reaches it, or there itself where none does
 abbrev pub IsLeast : List ℕ → List ℕ → ℕ → ℕ → Type 0
 IsLeast code begins at start =
-    IsTrue (list_any (λ begin. begin == start) begins)
+    IsAmong begins start
     × Reaches code at start
-    × All (λ begin. Reaches code at begin → start ≤ begin) begins
+    × ((begin : ℕ) → IsAmong begins begin → Reaches code at begin → start ≤ begin)
+
+abbrev pub NoneReaches : List ℕ → List ℕ → ℕ → Type 0
+NoneReaches code begins at = (begin : ℕ) → IsAmong begins begin → Reaches code at begin → ⊥
 
 abbrev pub StartsAt : List ℕ → List ℕ → ℕ → ℕ → Type 0
 StartsAt code begins at start =
-    IsLeast code begins at start
-    ⊎ (All (λ begin. Reaches code at begin → ⊥) begins × (start ≡ at))
+    IsLeast code begins at start ⊎ (NoneReaches code begins at × (start ≡ at))
 
 -- an answer on the program of an offset: it is that of the lines from the program's start on
 pub record AnswersOwn {A : Type 0} (answer : List ListedLine → A)

@@ -1,7 +1,7 @@
 //! Where lines stand.
 
 ghost use Rattle.std.specs.Prelude.{◌≡◌};
-ghost use Rattle.h41_program.specs.declared.position.Position.TheVariants.{Memory};
+ghost use Rattle.h41_positions.specs.declared.position.Position.TheVariants.{Memory};
 
 use h41_codes::Line;
 
@@ -11,6 +11,8 @@ use h41_codes::Line;
 pub enum Position {
     /// A byte of program memory by its index: 0 is the first, in the register below the curtain.
     Memory(u16),
+    /// A word of a page by its address: keystroke code has one byte of a program in each word.
+    Page(u16),
 }
 
 impl Default for Position {

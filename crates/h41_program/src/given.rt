@@ -36,11 +36,13 @@ fn past_nulls(bytes: &[u8], at: usize) -> usize
 
 /// The first line of bytes from a position on, nulls passed over. `None` where no line begins there.
 pub fn line_in(bytes: &[u8], at: usize) -> Option<Taken>
-    requires { at ≤ length bytes.now }
     ensures first { IfSome result (λ taken. BytesHaveFirst bytes.now at taken) }
     ensures none { IfNone result (BytesHaveNone bytes.now at) }
 {
     byte_round_trip();
+    if at > bytes.len() {
+        return None;
+    }
     let position = past_nulls(bytes, at);
     match decode(&bytes[position..]) {
         Ok((line, count)) => Some(Taken {

@@ -1,0 +1,2 @@
+pub mod PageStarts
+pub mod PageWalks

@@ -1,0 +1,155 @@
+-- Where programs of a page begin.
+use Rattle.std.proofs.Common.{◌≡◌, ℕ, ◌+◌, ◌<◌, ◌≤◌, true, false, List, length, Option, Some, None, refl, sym, ap, subst, ◌∙◌, arith}
+use Rattle.std.proofs.Common.{inl, inr}
+use Rattle.std.specs.Prelude.{is_some, slice_index}
+use Rattle.std.specs.Option.{option_or}
+use Rattle.std.proofs.lemmas.Bool.{cases_lt, true≢false}
+use Rattle.h41_positions.specs.PageLines.{AnswersLabel, AnswersOwn, HasNoLine, IsAmong, LinesIn, Reaches, StartsAt, is_page_end}
+use Rattle.h41_positions.specs.private.PageWalks.{AnswersAll, CodeHasFirst}
+use Rattle.h41_program.specs.Numbering.{number_in}
+use Rattle.h41_program.specs.ProgramLaws.{EachIsListed}
+use Rattle.h41_program.specs.Searches.{label_in, position_of}
+use Rattle.h41_program.proofs.SearchSteps.{some_or}
+use Rattle.h41_program.specs.declared.listed_line.ListedLine.{ListedLine}
+use Rattle.h41_program.specs.declared.reading.Found.{Found}
+
+-- a list that has the line of an offset reaches it
+pub found_reaches : (code : List ℕ) (at begin : ℕ) (first : Found) (lines : List ListedLine)
+    → CodeHasFirst code at first → begin ≤ at → LinesIn code begin lines → is_some (number_in first.listed.position lines) ≡ true
+    → Reaches code at begin
+found_reaches code at begin first lines is before from has = record {
+  before = before;
+  first = first.listed;
+  lines = lines;
+  stands = is.first;
+  from = from;
+  has = has;
+}
+
+-- one that has it not does not
+pub lost_reaches : (code : List ℕ) (at begin : ℕ) (first : Found)
+    → CodeHasFirst code at first
+    → ((lines : List ListedLine) → LinesIn code begin lines → false ≡ is_some (number_in first.listed.position lines))
+    → Reaches code at begin → ⊥
+lost_reaches code at begin first is lost reaches =
+    let same : reaches.first ≡ first.listed = is.one reaches.first reaches.stands in
+    let has : is_some (number_in first.listed.position reaches.lines) ≡ true =
+    subst (λ (line : ListedLine). is_some (number_in line.position reaches.lines) ≡ true) same reaches.has in
+    true≢false (sym has ∙ sym (lost reaches.lines reaches.from))
+
+-- and none reaches where no line stands
+pub none_reaches : (code : List ℕ) (at begin : ℕ) → HasNoLine code at → Reaches code at begin → ⊥
+none_reaches code at begin none reaches = none reaches.first reaches.stands
+
+-- one of the offsets so far
+abbrev pub IsSoFar : List ℕ → ℕ → ℕ → Type 0
+IsSoFar begins count begin = (k : ℕ) × (k < count) × (k < length begins) × (slice_index begins k ≡ begin)
+
+-- the least of those so far that reach an offset; where none does, one behind it
+pub record IsKept (code begins : List ℕ) (at count least : ℕ) : Type 0 where
+  pub most : least ≤ at + 1
+  pub own : least ≤ at → IsSoFar begins count least × Reaches code at least
+  pub each : (begin : ℕ) → IsSoFar begins count begin → Reaches code at begin → least ≤ begin
+
+pub none_kept : (code begins : List ℕ) (at : ℕ) → IsKept code begins at 0 (at + 1)
+none_kept code begins at = record {
+  most = omega arith;
+  own = λ low. absurd (omega (arith, low));
+  each = λ begin so_far reaches. absurd (omega (arith, so_far.1));
+}
+
+module _ (code begins : List ℕ) (at count least : ℕ) (inside : count < length begins) (kept : IsKept code begins at count least) where
+  -- the next offset is taken
+  pub taken : slice_index begins count < least → Reaches code at (slice_index begins count)
+      → IsKept code begins at (count + 1) (slice_index begins count)
+  taken below reaches = record {
+    most = let most = kept.most in omega (arith, below, most);
+    own = λ low. ((count, omega arith, inside, refl), reaches);
+    each = λ begin so_far again. elim (cases_lt so_far.0 count) [
+      | inl sooner ↦
+          let more = kept.each begin (so_far.0, sooner, so_far.2, so_far.3) again in
+          omega (arith, more, below)
+      | inr here ↦
+          let same : so_far.0 ≡ count = omega (arith, so_far.1, here) in
+          let is : slice_index begins count ≡ begin = ap (λ (k : ℕ). slice_index begins k) (sym same) ∙ so_far.3 in
+          omega (arith, is)
+    ];
+  }
+
+  -- or passed over
+  pub passed : (Reaches code at (slice_index begins count) → least ≤ slice_index begins count) → IsKept code begins at (count + 1) least
+  passed late = record {
+    most = kept.most;
+    own = λ low.
+        let own = kept.own low in
+        ((own.0.0, omega (arith, own.0.1), own.0.2, own.0.3), own.1);
+    each = λ begin so_far again. elim (cases_lt so_far.0 count) [
+      | inl sooner ↦ kept.each begin (so_far.0, sooner, so_far.2, so_far.3) again
+      | inr here ↦
+          let same : so_far.0 ≡ count = omega (arith, so_far.1, here) in
+          let is : slice_index begins count ≡ begin = ap (λ (k : ℕ). slice_index begins k) (sym same) ∙ so_far.3 in
+          subst (λ (n : ℕ). least ≤ n) is (late (subst (λ (n : ℕ). Reaches code at n) (sym is) again))
+    ];
+  }
+
+-- all were seen
+module _ (code begins : List ℕ) (at count least : ℕ) (all : length begins ≤ count) (kept : IsKept code begins at count least) where
+  each_among : (begin : ℕ) → IsAmong begins begin → Reaches code at begin → least ≤ begin
+  each_among begin among reaches = kept.each begin (among.0, omega (arith, among.1, all), among.1, among.2) reaches
+
+  pub least_starts : least ≤ at → StartsAt code begins at least
+  least_starts low =
+      let own = kept.own low in
+      inl ((own.0.0, own.0.2, own.0.3), own.1, each_among)
+
+  pub none_starts : (least ≤ at → ⊥) → StartsAt code begins at at
+  none_starts late =
+      inr ((λ begin among reaches.
+      let more = each_among begin among reaches in
+      let before = reaches.before in
+      late (omega (arith, more, before))), refl)
+
+-- an answer on the program of an offset
+pub of_own : {A : Type 0} (answer : List ListedLine → A) (code begins : List ℕ) (at start : ℕ) (result : A) → EachIsListed
+    → StartsAt code begins at start → AnswersAll answer code start result → AnswersOwn answer code begins at result
+of_own answer code begins at start result lists starts asked =
+    let all = lists is_page_end code (length code) start in
+    record { start = start; own = all.0; starts = starts; program = all.1; is = asked all.0 all.1 }
+
+none_or : (first second : Option ListedLine) (found : Option ℕ) → position_of first ≡ None → found ≡ position_of second
+    → found ≡ position_of (option_or first second)
+none_or None second found none is = is
+none_or (Some listed) second found none is = cc
+
+-- a label
+module _ (code begins : List ℕ) (at n start : ℕ) (lists : EachIsListed) (starts : StartsAt code begins at start) where
+  pub label_onward : (found : ℕ) → AnswersAll (λ (lines : List ListedLine). position_of (label_in n lines)) code at (Some found)
+      → AnswersLabel code begins at n (Some found)
+  label_onward found asked =
+      let onward = lists is_page_end code (length code) at in
+      let own = lists is_page_end code (length code) start in
+      record {
+        start = start;
+        onward = onward.0;
+        own = own.0;
+        starts = starts;
+        from = onward.1;
+        program = own.1;
+        is = some_or (label_in n onward.0) (label_in n own.0) found (sym (asked onward.0 onward.1));
+      }
+
+  pub label_own : (found : Option ℕ) → AnswersAll (λ (lines : List ListedLine). position_of (label_in n lines)) code at None
+      → AnswersAll (λ (lines : List ListedLine). position_of (label_in n lines)) code start found
+      → AnswersLabel code begins at n found
+  label_own found none asked =
+      let onward = lists is_page_end code (length code) at in
+      let own = lists is_page_end code (length code) start in
+      record {
+        start = start;
+        onward = onward.0;
+        own = own.0;
+        starts = starts;
+        from = onward.1;
+        program = own.1;
+        is = none_or (label_in n onward.0) (label_in n own.0) found (sym (none onward.0 onward.1)) (asked own.0 own.1);
+      }

@@ -1,11 +1,10 @@
 -- Keystroke code begins with a label just where its name says so.
-use Rattle.std.proofs.Common.{◌≡◌, ℕ, suc, zero, ◌+◌, ◌-◌, ◌*◌, ◌<◌, ◌≤◌, ◌↔◌, Bool, true, false, List, [], ◌∷◌, ◌++◌, map, min}
+use Rattle.std.proofs.Common.{◌≡◌, ℕ, suc, zero, ◌+◌, ◌-◌, ◌*◌, ◌<◌, ◌≤◌, ◌↔◌, Bool, true, false, List, [], ◌∷◌, ◌++◌, map}
 use Rattle.std.proofs.Common.{length, take, drop, Option, Some, None, Result, Ok, Err, refl, sym, ◌∙◌, ap, subst, arith, length-append}
-use Rattle.std.proofs.Common.{length-take-le, take-append-drop, inl, inr}
+use Rattle.std.proofs.Common.{length-take-le, take-append-drop}
 use Rattle.std.specs.Bool.{then_some}
-use Rattle.std.proofs.lemmas.Bool.{cases_lt}
 use Rattle.std.proofs.lemmas.Grind.{common_steps}
-use Rattle.std.proofs.lemmas.List.{take_all, take_at, take-take, take-map, length-drop, length-take}
+use Rattle.std.proofs.lemmas.List.{take_at}
 use Rattle.h41_codes.specs.ByteGrammar.{spelling, link_high, link_low, IsBytes, Begins}
 use Rattle.h41_codes.specs.declared.line.Line.{Line}
 use Rattle.h41_codes.specs.declared.line.Line.TheVariants.{GlobalLabel}
@@ -81,23 +80,6 @@ label_has bytes name (link, key, count, label) =
     ap label_name (sym (take-append-drop count bytes) ∙ ap (λ line. line ++ drop count bytes) label.spells.same)
     ∙ spelled link key name (drop count bytes) label.spells.valid.0
 
--- a label has at most 18 bytes
-cut_behind : (first third : ℕ) (behind : List ℕ) → third < 256
-    → then_some (is_label first third (take 14 behind)) (take (third - 0xF1) (take 14 behind))
-    ≡ then_some (is_label first third behind) (take (third - 0xF1) behind)
-cut_behind first third behind low =
-    let size : length (take 14 behind) ≡ _ = length-take 14 behind in
-    let same : is_label first third (take 14 behind) ≡ is_label first third behind = grind (arith, common_steps, size) in
-    ap (λ b. then_some b (take (third - 0xF1) (take 14 behind))) same
-    ∙ ap (λ own. then_some (is_label first third behind) own) (take-take (third - 0xF1) 14 behind (omega arith))
-
-pub cut_label : (words : List ℕ) → label_name (take 18 (map code_byte words)) ≡ label_name (map code_byte words)
-cut_label [] = refl
-cut_label (a ∷ []) = refl
-cut_label (a ∷ b ∷ []) = refl
-cut_label (a ∷ b ∷ c ∷ []) = refl
-cut_label (a ∷ b ∷ c ∷ d ∷ words) = cut_behind (code_byte a) (code_byte c) (map code_byte words) (omega arith)
-
 -- the name of a line that was read
 abbrev pub name_read : {E : Type 0} → Result (Line × ℕ) E → Option (List ℕ)
 name_read (Ok found) = name_of found.0
@@ -111,7 +93,7 @@ none_read : (line : Line) (own : Option (List ℕ)) → name_of line ≡ own →
 none_read line None same none = same
 none_read line (Some name) same none = absurd (none name refl)
 
--- it is that of the code, of which the first bytes were read
+-- it is that of the code
 named : {E : Type 0} (words : List ℕ) (result : Result (Line × ℕ) E)
     → ((line : Line) (count : ℕ) → (result ≡ Ok (line, count)) ↔ Begins (map code_byte words) line count)
     → (own : Option (List ℕ)) → label_name (map code_byte words) ≡ own → name_read result ≡ own
@@ -127,30 +109,6 @@ named words (Ok found) means None own =
 named words (Err fault) means None own = refl
 
 pub name_is_read : {E : Type 0} (words : List ℕ) (result : Result (Line × ℕ) E)
-    → ((line : Line) (count : ℕ) → (result ≡ Ok (line, count)) ↔ Begins (take 18 (map code_byte words)) line count)
+    → ((line : Line) (count : ℕ) → (result ≡ Ok (line, count)) ↔ Begins (map code_byte words) line count)
     → name_read result ≡ label_name (map code_byte words)
-name_is_read {E} words result means =
-    let first : take 18 (map code_byte words) ≡ map code_byte (take 18 words) = take-map code_byte 18 words in
-    named (take 18 words) result
-    (subst (λ (bytes : List ℕ). (line : Line) (count : ℕ) → (result ≡ Ok (line, count)) ↔ Begins bytes line count) first means)
-    (label_name (map code_byte (take 18 words))) refl
-    ∙ ap label_name (sym first)
-    ∙ cut_label words
-
--- the code that was read: up to 18 words, and none past the page's end
-first_of : (words : List ℕ) (offset end : ℕ) → offset < 4096 → length words ≡ 4096 → end ≡ min 4096 (offset + 18)
-    → take (end - offset) (drop offset words) ≡ take 18 (drop offset words)
-first_of words offset end inside whole at =
-    elim (cases_lt 4096 (offset + 18)) [
-      | inl past ↦
-          take_all (end - offset) (drop offset words) (omega (arith, length-drop offset words))
-          ∙ sym (take_all 18 (drop offset words) (omega (arith, length-drop offset words)))
-      | inr within ↦ let e : end - offset ≡ 18 = omega arith in ap (λ count. take count (drop offset words)) e
-    ]
-
-pub code_read : (words : List ℕ) (offset end index : ℕ) → offset < 4096 → length words ≡ 4096 → end ≡ min 4096 (offset + 18)
-    → length (take (end - offset) (drop offset words)) ≤ index
-    → map code_byte (take index (take (end - offset) (drop offset words))) ≡ take 18 (map code_byte (drop offset words))
-code_read words offset end index inside whole at past =
-    ap (map code_byte) (take_all index (take (end - offset) (drop offset words)) past ∙ first_of words offset end inside whole at)
-    ∙ sym (take-map code_byte 18 (drop offset words))
+name_is_read words result means = named words result means (label_name (map code_byte words)) refl

@@ -7,7 +7,7 @@ use Rattle.std.specs.Prelude.{ℕ, ◌+◌, ◌-◌, ◌*◌, ◌/◌, ◌%◌, 
 use Rattle.std.specs.Prelude.{[], ◌∷◌, map, find, min, slice_index, nat_lt, nat_le, ◌==◌, bytes_eq}
 use Rattle.std.specs.Prelude.{if◌then◌else◌, Option, Some, None, option_map, option_and_then}
 use Rattle.std.specs.Bool.{then_some}
-use Rattle.std.specs.List.{flat_map, range_with_len}
+use Rattle.std.specs.List.{filter, flat_map, range_with_len}
 use Rattle.std.specs.Option.{option_map_or}
 use Rattle.h41_words.specs.declared.rows.Bank.TheVariants.{First}
 use Rattle.h41_pages.specs.Addresses.{page_count, page_size}
@@ -90,6 +90,20 @@ functions_of words = map (function_in words) (range_with_len 0 (entry_count word
 
 abbrev pub first_image : PageMap → ℕ → Option PageImage
 first_image pages page = image_at pages page First
+
+-- the keystroke code of a page, a byte for each of its words; none without bank 1
+abbrev pub code_of : PageMap → ℕ → List ℕ
+code_of pages page =
+    option_map_or (λ image. code_from image.words 0) (first_image pages page) []
+
+-- where the keystroke functions of a page begin, in the order of their entries
+abbrev pub keystroke_offsets_in : List ℕ → List ℕ
+keystroke_offsets_in words =
+    map (entry_offset words) (filter (is_keystroke words) (range_with_len 0 (entry_count words)))
+
+abbrev pub keystroke_offsets : PageMap → ℕ → List ℕ
+keystroke_offsets pages page =
+    option_map_or (λ image. keystroke_offsets_in image.words) (first_image pages page) []
 
 abbrev pub functions_at : PageMap → ℕ → List ModuleFunction
 functions_at pages page =

@@ -25,7 +25,7 @@ pub fn is_pluggable(page: u8) -> bool
     (FIRST_PAGE..=LAST_PAGE).contains(&page)
 }
 
-/// The page of an address.
+/// The page of an address, 0 to 15: its first hexadecimal digit.
 #[inline(always)]
 pub fn page_of(address: u16) -> usize
     ensures page { result ≡ spec.page_of address }
@@ -34,7 +34,7 @@ pub fn page_of(address: u16) -> usize
     usize::from(address) / PAGE_WORDS
 }
 
-/// The place of an address in its page.
+/// The place of an address in its page, 0 to 4,095: its other three digits.
 pub fn offset_of(address: u16) -> usize
     ensures offset { result ≡ spec.offset_of address }
     ensures bound { result < spec.page_size }

@@ -2,7 +2,7 @@
 //! entry follow. All of it is read in bank 1.
 
 ghost use Rattle.std.specs.Prelude.{◌≡◌, ◌<◌, ◌≤◌, ◌+◌, ◌++◌, find, option_map, IfOk, IfSome, OnOk};
-ghost use Rattle.std.specs.Prelude.{Some, length, slice_index};
+ghost use Rattle.std.specs.Prelude.{All, Some, length, slice_index};
 ghost use Rattle.h41_words.specs.Counts.{word_count};
 ghost use Rattle.h41_pages.specs.private.AddedFunctions.{AddsAt, AddsOf};
 ghost use Rattle.h41_pages.specs.Addresses.{page_size};
@@ -12,6 +12,7 @@ use crate::addresses::{PAGE_WORDS, PAGES};
 use crate::image::Image;
 use crate::name::Name;
 use crate::pages::Pages;
+use arrayvec::ArrayVec;
 use h41_words::{Bank, Word};
 use std::alloc::{AllocError, Global};
 
@@ -125,6 +126,20 @@ impl Pages {
         Ok(functions)
     }
 
+    /// Where the keystroke functions of a page begin, in the order of their entries: their offsets in the page, which its
+    /// bank 1 lists. None where that is not plugged, or where its number or its count is out of range (this project's
+    /// choice).
+    pub fn keystroke_offsets(&self, page: usize) -> ArrayVec<u16, 64>
+        requires { page < 16 }
+        ensures offsets { result.items ≡ spec.keystroke_offsets self.now page }
+        ensures bound { All (λ offset. offset < page_size) result.items }
+    {
+        match self.image(page, Bank::First) {
+            None => ArrayVec::new(),
+            Some(image) => image.keystroke_offsets(),
+        }
+    }
+
     /// Adds the functions of a page to a list.
     fn add_functions_at(
         &self,
@@ -180,6 +195,21 @@ impl Image {
         let high = self.word(2 + 2 * entry).number() % 16;
         let low = self.word(3 + 2 * entry).number() % 256;
         usize::from(256 * high + low)
+    }
+
+    /// The offsets where the functions in keystrokes begin.
+    fn keystroke_offsets(&self) -> ArrayVec<u16, 64>
+        ensures offsets { result.items ≡ spec.keystroke_offsets_in self.now.words }
+        ensures bound { All (λ offset. offset < page_size) result.items }
+    {
+        let mut offsets = ArrayVec::new();
+        let count = self.entry_count();
+        for entry in 0..count {
+            if self.is_keystroke(entry) {
+                offsets.push(self.entry_offset(entry) as u16);
+            }
+        }
+        offsets
     }
 
     /// An entry of a page that has this image, where there is one of that number.

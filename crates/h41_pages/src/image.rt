@@ -1,10 +1,11 @@
-//! The image of a page's bank: its words.
+//! The image of a page's bank: its words, and beside them the keystroke code that they hold.
 
 ghost use Rattle.std.specs.Prelude.{◌≡◌, ◌<◌, IfOk, IsTrue, All, length, slice_index, slice_set};
 ghost use Rattle.std.specs.List.{list_all};
 ghost use Rattle.std.specs.Prelude.{nat_le};
 ghost use Rattle.h41_words.specs.Counts.{word_count};
 ghost use Rattle.h41_pages.specs.Addresses.{page_size};
+ghost use Rattle.h41_pages.specs.KeystrokeCode.{code_byte, code_from};
 ghost use Rattle.h41_pages.specs.PageMap.{is_image};
 
 use crate::addresses::PAGE_WORDS;
@@ -16,19 +17,23 @@ use std::marker::Model;
 #[derive(Drop)]
 pub struct Image {
     words: Vec<Word>,
+    /// The low byte of each word.
+    code: Vec<u8>,
     writable: bool,
 }
 
 impl Model for Image {
     ghost use Rattle.std.specs.Prelude.{◌≡◌, vec_len};
     ghost use Rattle.h41_pages.specs.Addresses.{page_size};
+    ghost use Rattle.h41_pages.specs.KeystrokeCode.{code_from};
     ghost use Rattle.h41_pages.specs.PageMap.{PageImage};
 
     ghost Value = { PageImage };
 
     ghost view = { λ image. record { words = image.words.items; writable = image.writable } };
 
-    ghost invariant = { λ image. vec_len image.words ≡ page_size };
+    ghost invariant = { λ image.
+        (vec_len image.words ≡ page_size) × (image.code.items ≡ code_from image.words.items 0) };
 }
 
 impl Image {
@@ -39,11 +44,15 @@ impl Image {
         ensures { IfOk result (λ image. image ≡ record { words = words.now; writable = writable }) }
     {
         let mut image = Vec::with_capacity(alloc, PAGE_WORDS)?;
+        let mut code = Vec::with_capacity(alloc, PAGE_WORDS)?;
         for number in words {
-            image.push(Word::new(*number).unwrap())?;
+            let word = Word::new(*number).unwrap();
+            image.push(word)?;
+            code.push(code_byte(word))?;
         }
         Ok(Image {
             words: image,
+            code,
             writable,
         })
     }
@@ -54,6 +63,14 @@ impl Image {
         ensures size { length result.now ≡ page_size }
     {
         self.words.as_slice()
+    }
+
+    /// Its keystroke code.
+    pub fn code(&self) -> &[u8]
+        ensures code { result.now ≡ code_from self.now.words 0 }
+        ensures size { length result.now ≡ page_size }
+    {
+        self.code.as_slice()
     }
 
     /// The word at an offset.
@@ -79,7 +96,15 @@ impl Image {
     {
         let _number = word.number();
         self.words[offset] = word;
+        self.code[offset] = code_byte(word);
     }
+}
+
+/// The byte of keystroke code that a word holds.
+fn code_byte(word: Word) -> u8
+    ensures { result ≡ code_byte word }
+{
+    (word.number() % 256) as u8
 }
 
 /// Whether these are the words of an image.

@@ -1,18 +1,13 @@
 //! The names of functions in keystroke code: a byte of a program stands in the low eight bits of each word.
 
-ghost use Rattle.std.specs.Prelude.{◌≡◌, ◌<◌, take};
+ghost use Rattle.std.specs.Prelude.{◌≡◌, ◌<◌};
 ghost use Rattle.h41_pages.specs.Addresses.{page_size};
 ghost use Rattle.h41_pages.specs.KeystrokeCode as spec;
 ghost use Rattle.h41_pages.specs.private.Labels as labels;
 
-use crate::addresses::PAGE_WORDS;
 use crate::image::Image;
 use crate::name::Name;
-use arrayvec::ArrayVec;
-use h41_codes::{LINE_CAPACITY, Line, decode};
-
-/// The bytes of a line, and others behind it.
-type Bytes = ArrayVec<u8, LINE_CAPACITY>;
+use h41_codes::{Line, decode};
 
 impl Image {
     /// The name of the label with which the keystroke code at an offset begins, where it does.
@@ -20,23 +15,10 @@ impl Image {
         requires { offset < page_size }
         ensures { result ≡ spec.label_name (spec.code_from self.now.words offset) }
     {
-        match decode(self.code_at(offset).as_slice()) {
+        match decode(&self.code()[offset..]) {
             Ok((line, _)) => name_of(&line),
             Err(_) => None,
         }
-    }
-
-    /// The bytes of keystroke code from an offset on, as many as a line can have.
-    fn code_at(&self, offset: usize) -> Bytes
-        requires { offset < page_size }
-        ensures { result.items ≡ take 18 (spec.code_from self.now.words offset) }
-    {
-        let mut bytes = Bytes::new();
-        let end = PAGE_WORDS.min(offset + LINE_CAPACITY);
-        for word in &self.words()[offset..end] {
-            bytes.push((word.number() % 256) as u8);
-        }
-        bytes
     }
 }
 

@@ -14,7 +14,7 @@ mod name;
 mod pages;
 mod refusal;
 
-pub use addresses::FIRST_ADDRESS;
+pub use addresses::{FIRST_ADDRESS, PAGE_WORDS, offset_of, page_of};
 pub use functions::{Entry, ModuleFunction};
 pub use image_bytes::{image_read, is_image_bytes};
 pub use name::Name;

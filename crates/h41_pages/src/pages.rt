@@ -6,6 +6,7 @@ ghost use Rattle.std.specs.List.{list_any};
 ghost use Rattle.std.specs.Result.{result_err};
 ghost use Rattle.h41_words.specs.Counts.{word_count};
 ghost use Rattle.h41_pages.specs.Addresses.{first_address, page_size};
+ghost use Rattle.h41_pages.specs.FunctionTables.{code_of};
 ghost use Rattle.h41_pages.specs.PageMap as spec;
 ghost use Rattle.h41_pages.specs.PageMap.{with_page_image};
 
@@ -167,6 +168,19 @@ impl Pages {
         match self.chosen_image(page_of(address)) {
             None => Ok(&[]),
             Some(image) => Ok(&image.words()[offset_of(address)..]),
+        }
+    }
+
+    /// The keystroke code of a page: the low byte of each word of its bank 1, by the word's offset. None where that is not
+    /// plugged.
+    pub fn code(&self, page: usize) -> &[u8]
+        requires { page < 16 }
+        ensures code { result.now ≡ code_of self.now page }
+        ensures size { length result.now ≤ page_size }
+    {
+        match self.image(page, Bank::First) {
+            None => &[],
+            Some(image) => image.code(),
         }
     }
 

@@ -1,2 +1,4 @@
+pub mod PageAnswers
 pub mod PageStarts
 pub mod PageWalks
+pub mod PositionsFound

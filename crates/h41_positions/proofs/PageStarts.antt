@@ -104,10 +104,13 @@ module _ (code begins : List ℕ) (at count least : ℕ) (all : length begins �
 
   pub none_starts : (least ≤ at → ⊥) → StartsAt code begins at at
   none_starts late =
-      inr ((λ begin among reaches.
-      let more = each_among begin among reaches in
-      let before = reaches.before in
-      late (omega (arith, more, before))), refl)
+      inr (
+        (λ begin among reaches.
+            let more = each_among begin among reaches in
+            let before = reaches.before in
+            late (omega (arith, more, before))),
+        refl,
+      )
 
 -- an answer on the program of an offset
 pub of_own : {A : Type 0} (answer : List ListedLine → A) (code begins : List ℕ) (at start : ℕ) (result : A) → EachIsListed

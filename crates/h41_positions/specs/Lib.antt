@@ -1,2 +1,4 @@
 pub mod PageLines
+pub mod PositionLaws
+pub mod Positions
 pub mod private

@@ -1,6 +1,13 @@
 //! Positions of keystroke programs, in memory and in plugged pages: the line that stands at one, and what is found from there.
 #![tactic(auto)]
 
+pub mod laws;
 mod page_lines;
 mod page_programs;
 mod position;
+mod positions;
+
+pub use position::{PlacedLine, Position};
+pub use positions::{
+    end_of, line_and_next, line_at, line_before, line_number, local, next, short_line, start_of,
+};

@@ -9,7 +9,9 @@ ghost use Rattle.h41_program.specs.Numbering.{number_in, numbered_in};
 ghost use Rattle.h41_program.specs.Searches.{end_in, label_in, position_of};
 
 use h41_codes::{Line, Parameter};
-use h41_program::{Found, ListedLine, ProgramRefusal, Taken, is_end, is_final_end, is_label, line_in};
+use h41_program::{
+    Found, ListedLine, ProgramRefusal, Taken, is_end, is_final_end, is_label, line_in,
+};
 
 /// Whether a line ends a program of a page: END and `.END.` both do.
 fn is_page_end(line: &Line) -> bool

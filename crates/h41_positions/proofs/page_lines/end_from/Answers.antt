@@ -1,4 +1,4 @@
-use Rattle.std.proofs.Common.{◌∷◌, [], sym, ◌∙◌}
+use Rattle.std.proofs.Common.{sym, ◌∙◌}
 use Rattle.h41_program.specs.Searches.{end_in}
 use Rattle.h41_positions.proofs.PageWalks.{asked_first, asked_none, asks_all, asks_more, end_here, end_other}
 use Rattle.h41_positions.proofs.page_lines.end_from.Goals as goal

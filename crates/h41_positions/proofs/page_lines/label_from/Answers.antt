@@ -1,4 +1,4 @@
-use Rattle.std.proofs.Common.{ℕ, List, ◌∷◌, [], Option, sym, ◌∙◌}
+use Rattle.std.proofs.Common.{ℕ, List, Option, sym, ◌∙◌}
 use Rattle.h41_program.specs.Searches.{label_in, position_of}
 use Rattle.h41_program.specs.declared.listed_line.ListedLine.{ListedLine}
 use Rattle.h41_positions.proofs.PageWalks.{asked_first, asked_last, asked_none, asks_all, asks_more, label_here, label_last, label_other}

@@ -6,7 +6,7 @@ use Rattle.h41_positions.proofs.page_lines.label_from.Given as goal
 
 -- what is asked of the lines that are left
 abbrev pub invariant-loop-found : goal.invariant-loop-found
-invariant-loop-found l = 
+invariant-loop-found l =
     Asks l.code l.from l.at (λ (lines : List ListedLine). position_of (label_in l.label lines))
     (λ (lines : List ListedLine). position_of (label_in l.label lines))
 

@@ -1,4 +1,4 @@
-use Rattle.std.proofs.Common.{◌+◌, ◌∷◌, [], sym, ◌∙◌, arith}
+use Rattle.std.proofs.Common.{◌+◌, [], sym, ◌∙◌, arith}
 use Rattle.h41_program.specs.Numbering.{number_in}
 use Rattle.h41_program.proofs.Numbers.{other_test, same_test}
 use Rattle.h41_positions.proofs.PageWalks.{asked_first, asked_last, asked_none, asks_more, counted, counted_here, counted_none}

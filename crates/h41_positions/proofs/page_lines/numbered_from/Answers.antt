@@ -1,4 +1,4 @@
-use Rattle.std.proofs.Common.{◌≡◌, ℕ, ◌-◌, ◌∷◌, [], sym, subst, ◌∙◌, arith}
+use Rattle.std.proofs.Common.{◌≡◌, ℕ, ◌-◌, [], sym, subst, ◌∙◌, arith}
 use Rattle.h41_program.specs.Numbering.{numbered_in}
 use Rattle.h41_program.proofs.Numbers.{other_test, same_test}
 use Rattle.h41_positions.proofs.PageWalks.{Asks, asked_first, asked_last, asked_none, asks_all, asks_more, numbered_here, numbered_other}

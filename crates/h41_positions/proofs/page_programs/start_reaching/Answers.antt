@@ -1,4 +1,4 @@
-use Rattle.std.proofs.Common.{◌≡◌, ◌<◌, ℕ, ◌+◌, length, false, sym, subst, ◌∙◌, arith}
+use Rattle.std.proofs.Common.{◌<◌, ℕ, ◌+◌, length, sym, subst, ◌∙◌, arith}
 use Rattle.std.specs.Prelude.{slice_index}
 use Rattle.h41_positions.specs.PageLines.{is_page_end}
 use Rattle.h41_positions.proofs.PageStarts.{IsKept, found_reaches, least_starts, lost_reaches, none_kept, none_starts, passed, taken}
@@ -47,4 +47,5 @@ returns-then-least-at c =
 pub returns-else-least-at : goal.returns-else-least-at
 returns-else-least-at c =
     none_starts c.args.code.now c.args.begins.now c.args.at c.loop-index.index c.loop-index.least
-    (omega (arith, c.loop-index-test.false, c.loop-index.auto.index-end)) c.loop-index.invariant c.if-least-at.false
+    (omega (arith, c.loop-index-test.false, c.loop-index.auto.index-end)) c.loop-index.invariant
+    (λ low. omega (arith, low, c.if-least-at.false))

@@ -1,0 +1,40 @@
+-- Laws of positions, whatever kinds there are: what is found from one is determined.
+use Rattle.std.specs.Prelude.{◌≡◌, ℕ, IsTrue, Result, Ok, Err}
+use Rattle.h41_pages.specs.PageMap.{PageMap}
+use Rattle.h41_positions.specs.Positions.{LineAt, NextAt}
+use Rattle.h41_positions.specs.declared.position.PlacedLine.{PlacedLine}
+use Rattle.h41_positions.specs.declared.position.Position.{Position}
+use Rattle.h41_program.specs.declared.refusal.ProgramRefusal.{ProgramRefusal}
+use Rattle.h41_ram.specs.RegisterMap.{RegisterMap, is_sound}
+
+-- what is found from a position, in pages and memory
+abbrev pub Finding : Type 0 → Type 1
+Finding A = PageMap → RegisterMap → Position → A → Type 0
+
+-- a position has one answer of a kind
+abbrev pub HasOneAnswer : {A : Type 0} → Finding A → Type 0
+HasOneAnswer {A} answers =
+    (pages : PageMap) (memory : RegisterMap) (at : Position) (result other : A)
+    → answers pages memory at result → answers pages memory at other → result ≡ other
+
+-- so it is for each number
+abbrev pub HasOneAnswerEach : {A : Type 0} → (ℕ → Finding A) → Type 0
+HasOneAnswerEach answers = (n : ℕ) → HasOneAnswer (answers n)
+
+-- each position stands for one line, or is refused, and has one next position
+pub record IsReadOnce : Type 0 where
+  pub line : HasOneAnswer LineAt
+  pub next : HasOneAnswer NextAt
+
+-- in sound memory, and in pages, each position stands for a line, or none is there
+abbrev pub EachIsRead : Type 0
+EachIsRead =
+    (pages : PageMap) (memory : RegisterMap) (at : Position) → IsTrue (is_sound memory)
+    → (answer : Result PlacedLine ProgramRefusal) × LineAt pages memory at answer
+
+-- where a line stands there is a next position
+abbrev pub LinesHaveNext : Type 0
+LinesHaveNext =
+    (pages : PageMap) (memory : RegisterMap) (at : Position) (first : PlacedLine)
+    (refusal : ProgramRefusal)
+    → LineAt pages memory at (Ok first) → NextAt pages memory at (Err refusal) → ⊥

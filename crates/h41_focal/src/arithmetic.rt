@@ -2,7 +2,7 @@
 
 ghost use Rattle.std.specs.Prelude.{ℕ};
 ghost use Rattle.h41_focal.specs.LabelledMachine.{Keeps, machine_of};
-ghost use Rattle.h41_focal.specs.private.Carrying.{DoesWork, IsReady};
+ghost use Rattle.h41_focal.specs.private.Carrying.{DoesWork};
 ghost use Rattle.h41_focal.specs.declared.works.FunctionWork.TheVariants.{ChangeSign, OfX, OfYAndX};
 ghost use Rattle.h41_focal.specs.declared.works.FunctionWork.TheVariants.{Percent, Square};
 ghost use Rattle.h41_rows.specs.RowMarks.{LeavesMark};
@@ -27,7 +27,6 @@ pub fn of_y_and_x<const REGS: usize>(
     origin: Origin,
     value: ValueOfTwo,
 ) -> BriefOutcome
-    requires { IsReady origin (machine_of machine.old) }
     ensures done { DoesWork origin (OfYAndX value) (machine_of machine.old)
         (machine_of machine.new) result }
     ensures keeps { Keeps machine.old machine.new }
@@ -49,7 +48,6 @@ pub fn of_x<const REGS: usize>(
     origin: Origin,
     value: ValueOfOne,
 ) -> BriefOutcome
-    requires { IsReady origin (machine_of machine.old) }
     ensures done { DoesWork origin (OfX value) (machine_of machine.old)
         (machine_of machine.new) result }
     ensures keeps { Keeps machine.old machine.new }
@@ -67,7 +65,6 @@ pub fn of_x<const REGS: usize>(
 
 /// X takes its square, and LAST X what X held.
 pub fn square<const REGS: usize>(machine: &mut Machine<REGS>, origin: Origin) -> BriefOutcome
-    requires { IsReady origin (machine_of machine.old) }
     ensures done { DoesWork origin Square (machine_of machine.old) (machine_of machine.new) result }
     ensures keeps { Keeps machine.old machine.new }
     ensures left { LeavesMark machine.old.ram machine.new.ram }
@@ -84,7 +81,6 @@ pub fn square<const REGS: usize>(machine: &mut Machine<REGS>, origin: Origin) ->
 
 /// X takes so many hundredths of Y, and LAST X what X held; Y stays.
 pub fn percent<const REGS: usize>(machine: &mut Machine<REGS>, origin: Origin) -> BriefOutcome
-    requires { IsReady origin (machine_of machine.old) }
     ensures done { DoesWork origin Percent (machine_of machine.old)
         (machine_of machine.new) result }
     ensures keeps { Keeps machine.old machine.new }
@@ -102,7 +98,6 @@ pub fn percent<const REGS: usize>(machine: &mut Machine<REGS>, origin: Origin) -
 
 /// X changes its sign; LAST X stays.
 pub fn change_sign<const REGS: usize>(machine: &mut Machine<REGS>, origin: Origin) -> BriefOutcome
-    requires { IsReady origin (machine_of machine.old) }
     ensures done { DoesWork origin ChangeSign (machine_of machine.old)
         (machine_of machine.new) result }
     ensures keeps { Keeps machine.old machine.new }

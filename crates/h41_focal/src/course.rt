@@ -2,7 +2,7 @@
 
 ghost use Rattle.std.specs.Prelude.{◌≡◌};
 ghost use Rattle.h41_focal.specs.LabelledMachine.{Keeps, machine_of};
-ghost use Rattle.h41_focal.specs.private.Carrying.{FailsAs, IsReady, on_to_next};
+ghost use Rattle.h41_focal.specs.private.Carrying.{FailsAs, on_to_next};
 ghost use Rattle.h41_rows.specs.Rows.{AsItWas, Off, On};
 ghost use Rattle.h41_rows.specs.RowMarks.{LeavesMark};
 
@@ -52,7 +52,6 @@ pub fn fail<const REGS: usize>(
     origin: Origin,
     fault: LineFault,
 ) -> BriefOutcome
-    requires { IsReady origin (machine_of machine.old) }
     ensures done { FailsAs origin fault (machine_of machine.old) (machine_of machine.new) result }
     ensures keeps { Keeps machine.old machine.new }
     ensures left { LeavesMark machine.old.ram machine.new.ram }

@@ -1,11 +1,12 @@
 //! Lines of a flag: it is set or cleared, or asked.
 
-ghost use Rattle.std.specs.Prelude.{◌≡◌, ℕ, ◌<◌, OnErr};
+ghost use Rattle.std.specs.Prelude.{◌≡◌, ℕ, ◌<◌, OnErr, IsTrue};
 ghost use Rattle.h41_focal.specs.LabelledMachine.{Keeps, machine_of};
-ghost use Rattle.h41_focal.specs.private.Carrying.{CarriesFlag, ClearsFlag, IsReady, LeavesFlag};
+ghost use Rattle.h41_focal.specs.private.Carrying.{CarriesFlag, ClearsFlag, LeavesFlag};
 ghost use Rattle.h41_rows.specs.RowEffects.{agrees};
 ghost use Rattle.h41_focal.specs.declared.uses.FlagUse.TheVariants.{Ask, Change};
 ghost use Rattle.h41_ram.specs.RegisterMap.{flag_of};
+ghost use Rattle.h41_ram.specs.RegisterMap.{is_sound};
 ghost use Rattle.h41_rows.specs.RowMarks.{LeavesMark};
 
 use crate::course::go_on_lifting;
@@ -33,8 +34,7 @@ fn change_flag<const REGS: usize>(
     flag: u8,
     on: bool,
 ) -> BriefOutcome
-    requires flag { flag < 56 }
-    requires ready { IsReady origin (machine_of machine.old) }
+    requires { flag < 56 }
     ensures done { LeavesFlag origin (Change on) flag (machine_of machine.old)
         (machine_of machine.new) result }
     ensures keeps { Keeps machine.old machine.new }
@@ -55,7 +55,7 @@ fn ask_flag<const REGS: usize>(
     on: bool,
 ) -> Result<BriefOutcome, FocalRefusal>
     requires flag { flag < 56 }
-    requires ready { IsReady origin (machine_of machine.old) }
+    requires sound { IsTrue (is_sound machine.old.ram.registers) }
     ensures carried { CarriesFlag origin (Ask on) flag (machine_of machine.old)
         (machine_of machine.new) result }
     ensures unchanged { OnErr result (machine.new ≡ machine.old) }
@@ -76,7 +76,7 @@ fn ask_and_clear_flag<const REGS: usize>(
     on: bool,
 ) -> Result<BriefOutcome, FocalRefusal>
     requires flag { flag < 56 }
-    requires ready { IsReady origin (machine_of machine.old) }
+    requires sound { IsTrue (is_sound machine.old.ram.registers) }
     ensures carried { ClearsFlag origin on flag (machine_of machine.old)
         (machine_of machine.new) result }
     ensures unchanged { OnErr result (machine.new ≡ machine.old) }
@@ -99,7 +99,7 @@ pub fn use_flag<const REGS: usize>(
     flag: u8,
 ) -> Result<BriefOutcome, FocalRefusal>
     requires flag { flag < 56 }
-    requires ready { IsReady origin (machine_of machine.old) }
+    requires sound { IsTrue (is_sound machine.old.ram.registers) }
     ensures carried { CarriesFlag origin taken flag (machine_of machine.old)
         (machine_of machine.new) result }
     ensures unchanged { OnErr result (machine.new ≡ machine.old) }

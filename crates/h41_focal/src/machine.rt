@@ -6,8 +6,8 @@ ghost use Rattle.h41_focal.specs.declared.outcome.BriefOutcome.TheVariants.{Else
 ghost use Rattle.h41_focal.specs.MachineCalls.{Fails, FailsTyped, KeepsElsewhere, Passes, Steps};
 ghost use Rattle.h41_focal.specs.MachineCalls.{Types};
 ghost use Rattle.h41_focal.specs.LabelSearches.{StepKeeps, TypingKeeps};
-ghost use Rattle.h41_focal.specs.LabelledMachine.{AreRight, Keeps, begun, begun_ram, labelled_with};
-ghost use Rattle.h41_focal.specs.LabelledMachine.{machine_of};
+ghost use Rattle.h41_focal.specs.LabelledMachine.{AreRight, Keeps, begun_ram, labelled_with};
+ghost use Rattle.h41_focal.specs.LabelledMachine.{machine_of, with_line_begun};
 ghost use Rattle.h41_focal.specs.LineStep.{machine_with, start};
 ghost use Rattle.h41_labels.specs.KeptAnswers.{IsRight};
 ghost use Rattle.h41_ram.specs.RamState.{KeepsMark};
@@ -64,7 +64,7 @@ impl<const REGS: usize> Machine<REGS> {
     #[inline(always)]
     fn begin(&mut self)
         requires { AreRight self.old }
-        ensures begun { self.new ≡ begun self.old }
+        ensures begun { self.new ≡ with_line_begun self.old }
         ensures right { IsRight self.new.focal.labels self.new.ram.registers }
     {
         if self.ram.program_touched() {

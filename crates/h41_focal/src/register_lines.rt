@@ -1,7 +1,7 @@
 //! Lines that work on a register.
 
 ghost use Rattle.h41_focal.specs.LabelledMachine.{Keeps, machine_of};
-ghost use Rattle.h41_focal.specs.private.Carrying.{IsReady, UsesAt};
+ghost use Rattle.h41_focal.specs.private.Carrying.{UsesAt};
 ghost use Rattle.h41_focal.specs.declared.uses.RegisterUse.TheVariants.{Combine, Exchange, Recall};
 ghost use Rattle.h41_focal.specs.declared.uses.RegisterUse.TheVariants.{RecallAlpha, Store};
 ghost use Rattle.h41_focal.specs.declared.uses.RegisterUse.TheVariants.{StoreAlpha, View};
@@ -25,7 +25,6 @@ pub fn recall<const REGS: usize>(
     origin: Origin,
     address: u16,
 ) -> BriefOutcome
-    requires { IsReady origin (machine_of machine.old) }
     ensures done { UsesAt origin Recall address (machine_of machine.old)
         (machine_of machine.new) result }
     ensures keeps { Keeps machine.old machine.new }
@@ -43,7 +42,6 @@ pub fn store<const REGS: usize>(
     origin: Origin,
     address: u16,
 ) -> BriefOutcome
-    requires { IsReady origin (machine_of machine.old) }
     ensures done { UsesAt origin Store address (machine_of machine.old)
         (machine_of machine.new) result }
     ensures keeps { Keeps machine.old machine.new }
@@ -63,7 +61,6 @@ pub fn combine<const REGS: usize>(
     value: ValueOfTwo,
     address: u16,
 ) -> BriefOutcome
-    requires { IsReady origin (machine_of machine.old) }
     ensures done { UsesAt origin (Combine value) address (machine_of machine.old)
         (machine_of machine.new) result }
     ensures keeps { Keeps machine.old machine.new }
@@ -86,7 +83,6 @@ pub fn view<const REGS: usize>(
     origin: Origin,
     address: u16,
 ) -> BriefOutcome
-    requires { IsReady origin (machine_of machine.old) }
     ensures done { UsesAt origin View address (machine_of machine.old)
         (machine_of machine.new) result }
     ensures keeps { Keeps machine.old machine.new }
@@ -102,7 +98,6 @@ pub fn store_alpha<const REGS: usize>(
     origin: Origin,
     address: u16,
 ) -> BriefOutcome
-    requires { IsReady origin (machine_of machine.old) }
     ensures done { UsesAt origin StoreAlpha address (machine_of machine.old)
         (machine_of machine.new) result }
     ensures keeps { Keeps machine.old machine.new }
@@ -121,7 +116,6 @@ pub fn recall_alpha<const REGS: usize>(
     origin: Origin,
     address: u16,
 ) -> BriefOutcome
-    requires { IsReady origin (machine_of machine.old) }
     ensures done { UsesAt origin RecallAlpha address (machine_of machine.old)
         (machine_of machine.new) result }
     ensures keeps { Keeps machine.old machine.new }
@@ -138,7 +132,6 @@ pub fn exchange_x<const REGS: usize>(
     origin: Origin,
     address: u16,
 ) -> BriefOutcome
-    requires { IsReady origin (machine_of machine.old) }
     ensures done { UsesAt origin Exchange address (machine_of machine.old)
         (machine_of machine.new) result }
     ensures keeps { Keeps machine.old machine.new }

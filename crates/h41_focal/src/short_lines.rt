@@ -1,13 +1,15 @@
 //! Short lines are carried out without room for a text.
 
-ghost use Rattle.std.specs.Prelude.{◌≡◌, IfSome, Ok, OnErr};
+ghost use Rattle.std.specs.Prelude.{◌≡◌, IfSome, Ok, OnErr, IsTrue};
 ghost use Rattle.h41_codes.specs.ShortLines.{line_of};
 ghost use Rattle.h41_focal.specs.LabelledMachine.{machine_of};
-ghost use Rattle.h41_focal.specs.private.Carrying.{IsReady, Stands, StandsAt, StandsNumber};
+ghost use Rattle.h41_focal.specs.LineStep.{Stands, StandsAt};
+ghost use Rattle.h41_focal.specs.private.Carrying.{StandsNumber};
 ghost use Rattle.h41_focal.specs.private.Carrying.{StandsNumberAt, TakesBriefly};
 ghost use Rattle.h41_focal.specs.private.Searching.{AsksOf};
 ghost use Rattle.h41_labels.specs.KeptAnswers.{IsRight};
 ghost use Rattle.h41_ram.specs.RamState.{KeepsMark};
+ghost use Rattle.h41_ram.specs.RegisterMap.{is_sound};
 ghost use Rattle.h41_rows.specs.RowMarks.{LeavesMark};
 
 use crate::functions::plain_at_once;
@@ -82,7 +84,7 @@ pub fn carry_short<const REGS: usize>(
     origin: Origin,
     line: ShortLine,
 ) -> Result<BriefOutcome, FocalRefusal>
-    requires ready { IsReady origin (machine_of machine.old) }
+    requires sound { IsTrue (is_sound machine.old.ram.registers) }
     requires right { IsRight machine.old.focal.labels machine.old.ram.registers }
     ensures taken { TakesBriefly origin (line_of line) (machine_of machine.old)
         (machine_of machine.new) result }

@@ -4,7 +4,7 @@ ghost use Rattle.std.specs.Prelude.{◌≡◌, ℕ, List};
 ghost use Rattle.h41_codes.specs.declared.characters.Character.{Character};
 ghost use Rattle.h41_codes.specs.declared.line.Line.TheVariants as lines;
 ghost use Rattle.h41_focal.specs.LabelledMachine.{Keeps, machine_of};
-ghost use Rattle.h41_focal.specs.private.Carrying.{DoesLine, DoesWork, IsReady, LeavesRow};
+ghost use Rattle.h41_focal.specs.private.Carrying.{DoesLine, DoesWork, LeavesRow};
 ghost use Rattle.h41_focal.specs.private.Carrying.{on_to_next};
 ghost use Rattle.h41_rows.specs.Computing.{IsAlways};
 ghost use Rattle.h41_rows.specs.Rows.{lifting_row, silent_row};
@@ -40,7 +40,6 @@ pub fn move_stack<const REGS: usize>(
     origin: Origin,
     movement: Movement,
 ) -> BriefOutcome
-    requires { IsReady origin (machine_of machine.old) }
     ensures done { DoesWork origin (Move movement) (machine_of machine.old)
         (machine_of machine.new) result }
     ensures keeps { Keeps machine.old machine.new }
@@ -94,7 +93,6 @@ pub fn number_line<const REGS: usize>(
     origin: Origin,
     number: Reg,
 ) -> BriefOutcome
-    requires { IsReady origin (machine_of machine.old) }
     ensures done { (text : List Character) → IsAlways (Written text) number
         → DoesLine origin (lines.Number text) (machine_of machine.old)
         (machine_of machine.new) result }
@@ -111,7 +109,6 @@ pub fn clear_registers<const REGS: usize>(
     machine: &mut Machine<REGS>,
     origin: Origin,
 ) -> BriefOutcome
-    requires { IsReady origin (machine_of machine.old) }
     ensures done { DoesWork origin ClearRegisters (machine_of machine.old)
         (machine_of machine.new) result }
     ensures keeps { Keeps machine.old machine.new }
@@ -124,7 +121,6 @@ pub fn clear_registers<const REGS: usize>(
 
 /// A line that does nothing but turn lift on.
 pub fn do_nothing<const REGS: usize>(machine: &mut Machine<REGS>, origin: Origin) -> BriefOutcome
-    requires { IsReady origin (machine_of machine.old) }
     ensures done { LeavesRow origin lifting_row (machine_of machine.old)
         (machine_of machine.new) result }
     ensures keeps { Keeps machine.old machine.new }
@@ -137,7 +133,6 @@ pub fn do_nothing<const REGS: usize>(machine: &mut Machine<REGS>, origin: Origin
 /// A line that does nothing, and leaves lift.
 #[inline(always)]
 pub fn be_silent<const REGS: usize>(machine: &mut Machine<REGS>, origin: Origin) -> BriefOutcome
-    requires { IsReady origin (machine_of machine.old) }
     ensures done { LeavesRow origin silent_row (machine_of machine.old)
         (machine_of machine.new) result }
     ensures keeps { Keeps machine.old machine.new }

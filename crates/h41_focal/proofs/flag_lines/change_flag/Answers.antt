@@ -11,5 +11,5 @@ use Rattle.h41_focal.proofs.flag_lines.change_flag.Goals as goal
 pub returns-clause-done : goal.returns-clause-done
 returns-clause-done g c = λ named.
     row_done _ (flag_use_row (flags.Change c.args.on) c.args.flag) named _ _ _
-    zeros briefs.Done _ _ (ap machine_of c.machine.view_is) c.requires.ready.next refl refl
+    zeros briefs.Done _ _ (ap machine_of c.machine.view_is) refl refl
     refl (rw ((ap (λ (ram : RamState). ram.registers) c.set_flag.ensures.written), c.from.ensures) refl) c.go_on_lifting.ensures.state

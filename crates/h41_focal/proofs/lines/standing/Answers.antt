@@ -1,7 +1,6 @@
 use Rattle.std.proofs.Common.{ap, subst, ◌∙◌}
 use Rattle.h41_focal.specs.LabelledMachine.{machine_of}
-use Rattle.h41_focal.specs.private.Carrying.{Stands}
-use Rattle.h41_focal.specs.LineStep.{Machine, machine_with}
+use Rattle.h41_focal.specs.LineStep.{Machine, Stands, machine_with}
 use Rattle.h41_focal.specs.declared.machine.Machine.TheInside.{Inside}
 use Rattle.h41_focal.proofs.lines.standing.Goals as goal
 

@@ -1,8 +1,7 @@
 use Rattle.std.proofs.Common.{ap, IfSome, Ok, subst, ◌∙◌}
 use Rattle.h41_codes.specs.ShortLines.{line_of}
 use Rattle.h41_focal.specs.LabelledMachine.{machine_of}
-use Rattle.h41_focal.specs.private.Carrying.{Stands}
-use Rattle.h41_focal.specs.LineStep.{Machine, machine_with}
+use Rattle.h41_focal.specs.LineStep.{Machine, Stands, machine_with}
 use Rattle.h41_focal.specs.declared.machine.Machine.TheInside.{Inside}
 use Rattle.h41_focal.proofs.short_lines.short_standing.Goals as goal
 

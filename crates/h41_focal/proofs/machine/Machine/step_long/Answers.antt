@@ -2,11 +2,10 @@ use Rattle.std.proofs.Common.{◌≡◌, ap, subst, sym, Ok, None, ◌∙◌}
 use Rattle.h41_codes.specs.declared.line.Line.TheVariants.{Number}
 use Rattle.h41_focal.specs.BriefOutcomes.{StepsBriefly}
 use Rattle.h41_focal.specs.LabelledMachine.{LabelledMachine, machine_of}
-use Rattle.h41_focal.specs.LineStep.{Machine}
+use Rattle.h41_focal.specs.LineStep.{Machine, Stands}
 use Rattle.h41_focal.proofs.Briefly.{call_changes_nothing, calls_elsewhere}
-use Rattle.h41_focal.proofs.LinesTaken.{step_taken}
 use Rattle.h41_focal.proofs.machine.Machine.step_long.Goals as goal
-use Rattle.h41_focal.specs.private.Carrying.{Stands, called_by}
+use Rattle.h41_focal.specs.private.Carrying.{called_by}
 use Rattle.h41_focal.specs.declared.origin.Origin.TheVariants.{Program}
 
 pub returns-in-Some-clause-line : goal.returns-in-Some-clause-line
@@ -17,10 +16,12 @@ returns-in-Some-clause-line g c =
     (ap machine_of begun.ensures.begun) (
       called_by begun.new.self.ram.registers (Number found.0),
       calls_elsewhere begun.new.self.ram.registers (Number found.0),
-      step_taken None _ (Number found.0) c.in-Some.next _
-          (subst (λ (machine : Machine). Stands machine (Ok (Number found.0, c.in-Some.next)))
-          (sym (ap machine_of begun.ensures.begun)) found.1)
-          (c.number_line.ensures.done found.0 (c.number_register-register.ensures found.0 found.2) 0),
+      (
+        Ok (Number found.0, c.in-Some.next),
+        subst (λ (machine : Machine). Stands machine (Ok (Number found.0, c.in-Some.next)))
+            (sym (ap machine_of begun.ensures.begun)) found.1,
+        c.number_line.ensures.done found.0 (c.number_register-register.ensures found.0 found.2) 0,
+      ),
     )
 
 pub returns-in-Some-clause-elsewhere : goal.returns-in-Some-clause-elsewhere
@@ -41,7 +42,7 @@ returns-in-Some-clause-right g c =
 
 pub returns-in-Some-clause-kept : goal.returns-in-Some-clause-kept
 returns-in-Some-clause-kept g c =
-    let stands = c.in-Some.ensures.1 in
+    let found = c.in-Some.ensures in
     let labels = c.number_line.ensures.keeps.labels
     ∙ ap (λ (m : LabelledMachine). m.focal.labels) c.begin.ensures.begun in
-    rw stands.0 (Ok stands.1.0, stands.1.1, (c.in-Some.next, stands.2, rw stands.1.2 labels))
+    (Ok (Number found.0, c.in-Some.next), found.1, labels)

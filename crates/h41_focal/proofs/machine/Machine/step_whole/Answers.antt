@@ -1,10 +1,9 @@
-use Rattle.std.proofs.Common.{◌≡◌, ap, subst, Err, None, refl}
+use Rattle.std.proofs.Common.{◌≡◌, ap, subst, Ok, Err, None, refl}
 use Rattle.std.proofs.lemmas.Result.{err_from_is_err_and}
 use Rattle.h41_focal.specs.BriefOutcomes.{StepsBriefly}
 use Rattle.h41_focal.specs.LabelledMachine.{machine_of}
 use Rattle.h41_focal.specs.LineStep.{Machine, StepsLine}
 use Rattle.h41_focal.proofs.Briefly.{call_changes_nothing, calls_elsewhere}
-use Rattle.h41_focal.proofs.LinesTaken.{step_refused, step_taken}
 use Rattle.h41_focal.proofs.machine.Machine.step_whole.Goals as goal
 use Rattle.h41_focal.specs.private.Carrying.{called_by, nowhere}
 use Rattle.h41_focal.specs.declared.origin.Origin.TheVariants.{Program}
@@ -16,7 +15,7 @@ returns-in_err-line-clause-line g c =
       refl,
       rw (refused.1, refused.2)
           (subst (λ (machine : Machine). StepsLine None machine (Err c.in_err-line.field-0.0)) (ap machine_of c.begin.ensures.begun)
-          (step_refused None (machine_of c.begin.new.self) c.in_err-line.field-0.0 c.in_err-line.ensures)),
+          (Err c.in_err-line.field-0.0, c.in_err-line.ensures, refl)),
     )
 
 pub returns-in_err-line-clause-right : goal.returns-in_err-line-clause-right
@@ -28,7 +27,7 @@ returns-clause-line g c =
     (ap machine_of c.begin.ensures.begun) (
       called_by c.begin.new.self.ram.registers c.in_ok-line.line,
       calls_elsewhere c.begin.new.self.ram.registers c.in_ok-line.line,
-      step_taken None _ c.in_ok-line.line c.in_ok-line.next _ c.in_ok-line.ensures c.carry_briefly.ensures.taken,
+      (Ok (c.in_ok-line.line, c.in_ok-line.next), c.in_ok-line.ensures, c.carry_briefly.ensures.taken),
     )
 
 pub returns-clause-elsewhere : goal.returns-clause-elsewhere

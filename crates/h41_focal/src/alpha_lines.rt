@@ -78,20 +78,10 @@ fn put_text<const REGS: usize>(ram: &mut Ram<REGS>, text: &[u8])
 {
     match text {
         [] => {}
-        characters => put_characters(ram, characters),
-    }
-}
-
-/// The same for a text that has a character.
-fn put_characters<const REGS: usize>(ram: &mut Ram<REGS>, text: &[u8])
-    requires { 1 ≤ length text.now }
-    ensures change { PutsText text.now ram.old.registers ram.new.registers }
-    ensures mark { KeepsMark ram.old ram.new }
-    ensures left { LeavesMark ram.old ram.new }
-{
-    match appended(text) {
-        Some(rest) => append_text(ram, rest),
-        None => replace_text(ram, text),
+        characters => match appended(characters) {
+            Some(rest) => append_text(ram, rest),
+            None => replace_text(ram, characters),
+        },
     }
 }
 

@@ -7,18 +7,13 @@ ghost use Rattle.h41_focal.specs.declared.works.FunctionWork.TheVariants.{Change
 ghost use Rattle.h41_focal.specs.declared.works.FunctionWork.TheVariants.{Percent, Square};
 ghost use Rattle.h41_rows.specs.RowMarks.{LeavesMark};
 
+use crate::addresses::{X, Y};
 use crate::course::{fail, go_on_lifting};
 use crate::machine::Machine;
 use crate::origin::Origin;
 use crate::outcome::BriefOutcome;
 use h41_ram::StatusRegister;
 use h41_rows::{ValueOfOne, ValueOfTwo, compute_of_one, compute_of_two, drop_into, keep_last};
-
-/// The address of X.
-const X: u16 = 3;
-
-/// The address of Y.
-const Y: u16 = 2;
 
 /// X takes a value of Y and X, LAST X what X held, and the stack drops.
 #[inline(always)]

@@ -2,9 +2,9 @@
 
 ghost use Rattle.std.specs.Prelude.{◌≡◌, ℕ, ◌<◌, OnErr, IsTrue};
 ghost use Rattle.h41_focal.specs.LabelledMachine.{Keeps, machine_of};
-ghost use Rattle.h41_focal.specs.private.Carrying.{CarriesFlag, ClearsFlag, LeavesFlag};
+ghost use Rattle.h41_focal.specs.private.Carrying.{CarriesFlag, ClearsFlag};
 ghost use Rattle.h41_rows.specs.RowEffects.{agrees};
-ghost use Rattle.h41_focal.specs.declared.uses.FlagUse.TheVariants.{Ask, Change};
+ghost use Rattle.h41_focal.specs.declared.uses.FlagUse.TheVariants.{Ask};
 ghost use Rattle.h41_ram.specs.RegisterMap.{flag_of};
 ghost use Rattle.h41_ram.specs.RegisterMap.{is_sound};
 ghost use Rattle.h41_rows.specs.RowMarks.{LeavesMark};
@@ -25,24 +25,6 @@ fn agrees_with<const REGS: usize>(ram: &Ram<REGS>, flag: u8, on: bool) -> bool
 {
     let is_set = ram.flag(usize::from(flag));
     if on { is_set } else { !is_set }
-}
-
-/// `SF` and `CF`: a flag, 0 to 55, is set or cleared.
-fn change_flag<const REGS: usize>(
-    machine: &mut Machine<REGS>,
-    origin: Origin,
-    flag: u8,
-    on: bool,
-) -> BriefOutcome
-    requires { flag < 56 }
-    ensures done { LeavesFlag origin (Change on) flag (machine_of machine.old)
-        (machine_of machine.new) result }
-    ensures keeps { Keeps machine.old machine.new }
-    ensures left { LeavesMark machine.old.ram machine.new.ram }
-{
-    machine.ram.set_flag(usize::from(flag), on);
-    go_on_lifting(&mut machine.focal, origin);
-    BriefOutcome::Done
 }
 
 /// `FS?` and `FC?`: the program goes on with the next line where a flag, 0 to 55, is set or clear as asked, else with the
@@ -107,7 +89,11 @@ pub fn use_flag<const REGS: usize>(
     ensures left { LeavesMark machine.old.ram machine.new.ram }
 {
     match taken {
-        FlagUse::Change(on) => Ok(change_flag(machine, origin, flag, on)),
+        FlagUse::Change(on) => {
+            machine.ram.set_flag(usize::from(flag), on);
+            go_on_lifting(&mut machine.focal, origin);
+            Ok(BriefOutcome::Done)
+        }
         FlagUse::Ask(on) => ask_flag(machine, origin, flag, on),
         FlagUse::AskAndClear(on) => ask_and_clear_flag(machine, origin, flag, on),
     }

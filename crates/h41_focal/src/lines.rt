@@ -4,7 +4,7 @@ ghost use Rattle.std.specs.Prelude.{◌≡◌, ℕ, Ok, OnErr, IsTrue};
 ghost use Rattle.h41_codes.specs.declared.line.Line.TheVariants.{BranchIndirect, Named};
 ghost use Rattle.h41_focal.specs.LabelSearches.{search_for};
 ghost use Rattle.h41_focal.specs.LabelledMachine.{Keeps, machine_of};
-ghost use Rattle.h41_focal.specs.LineStep.{Stands, StandsAt};
+ghost use Rattle.h41_focal.specs.LineStep.{Stands};
 ghost use Rattle.h41_focal.specs.private.Carrying.{GoesToTarget};
 ghost use Rattle.h41_focal.specs.private.Carrying.{TakesAs, TakesBriefly};
 ghost use Rattle.h41_focal.specs.private.Carrying.{TakesBranch, TakesNamed, TakesShort};
@@ -39,21 +39,11 @@ pub fn standing<const REGS: usize>(
 ) -> Result<(Line, Position), FocalRefusal>
     ensures { Stands (machine_of machine.now) result }
 {
-    standing_at(&machine.ram, machine.focal.position)
-}
-
-/// The same at a position.
-#[inline(always)]
-fn standing_at<const REGS: usize>(
-    ram: &Ram<REGS>,
-    at: Position,
-) -> Result<(Line, Position), FocalRefusal>
-    ensures { StandsAt ram.now.registers at result }
-{
+    let Machine { ram, focal } = machine;
     if !ram.is_sound() {
         return Err(FocalRefusal::MemoryLost);
     }
-    match line_and_next(ram, at) {
+    match line_and_next(ram, focal.position) {
         Ok(standing) => Ok(standing),
         Err(_) => Err(FocalRefusal::BrokenProgram),
     }

@@ -56,17 +56,10 @@ fn is_left_out(function: ParameterFunction, operand: &Operand) -> bool
     match function {
         ParameterFunction::StatisticsRegisters => true,
         ParameterFunction::Label => false,
-        _ => is_operand_out(operand),
-    }
-}
-
-/// Whether the register of an operand is left out.
-fn is_operand_out(operand: &Operand) -> bool
-    ensures { result ≡ is_operand_left_out operand.now }
-{
-    match operand {
-        Operand::Direct(parameter) => is_parameter_out(*parameter),
-        Operand::Indirect(parameter) => is_parameter_out(*parameter),
+        _ => match operand {
+            Operand::Direct(parameter) => is_parameter_out(*parameter),
+            Operand::Indirect(parameter) => is_parameter_out(*parameter),
+        },
     }
 }
 

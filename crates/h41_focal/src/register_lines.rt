@@ -7,6 +7,7 @@ ghost use Rattle.h41_focal.specs.declared.uses.RegisterUse.TheVariants.{RecallAl
 ghost use Rattle.h41_focal.specs.declared.uses.RegisterUse.TheVariants.{StoreAlpha, View};
 ghost use Rattle.h41_rows.specs.RowMarks.{IsApart, LeavesMark};
 
+use crate::addresses::X;
 use crate::course::{fail, go_on_lifting};
 use crate::machine::Machine;
 use crate::origin::Origin;
@@ -14,9 +15,6 @@ use crate::outcome::BriefOutcome;
 use h41_rows::{
     ValueOfTwo, append_register, bring_in_from, compute_of_two, exchange, first_six, store_x,
 };
-
-/// The address of X.
-const X: u16 = 3;
 
 /// X takes the register; the stack is lifted first where lift is on.
 #[inline(always)]

@@ -15,7 +15,8 @@ ghost use Rattle.h41_focal.specs.declared.works.FunctionWork.TheVariants.{ClearR
 ghost use Rattle.h41_ram.specs.RamState.{KeepsMark};
 ghost use Rattle.h41_rows.specs.RowMarks.{LeavesMark};
 
-use crate::course::{go_on, go_on_lifting, go_on_replacing};
+use crate::addresses::{LAST_X, Y};
+use crate::course::{go_on, go_on_lifting};
 use crate::focal::Focal;
 use crate::machine::Machine;
 use crate::origin::Origin;
@@ -26,12 +27,6 @@ use h41_ram::{Ram, StatusRegister};
 use h41_rows::{
     bring_in, bring_in_from, clear_data, clear_stack, enter, exchange, pi, roll_down, roll_up, zero,
 };
-
-/// The address of Y.
-const Y: u16 = 2;
-
-/// The address of LAST X.
-const LAST_X: u16 = 4;
 
 /// The stack moves. What comes in lifts it where lift is on. Lift is off behind `ENTER^` and `CLX`, and on behind the others.
 #[inline(always)]
@@ -77,7 +72,10 @@ fn go_on_behind(focal: &mut Focal, origin: Origin, movement: Movement)
     ensures labels { focal.new.labels ≡ focal.old.labels }
 {
     match movement {
-        Movement::Enter | Movement::ClearX => go_on_replacing(focal, origin),
+        Movement::Enter | Movement::ClearX => {
+            go_on(focal, origin);
+            focal.lift = false;
+        }
         Movement::Exchange
         | Movement::RollUp
         | Movement::RollDown

@@ -16,7 +16,7 @@ use Rattle.h41_focal.specs.Destinations.{Manner}
 use Rattle.h41_focal.specs.Destinations as destinations
 use Rattle.h41_focal.specs.BriefOutcomes.{briefly, briefly_as}
 use Rattle.h41_focal.specs.MachineCalls.{carried_as}
-use Rattle.h41_focal.specs.LineStep.{Applies, FailsIn, FocalState, Left, Machine, StandsAt}
+use Rattle.h41_focal.specs.LineStep.{Applies, FailsIn, FocalState, Left, Machine, Stands}
 use Rattle.h41_focal.specs.LineStep.{TakesLine, at_position}
 use Rattle.h41_rows.specs.Operands.{Address, Count, DigitKind, FlagKind, Meant, Name, NoOperand}
 use Rattle.h41_rows.specs.Operands.{RegisterKind, meant_as, meant_of}
@@ -163,15 +163,11 @@ UsesFlag origin taken operand old new result =
     × CarriesFound origin (flag_use_row taken) (λ flag. 0) found old new result
 
 -- the line that stands there is a number line, of this number
-abbrev pub StandsNumberAt : RegisterMap → Position → Ten → Position → Type 0
-StandsNumberAt memory at number next =
-    (text : List Character)
-    × StandsAt memory at (Ok (lines.Number text, next))
-    × IsNumberOf text number
-
 abbrev pub StandsNumber : Machine → Ten → Position → Type 0
 StandsNumber machine number next =
-    StandsNumberAt machine.memory machine.focal.position number next
+    (text : List Character)
+    × Stands machine (Ok (lines.Number text, next))
+    × IsNumberOf text number
 
 -- the same of a row that names no register, of a line without an operand, of the work of a
 -- function, of the use of a register or a flag
@@ -202,10 +198,6 @@ abbrev pub CarriesFlag : Origin → FlagUse → ℕ → (old new : Machine)
     → Result BriefOutcome FocalRefusal → Type 0
 CarriesFlag origin taken flag old new result =
     (named : ℕ) → CarriesRow origin (flag_use_row taken flag) named old new result
-
-abbrev pub LeavesFlag : Origin → FlagUse → ℕ → (old new : Machine) → BriefOutcome → Type 0
-LeavesFlag origin taken flag old new brief =
-    LeavesRow origin (flag_use_row taken flag) old new brief
 
 abbrev pub LeavesDigits : Origin → DigitsUse → ℕ → (old new : Machine) → BriefOutcome → Type 0
 LeavesDigits origin taken digits old new brief =

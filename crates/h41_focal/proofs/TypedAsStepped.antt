@@ -76,7 +76,8 @@ failure_alike next machine focal fault left failing =
     )
 
 -- a row that goes on to the next line
-with_alike : (next : Position) (row : rows.LineRow) (named : ℕ) (machine : Machine) (focal : FocalState) (result : Result (List ℕ) LineFault) (left : Left)
+with_alike : (next : Position) (row : rows.LineRow) (named : ℕ) (machine : Machine) (focal : FocalState)
+    (result : Result (List ℕ) LineFault) (left : Left)
     → row.goes ≡ rows.Next → AppliesWith (Stepped next) row named machine result (Ok left)
     → LeavesLike (AppliesWith Typed row named (beside machine focal) result) left
 with_alike next row named machine focal (Err fault) left goes_on applies = failure_alike next machine focal fault left applies
@@ -119,7 +120,8 @@ carried_alike next line machine focal left goes_on carries =
     meant_alike next line machine focal (meant_of machine.memory line) left (goes_on machine.memory) carries
 
 profile_alike : (left_out : Bool) (next : Position) (line : Line) (machine : Machine) (focal : FocalState) (left : Left) → GoesToNext line
-    → MatchBool left_out (◌≡◌ {A = Result Left FocalRefusal} (Ok left) (Err NotInProfile)) (CarriesOut (Stepped next) line machine (Ok left))
+    → MatchBool left_out (◌≡◌ {A = Result Left FocalRefusal} (Ok left) (Err NotInProfile))
+    (CarriesOut (Stepped next) line machine (Ok left))
     → LeavesLike (λ carried. MatchBool left_out (carried ≡ Err NotInProfile) (CarriesOut Typed line (beside machine focal) carried)) left
 profile_alike true next line machine focal left goes_on is = absurd (no_refusal left NotInProfile is)
 profile_alike false next line machine focal left goes_on carries = carried_alike next line machine focal left goes_on carries

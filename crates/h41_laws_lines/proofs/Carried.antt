@@ -8,8 +8,8 @@ use Rattle.h41_focal.specs.Destinations.{Tells, Typed}
 use Rattle.h41_focal.specs.LineLaws.{FailureIsDetermined, PassingIsDetermined, StepIsDetermined, TypedFailureIsDetermined}
 use Rattle.h41_focal.specs.LineLaws.{TypedIsDetermined}
 use Rattle.h41_focal.specs.LineStep.{Applies, AppliesTo, AppliesWith, CarriesOut, ComputesIn, Ends, FailsIn, FailsLine, FailsTyped}
-use Rattle.h41_focal.specs.LineStep.{FailsWith, Machine, PassesLine, PassesWith, Stands, StandsAt, StepsAs, StepsLine, TakesLine, TypesLine, Works}
-use Rattle.h41_focal.specs.LineStep.{answer_of_showing, left_by_fault, line_as, named_by, with_line_passed, with_row}
+use Rattle.h41_focal.specs.LineStep.{FailsWith, Machine, PassesLine, PassesWith, Stands, StandsAt, StepsAs, StepsLine, TakesLine}
+use Rattle.h41_focal.specs.LineStep.{TypesLine, Works, answer_of_showing, left_by_fault, line_as, named_by, with_line_passed, with_row}
 use Rattle.h41_focal.specs.Outcomes.{Answer}
 use Rattle.h41_focal.specs.declared.refusal.FocalRefusal.{FocalRefusal}
 use Rattle.h41_focal.specs.declared.refusal.FocalRefusal.TheVariants.{BrokenProgram, MemoryLost, NotInProfile}

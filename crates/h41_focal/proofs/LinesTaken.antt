@@ -1,4 +1,5 @@
 -- Lines are taken, by what was found of their operands and by their rows.
+use Rattle.std.specs.Prelude.{IsTrue}
 use Rattle.std.proofs.Common.{◌≡◌, ℕ, Bool, true, false, Some, None, Ok, Err, Result, refl}
 use Rattle.h41_codes.specs.declared.functions.Function.{Function}
 use Rattle.h41_codes.specs.declared.functions.ParameterFunction.{ParameterFunction}
@@ -6,7 +7,7 @@ use Rattle.h41_codes.specs.declared.functions.RegisterFunction.{RegisterFunction
 use Rattle.h41_codes.specs.declared.line.Line.{Line}
 use Rattle.h41_codes.specs.declared.line.Line.TheVariants as lines
 use Rattle.h41_codes.specs.declared.line.Operand.{Operand}
-use Rattle.h41_focal.specs.private.Carrying.{CarriesFound, CarriesRow, TakesBriefly, UsesAddress, UsesDigits, UsesFlag}
+use Rattle.h41_focal.specs.private.Carrying.{CarriesFound, CarriesRow, StandsNumber, TakesBriefly, UsesAddress, UsesDigits, UsesFlag}
 use Rattle.h41_focal.specs.LineStep.{Machine, lift_behind}
 use Rattle.h41_focal.specs.private.Works.{digits_use_row, flag_use_row, highest_of, register_use_row, row_of_work}
 use Rattle.h41_focal.specs.declared.origin.Origin.{Origin}
@@ -17,7 +18,12 @@ use Rattle.h41_focal.specs.declared.uses.DigitsUse.{DigitsUse}
 use Rattle.h41_focal.specs.declared.uses.FlagUse.{FlagUse}
 use Rattle.h41_focal.specs.declared.uses.RegisterUse.{RegisterUse}
 use Rattle.h41_focal.specs.declared.works.FunctionWork.{FunctionWork}
+use Rattle.h41_decimal.specs.declared.ten.Ten.{Ten}
+use Rattle.h41_numbers.specs.MemoryNumbers.{HasNumber}
 use Rattle.h41_pages.specs.PageMap.{PageMap}
+use Rattle.h41_positions.proofs.PageAnswers.{both_here}
+use Rattle.h41_positions.specs.declared.position.Position.TheVariants.{Memory}
+use Rattle.h41_ram.specs.RegisterMap.{is_sound}
 use Rattle.h41_rows.specs.FunctionRows.{function_row}
 use Rattle.h41_rows.specs.LineRows.{count_row, register_row, short_row}
 use Rattle.h41_rows.specs.Operands.{DigitKind, FlagKind, LabelKind, RegisterKind, data_register, kind_of}
@@ -114,3 +120,10 @@ lift_kept (lines.End link marks) lift other = refl
 lift_kept (lines.FinalEnd link marks) lift other = refl
 lift_kept (lines.BranchTo branch distance backwards label) lift other = refl
 lift_kept (lines.Text text) lift other = refl
+
+-- a number line stands there, by the answers of program memory
+pub number_stands : (pages : PageMap) (machine : Machine) (at : ℕ) (number : Ten) (next : ℕ)
+    → IsTrue (is_sound machine.memory) → machine.focal.position ≡ Memory at → HasNumber machine.memory at number next
+    → StandsNumber pages machine number (Memory next)
+number_stands pages machine at number next sound is (text, both, numbers) =
+    let stands = both_here pages machine.memory at (lines.Number text) next both in rw is (text, (sound, stands.0, stands.1), numbers)

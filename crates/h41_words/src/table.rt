@@ -252,7 +252,7 @@ fn jump(word: Word) -> Row
     ensures valid { spec.IsRow result }
 {
     let number = word.number();
-    if number % 4 == 1 {
+    if number / 2 % 2 == 0 {
         Row::LongJump((number / 4) as u8)
     } else {
         short_jump(word)

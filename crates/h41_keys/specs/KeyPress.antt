@@ -266,7 +266,7 @@ while_in_microcode input meanings.Nothing = None
 while_in_microcode input other = Some (does actions.Nothing input)
 
 -- A LINE OF A PAGE. In program mode, where one is shown, a key that would insert a line, replace or
--- delete one is refused; BACK is held where it changes nothing in memory either, at line 00 and at
+-- delete one is refused; BACK is held where it would change nothing in memory, at line 00 and at
 -- .END., and GTO . . where it puts no END
 abbrev pub is_held : (kept puts_end : Bool) → Action → Bool
 is_held kept puts_end (actions.Insert line) = false

@@ -44,7 +44,7 @@ pub enum Action {
     GoToEnd,
 }
 
-/// 18: the key has no meaning in this state of the keyboard.
+/// 18: the key has no meaning in this state of the keyboard, or would change lines while a page's is shown in program mode.
 #[derive(Clone, Copy, Debug, PartialEq, Eq, thiserror::Error)]
 #[error("the key has no meaning here")]
 pub struct KeyNotHeld;

@@ -16,8 +16,8 @@ use crate::text::{append_pressed, letter_taken, letter_typed};
 use crate::typing::{does, ended, function_typed, line_typed, typing, without_number};
 use h41_codes::{Function, Number};
 
-/// Presses a key: what the calculator has to do, or 18 where the key has no meaning, or in program mode would change the line
-/// of a page that is shown. A key that is refused, here or later by the calculator, changes nothing: a caller that may still
+/// Presses a key: what the calculator has to do, or 18 where the key has no meaning, or in program mode would insert, replace or
+/// delete a line, or put an END, while a page's line is shown. A key that is refused, here or later by the calculator, changes nothing: a caller that may still
 /// refuse it keeps the input from before.
 pub fn press(
     input: &mut Input,

@@ -66,8 +66,8 @@ pub record Reaches (code : List ℕ) (at begin : ℕ) : Type 0 where
 abbrev pub IsAmong : List ℕ → ℕ → Type 0
 IsAmong begins begin = (k : ℕ) × (k < length begins) × (slice_index begins k ≡ begin)
 
--- where the program of an offset begins: at the first of the page's functions in keystroke code
--- that reaches it, or there itself where none does
+-- where the program of an offset begins: at the lowest of the page's functions in keystroke code
+-- that reach it, or there itself where none does
 abbrev pub IsLeast : List ℕ → List ℕ → ℕ → ℕ → Type 0
 IsLeast code begins at start =
     IsAmong begins start

@@ -26,7 +26,7 @@ pub record IsReadOnce : Type 0 where
   pub line : HasOneAnswer LineAt
   pub next : HasOneAnswer NextAt
 
--- in sound memory, and in pages, each position stands for a line, or none is there
+-- over sound memory each position stands for a line, or none is there
 abbrev pub EachIsRead : Type 0
 EachIsRead =
     (pages : PageMap) (memory : RegisterMap) (at : Position) → IsTrue (is_sound memory)

@@ -54,7 +54,8 @@ LineAt pages memory (Page address) answer =
     × AnswersLine (code_at pages address) (offset_of address) first
     × (answer ≡ found_as (placed_in (page_of address)) first)
 
--- the position of the line behind that one
+-- the position of the line behind that one, or of the byte or word behind it where no line follows
+-- or it ends a page's program
 abbrev pub NextAt : PageMap → RegisterMap → Position → Result Position ProgramRefusal → Type 0
 NextAt pages memory (Memory at) answer =
     (next : Result ℕ ProgramRefusal)

@@ -11,8 +11,8 @@ use h41_codes::Parameter;
 use h41_program::Found;
 use h41_program::laws::each_is_listed;
 
-/// Where the program of an offset begins: at the first of these offsets, where functions begin, from which the list has the line that the
-/// offset stands for; they come in any order, and those behind it do not count. The offset itself where there is none.
+/// Where the program of an offset begins: at the lowest of these offsets, where functions begin, from which the list has the line that
+/// the offset stands for; they come in any order, and those behind it do not count. The offset itself where there is none.
 pub fn start_of(code: &[u8], begins: &[u16], at: u16) -> u16
     requires size { length code.now ≤ 4096 }
     requires inside { at < 4096 }

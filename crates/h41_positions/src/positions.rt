@@ -70,7 +70,8 @@ pub fn line_at<const REGS: usize>(
 }
 
 /// The position of the line behind the one that a position stands for, or the byte or word behind that one where no line follows;
-/// of memory's `.END.` its own, and behind what ends a page's program the next word. 14 where there is no line.
+/// of memory's `.END.` its own, and behind what ends a page's program the next word; behind FFFF comes 0000. 14 where there is no
+/// line.
 pub fn next<const REGS: usize>(
     ram: &Ram<REGS>,
     pages: &Pages,
@@ -146,8 +147,8 @@ pub fn short_line<const REGS: usize>(
 }
 
 /// Where the program of a position begins: in memory behind the last END whose first byte is before the position, or at 0, `.END.`
-/// being no END here; in a page at the first function in keystroke code from which the lines reach the position's, or at the position
-/// itself.
+/// being no END here; in a page at the lowest function in keystroke code, at or before the position, from which the lines reach the
+/// position's, or at the position itself.
 pub fn start_of<const REGS: usize>(ram: &Ram<REGS>, pages: &Pages, at: Position) -> Position
     requires { IsTrue (is_sound ram.now.registers) }
     ensures { StartOf pages.now ram.now.registers at result }

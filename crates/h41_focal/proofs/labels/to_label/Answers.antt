@@ -1,4 +1,4 @@
-use Rattle.std.proofs.Common.{◌≡◌, ap, None, rules, Some, subst, ◌∙◌}
+use Rattle.std.proofs.Common.{◌≡◌, ap, None, rules, subst, ◌∙◌}
 use Rattle.h41_focal.proofs.RowApplied.{opened_row}
 use Rattle.h41_focal.specs.LabelledMachine.{LabelledMachine, machine_of}
 use Rattle.h41_focal.specs.LabelSearches.{local_search}

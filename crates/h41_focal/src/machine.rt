@@ -73,7 +73,7 @@ impl<const REGS: usize> Machine<REGS> {
         ensures right { IsRight self.new.focal.labels self.new.ram.registers }
     {
         if self.ram.program_touched() {
-            self.focal.forget_labels();
+            self.focal.labels.forget();
             self.ram.clear_touched();
         }
     }

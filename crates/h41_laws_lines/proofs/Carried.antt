@@ -1,9 +1,9 @@
 -- What lines leave.
-use Rattle.std.proofs.Common.{◌≡◌, ◌⊎◌, ℕ, Bool, true, false, List, Option, Some, None, Result, Ok, Err, MatchBool, inl, inr, refl}
+use Rattle.std.proofs.Common.{◌≡◌, ℕ, Bool, true, false, List, Option, Some, None, Result, Ok, Err, MatchBool, inl, inr, refl}
 use Rattle.h41_codes.specs.declared.functions.Function.{Function}
 use Rattle.h41_codes.specs.declared.line.Line.{Line}
 use Rattle.h41_codes.specs.declared.line.Line.TheVariants.{Module}
-use Rattle.h41_focal.specs.Destinations.{Destination, Arrives, Goes, Halts, HasNoLabel, HasNoLine, Manner, Runs, Seeks, Stays, Stepped}
+use Rattle.h41_focal.specs.Destinations.{Destination, Arrives, Halts, HasNoLabel, HasNoLine, Manner, Runs, Seeks, Stays, Stepped}
 use Rattle.h41_focal.specs.Destinations.{Tells, Typed}
 use Rattle.h41_focal.specs.LineLaws.{EnteringIsDetermined, FailureIsDetermined, PassingIsDetermined, StepIsDetermined, TypedFailureIsDetermined}
 use Rattle.h41_focal.specs.LineLaws.{TypedIsDetermined}
@@ -14,7 +14,7 @@ use Rattle.h41_focal.specs.Outcomes.{Answer}
 use Rattle.h41_focal.specs.declared.refusal.FocalRefusal.{FocalRefusal}
 use Rattle.h41_focal.specs.declared.refusal.FocalRefusal.TheVariants.{BrokenProgram, MemoryLost, NotInProfile}
 use Rattle.h41_positions.specs.PositionLaws.{LinesHaveNext}
-use Rattle.h41_positions.specs.Positions.{LineAt, LocalFrom, NextAt, StartOf}
+use Rattle.h41_positions.specs.Positions.{LineAt, LocalFrom, StartOf}
 use Rattle.h41_positions.specs.declared.position.PlacedLine.{PlacedLine}
 use Rattle.h41_positions.specs.declared.position.Position.{Position}
 use Rattle.h41_positions.specs.declared.position.Position.TheVariants.{Page}
@@ -29,7 +29,6 @@ use Rattle.h41_rows.specs.Rows as rows
 use Rattle.h41_rows.specs.Values.{Value}
 use Rattle.h41_rows.specs.declared.fault.LineFault.{LineFault}
 use Rattle.h41_rows.specs.declared.fault.LineFault.TheVariants.{AlphaData, Nonexistent}
-use Rattle.h41_laws_numbers.specs.HasOne.{HasOne}
 use Rattle.h41_laws_numbers.proofs.Answering.{Has}
 use Rattle.h41_laws_programs.specs.ProgramAnswers.{MemoryHasOneAnswer, PositionHasOne, PositionHasOneEach}
 use Rattle.h41_laws_values.specs.LineValues.{ValueHasOneRegister}

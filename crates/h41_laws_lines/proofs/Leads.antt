@@ -1,11 +1,10 @@
 -- Where lines lead.
-use Rattle.std.proofs.Common.{◌≡◌, ◌⊎◌, ℕ, Bool, true, false, List, [], ◌∷◌, Option, Ok, Err, MatchBool, inl, inr, refl}
+use Rattle.std.proofs.Common.{◌⊎◌, ℕ, Bool, true, false, List, [], ◌∷◌, Option, Ok, Err, inl, inr, refl}
 use Rattle.std.specs.Prelude.{reverse}
 use Rattle.std.specs.Option.{option_map}
-use Rattle.h41_focal.specs.Destinations.{Destination, Arrives, Asks, Goes, GoesBack, Halts, HasNoLabel, HasNoLine, Manner, Passes, Stays}
+use Rattle.h41_focal.specs.Destinations.{Arrives, Asks, Goes, GoesBack, Halts, HasNoLabel, HasNoLine, Manner, Passes, Stays}
 use Rattle.h41_focal.specs.Destinations.{Stepped, StepsFrom, Tells, Typed, TypedFrom, found_at, lost_name, typed_at}
 use Rattle.h41_positions.specs.Positions.{LocalFrom, NextAt, StartOf}
-use Rattle.h41_program.specs.ProgramLines.{AnswersOf}
 use Rattle.h41_program.specs.Searches.{named_in, position_of}
 use Rattle.h41_positions.specs.declared.position.Position.{Position}
 use Rattle.h41_positions.specs.declared.position.Position.TheVariants.{Memory}

@@ -230,15 +230,15 @@ IsPlace pages machine (Page address) place =
     × AnswersOf open_in machine.memory 0 last
     × (place ≡ places.Page (machine.focal.at_line_00 || is_final first) (puts_end last))
 
+abbrev pub flags_at : Place → CalculatorState → Flags
+flags_at place s =
+    record { alpha = flag_of s.nut.ram alpha_mode; message = is_some s.message; place = place }
+
 abbrev pub HasFlags : CalculatorState → Flags → Type 0
 HasFlags s flags =
     (place : Place)
     × IsPlace s.nut.pages (machine_of s) s.focal.position place
-    × (flags ≡ record {
-      alpha = flag_of s.nut.ram alpha_mode;
-      message = is_some s.message;
-      place = place;
-    })
+    × (flags ≡ flags_at place s)
 
 abbrev pub press_of : CalculatorState → Key → Flags → Option Pressed
 press_of s key flags = presses s.input key (activity_of s.mode) flags

@@ -19,10 +19,13 @@ pub fn shown_place<const REGS: usize>(machine: &Machine<REGS>, pages: &Pages) ->
 {
     match machine.focal.position {
         Position::Memory(_) => Place::Memory,
-        Position::Page(address) => Place::Page {
-            kept: machine.focal.is_at_line_00 || is_final_at(pages, address),
-            puts_end: puts_end(&machine.ram),
-        },
+        Position::Page(address) => {
+            let is_final = is_final_at(pages, address);
+            Place::Page {
+                kept: machine.focal.is_at_line_00 || is_final,
+                puts_end: puts_end(&machine.ram),
+            }
+        }
     }
 }
 

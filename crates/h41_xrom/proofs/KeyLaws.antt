@@ -54,10 +54,7 @@ abbrev Made : Type 0
 Made = Result KeyOutcome CalculatorRefusal
 
 -- a change of the program, or a move
-abbrev HasOneOutcome : (Machine → Result Machine ProgramRefusal → Type 0) → Type 0
-HasOneOutcome Edit = (machine : Machine) (a b : Result Machine ProgramRefusal) → Edit machine a → Edit machine b → a ≡ b
-
-same_edit : (Edit : Machine → Result Machine ProgramRefusal → Type 0) (same : HasOneOutcome Edit) (machine : Machine) (a b : Made)
+same_edit : (Edit : Machine → Result Machine ProgramRefusal → Type 0) (same : MoveIsDetermined Edit) (machine : Machine) (a b : Made)
     → Edits Edit machine a → Edits Edit machine b → a ≡ b
 same_edit Edit same machine a b (p, p_edits, p_is) (q, q_edits, q_is) = p_is ∙ ap edit_effect (same machine p q p_edits q_edits) ∙ sym q_is
 
@@ -152,9 +149,11 @@ module _ (same_step : StepIsDetermined) (same_typing : TypedIsDetermined) (same_
     same_stored (lines.Text text) pages memory a b p q = p ∙ sym q
 
     module _ (positions : IsReadOnce) (same_last : AnswersAreDetermined (Result Bool ProgramRefusal))
-        (same_next : MoveIsDetermined ShowsNext) (same_before : MoveIsDetermined ShowsBefore)
-        (same_ending : MoveIsDetermined GoesToEnd) (same_insertion : ChangeIsDetermined Inserts)
-        (same_replacement : ChangeIsDetermined Replaces) (same_deletion : MoveIsDetermined Deletes) (same_value : ValuesAreDetermined) where
+        (same_next : (pages : PageMap) → MoveIsDetermined (ShowsNext pages))
+        (same_before : (pages : PageMap) → MoveIsDetermined (ShowsBefore pages))
+        (same_ending : MoveIsDetermined GoesToEnd) (same_insertion : (pages : PageMap) → ChangeIsDetermined (Inserts pages))
+        (same_replacement : ChangeIsDetermined Replaces) (same_deletion : (pages : PageMap) → MoveIsDetermined (Deletes pages))
+        (same_value : ValuesAreDetermined) where
       same_storing : (pages : PageMap) (line : Line) (machine : Machine) (a b : Made) → StoresLine pages line machine a
           → StoresLine pages line machine b → a ≡ b
       same_storing pages line machine a b (p, p_stored, p_edits) (q, q_stored, q_edits) =

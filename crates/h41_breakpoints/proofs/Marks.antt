@@ -9,7 +9,7 @@ use Rattle.h41_breakpoints.specs.private.Members.{is_same, set_of}
 use Rattle.h41_breakpoints.specs.private.Tables.{AreMarksOf, Marks, mark_at, with_mark}
 use Rattle.h41_breakpoints.specs.declared.location.Location.{Location}
 use Rattle.h41_breakpoints.specs.declared.location.Location.TheVariants.{Line, Word}
-use Rattle.h41_program.specs.declared.position.Position.TheVariants.{Memory}
+use Rattle.h41_positions.specs.declared.position.Position.TheVariants.{Memory, Page}
 use Rattle.h41_breakpoints.proofs.Members.{cmp_total, equal_are, same_is, set_pushed}
 
 -- a bit that was set or cleared is read so, and each other as before
@@ -28,6 +28,7 @@ read_other (b ∷ bits) (suc i) (suc k) bit apart = read_other bits i k bit (λ 
 mark_same : (marks : Marks) (b : Location) (mark read : Bool) → mark_at (with_mark marks b mark) b ≡ Some read → read ≡ mark
 mark_same marks (Word address) mark read is = read_same marks.words address mark read is
 mark_same marks (Line (Memory byte)) mark read is = read_same marks.lines byte mark read is
+mark_same marks (Line (Page address)) mark read is = read_same marks.page_lines address mark read is
 
 two : (a b : ℕ) → (a == b) ≡ false → a ≢ b
 two a b apart same = let one : (a == b) ≡ true = eq-eqb a b same in cc
@@ -35,12 +36,18 @@ two a b apart same = let one : (a == b) ≡ true = eq-eqb a b same in cc
 mark_other : (marks : Marks) (q b : Location) (mark : Bool) → is_same q b ≡ false → mark_at (with_mark marks b mark) q ≡ mark_at marks q
 mark_other marks (Word a) (Word b) mark apart = read_other marks.words a b mark (two a b apart)
 mark_other marks (Word a) (Line (Memory b)) mark apart = refl
+mark_other marks (Word a) (Line (Page b)) mark apart = refl
 mark_other marks (Line (Memory a)) (Word b) mark apart = refl
 mark_other marks (Line (Memory a)) (Line (Memory b)) mark apart = read_other marks.lines a b mark (two a b apart)
+mark_other marks (Line (Memory a)) (Line (Page b)) mark apart = refl
+mark_other marks (Line (Page a)) (Word b) mark apart = refl
+mark_other marks (Line (Page a)) (Line (Memory b)) mark apart = refl
+mark_other marks (Line (Page a)) (Line (Page b)) mark apart = read_other marks.page_lines a b mark (two a b apart)
 
 itself : (b : Location) → is_same b b ≡ true
 itself (Word a) = eq-eqb a a refl
 itself (Line (Memory a)) = eq-eqb a a refl
+itself (Line (Page a)) = eq-eqb a a refl
 
 -- with another bit for a location the tables are those of another list, where both lists have all other locations alike
 marks_changed : (members others : List Location) (marks : Marks) (b : Location) (mark : Bool) → AreMarksOf members marks
@@ -81,9 +88,11 @@ marks_left members fewer marks b left marked =
 clear_read : (bits : List Bool) (i : ℕ) (read : Bool) → All (λ bit. bit ≡ false) bits → slice_get bits i ≡ Some read → read ≡ false
 clear_read bits i read clear is = sym (get_or_from_slice_get bits i read false is) ∙ clear i false (slice_get_within bits i read is)
 
-pub marks_of_none : (marks : Marks) → All (λ bit. bit ≡ false) marks.words → All (λ bit. bit ≡ false) marks.lines → AreMarksOf [] marks
-marks_of_none marks words lines q read is = clear q is ∙ sym (contains-from_list cmp_total [] q)
+pub marks_of_none : (marks : Marks) → All (λ bit. bit ≡ false) marks.words → All (λ bit. bit ≡ false) marks.lines
+    → All (λ bit. bit ≡ false) marks.page_lines → AreMarksOf [] marks
+marks_of_none marks words lines page_lines q read is = clear q is ∙ sym (contains-from_list cmp_total [] q)
   where
     clear : (q : Location) → mark_at marks q ≡ Some read → read ≡ false
     clear (Word address) is = clear_read marks.words address read words is
     clear (Line (Memory byte)) is = clear_read marks.lines byte read lines is
+    clear (Line (Page address)) is = clear_read marks.page_lines address read page_lines is

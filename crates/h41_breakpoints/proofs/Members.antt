@@ -18,7 +18,7 @@ use Rattle.h41_breakpoints.specs.Breakpoints.{with_breakpoint, without_breakpoin
 use Rattle.h41_breakpoints.specs.private.Members.{IsEachOnce, is_same, set_of}
 use Rattle.h41_breakpoints.specs.declared.location.Location.{Location}
 use Rattle.h41_breakpoints.specs.declared.location.Location.TheVariants.{Line, Word}
-use Rattle.h41_program.specs.declared.position.Position.TheVariants.{Memory}
+use Rattle.h41_positions.specs.declared.position.Position.TheVariants.{Memory, Page}
 
 -- the order of locations is total, and only the same one shares a place
 pub cmp_total : IsTotalOrder location_cmp
@@ -27,8 +27,13 @@ cmp_total = then_total (on_total kind_of nat_cmp_total) (on_total number_of nat_
 pub cmp_apart : (x y : Location) → location_cmp x y ≡ Equal → x ≡ y
 cmp_apart (Word a) (Word b) p = ap Word (nat_cmp-IsAntisymmetric a b p)
 cmp_apart (Word a) (Line (Memory b)) p = cc
+cmp_apart (Word a) (Line (Page b)) p = cc
 cmp_apart (Line (Memory a)) (Word b) p = cc
 cmp_apart (Line (Memory a)) (Line (Memory b)) p = ap (λ (n : ℕ). Line (Memory n)) (nat_cmp-IsAntisymmetric a b p)
+cmp_apart (Line (Memory a)) (Line (Page b)) p = cc
+cmp_apart (Line (Page a)) (Word b) p = cc
+cmp_apart (Line (Page a)) (Line (Memory b)) p = cc
+cmp_apart (Line (Page a)) (Line (Page b)) p = ap (λ (n : ℕ). Line (Page n)) (nat_cmp-IsAntisymmetric a b p)
 
 pub same_is : (x y : Location) → is_same x y ≡ eq_by_cmp location_cmp x y
 same_is x y =

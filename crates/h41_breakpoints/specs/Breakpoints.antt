@@ -6,16 +6,18 @@ use Rattle.std.specs.FinSet.{FinSet, contains, empty, insert, len, remove}
 use Rattle.std.specs.declared.cmp.Ordering.{Ordering}
 use Rattle.h41_breakpoints.specs.declared.location.Location.{Location}
 use Rattle.h41_breakpoints.specs.declared.location.Location.TheVariants.{Line, Word}
-use Rattle.h41_program.specs.declared.position.Position.TheVariants.{Memory}
+use Rattle.h41_positions.specs.declared.position.Position.TheVariants.{Memory, Page}
 
--- words come before lines
+-- words come before lines of memory, and these before lines of pages
 abbrev pub kind_of : Location → ℕ
 kind_of (Word address) = 0
 kind_of (Line (Memory byte)) = 1
+kind_of (Line (Page address)) = 2
 
 abbrev pub number_of : Location → ℕ
 number_of (Word address) = address
 number_of (Line (Memory byte)) = byte
+number_of (Line (Page address)) = address
 
 -- the order of locations, which only the same one shares a place in: by their kinds, and each kind
 -- by its numbers

@@ -4,7 +4,7 @@ ghost use Rattle.std.specs.Prelude.{◌≡◌};
 ghost use Rattle.h41_breakpoints.specs.private.Members.{is_same};
 ghost use Rattle.h41_breakpoints.specs.declared.location.Location.TheVariants.{Word};
 
-use h41_program::Position;
+use h41_positions::Position;
 
 /// Where the calculator can be. A breakpoint is such a place, and has a run stop there.
 #[derive(Clone, Copy, Debug, PartialEq, Eq)]
@@ -32,6 +32,8 @@ impl Location {
             (Location::Word(address), Location::Word(other)) => address == other,
             (Location::Line(Position::Memory(byte)), Location::Line(Position::Memory(other))) =>
                 byte == other,
+            (Location::Line(Position::Page(address)), Location::Line(Position::Page(other))) =>
+                address == other,
             _ => false,
         }
     }

@@ -5,21 +5,22 @@ ghost use Rattle.h41_breakpoints.specs.private.Tables.{AreMarksOf, mark_at, with
 
 use crate::bit_table::BitTable;
 use crate::location::Location;
-use h41_program::Position;
+use h41_positions::Position;
 use std::alloc::{AllocError, Global};
 use std::marker::Model;
 
-/// How many words can have an address.
+/// How many words can have an address, and how many lines of pages.
 const ADDRESSES: usize = 65_536;
 
-/// How many positions of lines have a bit: all those below.
+/// How many positions in memory have a bit: all those below.
 const POSITIONS: usize = 10_000;
 
-/// A bit for each word's address, and one for each of the first lines' positions.
+/// A bit for each word's address, one for each of the first positions in memory, and one for each address of a line in a page.
 #[derive(Drop)]
 pub struct Tables {
     words: BitTable<ADDRESSES>,
     lines: BitTable<POSITIONS>,
+    page_lines: BitTable<ADDRESSES>,
 }
 
 impl Model for Tables {
@@ -27,7 +28,11 @@ impl Model for Tables {
 
     ghost Value = { Marks };
 
-    ghost view = { λ tables. record { words = tables.words; lines = tables.lines } };
+    ghost view = { λ tables. record {
+      words = tables.words;
+      lines = tables.lines;
+      page_lines = tables.page_lines;
+    } };
 }
 
 impl Tables {
@@ -38,6 +43,7 @@ impl Tables {
         Ok(Tables {
             words: BitTable::new(alloc)?,
             lines: BitTable::new(alloc)?,
+            page_lines: BitTable::new(alloc)?,
         })
     }
 
@@ -49,6 +55,7 @@ impl Tables {
         match location {
             Location::Word(address) => self.words.get(usize::from(address)),
             Location::Line(Position::Memory(byte)) => self.lines.get(usize::from(byte)),
+            Location::Line(Position::Page(address)) => self.page_lines.get(usize::from(address)),
         }
     }
 
@@ -59,6 +66,9 @@ impl Tables {
         match location {
             Location::Word(address) => self.words.set(usize::from(address), bit),
             Location::Line(Position::Memory(byte)) => self.lines.set(usize::from(byte), bit),
+            Location::Line(Position::Page(address)) => self
+                .page_lines
+                .set(usize::from(address), bit),
         }
     }
 }

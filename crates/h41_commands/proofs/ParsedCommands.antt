@@ -87,7 +87,8 @@ shut_counted command (count ∷ other ∷ others) = refl
 shut_location : (kind number : List ℕ) → is_unended (location_by kind number) ≡ false
 shut_location kind number = shut_either (bytes_eq kind (codes "w")) _ _ (shut_then (hexadecimal 4 number) _ (shut_number _ _) (λ given.
     refl))
-    (shut_choice (bytes_eq kind (codes "l")) _ (shut_then (number_up_to most_position 10 number) _ (shut_number _ _) (λ given. refl)))
+    (shut_either (bytes_eq kind (codes "l")) _ _ (shut_then (number_up_to most_position 10 number) _ (shut_number _ _) (λ given. refl))
+    (shut_choice (bytes_eq kind (codes "p")) _ (shut_then (hexadecimal 4 number) _ (shut_number _ _) (λ given. refl))))
 
 shut_placed : (command : Location → Command) (operands : List (List ℕ)) → is_unended (Commands.placed_command command operands) ≡ false
 shut_placed command [] = refl

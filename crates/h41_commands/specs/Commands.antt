@@ -8,7 +8,7 @@ use Rattle.h41_keys.specs.declared.key.Key.{Key}
 use Rattle.h41_keys.specs.Keyboard.{key_named}
 use Rattle.h41_breakpoints.specs.declared.location.Location.{Location}
 use Rattle.h41_breakpoints.specs.declared.location.Location.TheVariants.{Line, Word}
-use Rattle.h41_program.specs.declared.position.Position.TheVariants.{Memory}
+use Rattle.h41_positions.specs.declared.position.Position.TheVariants as positions
 use Rattle.h41_commands.specs.declared.commands.Command.{Command}
 use Rattle.h41_commands.specs.declared.commands.Command.TheVariants.{Plug, Load, Unplug, Size}
 use Rattle.h41_commands.specs.declared.commands.Command.TheVariants.{Reset, Call, Step, Run, Trace}
@@ -46,7 +46,7 @@ most_steps = 9999999
 abbrev pub most_registers : ℕ
 most_registers = 9999
 
--- the greatest position of a breakpoint
+-- the greatest position in memory of a breakpoint
 abbrev pub most_position : ℕ
 most_position = 9999
 
@@ -132,13 +132,15 @@ counted_command command (count ∷ []) =
     and_then (number_up_to most_steps 10 count) (λ count. Ok (command count))
 counted_command command operands = Err BadCommand
 
--- where a breakpoint stands: w hhhh, l n
+-- where a breakpoint stands: w hhhh, l n, p hhhh
 abbrev pub location_by : List ℕ → List ℕ → Result Location LineRefusal
 location_by kind number =
     if bytes_eq kind (codes "w") then and_then (hexadecimal 4 number) (λ address. Ok (Word address))
     else (if bytes_eq kind (codes "l")
-    then and_then (number_up_to most_position 10 number) (λ byte. Ok (Line (Memory byte)))
-    else Err BadCommand)
+    then and_then (number_up_to most_position 10 number) (λ byte. Ok (Line (positions.Memory byte)))
+    else (if bytes_eq kind (codes "p")
+    then and_then (hexadecimal 4 number) (λ address. Ok (Line (positions.Page address)))
+    else Err BadCommand))
 
 abbrev pub break_location : List (List ℕ) → Result Location LineRefusal
 break_location (kind ∷ number ∷ []) = location_by kind number

@@ -197,9 +197,10 @@ pub enum Command {
     Run(u32),
     /// `trace n`: n single steps, 0 to 9,999,999, each told before it is made.
     Trace(u32),
-    /// `break w hhhh`, `break l n`: sets a breakpoint at the word at an address, or at the line at a position, 0 to 9,999.
+    /// `break w hhhh`, `break l n`, `break p hhhh`: sets a breakpoint at the word at an address, at the line at a position of
+    /// memory, 0 to 9,999, or at the line at an address of a page.
     Break(Location),
-    /// `unbreak w hhhh`, `unbreak l n`: takes a breakpoint away.
+    /// `unbreak w hhhh`, `unbreak l n`, `unbreak p hhhh`: takes a breakpoint away.
     Unbreak(Location),
     /// `list hhhh n`: prints the listing of n words, 1 to 4,096, of one page from an address on.
     List {

@@ -26,6 +26,8 @@ use Rattle.h41_keys.specs.declared.input.Flags.{Flags}
 use Rattle.h41_keys.specs.declared.input.Input.{Input}
 use Rattle.h41_keys.specs.declared.input.Activity.{Activity}
 use Rattle.h41_keys.specs.declared.input.Activity.TheVariants as modes
+use Rattle.h41_keys.specs.declared.input.Place.{Place}
+use Rattle.h41_keys.specs.declared.input.Place.TheVariants as places
 use Rattle.h41_keys.specs.declared.input.Pressed.{Pressed}
 use Rattle.h41_keys.specs.declared.key.Digit.{Digit}
 use Rattle.h41_keys.specs.declared.key.Key.{Key}
@@ -269,8 +271,20 @@ while_in_microcode : (input : Input) (meaning : Meaning) → IfPressed (press.wh
 while_in_microcode input meanings.Nothing = tt
 while_in_microcode input other = tt
 
+-- a key that is left stores what it did
+held_in_page : (kept puts_end : Bool) (pressed : Option Pressed) → IfPressed pressed → IfPressed (press.held_in_page kept puts_end pressed)
+held_in_page kept puts_end (Some pressed) stores = chosen IfPressed (press.is_held kept puts_end pressed.action) (Some pressed) None stores tt
+held_in_page kept puts_end None stores = tt
+
+held_at : (place : Place) (program_mode : Bool) (pressed : Option Pressed) → IfPressed pressed
+    → IfPressed (press.held_at place program_mode pressed)
+held_at places.Memory program_mode pressed stores = stores
+held_at (places.Page kept puts_end) false pressed stores = stores
+held_at (places.Page kept puts_end) true pressed stores = held_in_page kept puts_end pressed stores
+
 presses_store : (input : Input) (key : Key) (mode : Activity) (flags : Flags) → IfPressed (press.presses input key mode flags)
-presses_store input key modes.Idle flags = idle input key flags
+presses_store input key modes.Idle flags =
+    held_at flags.place input.program_mode (press.press_in_idle input key flags) (idle input key flags)
 presses_store input key modes.Run flags = while_running input (row_of key).plain
 presses_store input key modes.Micro flags = while_in_microcode input (row_of key).plain
 

@@ -21,6 +21,8 @@ use Rattle.h41_keys.specs.declared.input.Flags.{Flags}
 use Rattle.h41_keys.specs.declared.input.Input.{Input}
 use Rattle.h41_keys.specs.declared.input.Activity.{Activity}
 use Rattle.h41_keys.specs.declared.input.Activity.TheVariants as modes
+use Rattle.h41_keys.specs.declared.input.Place.{Place}
+use Rattle.h41_keys.specs.declared.input.Place.TheVariants as places
 use Rattle.h41_keys.specs.declared.input.Pressed.{Pressed}
 use Rattle.h41_keys.specs.declared.key.Key.{Key}
 use Rattle.h41_keys.specs.declared.key.Key.TheVariants as keys
@@ -263,8 +265,30 @@ abbrev pub while_in_microcode : Input → Meaning → Option Pressed
 while_in_microcode input meanings.Nothing = None
 while_in_microcode input other = Some (does actions.Nothing input)
 
+-- A LINE OF A PAGE. In program mode, where one is shown, a key that would insert a line, replace or
+-- delete one is refused; BACK is held where it changes nothing in memory either, at line 00 and at
+-- .END., and GTO . . where it puts no END
+abbrev pub is_held : (kept puts_end : Bool) → Action → Bool
+is_held kept puts_end (actions.Insert line) = false
+is_held kept puts_end (actions.Replace line) = false
+is_held kept puts_end actions.Delete = kept
+is_held kept puts_end actions.GoToEnd = not puts_end
+is_held kept puts_end other = true
+
+abbrev pub held_in_page : (kept puts_end : Bool) → Option Pressed → Option Pressed
+held_in_page kept puts_end (Some pressed) =
+    if is_held kept puts_end pressed.action then Some pressed else None
+held_in_page kept puts_end None = None
+
+-- all else is as in memory
+abbrev pub held_at : Place → (program_mode : Bool) → Option Pressed → Option Pressed
+held_at places.Memory program_mode pressed = pressed
+held_at (places.Page kept puts_end) false pressed = pressed
+held_at (places.Page kept puts_end) true pressed = held_in_page kept puts_end pressed
+
 abbrev pub presses : Input → Key → Activity → Flags → Option Pressed
-presses input key modes.Idle flags = press_in_idle input key flags
+presses input key modes.Idle flags =
+    held_at flags.place input.program_mode (press_in_idle input key flags)
 presses input key modes.Run flags = while_running input (row_of key).plain
 presses input key modes.Micro flags = while_in_microcode input (row_of key).plain
 

@@ -1,7 +1,7 @@
 -- How a number is typed: what each key makes of its characters. Their value is that of a number
 -- line with these characters. Up to the E they are the mantissa's, behind it the exponent's; a sign
 -- stands in front of its part.
-use Rattle.std.specs.Prelude.{ℕ, ◌+◌, ◌-◌, nat_lt, nat_le, Bool, true, false, ◌||◌, List, [], ◌∷◌}
+use Rattle.std.specs.Prelude.{ℕ, ◌-◌, nat_lt, nat_le, Bool, true, false, ◌||◌, List, [], ◌∷◌}
 use Rattle.std.specs.Prelude.{◌++◌, length, take, drop, filter, ◌==◌, if◌then◌else◌}
 use Rattle.std.specs.List.{list_any}
 use Rattle.h41_codes.specs.Counts.{number_most}

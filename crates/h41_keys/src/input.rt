@@ -42,6 +42,20 @@ pub enum Activity {
     Micro,
 }
 
+/// Where the shown line stands, by what keys can do there in program mode.
+#[derive(Clone, Copy, Debug, PartialEq, Eq)]
+pub enum Place {
+    /// In program memory, where keys insert, replace and delete lines.
+    Memory,
+    /// In a page, where they change none.
+    Page {
+        /// Whether BACK would change nothing there either: line 00 is shown, or `.END.`.
+        kept: bool,
+        /// Whether `GTO . .` would put an END into program memory.
+        puts_end: bool,
+    },
+}
+
 /// What else of the calculator decides what a key means.
 #[derive(Clone, Copy, Debug, PartialEq, Eq)]
 pub struct Flags {
@@ -49,6 +63,8 @@ pub struct Flags {
     pub alpha: bool,
     /// Whether a message is shown.
     pub message: bool,
+    /// Where the shown line stands; it counts in program mode alone.
+    pub place: Place,
 }
 
 /// What a key that is accepted leads to.

@@ -16,7 +16,7 @@ mod text;
 mod typing;
 
 pub use action::{Action, KeyNotHeld};
-pub use input::{Activity, Flags, Input, Pressed, TypedEntry};
+pub use input::{Activity, Flags, Input, Place, Pressed, TypedEntry};
 pub use key::{Digit, Key};
 pub use meaning::Meaning;
 pub use pressing::press;

@@ -5,7 +5,7 @@ ghost use Rattle.h41_keys.specs.KeyPress as spec;
 ghost use Rattle.h41_keys.specs.StoredLines.{StoresLine};
 
 use crate::action::{Action, KeyNotHeld};
-use crate::input::{Activity, Flags, Input, Pressed, TypedEntry};
+use crate::input::{Activity, Flags, Input, Place, Pressed, TypedEntry};
 use crate::key::Key;
 use crate::meaning::{Meaning, meaning_of, plain};
 use crate::number::{digit_typed, exponent_typed, point_typed, shortened, sign_turned};
@@ -16,8 +16,9 @@ use crate::text::{append_pressed, letter_taken, letter_typed};
 use crate::typing::{does, ended, function_typed, line_typed, typing, without_number};
 use h41_codes::{Function, Number};
 
-/// Presses a key: what the calculator has to do, or 18 where the key has no meaning. A key that is refused, here or later
-/// by the calculator, changes nothing: a caller that may still refuse it keeps the input from before.
+/// Presses a key: what the calculator has to do, or 18 where the key has no meaning, or in program mode would change the line
+/// of a page that is shown. A key that is refused, here or later by the calculator, changes nothing: a caller that may still
+/// refuse it keeps the input from before.
 pub fn press(
     input: &mut Input,
     key: Key,
@@ -43,7 +44,10 @@ fn pressed(input: Input, key: Key, mode: Activity, flags: Flags) -> Option<Press
     ensures { result ≡ spec.presses input key mode flags }
 {
     match mode {
-        Activity::Idle => idle(input, key, flags),
+        Activity::Idle => {
+            let (place, program_mode) = (flags.place, input.program_mode);
+            held_at(place, program_mode, idle(input, key, flags))
+        }
         Activity::Run => while_running(input, plain(key)),
         Activity::Micro => while_in_microcode(input, plain(key)),
     }
@@ -70,7 +74,37 @@ fn while_in_microcode(input: Input, meaning: Meaning) -> Option<Pressed>
     }
 }
 
-/// A key where nothing runs.
+/// What a key leads to where nothing runs, by where the shown line stands.
+fn held_at(place: Place, program_mode: bool, pressed: Option<Pressed>) -> Option<Pressed>
+    ensures { result ≡ spec.held_at place program_mode pressed }
+{
+    match (place, pressed) {
+        (Place::Page { kept, puts_end }, Some(pressed)) if program_mode => if is_held(
+            kept,
+            puts_end,
+            pressed.action,
+        ) {
+            Some(pressed)
+        } else {
+            None
+        },
+        _ => pressed,
+    }
+}
+
+/// Whether an action is held in program mode where the shown line is one of a page.
+fn is_held(kept: bool, puts_end: bool, action: Action) -> bool
+    ensures { result ≡ spec.is_held kept puts_end action }
+{
+    match action {
+        Action::Insert(_) | Action::Replace(_) => false,
+        Action::Delete => kept,
+        Action::GoToEnd => !puts_end,
+        _ => true,
+    }
+}
+
+/// A key where nothing runs, as in memory.
 fn idle(input: Input, key: Key, flags: Flags) -> Option<Pressed>
     ensures { result ≡ spec.press_in_idle input key flags }
 {

@@ -1,5 +1,5 @@
--- Which words and lines have a breakpoint, as two tables of bits have it that stand beside the list
--- of breakpoints. A reader of the promises can leave it out.
+-- Which words and lines have a breakpoint, as three tables of bits have it that stand beside the
+-- list of breakpoints. A reader of the promises can leave it out.
 use Rattle.std.specs.Prelude.{◌≡◌, ◌≢◌, ◌<◌, ℕ, ◌/◌, ◌%◌, ◌==◌, Bool, List, map, Option, Some}
 use Rattle.std.specs.Prelude.{slice_get, slice_index, slice_set}
 use Rattle.std.specs.Int.{bit_at}
@@ -8,7 +8,7 @@ use Rattle.h41_breakpoints.specs.Breakpoints.{is_set}
 use Rattle.h41_breakpoints.specs.private.Members.{set_of}
 use Rattle.h41_breakpoints.specs.declared.location.Location.{Location}
 use Rattle.h41_breakpoints.specs.declared.location.Location.TheVariants.{Line, Word}
-use Rattle.h41_program.specs.declared.position.Position.TheVariants.{Memory}
+use Rattle.h41_positions.specs.declared.position.Position.TheVariants.{Memory, Page}
 
 -- a bit of numbers that have 64 bits each, counted from the lowest of the first
 abbrev pub bit_of : List ℕ → ℕ → Bool
@@ -23,21 +23,26 @@ pub record IsWithBit (number place : ℕ) (bit : Bool) (changed : ℕ) : Type 0 
   pub here : (bit_at changed place == 1) ≡ bit
   pub others : (i : ℕ) → i < 64 → i ≢ place → bit_at changed i ≡ bit_at number i
 
--- the two tables: a bit for each word's address, and one for each of the first lines' positions
+-- the three tables: a bit for each word's address, one for each of the first positions in memory,
+-- and one for each address of a line in a page
 pub record Marks : Type 0 where
   pub words : List Bool
   pub lines : List Bool
+  pub page_lines : List Bool
 
--- the bit of a location; positions above the table have none
+-- the bit of a location; positions of memory above the table have none
 abbrev pub mark_at : Marks → Location → Option Bool
 mark_at marks (Word address) = slice_get marks.words address
 mark_at marks (Line (Memory byte)) = slice_get marks.lines byte
+mark_at marks (Line (Page address)) = slice_get marks.page_lines address
 
 -- the tables with another bit for a location
 abbrev pub with_mark : Marks → Location → Bool → Marks
 with_mark marks (Word address) mark = record marks { words = slice_set marks.words address mark }
 with_mark marks (Line (Memory byte)) mark =
     record marks { lines = slice_set marks.lines byte mark }
+with_mark marks (Line (Page address)) mark =
+    record marks { page_lines = slice_set marks.page_lines address mark }
 
 -- each bit is whether its location is among these
 abbrev pub AreMarksOf : List Location → Marks → Type 0

@@ -23,12 +23,12 @@ use crate::refusal::LineRefusal;
 use h41_breakpoints::Location;
 use h41_keys::Key;
 use h41_lines::words::LineWords;
-use h41_program::Position;
+use h41_positions::Position;
 
 /// The most single steps of one command.
 const MOST_STEPS: u32 = 9_999_999;
 
-/// The greatest position of a breakpoint.
+/// The greatest position in memory of a breakpoint.
 const MOST_POSITION: u32 = 9_999;
 
 /// The greatest number that `size` takes.
@@ -301,14 +301,14 @@ pub fn most_steps(mut operands: LineWords<'_>) -> Result<u32, LineRefusal>
     }
 }
 
-/// `break w hhhh` and `break l n`.
+/// `break w hhhh`, `break l n` and `break p hhhh`.
 fn set_break(operands: LineWords<'_>) -> Result<Command, LineRefusal>
     ensures { result ≡ placed_command commands.Break (words_of operands.entry.rest.now) }
 {
     Ok(Command::Break(break_location(operands)?))
 }
 
-/// `unbreak w hhhh` and `unbreak l n`.
+/// `unbreak w hhhh`, `unbreak l n` and `unbreak p hhhh`.
 fn unbreak(operands: LineWords<'_>) -> Result<Command, LineRefusal>
     ensures { result ≡ placed_command commands.Unbreak (words_of operands.entry.rest.now) }
 {
@@ -334,6 +334,10 @@ fn location_by(kind: &[u8], number: &[u8]) -> Result<Location, LineRefusal>
         b"l" => {
             let byte = number_up_to(MOST_POSITION, 10, number)? as u16;
             Ok(Location::Line(Position::Memory(byte)))
+        }
+        b"p" => {
+            let address = hexadecimal(4, 4, number)?;
+            Ok(Location::Line(Position::Page(address)))
         }
         _ => Err(LineRefusal::BadCommand),
     }

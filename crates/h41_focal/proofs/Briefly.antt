@@ -4,10 +4,10 @@ use Rattle.std.specs.Prelude.{MatchBool}
 use Rattle.h41_codes.specs.declared.functions.Branch.{Branch}
 use Rattle.h41_codes.specs.declared.line.Line.{Line}
 use Rattle.h41_codes.specs.declared.line.Line.TheVariants as lines
-use Rattle.h41_focal.proofs.Elsewhere.{elsewhere_keeps, fails}
+use Rattle.h41_focal.proofs.Elsewhere.{elsewhere_keeps, fails_here}
 use Rattle.h41_focal.specs.BriefOutcomes.{brief_answer, briefly}
 use Rattle.h41_focal.specs.Destinations.{Manner}
-use Rattle.h41_focal.specs.LineStep.{AppliesTo, CarriesOut, Fails, Left, Machine, TakesLine, named_by}
+use Rattle.h41_focal.specs.LineStep.{AppliesTo, CarriesOut, FailsIn, Left, Machine, TakesLine, named_by}
 use Rattle.h41_focal.specs.MachineCalls.{left_of}
 use Rattle.h41_focal.specs.Outcomes.{Answer, answer_of, is_elsewhere}
 use Rattle.h41_focal.specs.Outcomes as answers
@@ -36,7 +36,7 @@ failure_is_here origin fault old new brief failing is =
     absurd
     (true≢false
     (sym (ap (λ (of : BriefOutcome). is_elsewhere (brief_answer nowhere new.memory of)) is)
-    ∙ fails (manner_of origin) old fault (ended new brief) failing))
+    ∙ fails_here (manner_of origin) old fault (ended new brief) failing))
 
 -- what a call would answer does not matter where nothing is called
 same_answer :
@@ -58,9 +58,9 @@ same_answer called other memory (briefs.Failed fault) same = refl
 pub failure_calling :
     (called : Answer) (origin : Origin) (fault : LineFault) (old new : Machine) (brief : BriefOutcome)
     → FailsAs origin fault old new brief
-    → Fails (manner_of origin) old fault (briefly called new brief)
+    → FailsIn (manner_of origin) old fault (Ok (briefly called new brief))
 failure_calling called origin fault old new brief failing =
-    subst (λ (answer : Answer). Fails (manner_of origin) old fault (record { machine = new; answer = answer }))
+    subst (λ (answer : Answer). FailsIn (manner_of origin) old fault (Ok (record { machine = new; answer = answer })))
     (same_answer nowhere called new.memory brief (λ is. absurd (failure_is_here origin fault old new brief failing is))) failing
 
 -- what a line calls has to be looked up

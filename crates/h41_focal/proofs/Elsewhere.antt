@@ -7,25 +7,23 @@ use Rattle.h41_focal.specs.Destinations.{Arrives, Destination, Halts, HasNoLabel
 use Rattle.h41_focal.specs.Destinations.{Typed}
 use Rattle.h41_focal.specs.private.Carrying.{TakesAs, manner_of}
 use Rattle.h41_focal.specs.MachineCalls.{KeepsElsewhere}
-use Rattle.h41_focal.specs.LineStep.{AppliesTo, AppliesWith, CarriesOut, Ends, Fails, FailsIn, Left, Machine, TakesLine, answer_of_showing}
-use Rattle.h41_focal.specs.LineStep.{with_fault_caught}
-use Rattle.h41_focal.specs.LineStep.{left_done, left_failed, named_by, at_line}
+use Rattle.h41_focal.specs.LineStep.{AppliesTo, AppliesWith, CarriesOut, Ends, FailsIn, Left, Machine, TakesLine, answer_of_showing}
+use Rattle.h41_focal.specs.LineStep.{at_line, error_flag, left_by_fault, left_done, left_failed, named_by, with_fault_caught}
 use Rattle.h41_focal.specs.Outcomes.{Answer, is_elsewhere}
 use Rattle.h41_focal.specs.declared.origin.Origin.{Origin}
 use Rattle.h41_focal.specs.declared.outcome.LineOutcome.{LineOutcome}
 use Rattle.h41_focal.specs.declared.refusal.FocalRefusal.{FocalRefusal}
 use Rattle.h41_focal.specs.declared.refusal.FocalRefusal.TheVariants.{NotInProfile}
-use Rattle.h41_program.specs.Positions.{NextAt}
-use Rattle.h41_program.specs.declared.position.Position.{Position}
 use Rattle.h41_ram.specs.RegisterMap.{RegisterMap, flag_of}
 use Rattle.h41_rows.specs.LineRows.{row_of}
 use Rattle.h41_rows.specs.Operands.{Meant, meant_of}
 use Rattle.h41_rows.specs.Profile.{is_left_out}
 use Rattle.h41_rows.specs.Rows as rows
 use Rattle.h41_rows.specs.declared.fault.LineFault.{LineFault}
+use Rattle.h41_rows.specs.declared.fault.LineFault.TheVariants.{Nonexistent}
 
 -- what a row answers is done here
-own_answer : (memory : RegisterMap) (named : ℕ) (shows : rows.Showing) (ends : rows.RowEnding)
+pub own_answer : (memory : RegisterMap) (named : ℕ) (shows : rows.Showing) (ends : rows.RowEnding)
     → is_elsewhere (answer_of_showing memory named shows ends) ≡ false
 own_answer memory named rows.AsBefore rows.GoesOn = refl
 own_answer memory named rows.AsBefore rows.Stops = refl
@@ -44,39 +42,36 @@ never : (left : Left) (answer : Answer) (old : Machine) → left.answer ≡ answ
 never left answer old is own elsewhere = absurd (true≢false (sym elsewhere ∙ (ap is_elsewhere is ∙ own)))
 
 -- a line that fails
-stepped_fails : (flag : Bool) (machine : Machine) (fault : LineFault) (left : Left)
-    → MatchBool flag
-    ((next : Position) × NextAt machine.memory machine.focal.position (Ok next)
-    × (left ≡ left_done (at_line next (with_fault_caught machine))))
-    (left ≡ left_failed (at_line machine.focal.position machine) fault)
-    → is_elsewhere left.answer ≡ false
-stepped_fails true machine fault left (next, answers, is) = ap (λ (of : Left). is_elsewhere of.answer) is
-stepped_fails false machine fault left is = ap (λ (of : Left). is_elsewhere of.answer) is
+own_fault : (flag : Bool) (caught stopped : Machine) (fault : LineFault)
+    → is_elsewhere (if flag then left_done caught else left_failed stopped fault).answer ≡ false
+own_fault true caught stopped fault = refl
+own_fault false caught stopped fault = refl
 
-typed_fails : (flag : Bool) (machine : Machine) (fault : LineFault) (left : Left)
-    → left ≡ (if flag then left_done (with_fault_caught machine) else left_failed machine fault) → is_elsewhere left.answer ≡ false
-typed_fails true machine fault left is = ap (λ (of : Left). is_elsewhere of.answer) is
-typed_fails false machine fault left is = ap (λ (of : Left). is_elsewhere of.answer) is
-
-pub fails : (how : Manner) (machine : Machine) (fault : LineFault) (left : Left) → Fails how machine fault left
-    → is_elsewhere left.answer ≡ false
-fails Stepped machine fault left failing = stepped_fails (flag_of machine.memory 25) machine fault left failing
-fails Typed machine fault left failing = typed_fails (flag_of machine.memory 25) machine fault left failing
+fault_left : (how : Manner) (machine : Machine) (fault : LineFault) → is_elsewhere (left_by_fault how machine fault).answer ≡ false
+fault_left (Stepped next) machine fault =
+    own_fault (flag_of machine.memory error_flag) (at_line next (with_fault_caught machine))
+    (at_line machine.focal.position machine) fault
+fault_left Typed machine fault = own_fault (flag_of machine.memory error_flag) (with_fault_caught machine) machine fault
 
 same_left : (left other : Left) → ◌≡◌ {A = Result Left FocalRefusal} (Ok left) (Ok other) → left ≡ other
 same_left left other is = cc
 
+pub fails_here : (how : Manner) (machine : Machine) (fault : LineFault) (left : Left) → FailsIn how machine fault (Ok left)
+    → is_elsewhere left.answer ≡ false
+fails_here how machine fault left failing =
+    ap (λ (of : Left). is_elsewhere of.answer) (same_left left (left_by_fault how machine fault) failing) ∙ fault_left how machine fault
+
 fails_in : (how : Manner) (machine old : Machine) (fault : LineFault) (left : Left) → FailsIn how machine fault (Ok left)
     → is_elsewhere left.answer ≡ true → left.machine ≡ old
-fails_in how machine old fault left (own, failing, is) elsewhere =
-    never left own.answer old (ap (λ (of : Left). of.answer) (same_left left own is)) (fails how machine fault own failing) elsewhere
+fails_in how machine old fault left failing elsewhere =
+    never left left.answer old refl (fails_here how machine fault left failing) elsewhere
 
 -- a row
 ends_keeps : (how : Manner) (old new : Machine) (answer : Answer) (to : Destination) (left : Left) → is_elsewhere answer ≡ false
     → Ends how old new answer to (Ok left) → is_elsewhere left.answer ≡ true → left.machine ≡ old
 ends_keeps how old new answer (Arrives position returns) left own is elsewhere =
     never left answer old (ap (λ (of : Left). of.answer) (same_left left _ is)) own elsewhere
-ends_keeps Stepped old new answer (Halts start) left own is elsewhere =
+ends_keeps (Stepped next) old new answer (Halts start) left own is elsewhere =
     never left _ old (ap (λ (of : Left). of.answer) (same_left left _ is)) refl elsewhere
 ends_keeps Typed old new answer (Halts start) left own is elsewhere =
     never left _ old (ap (λ (of : Left). of.answer) (same_left left _ is)) refl elsewhere
@@ -87,7 +82,7 @@ ends_keeps how old new answer (Tells holds) left own is elsewhere =
 ends_keeps how old new answer (Runs position) left own is elsewhere =
     never left _ old (ap (λ (of : Left). of.answer) (same_left left _ is)) refl elsewhere
 ends_keeps how old new answer (Seeks name) left own is elsewhere = ap (λ (of : Left). of.machine) (same_left left _ is)
-ends_keeps how old new answer HasNoLabel left own failing elsewhere = fails_in how old old _ left failing elsewhere
+ends_keeps how old new answer HasNoLabel left own failing elsewhere = fails_in how old old Nonexistent left failing elsewhere
 ends_keeps how old new answer HasNoLine left own is elsewhere = cc
 
 applies_with : (how : Manner) (row : rows.LineRow) (named : ℕ) (machine : Machine) (result : Result (List ℕ) LineFault) (left : Left)

@@ -3,12 +3,12 @@ use Rattle.std.proofs.Common.{◌≡◌, ℕ, List, [], ◌∷◌, Some, None, O
 use Rattle.h41_codes.specs.declared.functions.Branch.{Branch}
 use Rattle.h41_codes.specs.declared.functions.Branch.TheVariants.{GoTo, Execute}
 use Rattle.h41_focal.specs.private.Arrivals.{GoesBackFrom, ReturnsFrom, answer_at, focal_at, from_of}
-use Rattle.h41_focal.specs.private.Carrying.{KnowsNext, Leaves, LeavesCalling, ended, manner_of}
+use Rattle.h41_focal.specs.private.Carrying.{CarriesRow, FailsAs, LeavesCalling, manner_of}
 use Rattle.h41_focal.specs.BriefOutcomes.{briefly}
 use Rattle.h41_focal.specs.Outcomes as answers
 use Rattle.h41_focal.specs.Destinations as destinations
 use Rattle.h41_rows.specs.LineRows as lines
-use Rattle.h41_focal.specs.LineStep.{Fails, Machine, at_halt}
+use Rattle.h41_focal.specs.LineStep.{FailsIn, Machine, at_halt}
 use Rattle.h41_focal.specs.private.Works.{row_of_work}
 use Rattle.h41_rows.specs.declared.fault.LineFault.TheVariants.{Nonexistent}
 use Rattle.h41_focal.specs.declared.origin.Origin.{Origin}
@@ -30,102 +30,95 @@ at_label origin branch position machine = record machine { focal = focal_at orig
 -- the label stands there
 pub label_found :
     (origin : Origin) (branch : Branch) (label named : ℕ) (machine : Machine) (position : Position) (brief : BriefOutcome)
-    → KnowsNext origin machine
     → LocalFrom label machine.memory (from_of origin machine.focal.position) (Some position)
     → brief ≡ answer_at origin branch
-    → Leaves origin (lines.to_label branch label) named machine (at_label origin branch position machine) brief
-label_found (Program next) GoTo label named machine position brief knows found answer =
-    (Ok zeros, refl, (destinations.Arrives position machine.focal.returns, (next, knows, (Some position, found, refl)), rw answer refl))
-label_found (Program next) Execute label named machine position brief knows found answer = (
+    → CarriesRow origin (lines.to_label branch label) named machine (at_label origin branch position machine) (Ok brief)
+label_found (Program next) GoTo label named machine position brief found answer =
+    (Ok zeros, refl, (destinations.Arrives position machine.focal.returns, (Some position, found, refl), rw answer refl))
+label_found (Program next) Execute label named machine position brief found answer = (
   Ok zeros,
   refl,
   (
     destinations.Arrives position (destinations.with_return machine.focal.returns next),
-    (next, knows, (Some position, found, refl)),
+    (Some position, found, refl),
     rw answer refl,
   ),
 )
-label_found Typed GoTo label named machine position brief knows found answer =
+label_found Typed GoTo label named machine position brief found answer =
     (Ok zeros, refl, (destinations.Arrives position machine.focal.returns, (Some position, found, refl), rw answer refl))
-label_found Typed Execute label named machine position brief knows found answer =
+label_found Typed Execute label named machine position brief found answer =
     (Ok zeros, refl, (destinations.Runs position, (Some position, found, refl), rw answer refl))
 
 -- it stands nowhere
 pub label_lost :
     (origin : Origin) (branch : Branch) (label named : ℕ) (old new : Machine) (brief : BriefOutcome)
-    → KnowsNext origin old
     → LocalFrom label old.memory (from_of origin old.focal.position) None
-    → Fails (manner_of origin) old Nonexistent (ended new brief)
-    → Leaves origin (lines.to_label branch label) named old new brief
-label_lost (Program next) branch label named old new brief knows lost fails =
-    (Ok zeros, refl, (destinations.HasNoLabel, (next, knows, (None, lost, refl)), (ended new brief, fails, refl)))
-label_lost Typed branch label named old new brief knows lost fails =
-    (Ok zeros, refl, (destinations.HasNoLabel, (None, lost, refl), (ended new brief, fails, refl)))
+    → FailsAs origin Nonexistent old new brief
+    → CarriesRow origin (lines.to_label branch label) named old new (Ok brief)
+label_lost (Program next) branch label named old new brief lost fails =
+    (Ok zeros, refl, (destinations.HasNoLabel, (None, lost, refl), fails))
+label_lost Typed branch label named old new brief lost fails =
+    (Ok zeros, refl, (destinations.HasNoLabel, (None, lost, refl), fails))
 
 -- a name stands there
 pub name_found :
     (origin : Origin) (branch : Branch) (name : List ℕ) (named : ℕ) (machine : Machine) (byte : ℕ) (brief : BriefOutcome)
-    → KnowsNext origin machine
     → AnswersOf (λ lines. position_of (named_in name lines)) machine.memory 0 (Some byte)
     → brief ≡ answer_at origin branch
     → LeavesCalling (answers.Seeks name) origin (lines.to_name branch name) named machine
     (at_label origin branch (Memory byte) machine) brief
-name_found (Program next) GoTo name named machine byte brief knows found answer =
-    (Ok zeros, refl, (destinations.Arrives (Memory byte) machine.focal.returns, (next, knows, (Some byte, found, refl)), rw answer refl))
-name_found (Program next) Execute name named machine byte brief knows found answer = (
+name_found (Program next) GoTo name named machine byte brief found answer =
+    (Ok zeros, refl, (destinations.Arrives (Memory byte) machine.focal.returns, (Some byte, found, refl), rw answer refl))
+name_found (Program next) Execute name named machine byte brief found answer = (
   Ok zeros,
   refl,
   (
     destinations.Arrives (Memory byte) (destinations.with_return machine.focal.returns next),
-    (next, knows, (Some byte, found, refl)),
+    (Some byte, found, refl),
     rw answer refl,
   ),
 )
-name_found Typed GoTo name named machine byte brief knows found answer =
+name_found Typed GoTo name named machine byte brief found answer =
     (Ok zeros, refl, (destinations.Arrives (Memory byte) machine.focal.returns, (Some byte, found, refl), rw answer refl))
-name_found Typed Execute name named machine byte brief knows found answer =
+name_found Typed Execute name named machine byte brief found answer =
     (Ok zeros, refl, (destinations.Runs (Memory byte), (Some byte, found, refl), rw answer refl))
 
 -- it stands nowhere: GTO fails
 pub name_lost :
     (origin : Origin) (name : List ℕ) (named : ℕ) (old new : Machine) (brief : BriefOutcome)
-    → KnowsNext origin old
     → AnswersOf (λ lines. position_of (named_in name lines)) old.memory 0 None
-    → Fails (manner_of origin) old Nonexistent (briefly (answers.Seeks name) new brief)
+    → FailsIn (manner_of origin) old Nonexistent (Ok (briefly (answers.Seeks name) new brief))
     → LeavesCalling (answers.Seeks name) origin (lines.to_name GoTo name) named old new brief
-name_lost (Program next) name named old new brief knows lost fails =
-    (Ok zeros, refl, (destinations.HasNoLabel, (next, knows, (None, lost, refl)), (briefly (answers.Seeks name) new brief, fails, refl)))
-name_lost Typed name named old new brief knows lost fails =
-    (Ok zeros, refl, (destinations.HasNoLabel, (None, lost, refl), (briefly (answers.Seeks name) new brief, fails, refl)))
+name_lost (Program next) name named old new brief lost fails =
+    (Ok zeros, refl, (destinations.HasNoLabel, (None, lost, refl), fails))
+name_lost Typed name named old new brief lost fails =
+    (Ok zeros, refl, (destinations.HasNoLabel, (None, lost, refl), fails))
 
 -- and XEQ leaves the search to the calculator
 pub name_sought :
     (origin : Origin) (name : List ℕ) (named : ℕ) (machine : Machine)
-    → KnowsNext origin machine
     → AnswersOf (λ lines. position_of (named_in name lines)) machine.memory 0 None
     → LeavesCalling (answers.Seeks name) origin (lines.to_name Execute name) named machine machine briefs.Elsewhere
-name_sought (Program next) name named machine knows lost =
-    (Ok zeros, refl, (destinations.Seeks name, (next, knows, (None, lost, refl)), refl))
-name_sought Typed name named machine knows lost = (Ok zeros, refl, (destinations.Seeks name, (None, lost, refl), refl))
+name_sought (Program next) name named machine lost =
+    (Ok zeros, refl, (destinations.Seeks name, (None, lost, refl), refl))
+name_sought Typed name named machine lost = (Ok zeros, refl, (destinations.Seeks name, (None, lost, refl), refl))
 
 -- a line goes back
 back_from : (returns : List Position) (old new : Machine) (brief : BriefOutcome) (next : Position) (named : ℕ)
-    → KnowsNext (Program next) old
     → GoesBackFrom returns old new brief
     → returns ≡ reverse old.focal.returns
-    → Leaves (Program next) (row_of_work works.Return) named old new brief
-back_from [] old new brief next named knows (start, found, is, answer) none =
-    (Ok zeros, refl, (destinations.Halts start, (next, knows, rw (← none) (start, found, refl)), rw (is, answer) refl))
-back_from (latest ∷ others) old new brief next named knows (is, answer) some =
-    (Ok zeros, refl, (destinations.Arrives latest (reverse others), (next, knows, rw (← some) refl), rw (is, answer) refl))
+    → CarriesRow (Program next) (row_of_work works.Return) named old new (Ok brief)
+back_from [] old new brief next named (start, found, is, answer) none =
+    (Ok zeros, refl, (destinations.Halts start, rw (← none) (start, found, refl), rw (is, answer) refl))
+back_from (latest ∷ others) old new brief next named (is, answer) some =
+    (Ok zeros, refl, (destinations.Arrives latest (reverse others), rw (← some) refl, rw (is, answer) refl))
 
 pub goes_back : (old new : Machine) (brief : BriefOutcome) (next : Position) (named : ℕ)
-    → KnowsNext (Program next) old
     → ReturnsFrom old new brief
-    → Leaves (Program next) (row_of_work works.Return) named old new brief
-goes_back old new brief next named knows back = back_from (reverse old.focal.returns) old new brief next named knows back refl
+    → CarriesRow (Program next) (row_of_work works.Return) named old new (Ok brief)
+goes_back old new brief next named back = back_from (reverse old.focal.returns) old new brief next named back refl
 
 pub goes_to_line_00 : (machine : Machine) (start : Position) (named : ℕ)
     → StartOf machine.memory machine.focal.position start
-    → Leaves Typed (row_of_work works.Return) named machine (at_halt start machine) briefs.Done
+    → CarriesRow Typed (row_of_work works.Return) named machine (at_halt start machine) (Ok briefs.Done)
 goes_to_line_00 machine start named found = (Ok zeros, refl, (destinations.Halts start, (start, found, refl), refl))

@@ -1,31 +1,22 @@
 -- Lines are taken, by what was found of their operands and by their rows.
-use Rattle.std.proofs.Common.{◌≡◌, ℕ, Bool, true, false, Option, Some, None, Ok, Err, Result, MatchBool, refl}
+use Rattle.std.proofs.Common.{◌≡◌, ℕ, Bool, true, false, Some, None, Ok, Err, Result, refl}
 use Rattle.h41_codes.specs.declared.functions.Function.{Function}
 use Rattle.h41_codes.specs.declared.functions.ParameterFunction.{ParameterFunction}
 use Rattle.h41_codes.specs.declared.functions.RegisterFunction.{RegisterFunction}
 use Rattle.h41_codes.specs.declared.line.Line.{Line}
 use Rattle.h41_codes.specs.declared.line.Line.TheVariants as lines
 use Rattle.h41_codes.specs.declared.line.Operand.{Operand}
-use Rattle.h41_focal.specs.private.Carrying.{CarriesFound, CarriesRow, FailsAs, Stands, TakesBriefly, UsesDigits, UsesFlag, UsesAddress}
-use Rattle.h41_focal.specs.private.Carrying.{ended, manner_of}
-use Rattle.h41_focal.specs.LineStep.{FailsLine, FailsWith, Left, Machine, PassesLine, PassesWith, StepsAs, StepsLine, lift_behind, line_as}
-use Rattle.h41_focal.specs.LineStep.{TakesLine, with_line_passed}
+use Rattle.h41_focal.specs.private.Carrying.{CarriesFound, CarriesRow, TakesBriefly, UsesAddress, UsesDigits, UsesFlag}
+use Rattle.h41_focal.specs.LineStep.{Machine, lift_behind}
 use Rattle.h41_focal.specs.private.Works.{digits_use_row, flag_use_row, highest_of, register_use_row, row_of_work}
 use Rattle.h41_focal.specs.declared.origin.Origin.{Origin}
-use Rattle.h41_focal.specs.declared.origin.Origin.TheVariants.{Program}
 use Rattle.h41_focal.specs.declared.outcome.BriefOutcome.{BriefOutcome}
 use Rattle.h41_focal.specs.declared.refusal.FocalRefusal.{FocalRefusal}
-use Rattle.h41_focal.specs.declared.refusal.FocalRefusal.TheVariants.{BrokenProgram, MemoryLost, NotInProfile}
+use Rattle.h41_focal.specs.declared.refusal.FocalRefusal.TheVariants.{NotInProfile}
 use Rattle.h41_focal.specs.declared.uses.DigitsUse.{DigitsUse}
 use Rattle.h41_focal.specs.declared.uses.FlagUse.{FlagUse}
 use Rattle.h41_focal.specs.declared.uses.RegisterUse.{RegisterUse}
 use Rattle.h41_focal.specs.declared.works.FunctionWork.{FunctionWork}
-use Rattle.h41_program.specs.Positions.{LineAt}
-use Rattle.h41_program.specs.declared.position.PlacedLine.{PlacedLine}
-use Rattle.h41_program.specs.declared.position.Position.{Position}
-use Rattle.h41_program.specs.declared.refusal.ProgramRefusal as refusals
-use Rattle.h41_program.specs.declared.refusal.ProgramRefusal.TheVariants as program
-use Rattle.h41_ram.specs.RegisterMap.{is_sound}
 use Rattle.h41_rows.specs.FunctionRows.{function_row}
 use Rattle.h41_rows.specs.LineRows.{count_row, register_row, short_row}
 use Rattle.h41_rows.specs.Operands.{DigitKind, FlagKind, LabelKind, RegisterKind, data_register, kind_of}
@@ -104,84 +95,6 @@ pub short_taken : (origin : Origin) (function : RegisterFunction) (register : �
     → TakesBriefly origin (lines.Register function register) old new result
 short_taken origin function register (Ok address) old new result found carries = rw (← found) carries
 short_taken origin function register (Err fault) old new result found fails = rw (← found) fails
-
--- the line at a position is stepped, or a function in its place
-pub step_taken :
-    (function : Option Function) (old : Machine) (line : Line) (next : Position) (carried : Result Left FocalRefusal)
-    → Stands old (Ok (line, next))
-    → TakesLine (manner_of (Program next)) (line_as function line) old carried
-    → StepsLine function old carried
-step_taken function old line next carried (sound, (first, answers, is), knows) takes =
-    rw sound (Ok first, answers, rw is takes)
-
--- or refused
-refused_by : (sound : Bool) (function : Option Function) (machine : Machine) (refusal : FocalRefusal) (carried : Result Left FocalRefusal)
-    → carried ≡ Err refusal
-    → MatchBool sound ((refusal ≡ BrokenProgram) × LineAt machine.memory machine.focal.position (Err program.BrokenProgram))
-    (refusal ≡ MemoryLost)
-    → MatchBool sound ((first : Result PlacedLine refusals.ProgramRefusal)
-    × LineAt machine.memory machine.focal.position first
-    × StepsAs function machine first carried)
-    (carried ≡ Err MemoryLost)
-refused_by true function machine refusal carried refused (is, none) = (Err program.BrokenProgram, none, rw (refused, is) refl)
-refused_by false function machine refusal carried refused is = rw (refused, is) refl
-
-pub step_refused :
-    (function : Option Function) (machine : Machine) (refusal : FocalRefusal)
-    → Stands machine (Err refusal)
-    → StepsLine function machine (Err refusal)
-step_refused function machine refusal stands = refused_by (is_sound machine.memory) function machine refusal (Err refusal) refl stands
-
--- or fails
-pub line_fails :
-    (fault : LineFault) (old new : Machine) (line : Line) (next : Position) (brief : BriefOutcome)
-    → Stands old (Ok (line, next))
-    → FailsAs (Program next) fault old new brief
-    → FailsLine fault old (Ok (ended new brief))
-line_fails fault old new line next brief (sound, (first, answers, is), knows) fails =
-    rw sound (Ok first, answers, (ended new brief, fails, refl))
-
-fail_refused_by : (sound : Bool) (fault : LineFault) (machine : Machine) (refusal : FocalRefusal) (carried : Result Left FocalRefusal)
-    → carried ≡ Err refusal
-    → MatchBool sound ((refusal ≡ BrokenProgram) × LineAt machine.memory machine.focal.position (Err program.BrokenProgram))
-    (refusal ≡ MemoryLost)
-    → MatchBool sound ((first : Result PlacedLine refusals.ProgramRefusal)
-    × LineAt machine.memory machine.focal.position first
-    × FailsWith fault machine first carried)
-    (carried ≡ Err MemoryLost)
-fail_refused_by true fault machine refusal carried refused (is, none) = (Err program.BrokenProgram, none, rw (refused, is) refl)
-fail_refused_by false fault machine refusal carried refused is = rw (refused, is) refl
-
-pub fail_refused :
-    (fault : LineFault) (machine : Machine) (refusal : FocalRefusal)
-    → Stands machine (Err refusal)
-    → FailsLine fault machine (Err refusal)
-fail_refused fault machine refusal stands = fail_refused_by (is_sound machine.memory) fault machine refusal (Err refusal) refl stands
-
--- or passed
-pub line_passed :
-    (old new : Machine) (line : Line) (next : Position)
-    → Stands old (Ok (line, next))
-    → new ≡ with_line_passed line next old
-    → PassesLine old (Ok new)
-line_passed old new line next (sound, (first, answers, is), knows) goes =
-    rw sound (Ok first, answers, (next, knows, rw (goes, is) refl))
-
-pass_refused_by : (sound : Bool) (machine : Machine) (refusal : FocalRefusal) (after : Result Machine FocalRefusal) → after ≡ Err refusal
-    → MatchBool sound ((refusal ≡ BrokenProgram) × LineAt machine.memory machine.focal.position (Err program.BrokenProgram))
-    (refusal ≡ MemoryLost)
-    → MatchBool sound ((first : Result PlacedLine refusals.ProgramRefusal)
-    × LineAt machine.memory machine.focal.position first
-    × PassesWith machine first after)
-    (after ≡ Err MemoryLost)
-pass_refused_by true machine refusal after refused (is, none) = (Err program.BrokenProgram, none, rw (refused, is) refl)
-pass_refused_by false machine refusal after refused is = rw (refused, is) refl
-
-pub pass_refused :
-    (machine : Machine) (refusal : FocalRefusal)
-    → Stands machine (Err refusal)
-    → PassesLine machine (Err refusal)
-pass_refused machine refusal stands = pass_refused_by (is_sound machine.memory) machine refusal (Err refusal) refl stands
 
 -- behind a line that is no XROM line lift stays
 pub lift_kept : (line : Line) (lift : Bool) → ((number entry : ℕ) → line ≡ lines.Module number entry → ⊥) → lift_behind line lift ≡ lift

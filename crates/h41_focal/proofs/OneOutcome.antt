@@ -11,13 +11,12 @@ use Rattle.h41_focal.specs.Destinations.{Seeks, Stays}
 use Rattle.h41_focal.specs.Destinations.{Stepped, StepsFrom, Tells, Typed, TypedFrom, found_at, lost_name, typed_at}
 use Rattle.h41_focal.specs.LineLaws.{FailureIsDetermined, PassingIsDetermined, StepIsDetermined, TypedIsDetermined}
 use Rattle.h41_focal.specs.LineLaws.{TypedFailureIsDetermined}
-use Rattle.h41_focal.specs.LineStep.{Applies, AppliesTo, AppliesWith, CarriesOut, ComputesIn, Ends, Fails, FailsIn, FailsWith, Left}
-use Rattle.h41_focal.specs.LineStep.{Machine, PassesWith, StepsAs, TakesLine, Works, answer_of_showing, with_fault_caught, left_done}
-use Rattle.h41_focal.specs.LineStep.{error_flag, left_failed, line_as}
-use Rattle.h41_focal.specs.LineStep.{named_by, with_line_passed, at_line, with_row}
+use Rattle.h41_focal.specs.LineStep.{Applies, AppliesTo, AppliesWith, CarriesOut, ComputesIn, Ends, FailsIn, FailsWith, Left, Machine}
+use Rattle.h41_focal.specs.LineStep.{PassesWith, Stands, StandsAt, StepsAs, TakesLine, Works, answer_of_showing, line_as, named_by}
+use Rattle.h41_focal.specs.LineStep.{with_row}
 use Rattle.h41_focal.specs.Outcomes.{Answer}
 use Rattle.h41_focal.specs.declared.refusal.FocalRefusal.{FocalRefusal}
-use Rattle.h41_focal.specs.declared.refusal.FocalRefusal.TheVariants.{MemoryLost, NotInProfile}
+use Rattle.h41_focal.specs.declared.refusal.FocalRefusal.TheVariants.{BrokenProgram, MemoryLost, NotInProfile}
 use Rattle.h41_program.specs.PositionLaws.{HasOneAnswer, HasOneAnswerEach, IsReadOnce}
 use Rattle.h41_program.specs.Positions.{LineAt, LocalFrom, NextAt, StartOf}
 use Rattle.h41_program.specs.SearchLaws.{AnswersAreDetermined}
@@ -25,9 +24,9 @@ use Rattle.h41_program.specs.Searches.{named_in, position_of}
 use Rattle.h41_program.specs.declared.position.PlacedLine.{PlacedLine}
 use Rattle.h41_program.specs.declared.position.Position.{Position}
 use Rattle.h41_program.specs.declared.position.Position.TheVariants.{Memory}
-use Rattle.h41_program.specs.declared.refusal.ProgramRefusal as program
+use Rattle.h41_program.specs.declared.refusal.ProgramRefusal.{ProgramRefusal}
 use Rattle.h41_program.specs.declared.refusal.ProgramRefusal.TheVariants as refusals
-use Rattle.h41_ram.specs.RegisterMap.{RegisterMap, flag_of, is_sound}
+use Rattle.h41_ram.specs.RegisterMap.{RegisterMap, is_sound}
 use Rattle.h41_rows.specs.LineRows.{row_of}
 use Rattle.h41_rows.specs.Operands.{Meant, meant_of}
 use Rattle.h41_rows.specs.Places.{are_numbers}
@@ -37,18 +36,7 @@ use Rattle.h41_rows.specs.RowLaws.{ValuesAreDetermined}
 use Rattle.h41_rows.specs.Rows as rows
 use Rattle.h41_rows.specs.Values.{Value}
 use Rattle.h41_rows.specs.declared.fault.LineFault.{LineFault}
-use Rattle.h41_rows.specs.declared.fault.LineFault.TheVariants.{AlphaData, Nonexistent}
-
--- a fault that is caught
-abbrev GoesOn : Machine → Left → Type 0
-GoesOn machine left =
-    (next : Position) × NextAt machine.memory machine.focal.position (Ok next)
-    × (left ≡ left_done (at_line next (with_fault_caught machine)))
-
--- what holds of the line at the position, or of there being none
-abbrev ByFirst : Machine → (Result PlacedLine program.ProgramRefusal → Type 0) → Type 0
-ByFirst machine holds =
-    (first : Result PlacedLine program.ProgramRefusal) × LineAt machine.memory machine.focal.position first × holds first
+use Rattle.h41_rows.specs.declared.fault.LineFault.TheVariants.{AlphaData}
 
 same_next : (once : IsReadOnce) (memory : RegisterMap) (at a b : Position)
     → NextAt memory at (Ok a) → NextAt memory at (Ok b) → a ≡ b
@@ -57,77 +45,86 @@ same_next once memory at a b p q = let same = once.next memory at (Ok a) (Ok b) 
 no_next : (once : IsReadOnce) (memory : RegisterMap) (at a : Position)
     → NextAt memory at (Ok a) → NextAt memory at (Err refusals.BrokenProgram) → ⊥
 no_next once memory at a p q =
-    let never : ◌≡◌ {A = Result Position program.ProgramRefusal} (Ok a) (Err refusals.BrokenProgram) =
+    let never : ◌≡◌ {A = Result Position ProgramRefusal} (Ok a) (Err refusals.BrokenProgram) =
     once.next memory at (Ok a) (Err refusals.BrokenProgram) p q in
     cc
 
--- what a fault leaves, where each position is read in one way
+-- where both are refused, by whether memory is sound
+same_refusal : (sound : Bool) (memory : RegisterMap) (at : Position) (a b : FocalRefusal)
+    → MatchBool sound ((a ≡ BrokenProgram) × (why : ProgramRefusal) × LineAt memory at (Err why)) (a ≡ MemoryLost)
+    → MatchBool sound ((b ≡ BrokenProgram) × (why : ProgramRefusal) × LineAt memory at (Err why)) (b ≡ MemoryLost) → a ≡ b
+same_refusal true memory at a b p q = p.0 ∙ sym q.0
+same_refusal false memory at a b p q = p ∙ sym q
+
+-- what stands at a position, where each is read in one way
 module _ (once : IsReadOnce) where
-  -- what a fault leaves: with flag 25 the program goes on
-  same_stop : (flag_25 : Bool) (machine : Machine) (fault : LineFault) (a b : Left)
-      → MatchBool flag_25 (GoesOn machine a) (a ≡ left_failed (at_line machine.focal.position machine) fault)
-      → MatchBool flag_25 (GoesOn machine b) (b ≡ left_failed (at_line machine.focal.position machine) fault) → a ≡ b
-  same_stop true machine fault a b p q =
-      let same = same_next once machine.memory machine.focal.position p.0 q.0 p.1 q.1 in
-      p.2 ∙ ap (λ (next : Position). left_done (at_line next (with_fault_caught machine))) same ∙ sym q.2
-  same_stop false machine fault a b p q = p ∙ sym q
+  pub same_line : (memory : RegisterMap) (at : Position) (line other : Line)
+      → (first : PlacedLine) × LineAt memory at (Ok first) × (first.line ≡ line)
+      → (first : PlacedLine) × LineAt memory at (Ok first) × (first.line ≡ other) → line ≡ other
+  same_line memory at line other (first, stands, is) (again, stands_so, is_so) =
+      let same = once.line memory at (Ok first) (Ok again) stands stands_so in
+      let one : first ≡ again = cc same in
+      sym is ∙ (ap (λ (first : PlacedLine). first.line) one ∙ is_so)
 
-  same_fault : (how : Manner) (machine : Machine) (fault : LineFault) (a b : Left) → Fails how machine fault a → Fails how machine fault b
-      → a ≡ b
-  same_fault Stepped machine fault a b p q = same_stop (flag_of machine.memory error_flag) machine fault a b p q
-  same_fault Typed machine fault a b p q = p ∙ sym q
+  never_refused : (memory : RegisterMap) (at : Position) (first : PlacedLine) (refusal : FocalRefusal) → is_sound memory ≡ true
+      → LineAt memory at (Ok first) → StandsAt memory at (Err refusal) → ⊥
+  never_refused memory at first refusal sound stands refused =
+      let (is, why, none) = rw sound at refused in
+      let same = once.line memory at (Ok first) (Err why) stands none in
+      cc same
 
-  same_failure : (how : Manner) (machine : Machine) (fault : LineFault) (a b : Result Left FocalRefusal)
-      → FailsIn how machine fault a → FailsIn how machine fault b → a ≡ b
-  same_failure how machine fault a b p q =
-      p.2 ∙ ap (λ (left : Left). Ok left) (same_fault how machine fault p.0 q.0 p.1 q.1) ∙ sym q.2
+  same_standing : (memory : RegisterMap) (at : Position) (a b : Result (Line × Position) FocalRefusal)
+      → StandsAt memory at a → StandsAt memory at b → a ≡ b
+  same_standing memory at (Ok (line, next)) (Ok (other, behind)) (sound, stands, goes) (sound_so, stands_so, goes_so) =
+      ap (λ (line : Line). Ok (line, next)) (same_line memory at line other stands stands_so)
+      ∙ ap (λ (next : Position). Ok (other, next)) (same_next once memory at next behind goes goes_so)
+  same_standing memory at (Ok (line, next)) (Err refusal) (sound, (first, stands, is), goes) refused =
+      absurd (never_refused memory at first refusal sound stands refused)
+  same_standing memory at (Err refusal) (Ok (line, next)) refused (sound, (first, stands, is), goes) =
+      absurd (never_refused memory at first refusal sound stands refused)
+  same_standing memory at (Err refusal) (Err other) p q =
+      ap (λ (why : FocalRefusal). Err why) (same_refusal (is_sound memory) memory at refusal other p q)
+
+  -- so what is done with it is one, where that is
+  by_standing : {A : Type 0} (does : Machine → Result (Line × Position) FocalRefusal → A → Type 0)
+      → ((machine : Machine) (standing : Result (Line × Position) FocalRefusal) (a b : A)
+      → does machine standing a → does machine standing b → a ≡ b)
+      → (machine : Machine) (a b : A)
+      → (standing : Result (Line × Position) FocalRefusal) × Stands machine standing × does machine standing a
+      → (standing : Result (Line × Position) FocalRefusal) × Stands machine standing × does machine standing b → a ≡ b
+  by_standing {A} does same machine a b (standing, stands, p) (other, stands_so, q) =
+      same machine other a b
+      (subst (λ (standing : Result (Line × Position) FocalRefusal). does machine standing a)
+      (same_standing machine.memory machine.focal.position standing other stands stands_so) p) q
 
   -- a line that fails from outside
-  same_outside : (fault : LineFault) (machine : Machine) (first : Result PlacedLine program.ProgramRefusal) (a b : Result Left FocalRefusal)
-      → FailsWith fault machine first a → FailsWith fault machine first b → a ≡ b
-  same_outside fault machine (Ok first) a b p q = same_failure Stepped machine fault a b p q
+  same_outside : (fault : LineFault) (machine : Machine) (standing : Result (Line × Position) FocalRefusal)
+      (a b : Result Left FocalRefusal)
+      → FailsWith fault machine standing a → FailsWith fault machine standing b → a ≡ b
+  same_outside fault machine (Ok standing) a b p q = p ∙ sym q
   same_outside fault machine (Err refusal) a b p q = p ∙ sym q
 
-  same_failed : (sound : Bool) (fault : LineFault) (machine : Machine) (a b : Result Left FocalRefusal)
-      → MatchBool sound (ByFirst machine (λ first. FailsWith fault machine first a)) (a ≡ Err MemoryLost)
-      → MatchBool sound (ByFirst machine (λ first. FailsWith fault machine first b)) (b ≡ Err MemoryLost) → a ≡ b
-  same_failed true fault machine a b p q =
-      let same = once.line machine.memory machine.focal.position p.0 q.0 p.1 q.1 in
-      same_outside fault machine q.0 a b
-      (subst (λ (first : Result PlacedLine program.ProgramRefusal). FailsWith fault machine first a) same p.2) q.2
-  same_failed false fault machine a b p q = p ∙ sym q
-
   pub failure_determined : FailureIsDetermined
-  failure_determined fault machine a b p q = same_failed (is_sound machine.memory) fault machine a b p q
-
-  -- a typed line that fails so
-  same_typed_failure : (sound : Bool) (fault : LineFault) (machine : Machine) (a b : Result Left FocalRefusal)
-      → MatchBool sound (FailsIn Typed machine fault a) (a ≡ Err MemoryLost)
-      → MatchBool sound (FailsIn Typed machine fault b) (b ≡ Err MemoryLost) → a ≡ b
-  same_typed_failure true fault machine a b p q = same_failure Typed machine fault a b p q
-  same_typed_failure false fault machine a b p q = p ∙ sym q
-
-  pub typed_failure_determined : TypedFailureIsDetermined
-  typed_failure_determined fault machine a b p q = same_typed_failure (is_sound machine.memory) fault machine a b p q
+  failure_determined fault machine a b p q = by_standing (FailsWith fault) (same_outside fault) machine a b p q
 
   -- a line that is passed
-  same_beyond : (machine : Machine) (first : Result PlacedLine program.ProgramRefusal) (a b : Result Machine FocalRefusal)
-      → PassesWith machine first a → PassesWith machine first b → a ≡ b
-  same_beyond machine (Ok first) a b p q =
-      let same = same_next once machine.memory machine.focal.position p.0 q.0 p.1 q.1 in
-      p.2 ∙ ap (λ (next : Position). Ok (with_line_passed first.line next machine)) same ∙ sym q.2
+  same_beyond : (machine : Machine) (standing : Result (Line × Position) FocalRefusal) (a b : Result Machine FocalRefusal)
+      → PassesWith machine standing a → PassesWith machine standing b → a ≡ b
+  same_beyond machine (Ok standing) a b p q = p ∙ sym q
   same_beyond machine (Err refusal) a b p q = p ∙ sym q
 
-  same_passed : (sound : Bool) (machine : Machine) (a b : Result Machine FocalRefusal)
-      → MatchBool sound (ByFirst machine (λ first. PassesWith machine first a)) (a ≡ Err MemoryLost)
-      → MatchBool sound (ByFirst machine (λ first. PassesWith machine first b)) (b ≡ Err MemoryLost) → a ≡ b
-  same_passed true machine a b p q =
-      let same = once.line machine.memory machine.focal.position p.0 q.0 p.1 q.1 in
-      same_beyond machine q.0 a b (subst (λ (first : Result PlacedLine program.ProgramRefusal). PassesWith machine first a) same p.2) q.2
-  same_passed false machine a b p q = p ∙ sym q
-
   pub passing_determined : PassingIsDetermined
-  passing_determined machine a b p q = same_passed (is_sound machine.memory) machine a b p q
+  passing_determined machine a b p q = by_standing PassesWith same_beyond machine a b p q
+
+-- a typed line that fails from outside
+same_typed_failure : (sound : Bool) (fault : LineFault) (machine : Machine) (a b : Result Left FocalRefusal)
+    → MatchBool sound (FailsIn Typed machine fault a) (a ≡ Err MemoryLost)
+    → MatchBool sound (FailsIn Typed machine fault b) (b ≡ Err MemoryLost) → a ≡ b
+same_typed_failure true fault machine a b p q = p ∙ sym q
+same_typed_failure false fault machine a b p q = p ∙ sym q
+
+pub typed_failure_determined : TypedFailureIsDetermined
+typed_failure_determined fault machine a b p q = same_typed_failure (is_sound machine.memory) fault machine a b p q
 
 -- what a row computes, where each value has one register or one fault
 module _ (same_value : ValuesAreDetermined) where
@@ -213,24 +210,21 @@ module _
   same_destination : (how : Manner) (going : rows.Going) (memory : RegisterMap) (named : ℕ) (at : Position) (returns : List Position)
       (a b : Destination)
       → Goes how going memory named at returns a → Goes how going memory named at returns b → a ≡ b
-  same_destination Stepped going memory named at returns a b p q =
-      let same = same_next once memory at p.0 q.0 p.1 q.1 in
-      same_from_next going memory named at q.0 returns a b
-      (subst (λ (next : Position). StepsFrom going memory named at next returns a) same p.2) q.2
+  same_destination (Stepped next) going memory named at returns a b p q = same_from_next going memory named at next returns a b p q
   same_destination Typed going memory named at returns a b p q = same_from_here going memory named at returns a b p q
 
 -- what a destination leaves
-same_end : IsReadOnce → (how : Manner) (old new : Machine) (answer : Answer) (to : Destination) (a b : Result Left FocalRefusal)
+same_end : (how : Manner) (old new : Machine) (answer : Answer) (to : Destination) (a b : Result Left FocalRefusal)
     → Ends how old new answer to a → Ends how old new answer to b → a ≡ b
-same_end once how old new answer (Arrives position returns) a b p q = p ∙ sym q
-same_end once Stepped old new answer (Halts start) a b p q = p ∙ sym q
-same_end once Typed old new answer (Halts start) a b p q = p ∙ sym q
-same_end once how old new answer Stays a b p q = p ∙ sym q
-same_end once how old new answer (Tells holds) a b p q = p ∙ sym q
-same_end once how old new answer (Runs position) a b p q = p ∙ sym q
-same_end once how old new answer (Seeks name) a b p q = p ∙ sym q
-same_end once how old new answer HasNoLabel a b p q = same_failure once how old Nonexistent a b p q
-same_end once how old new answer HasNoLine a b p q = p ∙ sym q
+same_end how old new answer (Arrives position returns) a b p q = p ∙ sym q
+same_end (Stepped next) old new answer (Halts start) a b p q = p ∙ sym q
+same_end Typed old new answer (Halts start) a b p q = p ∙ sym q
+same_end how old new answer Stays a b p q = p ∙ sym q
+same_end how old new answer (Tells holds) a b p q = p ∙ sym q
+same_end how old new answer (Runs position) a b p q = p ∙ sym q
+same_end how old new answer (Seeks name) a b p q = p ∙ sym q
+same_end how old new answer HasNoLabel a b p q = p ∙ sym q
+same_end how old new answer HasNoLine a b p q = p ∙ sym q
 
 -- a line, where all of this is so
 module _
@@ -242,14 +236,14 @@ module _
   same_with : (how : Manner) (row : rows.LineRow) (named : ℕ) (machine : Machine)
       (result : Result (List ℕ) LineFault) (a b : Result Left FocalRefusal)
       → AppliesWith how row named machine result a → AppliesWith how row named machine result b → a ≡ b
-  same_with how row named machine (Err fault) a b p q = same_failure once how machine fault a b p q
+  same_with how row named machine (Err fault) a b p q = p ∙ sym q
   same_with how row named machine (Ok result) a b p q =
       let new = with_row row named result machine in
       let answer = answer_of_showing machine.memory named row.shows row.ends in
       let same =
       same_destination once same_start same_local same_global how row.goes machine.memory
       named machine.focal.position machine.focal.returns p.0 q.0 p.1 q.1 in
-      same_end once how machine new answer q.0 a b (subst (λ (to : Destination). Ends how machine new answer to a) same p.2) q.2
+      same_end how machine new answer q.0 a b (subst (λ (to : Destination). Ends how machine new answer to a) same p.2) q.2
 
   same_row : (how : Manner) (row : rows.LineRow) (named : ℕ) (machine : Machine) (a b : Result Left FocalRefusal)
       → Applies how row named machine a → Applies how row named machine b → a ≡ b
@@ -260,7 +254,7 @@ module _
 
   same_meant : (how : Manner) (line : Line) (machine : Machine) (meant : Result Meant LineFault) (a b : Result Left FocalRefusal)
       → AppliesTo how line machine meant a → AppliesTo how line machine meant b → a ≡ b
-  same_meant how line machine (Err fault) a b p q = same_failure once how machine fault a b p q
+  same_meant how line machine (Err fault) a b p q = p ∙ sym q
   same_meant how line machine (Ok meant) a b p q = same_row how (row_of line meant) (named_by meant) machine a b p q
 
   same_carried : (how : Manner) (line : Line) (machine : Machine) (a b : Result Left FocalRefusal)
@@ -289,20 +283,11 @@ module _
   typed_determined line machine a b p q = same_typed (is_sound machine.memory) line machine a b p q
 
   -- a stepped one
-  same_standing : (function : Option Function) (machine : Machine)
-      (first : Result PlacedLine program.ProgramRefusal) (a b : Result Left FocalRefusal)
-      → StepsAs function machine first a → StepsAs function machine first b → a ≡ b
-  same_standing function machine (Ok first) a b p q = same_taken Stepped (line_as function first.line) machine a b p q
-  same_standing function machine (Err refusal) a b p q = p ∙ sym q
-
-  same_stepped : (sound : Bool) (function : Option Function) (machine : Machine) (a b : Result Left FocalRefusal)
-      → MatchBool sound (ByFirst machine (λ first. StepsAs function machine first a)) (a ≡ Err MemoryLost)
-      → MatchBool sound (ByFirst machine (λ first. StepsAs function machine first b)) (b ≡ Err MemoryLost) → a ≡ b
-  same_stepped true function machine a b p q =
-      let same = once.line machine.memory machine.focal.position p.0 q.0 p.1 q.1 in
-      same_standing function machine q.0 a b
-      (subst (λ (first : Result PlacedLine program.ProgramRefusal). StepsAs function machine first a) same p.2) q.2
-  same_stepped false function machine a b p q = p ∙ sym q
+  same_stepped : (function : Option Function) (machine : Machine) (standing : Result (Line × Position) FocalRefusal)
+      (a b : Result Left FocalRefusal)
+      → StepsAs function machine standing a → StepsAs function machine standing b → a ≡ b
+  same_stepped function machine (Ok (line, next)) a b p q = same_taken (Stepped next) (line_as function line) machine a b p q
+  same_stepped function machine (Err refusal) a b p q = p ∙ sym q
 
   pub step_determined : StepIsDetermined
-  step_determined function machine a b p q = same_stepped (is_sound machine.memory) function machine a b p q
+  step_determined function machine a b p q = by_standing once (StepsAs function) (same_stepped function) machine a b p q

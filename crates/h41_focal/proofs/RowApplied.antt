@@ -1,9 +1,9 @@
 -- A row whose line goes on to the next one is applied: by what it computes, what it makes of memory, and where the line then is.
 use Rattle.std.proofs.Common.{◌≡◌, ℕ, List, Ok, Err, Result, refl, subst}
-use Rattle.h41_focal.specs.private.Carrying.{KnowsNext, Leaves, on_to_next, ended, manner_of, nowhere}
+use Rattle.h41_focal.specs.private.Carrying.{FailsAs, Leaves, on_to_next, manner_of, nowhere}
 use Rattle.h41_focal.specs.BriefOutcomes.{brief_answer}
 use Rattle.h41_focal.specs.Destinations as destinations
-use Rattle.h41_focal.specs.LineStep.{Applies, Fails, FocalState, Left, Machine, Works, answer_of_showing, machine_with}
+use Rattle.h41_focal.specs.LineStep.{Applies, FocalState, Left, Machine, Works, answer_of_showing, machine_with}
 use Rattle.h41_rows.specs.RowEffects.{memory_after}
 use Rattle.h41_rows.specs.Rows.{LineRow}
 use Rattle.h41_rows.specs.Rows as rows
@@ -24,15 +24,14 @@ applied_to origin row named register machine = record {
 -- it is done
 pub row_applied :
     (origin : Origin) (row : LineRow) (named : ℕ) (machine : Machine) (register : List ℕ) (brief : BriefOutcome)
-    → KnowsNext origin machine
     → row.goes ≡ rows.Next
     → Works machine.memory named row (Ok register)
     → brief_answer nowhere (memory_after row named register machine.focal.lift machine.memory) brief
     ≡ answer_of_showing machine.memory named row.shows row.ends
     → Leaves origin row named machine (applied_to origin row named register machine) brief
-row_applied (Program next) row named machine register brief knows goes works answers =
-    (Ok register, works, (destinations.Arrives next machine.focal.returns, (next, knows, rw goes refl), rw answers refl))
-row_applied Typed row named machine register brief knows goes works answers =
+row_applied (Program next) row named machine register brief goes works answers =
+    (Ok register, works, (destinations.Arrives next machine.focal.returns, rw goes refl, rw answers refl))
+row_applied Typed row named machine register brief goes works answers =
     (Ok register, works, (destinations.Stays, rw goes refl, rw answers refl))
 
 -- it is applied to a machine whose memory and what else lines work on are looked at apart
@@ -40,12 +39,10 @@ pub opened_row :
     (origin : Origin) (row : LineRow) (named : ℕ) (machine : Machine) (memory : RegisterMap) (focal : FocalState)
     (carried : Result Left FocalRefusal)
     → machine_with memory focal ≡ machine
-    → KnowsNext origin machine
-    → (KnowsNext origin (machine_with memory focal) → Applies (manner_of origin) row named (machine_with memory focal) carried)
+    → Applies (manner_of origin) row named (machine_with memory focal) carried
     → Applies (manner_of origin) row named machine carried
-opened_row origin row named machine memory focal carried opened knows applies =
-    let P : Machine → Type 0 = λ old. KnowsNext origin old → Applies (manner_of origin) row named old carried in
-    subst P opened applies knows
+opened_row origin row named machine memory focal carried opened applies =
+    subst (λ (old : Machine). Applies (manner_of origin) row named old carried) opened applies
 
 -- it has a fault: by memory and what else lines work on
 pub row_failed :
@@ -53,8 +50,8 @@ pub row_failed :
     (brief : BriefOutcome)
     → machine_with memory focal ≡ machine
     → Works memory named row (Err fault)
-    → Fails (manner_of origin) machine fault (ended new brief)
+    → FailsAs origin fault machine new brief
     → Leaves origin row named machine new brief
 row_failed origin row named machine new memory focal fault brief opened works fails =
     let P : Machine → Type 0 = λ old. Works old.memory named row (Err fault) in
-    (Err fault, subst P opened works, (ended new brief, fails, refl))
+    (Err fault, subst P opened works, fails)

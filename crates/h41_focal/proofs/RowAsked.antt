@@ -3,7 +3,7 @@ use Rattle.std.proofs.Common.{◌≡◌, ℕ, Bool, true, false, ◌&&◌, is_so
 use Rattle.std.proofs.Common.{inr}
 use Rattle.h41_decimal.specs.Holding.{number_in}
 use Rattle.h41_focal.proofs.RowApplied.{applied_to}
-use Rattle.h41_focal.specs.private.Carrying.{CarriesRow, KnowsNext, Leads, manner_of, test_answer}
+use Rattle.h41_focal.specs.private.Carrying.{CarriesRow, Leads, manner_of, test_answer}
 use Rattle.h41_rows.specs.Computing.{WorksOn}
 use Rattle.h41_rows.specs.Computing as computing
 use Rattle.h41_rows.specs.Counters.{Way}
@@ -46,84 +46,82 @@ has_no_line holds memory next returns fails broken = rw fails (inr (broken, refl
 -- the program goes on from a line that asks, where its row goes by a condition
 program_leads : (next : Position) (lead : Origin) (row : LineRow) (condition : Condition) (holds : Bool)
     (named : ℕ) (machine : Machine) (register : List ℕ) (brief : BriefOutcome)
-    → KnowsNext (Program next) machine
     → ((to : Destination) → Asks (holds_in machine.memory named condition) machine.memory next machine.focal.returns to
     → StepsFrom row.goes machine.memory named machine.focal.position next machine.focal.returns to)
     → row.shows ≡ rows.AsBefore → row.ends ≡ rows.GoesOn → Works machine.memory named row (Ok register)
     → holds ≡ holds_in machine.memory named condition → Leads (Program next) machine.memory holds (Ok lead)
     → brief ≡ briefs.Done
     → CarriesRow (Program next) row named machine (applied_to lead row named register machine) (Ok brief)
-program_leads next (Program position) row condition holds named machine register brief knows goes shows ends works is leads answers =
+program_leads next (Program position) row condition holds named machine register brief goes shows ends works is leads answers =
     let asks : Asks (holds_in machine.memory named condition) machine.memory
     next machine.focal.returns (Arrives leads.0 machine.focal.returns) =
     subst (λ (b : Bool). Asks b machine.memory next machine.focal.returns (Arrives leads.0 machine.focal.returns))
     is (arrives holds machine.memory next leads.0 machine.focal.returns leads.2) in
     let same : position ≡ leads.0 = cc leads.1 in
-    (Ok register, works, (Arrives leads.0 machine.focal.returns, (next, knows, goes _ asks), rw (answers, shows, ends, same) refl))
-program_leads next Typed row condition holds named machine register brief knows goes shows ends works is leads answers =
+    (Ok register, works, (Arrives leads.0 machine.focal.returns, goes _ asks, rw (answers, shows, ends, same) refl))
+program_leads next Typed row condition holds named machine register brief goes shows ends works is leads answers =
     absurd (cc leads.1)
 
 -- a test is done
 pub test_leads : (origin lead : Origin) (row : LineRow) (condition : Condition) (holds : Bool)
     (named : ℕ) (machine : Machine) (register : List ℕ) (brief : BriefOutcome)
-    → KnowsNext origin machine → row.goes ≡ rows.Tests condition → row.shows ≡ rows.AsBefore → row.ends ≡ rows.GoesOn
+    → row.goes ≡ rows.Tests condition → row.shows ≡ rows.AsBefore → row.ends ≡ rows.GoesOn
     → Works machine.memory named row (Ok register) → holds ≡ holds_in machine.memory named condition
     → Leads origin machine.memory holds (Ok lead) → brief ≡ test_answer origin holds
     → CarriesRow origin row named machine (applied_to lead row named register machine) (Ok brief)
-test_leads (Program next) lead row condition holds named machine register brief knows goes shows ends works is leads answers =
+test_leads (Program next) lead row condition holds named machine register brief goes shows ends works is leads answers =
     program_leads next lead row condition holds named machine register brief
-    knows (λ to asks. rw goes asks) shows ends works is leads answers
-test_leads Typed (Program position) row condition holds named machine register brief knows goes shows ends works is leads answers =
+    (λ to asks. rw goes asks) shows ends works is leads answers
+test_leads Typed (Program position) row condition holds named machine register brief goes shows ends works is leads answers =
     absurd (cc leads)
-test_leads Typed Typed row condition holds named machine register brief knows goes shows ends works is leads answers =
+test_leads Typed Typed row condition holds named machine register brief goes shows ends works is leads answers =
     (Ok register, works, (Tells holds, rw goes (ap (λ (b : Bool). Tells b) is), rw answers refl))
 
 -- a loop counted
 pub loop_leads : (origin lead : Origin) (row : LineRow) (condition : Condition) (holds : Bool)
     (named : ℕ) (machine : Machine) (register : List ℕ) (brief : BriefOutcome)
-    → KnowsNext origin machine → row.goes ≡ rows.Counts condition → row.shows ≡ rows.AsBefore → row.ends ≡ rows.GoesOn
+    → row.goes ≡ rows.Counts condition → row.shows ≡ rows.AsBefore → row.ends ≡ rows.GoesOn
     → Works machine.memory named row (Ok register) → holds ≡ holds_in machine.memory named condition
     → Leads origin machine.memory holds (Ok lead) → brief ≡ briefs.Done
     → CarriesRow origin row named machine (applied_to lead row named register machine) (Ok brief)
-loop_leads (Program next) lead row condition holds named machine register brief knows goes shows ends works is leads answers =
+loop_leads (Program next) lead row condition holds named machine register brief goes shows ends works is leads answers =
     program_leads next lead row condition holds named machine register brief
-    knows (λ to asks. rw goes asks) shows ends works is leads answers
-loop_leads Typed (Program position) row condition holds named machine register brief knows goes shows ends works is leads answers =
+    (λ to asks. rw goes asks) shows ends works is leads answers
+loop_leads Typed (Program position) row condition holds named machine register brief goes shows ends works is leads answers =
     absurd (cc leads)
-loop_leads Typed Typed row condition holds named machine register brief knows goes shows ends works is leads answers =
+loop_leads Typed Typed row condition holds named machine register brief goes shows ends works is leads answers =
     (Ok register, works, (Stays, rw goes refl, rw (answers, shows, ends) refl))
 
 -- the line that would be passed over is none
 program_refused : (next : Position) (row : LineRow) (condition : Condition) (holds : Bool)
     (named : ℕ) (old : Machine) (register : List ℕ) (refusal : FocalRefusal)
-    → KnowsNext (Program next) old
     → ((to : Destination) → Asks (holds_in old.memory named condition) old.memory next old.focal.returns to
     → StepsFrom row.goes old.memory named old.focal.position next old.focal.returns to)
     → Works old.memory named row (Ok register) → holds ≡ holds_in old.memory named condition
-    → Leads (Program next) old.memory holds (Err refusal) → Applies destinations.Stepped row named old (Err refusal)
-program_refused next row condition holds named old register refusal knows goes works is leads =
+    → Leads (Program next) old.memory holds (Err refusal) → Applies (destinations.Stepped next) row named old (Err refusal)
+program_refused next row condition holds named old register refusal goes works is leads =
     let asks = has_no_line (holds_in old.memory named condition) old.memory next old.focal.returns (sym is ∙ leads.1) leads.2 in
-    (Ok register, works, (HasNoLine, (next, knows, goes _ asks), rw leads.0 refl))
+    (Ok register, works, (HasNoLine, goes _ asks, rw leads.0 refl))
 
 -- a test is refused
 pub test_refused : (origin : Origin) (row : LineRow) (condition : Condition) (holds : Bool)
     (named : ℕ) (old : Machine) (register : List ℕ) (refusal : FocalRefusal)
-    → KnowsNext origin old → row.goes ≡ rows.Tests condition → Works old.memory named row (Ok register)
+    → row.goes ≡ rows.Tests condition → Works old.memory named row (Ok register)
     → holds ≡ holds_in old.memory named condition → Leads origin old.memory holds (Err refusal)
     → Applies (manner_of origin) row named old (Err refusal)
-test_refused (Program next) row condition holds named old register refusal knows goes works is leads =
-    program_refused next row condition holds named old register refusal knows (λ to asks. rw goes asks) works is leads
-test_refused Typed row condition holds named old register refusal knows goes works is leads = absurd (cc leads)
+test_refused (Program next) row condition holds named old register refusal goes works is leads =
+    program_refused next row condition holds named old register refusal (λ to asks. rw goes asks) works is leads
+test_refused Typed row condition holds named old register refusal goes works is leads = absurd (cc leads)
 
 -- a loop is refused
 pub loop_refused : (origin : Origin) (row : LineRow) (condition : Condition) (holds : Bool)
     (named : ℕ) (old : Machine) (register : List ℕ) (refusal : FocalRefusal)
-    → KnowsNext origin old → row.goes ≡ rows.Counts condition → Works old.memory named row (Ok register)
+    → row.goes ≡ rows.Counts condition → Works old.memory named row (Ok register)
     → holds ≡ holds_in old.memory named condition → Leads origin old.memory holds (Err refusal)
     → Applies (manner_of origin) row named old (Err refusal)
-loop_refused (Program next) row condition holds named old register refusal knows goes works is leads =
-    program_refused next row condition holds named old register refusal knows (λ to asks. rw goes asks) works is leads
-loop_refused Typed row condition holds named old register refusal knows goes works is leads = absurd (cc leads)
+loop_refused (Program next) row condition holds named old register refusal goes works is leads =
+    program_refused next row condition holds named old register refusal (λ to asks. rw goes asks) works is leads
+loop_refused Typed row condition holds named old register refusal goes works is leads = absurd (cc leads)
 
 -- a test computes nothing, and its condition is told where its places hold numbers
 asked : (numbers holds other : Bool)

@@ -2,7 +2,7 @@
 use Rattle.std.proofs.Common.{arith, ◌≡◌, ◌≢◌, ℕ, ◌≤◌, false, nat_eq, List, [], ◌∷◌, length, drop, slice_index, Some, Result, Ok, refl}
 use Rattle.std.proofs.lemmas.Bool.Decides.{nat_tests}
 use Rattle.h41_focal.proofs.RowApplied.{opened_row, row_applied}
-use Rattle.h41_focal.specs.private.Carrying.{KnowsNext, Leaves, on_to_next, ended, nowhere}
+use Rattle.h41_focal.specs.private.Carrying.{Leaves, on_to_next, ended, nowhere}
 use Rattle.h41_focal.specs.BriefOutcomes.{brief_answer}
 use Rattle.h41_rows.specs.Computing.{WorksOn, value_of_two}
 use Rattle.h41_rows.specs.LineRows.{text_row}
@@ -26,17 +26,15 @@ pub row_done :
     (origin : Origin) (row : LineRow) (named : ℕ) (machine : Machine) (memory : RegisterMap) (focal : FocalState) (register : List ℕ)
     (brief : BriefOutcome) (new : RegisterMap) (after : FocalState)
     → machine_with memory focal ≡ machine
-    → KnowsNext origin machine
     → row.goes ≡ rows.Next
     → Works memory named row (Ok register)
     → brief_answer nowhere new brief ≡ answer_of_showing memory named row.shows row.ends
     → new ≡ memory_after row named register focal.lift memory
     → after ≡ on_to_next origin row.lift focal
     → Leaves origin row named machine (machine_with new after) brief
-row_done origin row named machine memory focal register brief new after opened knows goes works answers makes ends =
-    opened_row origin row named machine memory focal (Ok (ended (machine_with new after) brief)) opened knows
-    (λ next. rw (makes, ends) (row_applied origin row named (machine_with memory focal) register brief next goes works
-    (rw makes at answers)))
+row_done origin row named machine memory focal register brief new after opened goes works answers makes ends =
+    opened_row origin row named machine memory focal (Ok (ended (machine_with new after) brief)) opened
+    (rw (makes, ends) (row_applied origin row named (machine_with memory focal) register brief goes works (rw makes at answers)))
 
 -- arithmetic in a register works on the numbers of its value alone
 pub works_in_register :
@@ -55,14 +53,13 @@ pub text_done :
     (characters : List ℕ) (origin : Origin) (named : ℕ) (machine : Machine) (memory : RegisterMap) (focal : FocalState)
     (new : RegisterMap) (after : FocalState)
     → machine_with memory focal ≡ machine
-    → KnowsNext origin machine
     → new ≡ with_alpha_change memory named (text_row characters).alpha memory
     → after ≡ on_to_next origin rows.On focal
     → Leaves origin (text_row characters) named machine (machine_with new after) briefs.Done
-text_done [] origin named machine memory focal new after opened knows makes ends =
-    row_done origin (text_row []) named machine memory focal zeros briefs.Done new after opened knows refl refl refl makes ends
-text_done (character ∷ text) origin named machine memory focal new after opened knows makes ends =
-    row_done origin (text_row (character ∷ text)) named machine memory focal zeros briefs.Done new after opened knows refl refl refl
+text_done [] origin named machine memory focal new after opened makes ends =
+    row_done origin (text_row []) named machine memory focal zeros briefs.Done new after opened refl refl refl makes ends
+text_done (character ∷ text) origin named machine memory focal new after opened makes ends =
+    row_done origin (text_row (character ∷ text)) named machine memory focal zeros briefs.Done new after opened refl refl refl
     makes ends
 
 -- what a text does to ALPHA, by its first character

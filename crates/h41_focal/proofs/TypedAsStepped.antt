@@ -4,32 +4,29 @@ use Rattle.std.proofs.lemmas.List.Elements.{All-head, All-tail}
 use Rattle.std.specs.Prelude.{IfOk, MatchBool, if◌then◌else◌}
 use Rattle.h41_codes.specs.declared.line.Line.{Line}
 use Rattle.h41_codes.specs.declared.line.Line.TheVariants.{Module}
-use Rattle.h41_focal.proofs.OneOutcome.{typed_determined}
+use Rattle.h41_focal.proofs.Elsewhere.{fails_here, own_answer}
+use Rattle.h41_focal.proofs.OneOutcome.{same_line, typed_determined}
 use Rattle.h41_focal.specs.Destinations.{Arrives, Destination, Stays, StepsFrom, Stepped, Typed, TypedFrom}
 use Rattle.h41_focal.specs.LineLaws.{AreAlike, GoesToNext, IsAt, NextIsHere, StepsInTurn, SteppedCanBeTyped, TypedAsStepped}
 use Rattle.h41_focal.specs.LineLaws.{TypedIsDetermined, TypesInTurn}
-use Rattle.h41_focal.specs.LineStep.{Applies, AppliesTo, AppliesWith, CarriesOut, Ends, FailsIn, FocalState, Left, Machine, StepsAs}
-use Rattle.h41_focal.specs.LineStep.{StepsLine, TakesLine, TypesLine, answer_of_showing, with_fault_caught, left_done, answer_of_ending}
-use Rattle.h41_focal.specs.LineStep.{error_flag, left_failed, named_by, at_line}
-use Rattle.h41_focal.specs.LineStep.{shown_text, with_row}
+use Rattle.h41_focal.specs.LineStep.{Applies, AppliesTo, AppliesWith, CarriesOut, Ends, FailsIn, FocalState, Left, Machine, Stands, StepsAs}
+use Rattle.h41_focal.specs.LineStep.{StepsLine, TakesLine, TypesLine, answer_of_showing, with_fault_caught, left_done}
+use Rattle.h41_focal.specs.LineStep.{error_flag, left_by_fault, left_failed, named_by, at_line}
+use Rattle.h41_focal.specs.LineStep.{with_row}
 use Rattle.h41_focal.specs.Outcomes.{is_elsewhere}
 use Rattle.h41_focal.specs.declared.refusal.FocalRefusal.{FocalRefusal}
-use Rattle.h41_focal.specs.declared.refusal.FocalRefusal.TheVariants.{MemoryLost, NotInProfile}
+use Rattle.h41_focal.specs.declared.refusal.FocalRefusal.TheVariants.{NotInProfile}
 use Rattle.h41_program.specs.PositionLaws.{HasOneAnswer, HasOneAnswerEach, IsReadOnce}
-use Rattle.h41_program.specs.Positions.{LineAt, LocalFrom, NextAt, StartOf}
+use Rattle.h41_program.specs.Positions.{LocalFrom, StartOf}
 use Rattle.h41_program.specs.SearchLaws.{AnswersAreDetermined}
-use Rattle.h41_program.specs.declared.position.PlacedLine.{PlacedLine}
 use Rattle.h41_program.specs.declared.position.Position.{Position}
-use Rattle.h41_program.specs.declared.refusal.ProgramRefusal as program
-use Rattle.h41_ram.specs.RegisterMap.{RegisterMap, flag_of, is_sound, register_at}
+use Rattle.h41_ram.specs.RegisterMap.{flag_of}
 use Rattle.h41_rows.specs.LineRows.{row_of}
 use Rattle.h41_rows.specs.Operands.{Meant, meant_of}
 use Rattle.h41_rows.specs.Profile.{is_left_out}
 use Rattle.h41_rows.specs.RowLaws.{ValuesAreDetermined}
 use Rattle.h41_rows.specs.Rows as rows
 use Rattle.h41_rows.specs.declared.fault.LineFault.{LineFault}
-use Rattle.h41_show.specs.DisplayFormat.{format_of}
-use Rattle.h41_show.specs.RegisterText.{alpha_text, register_text}
 
 -- a machine's memory and lift, with what else there is of another
 abbrev beside : Machine → FocalState → Machine
@@ -57,60 +54,41 @@ LeavesLike carries left = (typed : Left) × carries (Ok typed) × AreAlike left.
 here : (left other : Left) → left ≡ other → is_elsewhere other.answer ≡ false → is_elsewhere left.answer ≡ false
 here left other is found = subst (λ (of : Left). is_elsewhere of.answer ≡ false) (sym is) found
 
--- a row's own answer is none of those
-shown_here : (text : List ℕ) (ending : rows.RowEnding) → is_elsewhere (shown_text text ending) ≡ false
-shown_here text rows.GoesOn = refl
-shown_here text rows.Stops = refl
-shown_here text rows.TurnsOff = refl
-
-ended_here : (ending : rows.RowEnding) → is_elsewhere (answer_of_ending ending) ≡ false
-ended_here rows.GoesOn = refl
-ended_here rows.Stops = refl
-ended_here rows.TurnsOff = refl
-
-answered_here : (memory : RegisterMap) (named : ℕ) (showing : rows.Showing) (ending : rows.RowEnding)
-    → is_elsewhere (answer_of_showing memory named showing ending) ≡ false
-answered_here memory named rows.AsBefore ending = ended_here ending
-answered_here memory named rows.NoText ending = refl
-answered_here memory named rows.NamedText ending = shown_here (register_text (format_of memory) (register_at memory named)) ending
-answered_here memory named rows.AlphaText ending = shown_here (alpha_text memory) ending
-
 -- a fault
-abbrev typed_fault : Bool → Machine → LineFault → Left
-typed_fault flag_25 machine fault = if flag_25 then left_done (with_fault_caught machine) else left_failed machine fault
+caught_alike : (flag_25 : Bool) (next : Position) (machine : Machine) (focal : FocalState) (fault : LineFault)
+    → AreAlike
+    (if flag_25 then left_done (at_line next (with_fault_caught machine))
+    else left_failed (at_line machine.focal.position machine) fault).machine
+    (if flag_25 then left_done (with_fault_caught (beside machine focal)) else left_failed (beside machine focal) fault).machine
+caught_alike true next machine focal fault = (refl, refl)
+caught_alike false next machine focal fault = (refl, refl)
 
-fails_alike : (flag_25 : Bool) (machine : Machine) (focal : FocalState) (fault : LineFault) (left : Left)
-    → MatchBool flag_25
-    ((next : Position) × NextAt machine.memory machine.focal.position (Ok next)
-    × (left ≡ left_done (at_line next (with_fault_caught machine))))
-    (left ≡ left_failed (at_line machine.focal.position machine) fault)
-    → AreAlike left.machine (typed_fault flag_25 (beside machine focal) fault).machine × (is_elsewhere left.answer ≡ false)
-fails_alike true machine focal fault left (next, answers, is) =
-    (as_same left _ is (with_fault_caught (beside machine focal)) (refl, refl), here left _ is refl)
-fails_alike false machine focal fault left is = (as_same left _ is (beside machine focal) (refl, refl), here left _ is refl)
-
-failure_alike : (machine : Machine) (focal : FocalState) (fault : LineFault) (left : Left)
-    → FailsIn Stepped machine fault (Ok left) → LeavesLike (FailsIn Typed (beside machine focal) fault) left
-failure_alike machine focal fault left (own, fails, is) =
-    let flag_25 = flag_of machine.memory error_flag in
-    let typed = typed_fault flag_25 (beside machine focal) fault in
-    let alike = fails_alike flag_25 machine focal fault own fails in
-    let same = same_left left own is in
-    (typed, (typed, refl, refl), as_same left own same typed.machine alike.0, here left own same alike.1)
+failure_alike : (next : Position) (machine : Machine) (focal : FocalState) (fault : LineFault) (left : Left)
+    → FailsIn (Stepped next) machine fault (Ok left) → LeavesLike (FailsIn Typed (beside machine focal) fault) left
+failure_alike next machine focal fault left failing =
+    let typed = left_by_fault Typed (beside machine focal) fault in
+    let own = left_by_fault (Stepped next) machine fault in (
+      typed,
+      refl,
+      as_same left own (same_left left own failing) typed.machine
+          (caught_alike (flag_of machine.memory error_flag) next machine focal fault),
+      fails_here (Stepped next) machine fault left failing,
+    )
 
 -- a row that goes on to the next line
-with_alike : (row : rows.LineRow) (named : ℕ) (machine : Machine) (focal : FocalState) (result : Result (List ℕ) LineFault) (left : Left)
-    → row.goes ≡ rows.Next → AppliesWith Stepped row named machine result (Ok left)
+with_alike : (next : Position) (row : rows.LineRow) (named : ℕ) (machine : Machine) (focal : FocalState)
+    (result : Result (List ℕ) LineFault) (left : Left)
+    → row.goes ≡ rows.Next → AppliesWith (Stepped next) row named machine result (Ok left)
     → LeavesLike (AppliesWith Typed row named (beside machine focal) result) left
-with_alike row named machine focal (Err fault) left goes_on applies = failure_alike machine focal fault left applies
-with_alike row named machine focal (Ok result) left goes_on (to, (next, answers, goes), ends) =
+with_alike next row named machine focal (Err fault) left goes_on applies = failure_alike next machine focal fault left applies
+with_alike next row named machine focal (Ok result) left goes_on (to, goes, ends) =
     let new = with_row row named result machine in
     let other = beside machine focal in
     let answer = answer_of_showing machine.memory named row.shows row.ends in
     let arrives : to ≡ Arrives next machine.focal.returns =
     subst (λ (going : rows.Going). StepsFrom going machine.memory named machine.focal.position next machine.focal.returns to)
     goes_on goes in
-    let is = subst (λ (to : Destination). Ends Stepped machine new answer to (Ok left)) arrives ends in
+    let is = subst (λ (to : Destination). Ends (Stepped next) machine new answer to (Ok left)) arrives ends in
     let stays =
     subst (λ (going : rows.Going). TypedFrom going other.memory named other.focal.position other.focal.returns Stays) (sym goes_on) refl in
     let typed : Left = record { machine = with_row row named result other; answer = answer } in
@@ -118,59 +96,58 @@ with_alike row named machine focal (Ok result) left goes_on (to, (next, answers,
       typed,
       (Stays, stays, refl),
       as_same left _ same typed.machine (refl, refl),
-      here left _ same (answered_here machine.memory named row.shows row.ends),
+      here left _ same (own_answer machine.memory named row.shows row.ends),
     )
 
-row_alike : (row : rows.LineRow) (named : ℕ) (machine : Machine) (focal : FocalState) (left : Left) → row.goes ≡ rows.Next
-    → Applies Stepped row named machine (Ok left) → LeavesLike (Applies Typed row named (beside machine focal)) left
-row_alike row named machine focal left goes_on (result, works, applies) =
-    let found = with_alike row named machine focal result left goes_on applies in
+row_alike : (next : Position) (row : rows.LineRow) (named : ℕ) (machine : Machine) (focal : FocalState) (left : Left) → row.goes ≡ rows.Next
+    → Applies (Stepped next) row named machine (Ok left) → LeavesLike (Applies Typed row named (beside machine focal)) left
+row_alike next row named machine focal left goes_on (result, works, applies) =
+    let found = with_alike next row named machine focal result left goes_on applies in
     (found.0, (result, works, found.1), found.2, found.3)
 
 -- a line that goes on to the next one
-meant_alike : (line : Line) (machine : Machine) (focal : FocalState) (meant : Result Meant LineFault) (left : Left)
-    → IfOk meant (λ meant. (row_of line meant).goes ≡ rows.Next) → AppliesTo Stepped line machine meant (Ok left)
+meant_alike : (next : Position) (line : Line) (machine : Machine) (focal : FocalState) (meant : Result Meant LineFault) (left : Left)
+    → IfOk meant (λ meant. (row_of line meant).goes ≡ rows.Next) → AppliesTo (Stepped next) line machine meant (Ok left)
     → LeavesLike (AppliesTo Typed line (beside machine focal) meant) left
-meant_alike line machine focal (Err fault) left goes_on applies = failure_alike machine focal fault left applies
-meant_alike line machine focal (Ok meant) left goes_on applies =
-    row_alike (row_of line meant) (named_by meant) machine focal left goes_on applies
+meant_alike next line machine focal (Err fault) left goes_on applies = failure_alike next machine focal fault left applies
+meant_alike next line machine focal (Ok meant) left goes_on applies =
+    row_alike next (row_of line meant) (named_by meant) machine focal left goes_on applies
 
-carried_alike : (line : Line) (machine : Machine) (focal : FocalState) (left : Left)
-    → GoesToNext line → CarriesOut Stepped line machine (Ok left) → LeavesLike (CarriesOut Typed line (beside machine focal)) left
-carried_alike (Module number entry) machine focal left goes_on carries = absurd goes_on
-carried_alike line machine focal left goes_on carries =
-    meant_alike line machine focal (meant_of machine.memory line) left (goes_on machine.memory) carries
+carried_alike : (next : Position) (line : Line) (machine : Machine) (focal : FocalState) (left : Left)
+    → GoesToNext line → CarriesOut (Stepped next) line machine (Ok left) → LeavesLike (CarriesOut Typed line (beside machine focal)) left
+carried_alike next (Module number entry) machine focal left goes_on carries = absurd goes_on
+carried_alike next line machine focal left goes_on carries =
+    meant_alike next line machine focal (meant_of machine.memory line) left (goes_on machine.memory) carries
 
-profile_alike : (left_out : Bool) (line : Line) (machine : Machine) (focal : FocalState) (left : Left) → GoesToNext line
-    → MatchBool left_out (◌≡◌ {A = Result Left FocalRefusal} (Ok left) (Err NotInProfile)) (CarriesOut Stepped line machine (Ok left))
+profile_alike : (left_out : Bool) (next : Position) (line : Line) (machine : Machine) (focal : FocalState) (left : Left) → GoesToNext line
+    → MatchBool left_out (◌≡◌ {A = Result Left FocalRefusal} (Ok left) (Err NotInProfile))
+    (CarriesOut (Stepped next) line machine (Ok left))
     → LeavesLike (λ carried. MatchBool left_out (carried ≡ Err NotInProfile) (CarriesOut Typed line (beside machine focal) carried)) left
-profile_alike true line machine focal left goes_on is = absurd (no_refusal left NotInProfile is)
-profile_alike false line machine focal left goes_on carries = carried_alike line machine focal left goes_on carries
+profile_alike true next line machine focal left goes_on is = absurd (no_refusal left NotInProfile is)
+profile_alike false next line machine focal left goes_on carries = carried_alike next line machine focal left goes_on carries
 
-taken_alike : (line : Line) (machine : Machine) (focal : FocalState) (left : Left)
-    → GoesToNext line → TakesLine Stepped line machine (Ok left) → LeavesLike (TakesLine Typed line (beside machine focal)) left
-taken_alike line machine focal left goes_on takes = profile_alike (is_left_out line) line machine focal left goes_on takes
+taken_alike : (next : Position) (line : Line) (machine : Machine) (focal : FocalState) (left : Left)
+    → GoesToNext line → TakesLine (Stepped next) line machine (Ok left) → LeavesLike (TakesLine Typed line (beside machine focal)) left
+taken_alike next line machine focal left goes_on takes = profile_alike (is_left_out line) next line machine focal left goes_on takes
 
 -- the line at the position, where no bytes have two first lines
 module _ (once : IsReadOnce) where
-  sound_alike : (sound : Bool) (line : Line) (machine : Machine) (focal : FocalState) (left : Left) → GoesToNext line → IsAt line machine
-      → MatchBool sound ((first : Result PlacedLine program.ProgramRefusal)
-      × LineAt machine.memory machine.focal.position first
-      × StepsAs None machine first (Ok left))
-      (◌≡◌ {A = Result Left FocalRefusal} (Ok left) (Err MemoryLost))
-      → LeavesLike (λ carried. MatchBool sound (TakesLine Typed line (beside machine focal) carried) (carried ≡ Err MemoryLost)) left
-  sound_alike true line machine focal left goes_on (own, stands, is) (first, answers, steps) =
-      let same = once.line machine.memory machine.focal.position first (Ok own) answers stands in
-      let takes : TakesLine Stepped own.line machine (Ok left) =
-      subst (λ (first : Result PlacedLine program.ProgramRefusal). StepsAs None machine first (Ok left)) same steps in
-      taken_alike line machine focal left goes_on (subst (λ (line : Line). TakesLine Stepped line machine (Ok left)) is takes)
-  sound_alike false line machine focal left goes_on stands is = absurd (no_refusal left MemoryLost is)
+  stands_alike : (standing : Result (Line × Position) FocalRefusal) (line : Line) (machine : Machine) (focal : FocalState) (left : Left)
+      → GoesToNext line → IsAt line machine → Stands machine standing → StepsAs None machine standing (Ok left)
+      → LeavesLike (TypesLine line (beside machine focal)) left
+  stands_alike (Ok (own, next)) line machine focal left goes_on stands (sound, stands_so, behind) takes =
+      let same = same_line once machine.memory machine.focal.position own line stands_so stands in
+      let found =
+      taken_alike next line machine focal left goes_on (subst (λ (line : Line). TakesLine (Stepped next) line machine (Ok left)) same takes)
+      in
+      (found.0, rw sound found.1, found.2, found.3)
+  stands_alike (Err refusal) line machine focal left goes_on stands refused is = absurd (no_refusal left refusal is)
 
   line_alike : (line : Line) (machine other : Machine) (left : Left) → GoesToNext line → AreAlike machine other → IsAt line machine
       → StepsLine None machine (Ok left) → LeavesLike (TypesLine line other) left
   line_alike line machine other left goes_on alike stands steps =
       subst (λ (other : Machine). LeavesLike (TypesLine line other) left) (same_beside machine other alike)
-      (sound_alike (is_sound machine.memory) line machine other.focal left goes_on stands steps)
+      (stands_alike steps.0 line machine other.focal left goes_on stands steps.1 steps.2)
 
   pub next_is_here : NextIsHere
   next_is_here line machine left goes_on stands steps =

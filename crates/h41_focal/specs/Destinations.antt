@@ -14,9 +14,9 @@ use Rattle.h41_program.specs.declared.position.Position.TheVariants.{Memory}
 use Rattle.h41_program.specs.declared.refusal.ProgramRefusal.TheVariants.{BrokenProgram}
 use Rattle.h41_ram.specs.RegisterMap.{RegisterMap}
 
--- how a line comes: from the program at the position, or typed
+-- how a line comes: from the program, at the position, where the next line stands here; or typed
 pub data Manner : Type 0 where
-  Stepped : Manner
+  Stepped : Position → Manner
   Typed : Manner
 
 pub data Destination : Type 0 where
@@ -119,8 +119,6 @@ TypedFrom rows.Returns memory named at returns to =
 -- where a line goes
 abbrev pub Goes : Manner → rows.Going → RegisterMap → ℕ → Position → List Position → Destination
     → Type 0
-Goes Stepped going memory named at returns to =
-    (next : Position)
-    × NextAt memory at (Ok next)
-    × StepsFrom going memory named at next returns to
+Goes (Stepped next) going memory named at returns to =
+    StepsFrom going memory named at next returns to
 Goes Typed going memory named at returns to = TypedFrom going memory named at returns to

@@ -5,16 +5,14 @@ use Rattle.h41_codes.specs.declared.functions.Function.{Function}
 use Rattle.h41_codes.specs.declared.line.Line.{Line}
 use Rattle.h41_codes.specs.declared.line.Line.TheVariants as lines
 use Rattle.h41_focal.specs.LabelledMachine.{LabelledMachine, begun_labels, machine_of}
-use Rattle.h41_focal.specs.LineStep.{Machine, line_as}
+use Rattle.h41_focal.specs.LineStep.{Machine, Stands, line_as}
+use Rattle.h41_focal.specs.declared.refusal.FocalRefusal.{FocalRefusal}
 use Rattle.h41_labels.specs.KeptAnswers.{KeepsSearch}
 use Rattle.h41_labels.specs.declared.search.KeptAnswer.{KeptAnswer}
 use Rattle.h41_labels.specs.declared.search.Search.{Search}
 use Rattle.h41_labels.specs.declared.search.Search.TheVariants.{Global, Local}
-use Rattle.h41_program.specs.Positions.{LineAt, NextAt}
-use Rattle.h41_program.specs.declared.position.PlacedLine.{PlacedLine}
 use Rattle.h41_program.specs.declared.position.Position.{Position}
 use Rattle.h41_program.specs.declared.position.Position.TheVariants.{Memory}
-use Rattle.h41_program.specs.declared.refusal.ProgramRefusal as program
 use Rattle.h41_ram.specs.RegisterMap.{RegisterMap, is_sound}
 use Rattle.h41_rows.specs.Operands.{Count, Meant, Name, meant_of}
 use Rattle.h41_rows.specs.Profile.{is_left_out}
@@ -49,26 +47,23 @@ abbrev pub KeepsTyped : Line → Machine → (before after : List KeptAnswer) �
 KeepsTyped line machine before after =
     KeepsSearch machine.memory (search_of machine.memory machine.focal.position line) before after
 
-abbrev pub KeepsStepped : Line → Machine → (before after : List KeptAnswer) → Type 0
-KeepsStepped line machine before after =
-    (next : Position) × NextAt machine.memory machine.focal.position (Ok next)
-    × KeepsSearch machine.memory (search_of machine.memory next line) before after
+abbrev pub KeepsStepped : Line → Position → Machine → (before after : List KeptAnswer) → Type 0
+KeepsStepped line next machine before after =
+    KeepsSearch machine.memory (search_of machine.memory next line) before after
 
 -- where none stands there, nothing is searched
-abbrev pub KeepsPlaced : Option Function → Machine → Result PlacedLine program.ProgramRefusal
+abbrev pub KeepsPlaced : Option Function → Machine → Result (Line × Position) FocalRefusal
     → (before after : List KeptAnswer) → Type 0
-KeepsPlaced function machine (Ok first) before after =
-    KeepsStepped (line_as function first.line) machine before after
+KeepsPlaced function machine (Ok standing) before after =
+    KeepsStepped (line_as function standing.0) standing.1 machine before after
 KeepsPlaced function machine (Err refusal) before after = after ≡ before
 
 -- the kept answers behind the line at the position, or behind a function in its place
 abbrev pub StepKeeps : Option Function → (old new : LabelledMachine) → Type 0
 StepKeeps function old new =
-    MatchBool (is_sound old.ram.registers)
-    ((first : Result PlacedLine program.ProgramRefusal)
-    × LineAt old.ram.registers old.focal.state.position first
-    × KeepsPlaced function (machine_of old) first (begun_labels old) new.focal.labels)
-    (new.focal.labels ≡ begun_labels old)
+    (standing : Result (Line × Position) FocalRefusal)
+    × Stands (machine_of old) standing
+    × KeepsPlaced function (machine_of old) standing (begun_labels old) new.focal.labels
 
 -- and behind a typed line
 abbrev pub TypingKeeps : Line → (old new : LabelledMachine) → Type 0

@@ -37,8 +37,8 @@ begun_ram ram = record ram { touched = false }
 abbrev pub begun_labels : LabelledMachine → List KeptAnswer
 begun_labels labelled = if labelled.ram.touched then [] else labelled.focal.labels
 
-abbrev pub begun : LabelledMachine → LabelledMachine
-begun labelled = record {
+abbrev pub with_line_begun : LabelledMachine → LabelledMachine
+with_line_begun labelled = record {
   ram = begun_ram labelled.ram;
   focal = record labelled.focal { labels = begun_labels labelled };
 }

@@ -1,8 +1,8 @@
 -- One line is carried out: one rule for all rows. The Owner's Handbook's are flag 25 and what
 -- faults do; the refusals and their order, what becomes of line 00 and what a typed line does at a
 -- fault are this project's choices.
-use Rattle.std.specs.Prelude.{◌≡◌, ℕ, Bool, true, false, List, [], MatchBool, if◌then◌else◌, Option}
-use Rattle.std.specs.Prelude.{Some, None, Result, Ok, Err}
+use Rattle.std.specs.Prelude.{◌≡◌, ℕ, Bool, true, false, IsTrue, List, [], MatchBool, Option}
+use Rattle.std.specs.Prelude.{if◌then◌else◌, Some, None, Result, Ok, Err}
 use Rattle.h41_codes.specs.declared.functions.Function.{Function}
 use Rattle.h41_codes.specs.declared.line.Line.{Line}
 use Rattle.h41_codes.specs.declared.line.Line.TheVariants.{Module, Plain}
@@ -26,7 +26,7 @@ use Rattle.h41_program.specs.Positions.{LineAt, NextAt}
 use Rattle.h41_program.specs.declared.position.PlacedLine.{PlacedLine}
 use Rattle.h41_program.specs.declared.position.Position.{Position}
 use Rattle.h41_program.specs.declared.position.Position.TheVariants.{Memory}
-use Rattle.h41_program.specs.declared.refusal.ProgramRefusal as program
+use Rattle.h41_program.specs.declared.refusal.ProgramRefusal.{ProgramRefusal}
 use Rattle.h41_ram.specs.NamedFlags.{error_ignore}
 use Rattle.h41_ram.specs.RegisterMap.{RegisterMap, flag_of, is_sound, register_at, with_flag, zeros}
 use Rattle.h41_show.specs.DisplayFormat.{format_of}
@@ -126,29 +126,24 @@ left_failed machine fault = record { machine = machine; answer = answers.Failed 
 abbrev pub left_done : Machine → Left
 left_done machine = record { machine = machine; answer = answers.Done }
 
-abbrev pub Fails : Manner → Machine → LineFault → Left → Type 0
-Fails Stepped machine fault left =
-    MatchBool (flag_of machine.memory error_flag)
-    ((next : Position)
-    × NextAt machine.memory machine.focal.position (Ok next)
-    × (left ≡ left_done (at_line next (with_fault_caught machine))))
-    (left ≡ left_failed (at_line machine.focal.position machine) fault)
-Fails Typed machine fault left =
-    left
-    ≡ (if flag_of machine.memory error_flag then left_done (with_fault_caught machine) else
-    left_failed machine fault)
+abbrev pub left_by_fault : Manner → Machine → LineFault → Left
+left_by_fault (Stepped next) machine fault =
+    if flag_of machine.memory error_flag then left_done (at_line next (with_fault_caught machine))
+    else left_failed (at_line machine.focal.position machine) fault
+left_by_fault Typed machine fault =
+    if flag_of machine.memory error_flag then left_done (with_fault_caught machine)
+    else left_failed machine fault
 
 -- a line is carried out, or refused
 abbrev pub FailsIn : Manner → Machine → LineFault → Result Left FocalRefusal → Type 0
-FailsIn how machine fault carried =
-    (left : Left) × Fails how machine fault left × (carried ≡ Ok left)
+FailsIn how machine fault carried = carried ≡ Ok (left_by_fault how machine fault)
 
 -- what is left of a machine with a row's changes, by where the line goes
 abbrev pub Ends : Manner → Machine → Machine → Answer → Destination → Result Left FocalRefusal
     → Type 0
 Ends how old new answer (Arrives position returns) carried =
     carried ≡ Ok (record { machine = at_line position (with_returns returns new); answer = answer })
-Ends Stepped old new answer (Halts start) carried =
+Ends (Stepped next) old new answer (Halts start) carried =
     carried ≡ Ok (record { machine = at_halt start new; answer = answers.Stopped })
 Ends Typed old new answer (Halts start) carried = carried ≡ Ok (left_done (at_halt start new))
 Ends how old new answer Stays carried = carried ≡ Ok (record { machine = new; answer = answer })
@@ -226,37 +221,47 @@ abbrev pub line_as : Option Function → Line → Line
 line_as None line = line
 line_as (Some function) line = Plain function
 
--- a line stands at the position, or none: 14
-abbrev pub StepsAs : Option Function → Machine → Result PlacedLine program.ProgramRefusal
-    → Result Left FocalRefusal → Type 0
-StepsAs function machine (Ok first) carried =
-    TakesLine Stepped (line_as function first.line) machine carried
-StepsAs function machine (Err refusal) carried = carried ≡ Err BrokenProgram
+-- the line that stands at a position, and where the next one stands; or why there is none: 15 where
+-- memory is not sound, 14 where no line stands there
+abbrev pub StandsAt : RegisterMap → Position → Result (Line × Position) FocalRefusal → Type 0
+StandsAt memory at (Ok standing) =
+    IsTrue (is_sound memory)
+    × ((first : PlacedLine) × LineAt memory at (Ok first) × (first.line ≡ standing.0))
+    × NextAt memory at (Ok standing.1)
+StandsAt memory at (Err refusal) =
+    MatchBool (is_sound memory)
+    ((refusal ≡ BrokenProgram) × (why : ProgramRefusal) × LineAt memory at (Err why))
+    (refusal ≡ MemoryLost)
 
--- the line at the position is carried out, or a function in its place; 15 where memory is not sound
+abbrev pub Stands : Machine → Result (Line × Position) FocalRefusal → Type 0
+Stands machine standing = StandsAt machine.memory machine.focal.position standing
+
+-- the line at the position is carried out, or a function in its place
+abbrev pub StepsAs : Option Function → Machine → Result (Line × Position) FocalRefusal
+    → Result Left FocalRefusal → Type 0
+StepsAs function machine (Ok standing) carried =
+    TakesLine (Stepped standing.1) (line_as function standing.0) machine carried
+StepsAs function machine (Err refusal) carried = carried ≡ Err refusal
+
 abbrev pub StepsLine : Option Function → Machine → Result Left FocalRefusal → Type 0
 StepsLine function machine carried =
-    MatchBool (is_sound machine.memory)
-    ((first : Result PlacedLine program.ProgramRefusal)
-    × LineAt machine.memory machine.focal.position first
-    × StepsAs function machine first carried)
-    (carried ≡ Err MemoryLost)
+    (standing : Result (Line × Position) FocalRefusal)
+    × Stands machine standing
+    × StepsAs function machine standing carried
 
--- the line at the position fails, as where what it calls is nowhere: 15 and 14 as above
-abbrev pub FailsWith : LineFault → Machine → Result PlacedLine program.ProgramRefusal
+-- the line at the position fails, as where what it calls is nowhere
+abbrev pub FailsWith : LineFault → Machine → Result (Line × Position) FocalRefusal
     → Result Left FocalRefusal → Type 0
-FailsWith fault machine (Ok first) carried = FailsIn Stepped machine fault carried
-FailsWith fault machine (Err refusal) carried = carried ≡ Err BrokenProgram
+FailsWith fault machine (Ok standing) carried = FailsIn (Stepped standing.1) machine fault carried
+FailsWith fault machine (Err refusal) carried = carried ≡ Err refusal
 
 abbrev pub FailsLine : LineFault → Machine → Result Left FocalRefusal → Type 0
 FailsLine fault machine carried =
-    MatchBool (is_sound machine.memory)
-    ((first : Result PlacedLine program.ProgramRefusal)
-    × LineAt machine.memory machine.focal.position first
-    × FailsWith fault machine first carried)
-    (carried ≡ Err MemoryLost)
+    (standing : Result (Line × Position) FocalRefusal)
+    × Stands machine standing
+    × FailsWith fault machine standing carried
 
--- a typed line fails, as where what it calls is nowhere: 15 as above
+-- a typed line fails, as where what it calls is nowhere: 15 as where one is typed
 abbrev pub FailsTyped : LineFault → Machine → Result Left FocalRefusal → Type 0
 FailsTyped fault machine carried =
     MatchBool (is_sound machine.memory)
@@ -264,7 +269,7 @@ FailsTyped fault machine carried =
 
 -- the line at the position calls a function of a module, which the calculator carries out: the
 -- program goes on behind the line. An XROM line turns lift on, XEQ of a name leaves it (this
--- project's choice); 15 and 14 as above
+-- project's choice).
 abbrev pub lift_behind : Line → Bool → Bool
 lift_behind (Module number entry) lift = true
 lift_behind line lift = lift
@@ -274,18 +279,14 @@ with_line_passed line next machine =
     at_line next
     (record machine { focal = record machine.focal { lift = lift_behind line machine.focal.lift } })
 
-abbrev pub PassesWith : Machine → Result PlacedLine program.ProgramRefusal
+abbrev pub PassesWith : Machine → Result (Line × Position) FocalRefusal
     → Result Machine FocalRefusal → Type 0
-PassesWith machine (Ok first) after =
-    (next : Position)
-    × NextAt machine.memory machine.focal.position (Ok next)
-    × (after ≡ Ok (with_line_passed first.line next machine))
-PassesWith machine (Err refusal) after = after ≡ Err BrokenProgram
+PassesWith machine (Ok standing) after =
+    after ≡ Ok (with_line_passed standing.0 standing.1 machine)
+PassesWith machine (Err refusal) after = after ≡ Err refusal
 
 abbrev pub PassesLine : Machine → Result Machine FocalRefusal → Type 0
 PassesLine machine after =
-    MatchBool (is_sound machine.memory)
-    ((first : Result PlacedLine program.ProgramRefusal)
-    × LineAt machine.memory machine.focal.position first
-    × PassesWith machine first after)
-    (after ≡ Err MemoryLost)
+    (standing : Result (Line × Position) FocalRefusal)
+    × Stands machine standing
+    × PassesWith machine standing after

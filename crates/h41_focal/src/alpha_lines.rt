@@ -3,7 +3,7 @@
 ghost use Rattle.std.specs.Prelude.{◌≡◌, ◌≤◌, ℕ, IfNone, IfSome, length};
 ghost use Rattle.h41_codes.specs.declared.line.Line.TheVariants as lines;
 ghost use Rattle.h41_focal.specs.LabelledMachine.{Keeps, machine_of};
-ghost use Rattle.h41_focal.specs.private.Carrying.{DoesLine, DoesWork, IsBehind, IsWhole, IsReady};
+ghost use Rattle.h41_focal.specs.private.Carrying.{DoesLine, DoesWork, IsBehind, IsWhole};
 ghost use Rattle.h41_focal.specs.private.Carrying.{PutsText};
 ghost use Rattle.h41_focal.specs.declared.works.FunctionWork.TheVariants.{Alpha};
 ghost use Rattle.h41_ram.specs.RamState.{KeepsMark};
@@ -28,7 +28,6 @@ pub fn change_alpha<const REGS: usize>(
     origin: Origin,
     work: AlphaWork,
 ) -> BriefOutcome
-    requires { IsReady origin (machine_of machine.old) }
     ensures done { DoesWork origin (Alpha work) (machine_of machine.old)
         (machine_of machine.new) result }
     ensures keeps { Keeps machine.old machine.new }
@@ -60,7 +59,6 @@ pub fn text_line<const REGS: usize>(
     origin: Origin,
     text: &Text<15>,
 ) -> BriefOutcome
-    requires { IsReady origin (machine_of machine.old) }
     ensures done { DoesLine origin (lines.Text text.now) (machine_of machine.old)
         (machine_of machine.new) result }
     ensures keeps { Keeps machine.old machine.new }
@@ -80,20 +78,10 @@ fn put_text<const REGS: usize>(ram: &mut Ram<REGS>, text: &[u8])
 {
     match text {
         [] => {}
-        characters => put_characters(ram, characters),
-    }
-}
-
-/// The same for a text that has a character.
-fn put_characters<const REGS: usize>(ram: &mut Ram<REGS>, text: &[u8])
-    requires { 1 ≤ length text.now }
-    ensures change { PutsText text.now ram.old.registers ram.new.registers }
-    ensures mark { KeepsMark ram.old ram.new }
-    ensures left { LeavesMark ram.old ram.new }
-{
-    match appended(text) {
-        Some(rest) => append_text(ram, rest),
-        None => replace_text(ram, text),
+        characters => match appended(characters) {
+            Some(rest) => append_text(ram, rest),
+            None => replace_text(ram, characters),
+        },
     }
 }
 

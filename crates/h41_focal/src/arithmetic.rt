@@ -2,23 +2,18 @@
 
 ghost use Rattle.std.specs.Prelude.{ℕ};
 ghost use Rattle.h41_focal.specs.LabelledMachine.{Keeps, machine_of};
-ghost use Rattle.h41_focal.specs.private.Carrying.{DoesWork, IsReady};
+ghost use Rattle.h41_focal.specs.private.Carrying.{DoesWork};
 ghost use Rattle.h41_focal.specs.declared.works.FunctionWork.TheVariants.{ChangeSign, OfX, OfYAndX};
 ghost use Rattle.h41_focal.specs.declared.works.FunctionWork.TheVariants.{Percent, Square};
 ghost use Rattle.h41_rows.specs.RowMarks.{LeavesMark};
 
+use crate::addresses::{X, Y};
 use crate::course::{fail, go_on_lifting};
 use crate::machine::Machine;
 use crate::origin::Origin;
 use crate::outcome::BriefOutcome;
 use h41_ram::StatusRegister;
 use h41_rows::{ValueOfOne, ValueOfTwo, compute_of_one, compute_of_two, drop_into, keep_last};
-
-/// The address of X.
-const X: u16 = 3;
-
-/// The address of Y.
-const Y: u16 = 2;
 
 /// X takes a value of Y and X, LAST X what X held, and the stack drops.
 #[inline(always)]
@@ -27,7 +22,6 @@ pub fn of_y_and_x<const REGS: usize>(
     origin: Origin,
     value: ValueOfTwo,
 ) -> BriefOutcome
-    requires { IsReady origin (machine_of machine.old) }
     ensures done { DoesWork origin (OfYAndX value) (machine_of machine.old)
         (machine_of machine.new) result }
     ensures keeps { Keeps machine.old machine.new }
@@ -49,7 +43,6 @@ pub fn of_x<const REGS: usize>(
     origin: Origin,
     value: ValueOfOne,
 ) -> BriefOutcome
-    requires { IsReady origin (machine_of machine.old) }
     ensures done { DoesWork origin (OfX value) (machine_of machine.old)
         (machine_of machine.new) result }
     ensures keeps { Keeps machine.old machine.new }
@@ -67,7 +60,6 @@ pub fn of_x<const REGS: usize>(
 
 /// X takes its square, and LAST X what X held.
 pub fn square<const REGS: usize>(machine: &mut Machine<REGS>, origin: Origin) -> BriefOutcome
-    requires { IsReady origin (machine_of machine.old) }
     ensures done { DoesWork origin Square (machine_of machine.old) (machine_of machine.new) result }
     ensures keeps { Keeps machine.old machine.new }
     ensures left { LeavesMark machine.old.ram machine.new.ram }
@@ -84,7 +76,6 @@ pub fn square<const REGS: usize>(machine: &mut Machine<REGS>, origin: Origin) ->
 
 /// X takes so many hundredths of Y, and LAST X what X held; Y stays.
 pub fn percent<const REGS: usize>(machine: &mut Machine<REGS>, origin: Origin) -> BriefOutcome
-    requires { IsReady origin (machine_of machine.old) }
     ensures done { DoesWork origin Percent (machine_of machine.old)
         (machine_of machine.new) result }
     ensures keeps { Keeps machine.old machine.new }
@@ -102,7 +93,6 @@ pub fn percent<const REGS: usize>(machine: &mut Machine<REGS>, origin: Origin) -
 
 /// X changes its sign; LAST X stays.
 pub fn change_sign<const REGS: usize>(machine: &mut Machine<REGS>, origin: Origin) -> BriefOutcome
-    requires { IsReady origin (machine_of machine.old) }
     ensures done { DoesWork origin ChangeSign (machine_of machine.old)
         (machine_of machine.new) result }
     ensures keeps { Keeps machine.old machine.new }

@@ -2,8 +2,8 @@
 
 ghost use Rattle.std.specs.Prelude.{◌≡◌};
 ghost use Rattle.h41_focal.specs.LabelledMachine.{Keeps, machine_of};
-ghost use Rattle.h41_focal.specs.private.Carrying.{FailsAs, IsReady, on_to_next};
-ghost use Rattle.h41_rows.specs.Rows.{AsItWas, Off, On};
+ghost use Rattle.h41_focal.specs.private.Carrying.{FailsAs, on_to_next};
+ghost use Rattle.h41_rows.specs.Rows.{AsItWas, On};
 ghost use Rattle.h41_rows.specs.RowMarks.{LeavesMark};
 
 use crate::focal::Focal;
@@ -34,16 +34,6 @@ pub fn go_on_lifting(focal: &mut Focal, origin: Origin)
     focal.lift = true;
 }
 
-/// On to the next line, without lift: the next number takes the place of X.
-#[inline(always)]
-pub fn go_on_replacing(focal: &mut Focal, origin: Origin)
-    ensures state { focal.new.state ≡ on_to_next origin Off focal.old.state }
-    ensures labels { focal.new.labels ≡ focal.old.labels }
-{
-    go_on(focal, origin);
-    focal.lift = false;
-}
-
 /// A line cannot be done: the display shows why, and the program stops there. Flag 25 is cleared where it is set, and the
 /// program goes on with the next line.
 #[inline(never)]
@@ -52,7 +42,6 @@ pub fn fail<const REGS: usize>(
     origin: Origin,
     fault: LineFault,
 ) -> BriefOutcome
-    requires { IsReady origin (machine_of machine.old) }
     ensures done { FailsAs origin fault (machine_of machine.old) (machine_of machine.new) result }
     ensures keeps { Keeps machine.old machine.new }
     ensures left { LeavesMark machine.old.ram machine.new.ram }

@@ -1,11 +1,12 @@
 //! Lines of a flag: it is set or cleared, or asked.
 
-ghost use Rattle.std.specs.Prelude.{◌≡◌, ℕ, ◌<◌, OnErr};
+ghost use Rattle.std.specs.Prelude.{◌≡◌, ℕ, ◌<◌, OnErr, IsTrue};
 ghost use Rattle.h41_focal.specs.LabelledMachine.{Keeps, machine_of};
-ghost use Rattle.h41_focal.specs.private.Carrying.{CarriesFlag, ClearsFlag, IsReady, LeavesFlag};
+ghost use Rattle.h41_focal.specs.private.Carrying.{CarriesFlag, ClearsFlag};
 ghost use Rattle.h41_rows.specs.RowEffects.{agrees};
-ghost use Rattle.h41_focal.specs.declared.uses.FlagUse.TheVariants.{Ask, Change};
+ghost use Rattle.h41_focal.specs.declared.uses.FlagUse.TheVariants.{Ask};
 ghost use Rattle.h41_ram.specs.RegisterMap.{flag_of};
+ghost use Rattle.h41_ram.specs.RegisterMap.{is_sound};
 ghost use Rattle.h41_rows.specs.RowMarks.{LeavesMark};
 
 use crate::course::go_on_lifting;
@@ -26,25 +27,6 @@ fn agrees_with<const REGS: usize>(ram: &Ram<REGS>, flag: u8, on: bool) -> bool
     if on { is_set } else { !is_set }
 }
 
-/// `SF` and `CF`: a flag, 0 to 55, is set or cleared.
-fn change_flag<const REGS: usize>(
-    machine: &mut Machine<REGS>,
-    origin: Origin,
-    flag: u8,
-    on: bool,
-) -> BriefOutcome
-    requires flag { flag < 56 }
-    requires ready { IsReady origin (machine_of machine.old) }
-    ensures done { LeavesFlag origin (Change on) flag (machine_of machine.old)
-        (machine_of machine.new) result }
-    ensures keeps { Keeps machine.old machine.new }
-    ensures left { LeavesMark machine.old.ram machine.new.ram }
-{
-    machine.ram.set_flag(usize::from(flag), on);
-    go_on_lifting(&mut machine.focal, origin);
-    BriefOutcome::Done
-}
-
 /// `FS?` and `FC?`: the program goes on with the next line where a flag, 0 to 55, is set or clear as asked, else with the
 /// one behind it. A typed line is answered. `BrokenProgram`, with nothing changed, where the line that would be passed
 /// over is none.
@@ -55,7 +37,7 @@ fn ask_flag<const REGS: usize>(
     on: bool,
 ) -> Result<BriefOutcome, FocalRefusal>
     requires flag { flag < 56 }
-    requires ready { IsReady origin (machine_of machine.old) }
+    requires sound { IsTrue (is_sound machine.old.ram.registers) }
     ensures carried { CarriesFlag origin (Ask on) flag (machine_of machine.old)
         (machine_of machine.new) result }
     ensures unchanged { OnErr result (machine.new ≡ machine.old) }
@@ -76,7 +58,7 @@ fn ask_and_clear_flag<const REGS: usize>(
     on: bool,
 ) -> Result<BriefOutcome, FocalRefusal>
     requires flag { flag < 56 }
-    requires ready { IsReady origin (machine_of machine.old) }
+    requires sound { IsTrue (is_sound machine.old.ram.registers) }
     ensures carried { ClearsFlag origin on flag (machine_of machine.old)
         (machine_of machine.new) result }
     ensures unchanged { OnErr result (machine.new ≡ machine.old) }
@@ -99,7 +81,7 @@ pub fn use_flag<const REGS: usize>(
     flag: u8,
 ) -> Result<BriefOutcome, FocalRefusal>
     requires flag { flag < 56 }
-    requires ready { IsReady origin (machine_of machine.old) }
+    requires sound { IsTrue (is_sound machine.old.ram.registers) }
     ensures carried { CarriesFlag origin taken flag (machine_of machine.old)
         (machine_of machine.new) result }
     ensures unchanged { OnErr result (machine.new ≡ machine.old) }
@@ -107,7 +89,11 @@ pub fn use_flag<const REGS: usize>(
     ensures left { LeavesMark machine.old.ram machine.new.ram }
 {
     match taken {
-        FlagUse::Change(on) => Ok(change_flag(machine, origin, flag, on)),
+        FlagUse::Change(on) => {
+            machine.ram.set_flag(usize::from(flag), on);
+            go_on_lifting(&mut machine.focal, origin);
+            Ok(BriefOutcome::Done)
+        }
         FlagUse::Ask(on) => ask_flag(machine, origin, flag, on),
         FlagUse::AskAndClear(on) => ask_and_clear_flag(machine, origin, flag, on),
     }

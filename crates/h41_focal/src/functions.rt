@@ -1,9 +1,10 @@
 //! Functions without an operand.
 
-ghost use Rattle.std.specs.Prelude.{ℕ, ◌≡◌, OnErr};
+ghost use Rattle.std.specs.Prelude.{ℕ, ◌≡◌, OnErr, IsTrue};
 ghost use Rattle.h41_focal.specs.LabelledMachine.{Keeps, machine_of};
-ghost use Rattle.h41_focal.specs.private.Carrying.{CarriesWork, IsReady, TakesBriefly};
+ghost use Rattle.h41_focal.specs.private.Carrying.{CarriesWork, TakesBriefly};
 ghost use Rattle.h41_codes.specs.declared.line.Line.TheVariants.{Plain};
+ghost use Rattle.h41_ram.specs.RegisterMap.{is_sound};
 ghost use Rattle.h41_rows.specs.RowMarks.{LeavesMark};
 
 use crate::alpha_lines::change_alpha;
@@ -27,7 +28,7 @@ pub fn plain<const REGS: usize>(
     origin: Origin,
     function: Function,
 ) -> Result<BriefOutcome, FocalRefusal>
-    requires { IsReady origin (machine_of machine.old) }
+    requires { IsTrue (is_sound machine.old.ram.registers) }
     ensures taken { TakesBriefly origin (Plain function) (machine_of machine.old)
         (machine_of machine.new) result }
     ensures unchanged { OnErr result (machine.new ≡ machine.old) }
@@ -44,7 +45,7 @@ pub fn plain_at_once<const REGS: usize>(
     origin: Origin,
     function: Function,
 ) -> Result<BriefOutcome, FocalRefusal>
-    requires { IsReady origin (machine_of machine.old) }
+    requires { IsTrue (is_sound machine.old.ram.registers) }
     ensures taken { TakesBriefly origin (Plain function) (machine_of machine.old)
         (machine_of machine.new) result }
     ensures unchanged { OnErr result (machine.new ≡ machine.old) }
@@ -64,7 +65,7 @@ fn perform_at_once<const REGS: usize>(
     origin: Origin,
     work: FunctionWork,
 ) -> Result<BriefOutcome, FocalRefusal>
-    requires { IsReady origin (machine_of machine.old) }
+    requires { IsTrue (is_sound machine.old.ram.registers) }
     ensures carried { CarriesWork origin work (machine_of machine.old)
         (machine_of machine.new) result }
     ensures unchanged { OnErr result (machine.new ≡ machine.old) }
@@ -88,7 +89,7 @@ fn perform<const REGS: usize>(
     origin: Origin,
     work: FunctionWork,
 ) -> Result<BriefOutcome, FocalRefusal>
-    requires { IsReady origin (machine_of machine.old) }
+    requires { IsTrue (is_sound machine.old.ram.registers) }
     ensures carried { CarriesWork origin work (machine_of machine.old)
         (machine_of machine.new) result }
     ensures unchanged { OnErr result (machine.new ≡ machine.old) }

@@ -4,10 +4,9 @@ ghost use Rattle.std.specs.Prelude.{◌≡◌, ℕ, IsTrue, Some};
 ghost use Rattle.h41_focal.specs.LabelSearches.{local_search};
 ghost use Rattle.h41_focal.specs.LabelledMachine.{Keeps, machine_of};
 ghost use Rattle.h41_focal.specs.private.Arrivals.{ReturnsFrom, answer_at, focal_at, from_of};
-ghost use Rattle.h41_focal.specs.private.Carrying.{DoesWork, IsReady, GoesToLabel, GoesToName};
+ghost use Rattle.h41_focal.specs.private.Carrying.{GoesBack, GoesToLabel, GoesToName};
 ghost use Rattle.h41_focal.specs.Destinations.{with_return};
 ghost use Rattle.h41_focal.specs.private.Searching.{AsksFrom};
-ghost use Rattle.h41_focal.specs.declared.works.FunctionWork.TheVariants.{Return};
 ghost use Rattle.h41_labels.specs.KeptAnswers.{IsRight};
 ghost use Rattle.h41_labels.specs.declared.search.Search.TheVariants.{Global};
 ghost use Rattle.h41_ram.specs.RamState.{KeepsMark};
@@ -32,7 +31,7 @@ pub fn to_label<const REGS: usize>(
     branch: Branch,
     label: Parameter,
 ) -> BriefOutcome
-    requires ready { IsReady origin (machine_of machine.old) }
+    requires sound { IsTrue (is_sound machine.old.ram.registers) }
     requires right { IsRight machine.old.focal.labels machine.old.ram.registers }
     ensures done { GoesToLabel origin branch label (machine_of machine.old)
         (machine_of machine.new) result }
@@ -65,7 +64,7 @@ pub fn to_name<const REGS: usize>(
     branch: Branch,
     name: Text<15>,
 ) -> BriefOutcome
-    requires ready { IsReady origin (machine_of machine.old) }
+    requires sound { IsTrue (is_sound machine.old.ram.registers) }
     requires right { IsRight machine.old.focal.labels machine.old.ram.registers }
     ensures done { GoesToName origin branch name (machine_of machine.old)
         (machine_of machine.new) result }
@@ -118,8 +117,8 @@ fn push_return(returns: &mut ArrayVec<Position, RETURNS>, position: Position)
 
 /// Back to the latest position to return to. Where there is none, and where the line is typed, to line 00 of the program.
 pub fn go_back<const REGS: usize>(machine: &mut Machine<REGS>, origin: Origin) -> BriefOutcome
-    requires { IsReady origin (machine_of machine.old) }
-    ensures done { DoesWork origin Return (machine_of machine.old) (machine_of machine.new) result }
+    requires { IsTrue (is_sound machine.old.ram.registers) }
+    ensures done { GoesBack origin (machine_of machine.old) (machine_of machine.new) result }
     ensures keeps { Keeps machine.old machine.new }
     ensures left { LeavesMark machine.old.ram machine.new.ram }
 {

@@ -1,6 +1,7 @@
 //! The lines of keystroke programs: what each works on, and what it answers.
 #![tactic(auto)]
 
+mod addresses;
 mod alpha_lines;
 mod arithmetic;
 mod called;

@@ -1,16 +1,18 @@
 //! A line is read where it stands, and carried out by what it is.
 
-ghost use Rattle.std.specs.Prelude.{◌≡◌, ℕ, Ok, OnErr};
+ghost use Rattle.std.specs.Prelude.{◌≡◌, ℕ, Ok, OnErr, IsTrue};
 ghost use Rattle.h41_codes.specs.declared.line.Line.TheVariants.{BranchIndirect, Named};
 ghost use Rattle.h41_focal.specs.LabelSearches.{search_for};
 ghost use Rattle.h41_focal.specs.LabelledMachine.{Keeps, machine_of};
-ghost use Rattle.h41_focal.specs.private.Carrying.{GoesToTarget, IsReady, Stands, StandsAt};
+ghost use Rattle.h41_focal.specs.LineStep.{Stands};
+ghost use Rattle.h41_focal.specs.private.Carrying.{GoesToTarget};
 ghost use Rattle.h41_focal.specs.private.Carrying.{TakesAs, TakesBriefly};
 ghost use Rattle.h41_focal.specs.private.Carrying.{TakesBranch, TakesNamed, TakesShort};
 ghost use Rattle.h41_focal.specs.private.Searching.{AsksFrom, AsksOf};
 ghost use Rattle.h41_labels.specs.KeptAnswers.{IsRight};
 ghost use Rattle.h41_ram.specs.RamState.{KeepsMark};
 ghost use Rattle.h41_rows.specs.Computing.{meant_by};
+ghost use Rattle.h41_ram.specs.RegisterMap.{is_sound};
 ghost use Rattle.h41_rows.specs.RowMarks.{LeavesMark};
 
 use crate::alpha_lines::text_line;
@@ -37,21 +39,11 @@ pub fn standing<const REGS: usize>(
 ) -> Result<(Line, Position), FocalRefusal>
     ensures { Stands (machine_of machine.now) result }
 {
-    standing_at(&machine.ram, machine.focal.position)
-}
-
-/// The same at a position.
-#[inline(always)]
-fn standing_at<const REGS: usize>(
-    ram: &Ram<REGS>,
-    at: Position,
-) -> Result<(Line, Position), FocalRefusal>
-    ensures { StandsAt ram.now.registers at result }
-{
+    let Machine { ram, focal } = machine;
     if !ram.is_sound() {
         return Err(FocalRefusal::MemoryLost);
     }
-    match line_and_next(ram, at) {
+    match line_and_next(ram, focal.position) {
         Ok(standing) => Ok(standing),
         Err(_) => Err(FocalRefusal::BrokenProgram),
     }
@@ -63,7 +55,7 @@ pub fn carry_out<const REGS: usize>(
     origin: Origin,
     line: &Line,
 ) -> Result<LineOutcome, FocalRefusal>
-    requires ready { IsReady origin (machine_of machine.old) }
+    requires sound { IsTrue (is_sound machine.old.ram.registers) }
     requires right { IsRight machine.old.focal.labels machine.old.ram.registers }
     ensures taken { TakesAs origin line.now (machine_of machine.old)
         (machine_of machine.new) result }
@@ -83,7 +75,7 @@ pub fn carry_briefly<const REGS: usize>(
     origin: Origin,
     line: &Line,
 ) -> Result<BriefOutcome, FocalRefusal>
-    requires ready { IsReady origin (machine_of machine.old) }
+    requires sound { IsTrue (is_sound machine.old.ram.registers) }
     requires right { IsRight machine.old.focal.labels machine.old.ram.registers }
     ensures taken { TakesBriefly origin line.now (machine_of machine.old)
         (machine_of machine.new) result }
@@ -125,7 +117,7 @@ fn named<const REGS: usize>(
     function: NameFunction,
     name: Text<15>,
 ) -> Result<BriefOutcome, FocalRefusal>
-    requires ready { IsReady origin (machine_of machine.old) }
+    requires sound { IsTrue (is_sound machine.old.ram.registers) }
     requires right { IsRight machine.old.focal.labels machine.old.ram.registers }
     ensures taken { TakesNamed origin function name (machine_of machine.old)
         (machine_of machine.new) result }
@@ -149,7 +141,6 @@ pub fn short<const REGS: usize>(
     function: RegisterFunction,
     register: ShortRegister,
 ) -> Result<BriefOutcome, FocalRefusal>
-    requires { IsReady origin (machine_of machine.old) }
     ensures taken { TakesShort origin function register (machine_of machine.old)
         (machine_of machine.new) result }
     ensures unchanged { OnErr result (machine.new ≡ machine.old) }
@@ -173,7 +164,7 @@ pub fn indirect<const REGS: usize>(
     branch: Branch,
     register: Parameter,
 ) -> Result<BriefOutcome, FocalRefusal>
-    requires ready { IsReady origin (machine_of machine.old) }
+    requires sound { IsTrue (is_sound machine.old.ram.registers) }
     requires right { IsRight machine.old.focal.labels machine.old.ram.registers }
     ensures taken { TakesBranch origin branch register (machine_of machine.old)
         (machine_of machine.new) result }
@@ -198,7 +189,7 @@ fn to_target<const REGS: usize>(
     branch: Branch,
     target: BranchTarget,
 ) -> BriefOutcome
-    requires ready { IsReady origin (machine_of machine.old) }
+    requires sound { IsTrue (is_sound machine.old.ram.registers) }
     requires right { IsRight machine.old.focal.labels machine.old.ram.registers }
     ensures done { GoesToTarget origin branch target (machine_of machine.old)
         (machine_of machine.new) result }

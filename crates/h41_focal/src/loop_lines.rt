@@ -2,8 +2,9 @@
 
 ghost use Rattle.std.specs.Prelude.{IsTrue, ◌≡◌, OnErr};
 ghost use Rattle.h41_focal.specs.LabelledMachine.{Keeps, machine_of};
-ghost use Rattle.h41_focal.specs.private.Carrying.{DoesUse, IsReady};
+ghost use Rattle.h41_focal.specs.private.Carrying.{DoesUse};
 ghost use Rattle.h41_focal.specs.declared.uses.RegisterUse.TheVariants.{CountDown, CountUp};
+ghost use Rattle.h41_ram.specs.RegisterMap.{is_sound};
 ghost use Rattle.h41_rows.specs.RowMarks.{IsApart, LeavesMark};
 
 use crate::course::{fail, go_on_lifting};
@@ -21,7 +22,7 @@ pub fn count_up<const REGS: usize>(
     origin: Origin,
     address: u16,
 ) -> Result<BriefOutcome, FocalRefusal>
-    requires { IsReady origin (machine_of machine.old) }
+    requires { IsTrue (is_sound machine.old.ram.registers) }
     ensures carried { DoesUse origin CountUp address (machine_of machine.old)
         (machine_of machine.new) result }
     ensures unchanged { OnErr result (machine.new ≡ machine.old) }
@@ -47,7 +48,7 @@ pub fn count_down<const REGS: usize>(
     origin: Origin,
     address: u16,
 ) -> Result<BriefOutcome, FocalRefusal>
-    requires { IsReady origin (machine_of machine.old) }
+    requires { IsTrue (is_sound machine.old.ram.registers) }
     ensures carried { DoesUse origin CountDown address (machine_of machine.old)
         (machine_of machine.new) result }
     ensures unchanged { OnErr result (machine.new ≡ machine.old) }

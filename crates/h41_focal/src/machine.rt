@@ -6,9 +6,10 @@ ghost use Rattle.h41_focal.specs.declared.outcome.BriefOutcome.TheVariants.{Else
 ghost use Rattle.h41_focal.specs.MachineCalls.{Fails, FailsTyped, KeepsElsewhere, Passes, Steps};
 ghost use Rattle.h41_focal.specs.MachineCalls.{Types};
 ghost use Rattle.h41_focal.specs.LabelSearches.{StepKeeps, TypingKeeps};
-ghost use Rattle.h41_focal.specs.LabelledMachine.{AreRight, Keeps, begun, begun_ram, labelled_with};
-ghost use Rattle.h41_focal.specs.LabelledMachine.{machine_of};
+ghost use Rattle.h41_focal.specs.LabelledMachine.{AreRight, Keeps, begun_ram, labelled_with};
+ghost use Rattle.h41_focal.specs.LabelledMachine.{machine_of, with_line_begun};
 ghost use Rattle.h41_focal.specs.LineStep.{machine_with, start};
+ghost use Rattle.h41_focal.specs.private.BriefSteps.{StepsMachine};
 ghost use Rattle.h41_labels.specs.KeptAnswers.{IsRight};
 ghost use Rattle.h41_ram.specs.RamState.{KeepsMark};
 ghost use Rattle.h41_ram.specs.RegisterMap as registers;
@@ -64,7 +65,7 @@ impl<const REGS: usize> Machine<REGS> {
     #[inline(always)]
     fn begin(&mut self)
         requires { AreRight self.old }
-        ensures begun { self.new ≡ begun self.old }
+        ensures begun { self.new ≡ with_line_begun self.old }
         ensures right { IsRight self.new.focal.labels self.new.ram.registers }
     {
         if self.ram.program_touched() {
@@ -120,14 +121,7 @@ impl<const REGS: usize> Machine<REGS> {
     #[inline(never)]
     fn step_long(&mut self) -> Result<BriefOutcome, FocalRefusal>
         requires { AreRight self.old }
-        ensures line { StepsBriefly (machine_of self.old) (machine_of self.new) result }
-        ensures unchanged { OnErr result (machine_of self.new ≡ machine_of self.old) }
-        ensures elsewhere { result ≡ Ok Elsewhere
-            → machine_of self.new ≡ machine_of self.old }
-        ensures kept { StepKeeps None self.old self.new }
-        ensures mark { KeepsMark (begun_ram self.old.ram) self.new.ram }
-        ensures clear { self.new.ram.touched ≡ false }
-        ensures right { AreRight self.new }
+        ensures { StepsMachine self.old self.new result }
     {
         match number_standing(self) {
             Some((number, next)) => {
@@ -144,14 +138,7 @@ impl<const REGS: usize> Machine<REGS> {
     #[inline(never)]
     fn step_whole(&mut self) -> Result<BriefOutcome, FocalRefusal>
         requires { AreRight self.old }
-        ensures line { StepsBriefly (machine_of self.old) (machine_of self.new) result }
-        ensures unchanged { OnErr result (machine_of self.new ≡ machine_of self.old) }
-        ensures elsewhere { result ≡ Ok Elsewhere
-            → machine_of self.new ≡ machine_of self.old }
-        ensures kept { StepKeeps None self.old self.new }
-        ensures mark { KeepsMark (begun_ram self.old.ram) self.new.ram }
-        ensures clear { self.new.ram.touched ≡ false }
-        ensures right { AreRight self.new }
+        ensures { StepsMachine self.old self.new result }
     {
         kept_answers_stay_right();
         self.begin();

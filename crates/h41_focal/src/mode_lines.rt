@@ -2,7 +2,7 @@
 
 ghost use Rattle.std.specs.Prelude.{◌<◌, ℕ};
 ghost use Rattle.h41_focal.specs.LabelledMachine.{Keeps, machine_of};
-ghost use Rattle.h41_focal.specs.private.Carrying.{DoesWork, IsReady, LeavesDigits};
+ghost use Rattle.h41_focal.specs.private.Carrying.{DoesWork, LeavesDigits};
 ghost use Rattle.h41_focal.specs.declared.works.FunctionWork.TheVariants.{Angles};
 ghost use Rattle.h41_rows.specs.RowMarks.{LeavesMark};
 
@@ -20,7 +20,6 @@ pub fn set_angle_unit<const REGS: usize>(
     grads: bool,
     radians: bool,
 ) -> BriefOutcome
-    requires { IsReady origin (machine_of machine.old) }
     ensures done { DoesWork origin (Angles grads radians) (machine_of machine.old)
         (machine_of machine.new) result }
     ensures keeps { Keeps machine.old machine.new }
@@ -38,8 +37,7 @@ pub fn use_digits<const REGS: usize>(
     taken: DigitsUse,
     digits: u8,
 ) -> BriefOutcome
-    requires ready { IsReady origin (machine_of machine.old) }
-    requires few { digits < 10 }
+    requires { digits < 10 }
     ensures done { LeavesDigits origin taken digits (machine_of machine.old)
         (machine_of machine.new) result }
     ensures keeps { Keeps machine.old machine.new }

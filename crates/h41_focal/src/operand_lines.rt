@@ -1,11 +1,12 @@
 //! Functions with an operand.
 
-ghost use Rattle.std.specs.Prelude.{◌≡◌, false, OnErr};
+ghost use Rattle.std.specs.Prelude.{◌≡◌, false, OnErr, IsTrue};
 ghost use Rattle.h41_focal.specs.LabelledMachine.{Keeps, machine_of};
-ghost use Rattle.h41_focal.specs.private.Carrying.{IsReady, TakenBy, UsesDigits, UsesFlag};
+ghost use Rattle.h41_focal.specs.private.Carrying.{TakenBy, UsesDigits, UsesFlag};
 ghost use Rattle.h41_focal.specs.private.Carrying.{UsesAddress};
 ghost use Rattle.h41_rows.specs.Profile.{is_operand_left_out, is_parameter_left_out};
 ghost use Rattle.h41_rows.specs.Profile.{is_use_left_out};
+ghost use Rattle.h41_ram.specs.RegisterMap.{is_sound};
 ghost use Rattle.h41_rows.specs.RowMarks.{LeavesMark};
 
 use crate::course::fail;
@@ -29,7 +30,7 @@ pub fn with_operand<const REGS: usize>(
     function: ParameterFunction,
     operand: &Operand,
 ) -> Result<BriefOutcome, FocalRefusal>
-    requires { IsReady origin (machine_of machine.old) }
+    requires { IsTrue (is_sound machine.old.ram.registers) }
     ensures taken { TakenBy origin function operand.now (machine_of machine.old)
         (machine_of machine.new) result }
     ensures unchanged { OnErr result (machine.new ≡ machine.old) }
@@ -55,17 +56,10 @@ fn is_left_out(function: ParameterFunction, operand: &Operand) -> bool
     match function {
         ParameterFunction::StatisticsRegisters => true,
         ParameterFunction::Label => false,
-        _ => is_operand_out(operand),
-    }
-}
-
-/// Whether the register of an operand is left out.
-fn is_operand_out(operand: &Operand) -> bool
-    ensures { result ≡ is_operand_left_out operand.now }
-{
-    match operand {
-        Operand::Direct(parameter) => is_parameter_out(*parameter),
-        Operand::Indirect(parameter) => is_parameter_out(*parameter),
+        _ => match operand {
+            Operand::Direct(parameter) => is_parameter_out(*parameter),
+            Operand::Indirect(parameter) => is_parameter_out(*parameter),
+        },
     }
 }
 
@@ -85,7 +79,7 @@ fn with_register<const REGS: usize>(
     taken: RegisterUse,
     operand: &Operand,
 ) -> Result<BriefOutcome, FocalRefusal>
-    requires ready { IsReady origin (machine_of machine.old) }
+    requires sound { IsTrue (is_sound machine.old.ram.registers) }
     requires held { is_operand_left_out operand.now ≡ false }
     ensures used { UsesAddress origin taken operand.now (machine_of machine.old)
         (machine_of machine.new) result }
@@ -106,8 +100,7 @@ fn with_digits<const REGS: usize>(
     taken: DigitsUse,
     operand: &Operand,
 ) -> Result<BriefOutcome, FocalRefusal>
-    requires ready { IsReady origin (machine_of machine.old) }
-    requires held { is_operand_left_out operand.now ≡ false }
+    requires { is_operand_left_out operand.now ≡ false }
     ensures used { UsesDigits origin taken operand.now (machine_of machine.old)
         (machine_of machine.new) result }
     ensures unchanged { OnErr result (machine.new ≡ machine.old) }
@@ -127,7 +120,7 @@ fn with_flag<const REGS: usize>(
     taken: FlagUse,
     operand: &Operand,
 ) -> Result<BriefOutcome, FocalRefusal>
-    requires ready { IsReady origin (machine_of machine.old) }
+    requires sound { IsTrue (is_sound machine.old.ram.registers) }
     requires held { is_operand_left_out operand.now ≡ false }
     ensures used { UsesFlag origin taken operand.now (machine_of machine.old)
         (machine_of machine.new) result }

@@ -2,7 +2,7 @@
 
 ghost use Rattle.std.specs.Prelude.{◌≡◌, ℕ, IsTrue, OnErr};
 ghost use Rattle.h41_focal.specs.LabelledMachine.{Keeps, machine_of};
-ghost use Rattle.h41_focal.specs.private.Carrying.{CarriesWork, IsReady, Leads, test_answer};
+ghost use Rattle.h41_focal.specs.private.Carrying.{CarriesWork, Leads, test_answer};
 ghost use Rattle.h41_focal.specs.declared.works.FunctionWork.TheVariants.{Ask};
 ghost use Rattle.h41_ram.specs.RegisterMap.{is_sound};
 ghost use Rattle.h41_rows.specs.RowMarks.{LeavesMark};
@@ -53,7 +53,7 @@ pub fn ask<const REGS: usize>(
     origin: Origin,
     test: Test,
 ) -> Result<BriefOutcome, FocalRefusal>
-    requires { IsReady origin (machine_of machine.old) }
+    requires { IsTrue (is_sound machine.old.ram.registers) }
     ensures carried { CarriesWork origin (Ask test) (machine_of machine.old)
         (machine_of machine.new) result }
     ensures unchanged { OnErr result (machine.new ≡ machine.old) }

@@ -1,12 +1,13 @@
 //! Lines that work on a register.
 
 ghost use Rattle.h41_focal.specs.LabelledMachine.{Keeps, machine_of};
-ghost use Rattle.h41_focal.specs.private.Carrying.{IsReady, UsesAt};
+ghost use Rattle.h41_focal.specs.private.Carrying.{UsesAt};
 ghost use Rattle.h41_focal.specs.declared.uses.RegisterUse.TheVariants.{Combine, Exchange, Recall};
 ghost use Rattle.h41_focal.specs.declared.uses.RegisterUse.TheVariants.{RecallAlpha, Store};
 ghost use Rattle.h41_focal.specs.declared.uses.RegisterUse.TheVariants.{StoreAlpha, View};
 ghost use Rattle.h41_rows.specs.RowMarks.{IsApart, LeavesMark};
 
+use crate::addresses::X;
 use crate::course::{fail, go_on_lifting};
 use crate::machine::Machine;
 use crate::origin::Origin;
@@ -15,9 +16,6 @@ use h41_rows::{
     ValueOfTwo, append_register, bring_in_from, compute_of_two, exchange, first_six, store_x,
 };
 
-/// The address of X.
-const X: u16 = 3;
-
 /// X takes the register; the stack is lifted first where lift is on.
 #[inline(always)]
 pub fn recall<const REGS: usize>(
@@ -25,7 +23,6 @@ pub fn recall<const REGS: usize>(
     origin: Origin,
     address: u16,
 ) -> BriefOutcome
-    requires { IsReady origin (machine_of machine.old) }
     ensures done { UsesAt origin Recall address (machine_of machine.old)
         (machine_of machine.new) result }
     ensures keeps { Keeps machine.old machine.new }
@@ -43,7 +40,6 @@ pub fn store<const REGS: usize>(
     origin: Origin,
     address: u16,
 ) -> BriefOutcome
-    requires { IsReady origin (machine_of machine.old) }
     ensures done { UsesAt origin Store address (machine_of machine.old)
         (machine_of machine.new) result }
     ensures keeps { Keeps machine.old machine.new }
@@ -63,7 +59,6 @@ pub fn combine<const REGS: usize>(
     value: ValueOfTwo,
     address: u16,
 ) -> BriefOutcome
-    requires { IsReady origin (machine_of machine.old) }
     ensures done { UsesAt origin (Combine value) address (machine_of machine.old)
         (machine_of machine.new) result }
     ensures keeps { Keeps machine.old machine.new }
@@ -86,7 +81,6 @@ pub fn view<const REGS: usize>(
     origin: Origin,
     address: u16,
 ) -> BriefOutcome
-    requires { IsReady origin (machine_of machine.old) }
     ensures done { UsesAt origin View address (machine_of machine.old)
         (machine_of machine.new) result }
     ensures keeps { Keeps machine.old machine.new }
@@ -102,7 +96,6 @@ pub fn store_alpha<const REGS: usize>(
     origin: Origin,
     address: u16,
 ) -> BriefOutcome
-    requires { IsReady origin (machine_of machine.old) }
     ensures done { UsesAt origin StoreAlpha address (machine_of machine.old)
         (machine_of machine.new) result }
     ensures keeps { Keeps machine.old machine.new }
@@ -121,7 +114,6 @@ pub fn recall_alpha<const REGS: usize>(
     origin: Origin,
     address: u16,
 ) -> BriefOutcome
-    requires { IsReady origin (machine_of machine.old) }
     ensures done { UsesAt origin RecallAlpha address (machine_of machine.old)
         (machine_of machine.new) result }
     ensures keeps { Keeps machine.old machine.new }
@@ -138,7 +130,6 @@ pub fn exchange_x<const REGS: usize>(
     origin: Origin,
     address: u16,
 ) -> BriefOutcome
-    requires { IsReady origin (machine_of machine.old) }
     ensures done { UsesAt origin Exchange address (machine_of machine.old)
         (machine_of machine.new) result }
     ensures keeps { Keeps machine.old machine.new }

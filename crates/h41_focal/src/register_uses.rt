@@ -2,7 +2,8 @@
 
 ghost use Rattle.std.specs.Prelude.{IsTrue, ◌≡◌, OnErr};
 ghost use Rattle.h41_focal.specs.LabelledMachine.{Keeps, machine_of};
-ghost use Rattle.h41_focal.specs.private.Carrying.{DoesUse, IsReady};
+ghost use Rattle.h41_focal.specs.private.Carrying.{DoesUse};
+ghost use Rattle.h41_ram.specs.RegisterMap.{is_sound};
 ghost use Rattle.h41_rows.specs.RowMarks.{IsApart, LeavesMark};
 
 use crate::loop_lines::{count_down, count_up};
@@ -21,7 +22,7 @@ pub fn use_register<const REGS: usize>(
     taken: RegisterUse,
     address: u16,
 ) -> Result<BriefOutcome, FocalRefusal>
-    requires { IsReady origin (machine_of machine.old) }
+    requires { IsTrue (is_sound machine.old.ram.registers) }
     ensures carried { DoesUse origin taken address (machine_of machine.old)
         (machine_of machine.new) result }
     ensures unchanged { OnErr result (machine.new ≡ machine.old) }

@@ -1,13 +1,15 @@
 //! Short lines are carried out without room for a text.
 
-ghost use Rattle.std.specs.Prelude.{◌≡◌, IfSome, Ok, OnErr};
+ghost use Rattle.std.specs.Prelude.{◌≡◌, IfSome, Ok, OnErr, IsTrue};
 ghost use Rattle.h41_codes.specs.ShortLines.{line_of};
 ghost use Rattle.h41_focal.specs.LabelledMachine.{machine_of};
-ghost use Rattle.h41_focal.specs.private.Carrying.{IsReady, Stands, StandsAt, StandsNumber};
-ghost use Rattle.h41_focal.specs.private.Carrying.{StandsNumberAt, TakesBriefly};
+ghost use Rattle.h41_focal.specs.LineStep.{Stands};
+ghost use Rattle.h41_focal.specs.private.Carrying.{StandsNumber};
+ghost use Rattle.h41_focal.specs.private.Carrying.{TakesBriefly};
 ghost use Rattle.h41_focal.specs.private.Searching.{AsksOf};
 ghost use Rattle.h41_labels.specs.KeptAnswers.{IsRight};
 ghost use Rattle.h41_ram.specs.RamState.{KeepsMark};
+ghost use Rattle.h41_ram.specs.RegisterMap.{is_sound};
 ghost use Rattle.h41_rows.specs.RowMarks.{LeavesMark};
 
 use crate::functions::plain_at_once;
@@ -32,22 +34,11 @@ pub fn short_standing<const REGS: usize>(machine: &Machine<REGS>) -> Option<(Sho
     ensures { IfSome result
         (λ found. Stands (machine_of machine.now) (Ok (line_of found.0, found.1))) }
 {
-    short_standing_at(&machine.ram, machine.focal.position)
-}
-
-/// The same at a position.
-#[inline(always)]
-fn short_standing_at<const REGS: usize>(
-    ram: &Ram<REGS>,
-    at: Position,
-) -> Option<(ShortLine, Position)>
-    ensures { IfSome result
-        (λ found. StandsAt ram.now.registers at (Ok (line_of found.0, found.1))) }
-{
+    let Machine { ram, focal } = machine;
     if !ram.is_sound() {
         return None;
     }
-    match short_line(ram, at) {
+    match short_line(ram, focal.position) {
         Some((line, next)) => Some((line, next)),
         None => None,
     }
@@ -58,18 +49,11 @@ fn short_standing_at<const REGS: usize>(
 pub fn number_standing<const REGS: usize>(machine: &Machine<REGS>) -> Option<(Ten, Position)>
     ensures { IfSome result (λ found. StandsNumber (machine_of machine.now) found.0 found.1) }
 {
-    number_standing_at(&machine.ram, machine.focal.position)
-}
-
-/// The same at a position.
-#[inline(always)]
-fn number_standing_at<const REGS: usize>(ram: &Ram<REGS>, at: Position) -> Option<(Ten, Position)>
-    ensures { IfSome result (λ found. StandsNumberAt ram.now.registers at found.0 found.1) }
-{
+    let Machine { ram, focal } = machine;
     if !ram.is_sound() {
         return None;
     }
-    match plain_number(ram, at) {
+    match plain_number(ram, focal.position) {
         Some((number, next)) => Some((number, next)),
         None => None,
     }
@@ -82,7 +66,7 @@ pub fn carry_short<const REGS: usize>(
     origin: Origin,
     line: ShortLine,
 ) -> Result<BriefOutcome, FocalRefusal>
-    requires ready { IsReady origin (machine_of machine.old) }
+    requires sound { IsTrue (is_sound machine.old.ram.registers) }
     requires right { IsRight machine.old.focal.labels machine.old.ram.registers }
     ensures taken { TakesBriefly origin (line_of line) (machine_of machine.old)
         (machine_of machine.new) result }

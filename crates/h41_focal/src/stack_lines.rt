@@ -4,7 +4,7 @@ ghost use Rattle.std.specs.Prelude.{◌≡◌, ℕ, List};
 ghost use Rattle.h41_codes.specs.declared.characters.Character.{Character};
 ghost use Rattle.h41_codes.specs.declared.line.Line.TheVariants as lines;
 ghost use Rattle.h41_focal.specs.LabelledMachine.{Keeps, machine_of};
-ghost use Rattle.h41_focal.specs.private.Carrying.{DoesLine, DoesWork, IsReady, LeavesRow};
+ghost use Rattle.h41_focal.specs.private.Carrying.{DoesLine, DoesWork, LeavesRow};
 ghost use Rattle.h41_focal.specs.private.Carrying.{on_to_next};
 ghost use Rattle.h41_rows.specs.Computing.{IsAlways};
 ghost use Rattle.h41_rows.specs.Rows.{lifting_row, silent_row};
@@ -15,7 +15,8 @@ ghost use Rattle.h41_focal.specs.declared.works.FunctionWork.TheVariants.{ClearR
 ghost use Rattle.h41_ram.specs.RamState.{KeepsMark};
 ghost use Rattle.h41_rows.specs.RowMarks.{LeavesMark};
 
-use crate::course::{go_on, go_on_lifting, go_on_replacing};
+use crate::addresses::{LAST_X, Y};
+use crate::course::{go_on, go_on_lifting};
 use crate::focal::Focal;
 use crate::machine::Machine;
 use crate::origin::Origin;
@@ -27,12 +28,6 @@ use h41_rows::{
     bring_in, bring_in_from, clear_data, clear_stack, enter, exchange, pi, roll_down, roll_up, zero,
 };
 
-/// The address of Y.
-const Y: u16 = 2;
-
-/// The address of LAST X.
-const LAST_X: u16 = 4;
-
 /// The stack moves. What comes in lifts it where lift is on. Lift is off behind `ENTER^` and `CLX`, and on behind the others.
 #[inline(always)]
 pub fn move_stack<const REGS: usize>(
@@ -40,7 +35,6 @@ pub fn move_stack<const REGS: usize>(
     origin: Origin,
     movement: Movement,
 ) -> BriefOutcome
-    requires { IsReady origin (machine_of machine.old) }
     ensures done { DoesWork origin (Move movement) (machine_of machine.old)
         (machine_of machine.new) result }
     ensures keeps { Keeps machine.old machine.new }
@@ -78,7 +72,10 @@ fn go_on_behind(focal: &mut Focal, origin: Origin, movement: Movement)
     ensures labels { focal.new.labels ≡ focal.old.labels }
 {
     match movement {
-        Movement::Enter | Movement::ClearX => go_on_replacing(focal, origin),
+        Movement::Enter | Movement::ClearX => {
+            go_on(focal, origin);
+            focal.lift = false;
+        }
         Movement::Exchange
         | Movement::RollUp
         | Movement::RollDown
@@ -94,7 +91,6 @@ pub fn number_line<const REGS: usize>(
     origin: Origin,
     number: Reg,
 ) -> BriefOutcome
-    requires { IsReady origin (machine_of machine.old) }
     ensures done { (text : List Character) → IsAlways (Written text) number
         → DoesLine origin (lines.Number text) (machine_of machine.old)
         (machine_of machine.new) result }
@@ -111,7 +107,6 @@ pub fn clear_registers<const REGS: usize>(
     machine: &mut Machine<REGS>,
     origin: Origin,
 ) -> BriefOutcome
-    requires { IsReady origin (machine_of machine.old) }
     ensures done { DoesWork origin ClearRegisters (machine_of machine.old)
         (machine_of machine.new) result }
     ensures keeps { Keeps machine.old machine.new }
@@ -124,7 +119,6 @@ pub fn clear_registers<const REGS: usize>(
 
 /// A line that does nothing but turn lift on.
 pub fn do_nothing<const REGS: usize>(machine: &mut Machine<REGS>, origin: Origin) -> BriefOutcome
-    requires { IsReady origin (machine_of machine.old) }
     ensures done { LeavesRow origin lifting_row (machine_of machine.old)
         (machine_of machine.new) result }
     ensures keeps { Keeps machine.old machine.new }
@@ -137,7 +131,6 @@ pub fn do_nothing<const REGS: usize>(machine: &mut Machine<REGS>, origin: Origin
 /// A line that does nothing, and leaves lift.
 #[inline(always)]
 pub fn be_silent<const REGS: usize>(machine: &mut Machine<REGS>, origin: Origin) -> BriefOutcome
-    requires { IsReady origin (machine_of machine.old) }
     ensures done { LeavesRow origin silent_row (machine_of machine.old)
         (machine_of machine.new) result }
     ensures keeps { Keeps machine.old machine.new }

@@ -7,10 +7,9 @@ use Rattle.h41_focal.specs.Destinations.{Destination, Arrives, Goes, Halts, HasN
 use Rattle.h41_focal.specs.Destinations.{Tells, Typed}
 use Rattle.h41_focal.specs.LineLaws.{FailureIsDetermined, PassingIsDetermined, StepIsDetermined, TypedFailureIsDetermined}
 use Rattle.h41_focal.specs.LineLaws.{TypedIsDetermined}
-use Rattle.h41_focal.specs.LineStep.{Applies, AppliesTo, AppliesWith, CarriesOut, ComputesIn, Ends, Fails, FailsIn, FailsLine, FailsTyped}
-use Rattle.h41_focal.specs.LineStep.{FailsWith, Left, Machine, PassesLine, PassesWith, StepsAs, StepsLine, TakesLine, TypesLine, Works}
-use Rattle.h41_focal.specs.LineStep.{at_line, error_flag, left_done, left_failed, line_as, named_by, with_fault_caught, with_line_passed}
-use Rattle.h41_focal.specs.LineStep.{with_row, answer_of_showing}
+use Rattle.h41_focal.specs.LineStep.{Applies, AppliesTo, AppliesWith, CarriesOut, ComputesIn, Ends, FailsIn, FailsLine, FailsTyped}
+use Rattle.h41_focal.specs.LineStep.{FailsWith, Machine, PassesLine, PassesWith, Stands, StandsAt, StepsAs, StepsLine, TakesLine}
+use Rattle.h41_focal.specs.LineStep.{TypesLine, Works, answer_of_showing, left_by_fault, line_as, named_by, with_line_passed, with_row}
 use Rattle.h41_focal.specs.Outcomes.{Answer}
 use Rattle.h41_focal.specs.declared.refusal.FocalRefusal.{FocalRefusal}
 use Rattle.h41_focal.specs.declared.refusal.FocalRefusal.TheVariants.{BrokenProgram, MemoryLost, NotInProfile}
@@ -18,9 +17,9 @@ use Rattle.h41_program.specs.PositionLaws.{LinesHaveNext}
 use Rattle.h41_program.specs.Positions.{LineAt, LocalFrom, NextAt, StartOf}
 use Rattle.h41_program.specs.declared.position.PlacedLine.{PlacedLine}
 use Rattle.h41_program.specs.declared.position.Position.{Position}
-use Rattle.h41_program.specs.declared.refusal.ProgramRefusal as program
+use Rattle.h41_program.specs.declared.refusal.ProgramRefusal.{ProgramRefusal}
 use Rattle.h41_program.specs.declared.refusal.ProgramRefusal.TheVariants as refusals
-use Rattle.h41_ram.specs.RegisterMap.{RegisterMap, flag_of, is_sound, zeros}
+use Rattle.h41_ram.specs.RegisterMap.{RegisterMap, is_sound, zeros}
 use Rattle.h41_rows.specs.LineRows.{row_of}
 use Rattle.h41_rows.specs.Operands.{Meant, meant_of}
 use Rattle.h41_rows.specs.Places.{are_numbers}
@@ -35,7 +34,7 @@ use Rattle.h41_laws_programs.specs.ProgramAnswers.{MemoryHasOneAnswer, PositionH
 use Rattle.h41_laws_values.specs.LineValues.{ValueHasOneRegister}
 use Rattle.h41_laws_lines.specs.LineOutcomes.{FailureHasOneOutcome, PassingHasOneOutcome, StepHasOneOutcome, TypedFailureHasOneOutcome}
 use Rattle.h41_laws_lines.specs.LineOutcomes.{TypedHasOneOutcome}
-use Rattle.h41_laws_lines.proofs.Leads.{IsReady, NextOrNone, goes}
+use Rattle.h41_laws_lines.proofs.Leads.{NextOrNone, goes}
 
 -- either of two answers, by a test
 either : {A : Type 0} (t : Bool) (Then Else : A → Type 0) → Has Then → Has Else → Has (λ answer. MatchBool t (Then answer) (Else answer))
@@ -49,30 +48,16 @@ alone other = record { answer = other; right = refl }
 where_true : {A : Type 0} (t : Bool) (Then : A → Type 0) (other : A) → Has Then → Has (λ answer. MatchBool t (Then answer) (answer ≡ other))
 where_true t Then other found = either t Then (λ answer. answer ≡ other) found (alone other)
 
-abbrev Ready : Manner → Machine → Type 0
-Ready how machine = IsReady how machine.memory machine.focal.position
-
-fails : (how : Manner) (machine : Machine) (fault : LineFault) → Ready how machine → Has (Fails how machine fault)
-fails Stepped machine fault ready =
-    where_true (flag_of machine.memory error_flag) _ (left_failed (at_line machine.focal.position machine) fault)
-    (record { answer = left_done (at_line ready.0 (with_fault_caught machine)); right = (ready.0, ready.1, refl) })
-fails Typed machine fault ready = alone _
-
-fails_in : (how : Manner) (machine : Machine) (fault : LineFault) → Ready how machine → Has (FailsIn how machine fault)
-fails_in how machine fault ready =
-    let left = fails how machine fault ready in
-    record { answer = Ok left.answer; right = (left.answer, left.right, refl) }
-
-ends : (how : Manner) (old new : Machine) (answer : Answer) (to : Destination) → Ready how old → Has (Ends how old new answer to)
-ends how old new answer (Arrives position returns) ready = alone _
-ends Stepped old new answer (Halts start) ready = alone _
-ends Typed old new answer (Halts start) ready = alone _
-ends how old new answer Stays ready = alone _
-ends how old new answer (Tells holds) ready = alone _
-ends how old new answer (Runs position) ready = alone _
-ends how old new answer (Seeks name) ready = alone _
-ends how old new answer HasNoLabel ready = fails_in how old Nonexistent ready
-ends how old new answer HasNoLine ready = alone (Err BrokenProgram)
+ends : (how : Manner) (old new : Machine) (answer : Answer) (to : Destination) → Has (Ends how old new answer to)
+ends how old new answer (Arrives position returns) = alone _
+ends (Stepped next) old new answer (Halts start) = alone _
+ends Typed old new answer (Halts start) = alone _
+ends how old new answer Stays = alone _
+ends how old new answer (Tells holds) = alone _
+ends how old new answer (Runs position) = alone _
+ends how old new answer (Seeks name) = alone _
+ends how old new answer HasNoLabel = alone (Ok (left_by_fault how old Nonexistent))
+ends how old new answer HasNoLine = alone (Err BrokenProgram)
 
 module _ (values : ValueHasOneRegister) (next_or_none : NextOrNone) (onward : LinesHaveNext) (lines : PositionHasOne LineAt)
     (starts : PositionHasOne StartOf) (locals : PositionHasOneEach LocalFrom) (names : MemoryHasOneAnswer (Option ℕ)) where
@@ -86,85 +71,85 @@ module _ (values : ValueHasOneRegister) (next_or_none : NextOrNone) (onward : Li
       (computes memory named row.value)
 
   applies_with : (how : Manner) (row : rows.LineRow) (named : ℕ) (machine : Machine) (result : Result (List ℕ) LineFault)
-      → Ready how machine → Has (AppliesWith how row named machine result)
-  applies_with how row named machine (Err fault) ready = fails_in how machine fault ready
-  applies_with how row named machine (Ok result) ready =
-      let to = goes next_or_none starts locals names how row.goes machine.memory named machine.focal.position machine.focal.returns ready in
+      → Has (AppliesWith how row named machine result)
+  applies_with how row named machine (Err fault) = alone (Ok (left_by_fault how machine fault))
+  applies_with how row named machine (Ok result) =
+      let to = goes next_or_none starts locals names how row.goes machine.memory named machine.focal.position machine.focal.returns in
       let left =
-      ends how machine (with_row row named result machine) (answer_of_showing machine.memory named row.shows row.ends) to.answer ready in
+      ends how machine (with_row row named result machine) (answer_of_showing machine.memory named row.shows row.ends) to.answer in
       record { answer = left.answer; right = (to.answer, to.right, left.right) }
 
-  applies : (how : Manner) (row : rows.LineRow) (named : ℕ) (machine : Machine) → Ready how machine → Has (Applies how row named machine)
-  applies how row named machine ready =
+  applies : (how : Manner) (row : rows.LineRow) (named : ℕ) (machine : Machine) → Has (Applies how row named machine)
+  applies how row named machine =
       let result = works machine.memory named row in
-      let left = applies_with how row named machine result.answer ready in
+      let left = applies_with how row named machine result.answer in
       record { answer = left.answer; right = (result.answer, result.right, left.right) }
 
-  applies_to : (how : Manner) (line : Line) (machine : Machine) (meant : Result Meant LineFault) → Ready how machine
+  applies_to : (how : Manner) (line : Line) (machine : Machine) (meant : Result Meant LineFault)
       → Has (AppliesTo how line machine meant)
-  applies_to how line machine (Err fault) ready = fails_in how machine fault ready
-  applies_to how line machine (Ok meant) ready = applies how (row_of line meant) (named_by meant) machine ready
+  applies_to how line machine (Err fault) = alone (Ok (left_by_fault how machine fault))
+  applies_to how line machine (Ok meant) = applies how (row_of line meant) (named_by meant) machine
 
-  carries_out : (how : Manner) (line : Line) (machine : Machine) → Ready how machine → Has (CarriesOut how line machine)
-  carries_out how (Module number entry) machine ready = alone _
-  carries_out how line machine ready = applies_to how line machine (meant_of machine.memory line) ready
+  carries_out : (how : Manner) (line : Line) (machine : Machine) → Has (CarriesOut how line machine)
+  carries_out how (Module number entry) machine = alone _
+  carries_out how line machine = applies_to how line machine (meant_of machine.memory line)
 
-  takes : (how : Manner) (line : Line) (machine : Machine) → Ready how machine → Has (TakesLine how line machine)
-  takes how line machine ready =
+  takes : (how : Manner) (line : Line) (machine : Machine) → Has (TakesLine how line machine)
+  takes how line machine =
       either (is_left_out line) (λ carried. carried ≡ Err NotInProfile) (CarriesOut how line machine) (alone (Err NotInProfile))
-      (carries_out how line machine ready)
+      (carries_out how line machine)
 
   types : (line : Line) (machine : Machine) → Has (TypesLine line machine)
   types line machine =
-      where_true (is_sound machine.memory) (TakesLine Typed line machine) (Err MemoryLost) (takes Typed line machine tt)
+      where_true (is_sound machine.memory) (TakesLine Typed line machine) (Err MemoryLost) (takes Typed line machine)
 
-  ready_at : (machine : Machine) (first : PlacedLine) → LineAt machine.memory machine.focal.position (Ok first) → Ready Stepped machine
-  ready_at machine first stands = elim (next_or_none machine.memory machine.focal.position) [
-    | inl found ↦ found
-    | inr none ↦ absurd (onward machine.memory machine.focal.position first refusals.BrokenProgram stands none)
+  stands_in : (memory : RegisterMap) (at : Position) (first : Result PlacedLine ProgramRefusal) → is_sound memory ≡ true
+      → LineAt memory at first → Has (StandsAt memory at)
+  stands_in memory at (Ok first) sound stands = elim (next_or_none memory at) [
+    | inl found ↦ record { answer = Ok (first.line, found.0); right = (sound, (first, stands, refl), found.1) }
+    | inr none ↦ absurd (onward memory at first refusals.BrokenProgram stands none)
   ]
+  stands_in memory at (Err why) sound none = record { answer = Err BrokenProgram; right = rw sound (refl, why, none) }
 
-  steps_as : (function : Option Function) (machine : Machine) (first : Result PlacedLine program.ProgramRefusal)
-      → LineAt machine.memory machine.focal.position first → Has (StepsAs function machine first)
-  steps_as function machine (Ok first) stands = takes Stepped (line_as function first.line) machine (ready_at machine first stands)
-  steps_as function machine (Err refusal) stands = alone (Err BrokenProgram)
+  stands_at : (sound : Bool) (memory : RegisterMap) (at : Position) → is_sound memory ≡ sound → Has (StandsAt memory at)
+  stands_at true memory at is = let first = lines memory at in stands_in memory at first.answer is first.right
+  stands_at false memory at is = record { answer = Err MemoryLost; right = rw is refl }
+
+  -- what is done with the line at a position
+  by_standing : {A : Type 0} (does : Result (Line × Position) FocalRefusal → A → Type 0)
+      → ((standing : Result (Line × Position) FocalRefusal) → Has (does standing)) → (machine : Machine)
+      → Has (λ done. (standing : Result (Line × Position) FocalRefusal) × Stands machine standing × does standing done)
+  by_standing does each machine =
+      let standing = stands_at (is_sound machine.memory) machine.memory machine.focal.position refl in
+      let done = each standing.answer in
+      record { answer = done.answer; right = (standing.answer, standing.right, done.right) }
+
+  steps_as : (function : Option Function) (machine : Machine) (standing : Result (Line × Position) FocalRefusal)
+      → Has (StepsAs function machine standing)
+  steps_as function machine (Ok (line, next)) = takes (Stepped next) (line_as function line) machine
+  steps_as function machine (Err refusal) = alone (Err refusal)
 
   steps : (function : Option Function) (machine : Machine) → Has (StepsLine function machine)
-  steps function machine =
-      let first = lines machine.memory machine.focal.position in
-      let left = steps_as function machine first.answer first.right in
-      where_true (is_sound machine.memory) _ (Err MemoryLost)
-      (record { answer = left.answer; right = (first.answer, first.right, left.right) })
+  steps function machine = by_standing (StepsAs function machine) (steps_as function machine) machine
 
-  fails_with : (fault : LineFault) (machine : Machine) (first : Result PlacedLine program.ProgramRefusal)
-      → LineAt machine.memory machine.focal.position first → Has (FailsWith fault machine first)
-  fails_with fault machine (Ok first) stands = fails_in Stepped machine fault (ready_at machine first stands)
-  fails_with fault machine (Err refusal) stands = alone (Err BrokenProgram)
+  fails_with : (fault : LineFault) (machine : Machine) (standing : Result (Line × Position) FocalRefusal)
+      → Has (FailsWith fault machine standing)
+  fails_with fault machine (Ok (line, next)) = alone (Ok (left_by_fault (Stepped next) machine fault))
+  fails_with fault machine (Err refusal) = alone (Err refusal)
 
   fails_line : (fault : LineFault) (machine : Machine) → Has (FailsLine fault machine)
-  fails_line fault machine =
-      let first = lines machine.memory machine.focal.position in
-      let left = fails_with fault machine first.answer first.right in
-      where_true (is_sound machine.memory) _ (Err MemoryLost)
-      (record { answer = left.answer; right = (first.answer, first.right, left.right) })
+  fails_line fault machine = by_standing (FailsWith fault machine) (fails_with fault machine) machine
 
   fails_typed : (fault : LineFault) (machine : Machine) → Has (FailsTyped fault machine)
   fails_typed fault machine =
-      where_true (is_sound machine.memory) (FailsIn Typed machine fault) (Err MemoryLost) (fails_in Typed machine fault tt)
+      where_true (is_sound machine.memory) (FailsIn Typed machine fault) (Err MemoryLost) (alone (Ok (left_by_fault Typed machine fault)))
 
-  passes_with : (machine : Machine) (first : Result PlacedLine program.ProgramRefusal)
-      → LineAt machine.memory machine.focal.position first → Has (PassesWith machine first)
-  passes_with machine (Ok first) stands =
-      let ready = ready_at machine first stands in
-      record { answer = Ok (with_line_passed first.line ready.0 machine); right = (ready.0, ready.1, refl) }
-  passes_with machine (Err refusal) stands = alone (Err BrokenProgram)
+  passes_with : (machine : Machine) (standing : Result (Line × Position) FocalRefusal) → Has (PassesWith machine standing)
+  passes_with machine (Ok (line, next)) = alone (Ok (with_line_passed line next machine))
+  passes_with machine (Err refusal) = alone (Err refusal)
 
   passes_line : (machine : Machine) → Has (PassesLine machine)
-  passes_line machine =
-      let first = lines machine.memory machine.focal.position in
-      let after = passes_with machine first.answer first.right in
-      where_true (is_sound machine.memory) _ (Err MemoryLost)
-      (record { answer = after.answer; right = (first.answer, first.right, after.right) })
+  passes_line machine = by_standing (PassesWith machine) (passes_with machine) machine
 
   pub one_step : StepIsDetermined → StepHasOneOutcome
   one_step determined function machine =

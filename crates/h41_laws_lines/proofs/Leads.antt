@@ -22,11 +22,6 @@ NextOrNone =
     (memory : RegisterMap) (at : Position)
     → ((next : Position) × NextAt memory at (Ok next)) ⊎ NextAt memory at (Err BrokenProgram)
 
--- what a line that is stepped needs: a position behind its own
-abbrev pub IsReady : Manner → RegisterMap → Position → Type 0
-IsReady Stepped memory at = (next : Position) × NextAt memory at (Ok next)
-IsReady Typed memory at = Unit {0}
-
 module _ (next_or_none : NextOrNone) (starts : PositionHasOne StartOf) (locals : PositionHasOneEach LocalFrom)
     (names : MemoryHasOneAnswer (Option ℕ)) where
   passes : (memory : RegisterMap) (next : Position) (returns : List Position) → Has (Passes memory next returns)
@@ -80,8 +75,6 @@ module _ (next_or_none : NextOrNone) (starts : PositionHasOne StartOf) (locals :
       record { answer = Halts start.answer; right = (start.answer, start.right, refl) }
 
   pub goes : (how : Manner) (going : rows.Going) (memory : RegisterMap) (named : ℕ) (at : Position) (returns : List Position)
-      → IsReady how memory at → Has (Goes how going memory named at returns)
-  goes Stepped going memory named at returns ready =
-      let to = steps_from going memory named at ready.0 returns in
-      record { answer = to.answer; right = (ready.0, ready.1, to.right) }
-  goes Typed going memory named at returns ready = typed_from going memory named at returns
+      → Has (Goes how going memory named at returns)
+  goes (Stepped next) going memory named at returns = steps_from going memory named at next returns
+  goes Typed going memory named at returns = typed_from going memory named at returns

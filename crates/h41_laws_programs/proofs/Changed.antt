@@ -1,26 +1,25 @@
 -- What changes of lists give.
 use Rattle.std.proofs.Common.{ℕ, List, length, Option, Some, None, Err, inl, inr, refl}
-use Rattle.h41_codes.specs.ByteLaws.{LineOrNone, OneLine}
 use Rattle.h41_codes.specs.declared.line.Line.{Line}
 use Rattle.h41_ram.specs.RegisterMap.{RegisterMap}
 use Rattle.h41_program.specs.Edits.{AnswersChanged, ChangeGives, EditGives, LoadGives, LoadsBehind, PlacesAreDetermined, before_end}
 use Rattle.h41_program.specs.Edits.{count_before, edit_outcome, load_outcome, loaded_of}
-use Rattle.h41_program.specs.ProgramLaws.{EditsAreDetermined, LoadsAreDetermined, OneList}
+use Rattle.h41_program.specs.ProgramBytes.{final_position, program_bytes}
+use Rattle.h41_program.specs.ProgramLaws.{EachHasFirst, EachIsListed, EditsAreDetermined, LoadsAreDetermined, OneList}
 use Rattle.h41_program.specs.declared.listed_line.ListedLine.{ListedLine}
 use Rattle.h41_program.specs.declared.refusal.ProgramRefusal.TheVariants.{BrokenProgram}
 use Rattle.h41_laws_numbers.proofs.Answering.{Has}
 use Rattle.h41_laws_programs.specs.ProgramChanges.{ChangeHasOneAnswer, EditHasOneOutcome, LoadHasOneOutcome}
 use Rattle.h41_laws_programs.proofs.Listed.{listed}
-use Rattle.h41_laws_programs.proofs.Placed.{first}
 
-module _ (one : OneLine) (tells : LineOrNone) (lists : OneList) where
+module _ (firsts : EachHasFirst) (each : EachIsListed) (lists : OneList) where
   changed : (memory : RegisterMap) (change : ListedLine → List Line) (position : ℕ) → Has (ChangeGives memory change position)
   changed memory change position =
       let all = lists memory 0 in
       record { answer = edit_outcome memory change position all.lines; right = (all.lines, all.from, refl) }
 
   edit : (memory : RegisterMap) (change : ℕ → ListedLine → List Line) (at : ℕ) → Has (EditGives memory change at)
-  edit memory change at = elim (first one tells memory at) [
+  edit memory change at = elim (firsts (program_bytes memory) (final_position memory) at) [
     | inl found ↦
         let outcome = changed memory (change found.0.position) found.0.position in
         record { answer = outcome.answer; right = inl (found.0, found.1, outcome.right) }
@@ -39,7 +38,7 @@ module _ (one : OneLine) (tells : LineOrNone) (lists : OneList) where
   load_behind : (memory : RegisterMap) (bytes : List ℕ) (lines : Option (List ListedLine)) → Has (LoadsBehind memory bytes lines)
   load_behind memory bytes None = record { answer = Err BrokenProgram; right = refl }
   load_behind memory bytes (Some lines) =
-      let given = listed one tells bytes (length bytes) 0 in
+      let given = listed each bytes (length bytes) 0 in
       record { answer = load_outcome memory lines (loaded_of bytes given.answer); right = (given.answer, given.right, refl) }
 
   pub one_load : LoadsAreDetermined → LoadHasOneOutcome

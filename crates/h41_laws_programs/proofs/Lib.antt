@@ -1,3 +1,4 @@
+pub mod Begun
 pub mod Listed
 pub mod Placed
 pub mod Changed

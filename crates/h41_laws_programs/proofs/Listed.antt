@@ -1,27 +1,25 @@
 -- Lists of lines, and answers by them.
-use Rattle.std.proofs.Common.{ℕ, ◌+◌, List, refl, arith}
-use Rattle.h41_codes.specs.ByteLaws.{LineOrNone, OneLine}
+use Rattle.std.proofs.Common.{ℕ, List, refl}
 use Rattle.h41_program.specs.Lines.{is_final_end}
-use Rattle.h41_program.specs.ProgramLaws.{OneList, ReadIsDetermined}
+use Rattle.h41_program.specs.ProgramLaws.{EachIsListed, OneList, ReadIsDetermined}
 use Rattle.h41_program.specs.ProgramLines.{AnswersOf, Reads}
 use Rattle.h41_program.specs.SearchLaws.{AnswersAreDetermined, ProgramIsDetermined}
 use Rattle.h41_program.specs.Searches.{AnswersProgram, start_in, up_to_end}
-use Rattle.h41_program.proofs.Exists.{reads_some}
 use Rattle.h41_laws_numbers.proofs.Answering.{Has}
 use Rattle.h41_laws_programs.specs.ProgramAnswers.{BytesHaveOneList, MemoryHasOneAnswer, ProgramHasOneAnswer}
 
-pub listed : OneLine → LineOrNone → (bytes : List ℕ) (final at : ℕ) → Has (Reads bytes final at)
-listed one tells bytes final at =
-    let found = reads_some one tells bytes final is_final_end (final + 1) at (omega arith) in
+pub listed : EachIsListed → (bytes : List ℕ) (final at : ℕ) → Has (Reads bytes final at)
+listed lists bytes final at =
+    let found = lists is_final_end bytes final at in
     record { answer = found.0; right = found.1 }
 
-pub one_listed : OneLine → LineOrNone → ReadIsDetermined → BytesHaveOneList
-one_listed one tells determined bytes final at =
-    let found = listed one tells bytes final at in
+pub one_listed : EachIsListed → ReadIsDetermined → BytesHaveOneList
+one_listed lists determined bytes final at =
+    let found = listed lists bytes final at in
     record {
       answer = found.answer;
       right = found.right;
-      only = λ other again. determined bytes final at other found.answer again found.right;
+      only = λ other again. determined is_final_end bytes final at other found.answer again found.right;
     }
 
 pub by_list : {A : Type 0} → OneList → AnswersAreDetermined A → MemoryHasOneAnswer A

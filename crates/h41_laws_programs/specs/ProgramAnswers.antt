@@ -4,7 +4,9 @@ use Rattle.h41_ram.specs.RegisterMap.{RegisterMap}
 use Rattle.h41_program.specs.ProgramLines.{AnswersOf, Reads}
 use Rattle.h41_program.specs.Searches.{AnswersProgram}
 use Rattle.h41_program.specs.declared.listed_line.ListedLine.{ListedLine}
-use Rattle.h41_program.specs.declared.position.Position.{Position}
+use Rattle.h41_pages.specs.PageMap.{PageMap}
+use Rattle.h41_positions.specs.PositionLaws.{Finding}
+use Rattle.h41_positions.specs.declared.position.Position.{Position}
 use Rattle.h41_laws_numbers.specs.HasOne.{HasOne}
 
 -- bytes have one list of lines from each position on, wherever their last three begin
@@ -23,10 +25,11 @@ ProgramHasOneAnswer A =
     (answer : List ListedLine → A) (memory : RegisterMap) (at : ℕ)
     → HasOne (AnswersProgram answer memory at)
 
--- each position has one answer of a kind, in any memory
-abbrev pub PositionHasOne : {A : Type 0} → (RegisterMap → Position → A → Type 0) → Type 0
-PositionHasOne answers = (memory : RegisterMap) (at : Position) → HasOne (answers memory at)
+-- each position has one answer of a kind, in any pages and memory
+abbrev pub PositionHasOne : {A : Type 0} → Finding A → Type 0
+PositionHasOne answers =
+    (pages : PageMap) (memory : RegisterMap) (at : Position) → HasOne (answers pages memory at)
 
 -- so it is for each number
-abbrev pub PositionHasOneEach : {A : Type 0} → (ℕ → RegisterMap → Position → A → Type 0) → Type 0
+abbrev pub PositionHasOneEach : {A : Type 0} → (ℕ → Finding A) → Type 0
 PositionHasOneEach answers = (n : ℕ) → PositionHasOne (answers n)

@@ -6,23 +6,21 @@ ghost use Rattle.h41_laws_programs.specs.ProgramAnswers.{ProgramHasOneAnswer, Po
 ghost use Rattle.h41_laws_programs.specs.ProgramAnswers.{PositionHasOneEach};
 ghost use Rattle.h41_laws_programs.specs.ProgramChanges.{EditHasOneOutcome, LoadHasOneOutcome};
 ghost use Rattle.h41_laws_programs.specs.ProgramChanges.{ChangeHasOneAnswer};
-ghost use Rattle.h41_program.specs.Positions.{EndOf, LineAt, LineBefore, LocalFrom, NextAt};
-ghost use Rattle.h41_program.specs.Positions.{NumberAt, StartOf};
+ghost use Rattle.h41_positions.specs.Positions.{EndOf, LineAt, LineBefore, LocalFrom, NextAt};
+ghost use Rattle.h41_positions.specs.Positions.{NumberAt, StartOf};
 ghost use Rattle.h41_program.specs.declared.editing.InFront.{InFront};
 ghost use Rattle.h41_program.specs.declared.refusal.ProgramRefusal.{ProgramRefusal};
 
-use h41_codes::laws::{byte_round_trip, line_or_none};
+use h41_positions::laws::positions_are_read;
 use h41_program::laws::{
-    edits_are_determined, lists_are_determined, one_list, positions_are_read,
-    searches_are_determined,
+    each_is_listed, edits_are_determined, lists_are_determined, one_list, searches_are_determined,
 };
 
 /// Bytes are read as one list of lines from each position on, whatever they are and wherever their last line stands.
 pub fn bytes_have_one_list()
     ensures { BytesHaveOneList }
 {
-    byte_round_trip();
-    line_or_none();
+    each_is_listed();
     lists_are_determined();
 }
 
@@ -38,7 +36,7 @@ pub fn searches_have_one_answer()
     searches_are_determined();
 }
 
-/// Each position of any memory, sound or not, has one line or refusal, one next position or refusal, one start of its program,
+/// Each position of any pages and memory, sound or not, has one line or refusal, one next position or refusal, one start of its program,
 /// one place of each local label, one end, one line before and one number, some of them that there is none.
 pub fn positions_have_one_answer()
     ensures line { PositionHasOne LineAt }
@@ -49,9 +47,9 @@ pub fn positions_have_one_answer()
     ensures before { PositionHasOne LineBefore }
     ensures number { PositionHasOne NumberAt }
 {
-    byte_round_trip();
-    line_or_none();
+    each_is_listed();
     one_list();
+    lists_are_determined();
     positions_are_read();
 }
 
@@ -63,8 +61,7 @@ pub fn changes_have_one_outcome()
     ensures answer { ChangeHasOneAnswer (Option ℕ) }
     ensures front { ChangeHasOneAnswer InFront }
 {
-    byte_round_trip();
-    line_or_none();
+    each_is_listed();
     one_list();
     edits_are_determined();
 }

@@ -46,14 +46,10 @@ same_function_by : (a b : Function) → Plain a ≡ Plain b → a ≡ b
 same_function_by a b is = cc
 
 -- a typed line that fails
-same_fault : (machine : Machine) (a b : Result Left FocalRefusal)
-    → FailsIn Typed machine Nonexistent a → FailsIn Typed machine Nonexistent b → a ≡ b
-same_fault machine a b (p, p_fails, p_is) (q, q_fails, q_is) = p_is ∙ ap Ok (p_fails ∙ sym q_fails) ∙ sym q_is
-
 same_typed_fault : (sound : Bool) (machine : Machine) (a b : Result Left FocalRefusal)
     → MatchBool sound (FailsIn Typed machine Nonexistent a) (a ≡ Err lines.MemoryLost)
     → MatchBool sound (FailsIn Typed machine Nonexistent b) (b ≡ Err lines.MemoryLost) → a ≡ b
-same_typed_fault true machine a b p q = same_fault machine a b p q
+same_typed_fault true machine a b p q = p ∙ sym q
 same_typed_fault false machine a b p q = p ∙ sym q
 
 module _ (same_step : StepIsDetermined) (same_typing : TypedIsDetermined) (same_failure : FailureIsDetermined)

@@ -1,6 +1,6 @@
 -- What private functions promise one another.
-use Rattle.std.specs.Prelude.{◌≡◌, ◌≤◌, ℕ, length, Some, Bool, false, IsTrue, List, [], MatchBool}
-use Rattle.std.specs.Prelude.{Result, Ok, Err, ⊤}
+use Rattle.std.specs.Prelude.{◌≡◌, ◌≤◌, ℕ, length, Some, Bool, false, List, [], MatchBool}
+use Rattle.std.specs.Prelude.{Result, Ok, Err}
 use Rattle.h41_codes.specs.declared.characters.Character.{Character}
 use Rattle.h41_codes.specs.declared.functions.Branch.{Branch}
 use Rattle.h41_codes.specs.declared.functions.NameFunction.{NameFunction}
@@ -16,7 +16,7 @@ use Rattle.h41_focal.specs.Destinations.{Manner}
 use Rattle.h41_focal.specs.Destinations as destinations
 use Rattle.h41_focal.specs.BriefOutcomes.{briefly, briefly_as}
 use Rattle.h41_focal.specs.MachineCalls.{carried_as}
-use Rattle.h41_focal.specs.LineStep.{Applies, Fails, FailsIn, FocalState, Left, Machine}
+use Rattle.h41_focal.specs.LineStep.{Applies, FailsIn, FocalState, Left, Machine, Stands}
 use Rattle.h41_focal.specs.LineStep.{TakesLine, at_position}
 use Rattle.h41_rows.specs.Operands.{Address, Count, DigitKind, FlagKind, Meant, Name, NoOperand}
 use Rattle.h41_rows.specs.Operands.{RegisterKind, meant_as, meant_of}
@@ -29,6 +29,7 @@ use Rattle.h41_focal.specs.private.Works.{digits_use_row, flag_use_row, highest_
 use Rattle.h41_focal.specs.private.Works.{register_use_row}
 use Rattle.h41_focal.specs.private.Works.{row_of_work}
 use Rattle.h41_focal.specs.declared.works.FunctionWork.{FunctionWork}
+use Rattle.h41_focal.specs.declared.works.FunctionWork.TheVariants.{Return}
 use Rattle.h41_rows.specs.LineRows.{row_of, text_row, to_label, to_meant, to_name}
 use Rattle.h41_rows.specs.declared.operands.BranchTarget.{BranchTarget}
 use Rattle.h41_rows.specs.declared.fault.LineFault.{LineFault}
@@ -38,30 +39,20 @@ use Rattle.h41_focal.specs.declared.outcome.BriefOutcome.{BriefOutcome}
 use Rattle.h41_focal.specs.declared.outcome.BriefOutcome.TheVariants as briefs
 use Rattle.h41_focal.specs.declared.outcome.LineOutcome.{LineOutcome}
 use Rattle.h41_focal.specs.declared.refusal.FocalRefusal.{FocalRefusal}
-use Rattle.h41_focal.specs.declared.refusal.FocalRefusal.TheVariants.{BrokenProgram, MemoryLost}
+use Rattle.h41_focal.specs.declared.refusal.FocalRefusal.TheVariants.{BrokenProgram}
 use Rattle.h41_focal.specs.declared.uses.DigitsUse.{DigitsUse}
 use Rattle.h41_focal.specs.declared.uses.FlagUse.{FlagUse}
 use Rattle.h41_focal.specs.declared.uses.FlagUse.TheVariants.{AskAndClear}
 use Rattle.h41_focal.specs.declared.uses.RegisterUse.{RegisterUse}
-use Rattle.h41_program.specs.Positions.{LineAt, NextAt}
-use Rattle.h41_program.specs.declared.position.PlacedLine.{PlacedLine}
+use Rattle.h41_program.specs.Positions.{NextAt}
 use Rattle.h41_program.specs.declared.position.Position.{Position}
 use Rattle.h41_program.specs.declared.refusal.ProgramRefusal.TheVariants as program
-use Rattle.h41_ram.specs.RegisterMap.{RegisterMap, is_sound}
+use Rattle.h41_ram.specs.RegisterMap.{RegisterMap}
 
--- how a line comes, and that it is known where the next one stands
+-- how a line comes
 abbrev pub manner_of : Origin → Manner
-manner_of (Program next) = destinations.Stepped
+manner_of (Program next) = destinations.Stepped next
 manner_of Typed = destinations.Typed
-
-abbrev pub KnowsNext : Origin → Machine → Type 0
-KnowsNext (Program next) machine = NextAt machine.memory machine.focal.position (Ok next)
-KnowsNext Typed machine = ⊤
-
--- what each line needs of the machine: memory is sound, and it is known where the next line stands
-pub record IsReady (origin : Origin) (machine : Machine) : Type 0 where
-  pub sound : IsTrue (is_sound machine.memory)
-  pub next : KnowsNext origin machine
 
 -- on to the next line; a typed line stays
 abbrev pub on_to_next : Origin → Lift → FocalState → FocalState
@@ -92,7 +83,7 @@ ended new brief = briefly nowhere new brief
 abbrev pub ended_as : Machine → Result BriefOutcome FocalRefusal → Result Left FocalRefusal
 ended_as new result = briefly_as nowhere new result
 
--- a row was applied to a machine
+-- a row was applied to a machine, by a line that looks for no position
 abbrev pub Leaves : Origin → LineRow → ℕ → (old new : Machine) → BriefOutcome → Type 0
 Leaves origin row named old new brief =
     Applies (manner_of origin) row named old (Ok (ended new brief))
@@ -171,30 +162,12 @@ UsesFlag origin taken operand old new result =
     × (result_map Count found ≡ meant_as (FlagKind (highest_of taken)) old.memory operand)
     × CarriesFound origin (flag_use_row taken) (λ flag. 0) found old new result
 
--- the line that stands at a position, and where the next one stands; or why there is none
-abbrev pub StandsAt : RegisterMap → Position → Result (Line × Position) FocalRefusal → Type 0
-StandsAt memory at (Ok standing) =
-    IsTrue (is_sound memory)
-    × ((first : PlacedLine) × LineAt memory at (Ok first) × (first.line ≡ standing.0))
-    × NextAt memory at (Ok standing.1)
-StandsAt memory at (Err refusal) =
-    MatchBool (is_sound memory)
-    ((refusal ≡ BrokenProgram) × LineAt memory at (Err program.BrokenProgram))
-    (refusal ≡ MemoryLost)
-
-abbrev pub Stands : Machine → Result (Line × Position) FocalRefusal → Type 0
-Stands machine result = StandsAt machine.memory machine.focal.position result
-
 -- the line that stands there is a number line, of this number
-abbrev pub StandsNumberAt : RegisterMap → Position → Ten → Position → Type 0
-StandsNumberAt memory at number next =
-    (text : List Character)
-    × StandsAt memory at (Ok (lines.Number text, next))
-    × IsNumberOf text number
-
 abbrev pub StandsNumber : Machine → Ten → Position → Type 0
 StandsNumber machine number next =
-    StandsNumberAt machine.memory machine.focal.position number next
+    (text : List Character)
+    × Stands machine (Ok (lines.Number text, next))
+    × IsNumberOf text number
 
 -- the same of a row that names no register, of a line without an operand, of the work of a
 -- function, of the use of a register or a flag
@@ -226,10 +199,6 @@ abbrev pub CarriesFlag : Origin → FlagUse → ℕ → (old new : Machine)
 CarriesFlag origin taken flag old new result =
     (named : ℕ) → CarriesRow origin (flag_use_row taken flag) named old new result
 
-abbrev pub LeavesFlag : Origin → FlagUse → ℕ → (old new : Machine) → BriefOutcome → Type 0
-LeavesFlag origin taken flag old new brief =
-    LeavesRow origin (flag_use_row taken flag) old new brief
-
 abbrev pub LeavesDigits : Origin → DigitsUse → ℕ → (old new : Machine) → BriefOutcome → Type 0
 LeavesDigits origin taken digits old new brief =
     LeavesRow origin (digits_use_row taken digits) old new brief
@@ -237,16 +206,21 @@ LeavesDigits origin taken digits old new brief =
 -- of a branch to a label, or to a name
 abbrev pub GoesToLabel : Origin → Branch → ℕ → (old new : Machine) → BriefOutcome → Type 0
 GoesToLabel origin branch label old new brief =
-    LeavesRow origin (to_label branch label) old new brief
+    (named : ℕ) → CarriesRow origin (to_label branch label) named old new (Ok brief)
 
 abbrev pub GoesToName : Origin → Branch → List ℕ → (old new : Machine) → BriefOutcome → Type 0
 GoesToName origin branch name old new brief =
     (named : ℕ)
     → LeavesCalling (answers.Seeks name) origin (to_name branch name) named old new brief
 
+-- back, or to line 00
+abbrev pub GoesBack : Origin → (old new : Machine) → BriefOutcome → Type 0
+GoesBack origin old new brief = CarriesWork origin Return old new (Ok brief)
+
 -- of a fault
 abbrev pub FailsAs : Origin → LineFault → (old new : Machine) → BriefOutcome → Type 0
-FailsAs origin fault old new brief = Fails (manner_of origin) old fault (ended new brief)
+FailsAs origin fault old new brief =
+    FailsIn (manner_of origin) old fault (Ok (ended new brief))
 
 -- lines of each kind are taken
 abbrev pub TakesNamed : Origin → NameFunction → List ℕ → BriefCall

@@ -13,19 +13,19 @@ pub returns-in-Clear-clause-done : goal.returns-in-Clear-clause-done
 returns-in-Clear-clause-done g c = λ named.
     rw c.in-Clear.is
     (row_done _ (row_of_work (works.Alpha alphas.Clear)) named _ _ _ zeros
-    briefs.Done _ _ (ap machine_of c.machine.view_is) c.requires.next refl refl refl
+    briefs.Done _ _ (ap machine_of c.machine.view_is) refl refl refl
     (c.replace_text.ensures.change named) c.go_on_lifting.ensures.state)
 
 pub returns-in-Shift-clause-done : goal.returns-in-Shift-clause-done
 returns-in-Shift-clause-done g c = λ named.
     rw c.in-Shift.is
     (row_done _ (row_of_work (works.Alpha alphas.Shift)) named _ _ _ zeros
-    briefs.Done _ _ (ap machine_of c.machine.view_is) c.requires.next refl refl refl
+    briefs.Done _ _ (ap machine_of c.machine.view_is) refl refl refl
     (c.shift_six.ensures.change named) c.go_on_lifting-in-Shift.ensures.state)
 
 pub returns-in-Mode-clause-done : goal.returns-in-Mode-clause-done
 returns-in-Mode-clause-done g c = λ named.
     rw c.in-Mode.is
     (row_done _ (row_of_work (works.Alpha (alphas.Mode c.in-Mode.on))) named _ _ _
-    zeros briefs.Done _ _ (ap machine_of c.machine.view_is) c.requires.next refl refl refl
+    zeros briefs.Done _ _ (ap machine_of c.machine.view_is) refl refl refl
     (ap (λ (ram : RamState). ram.registers) c.set_flag.ensures.written) c.go_on_lifting-in-Mode.ensures.state)

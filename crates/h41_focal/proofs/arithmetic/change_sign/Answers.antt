@@ -11,6 +11,6 @@ use Rattle.h41_focal.proofs.arithmetic.change_sign.Goals as goal
 pub returns-in-Ok-clause-done : goal.returns-in-Ok-clause-done
 returns-in-Ok-clause-done g c = λ named.
     row_done _ (row_of_work works.ChangeSign) named _ _ _ c.in-Ok.register briefs.Done _ _
-    (ap machine_of c.machine.view_is) c.requires.next refl
+    (ap machine_of c.machine.view_is) refl
     (let worked = c.compute_of_one.ensures named X refl in rw c.in-Ok.is at worked) refl
     (ap (λ (ram : RamState). ram.registers) c.set_status_register.ensures.written) c.go_on_lifting.ensures.state

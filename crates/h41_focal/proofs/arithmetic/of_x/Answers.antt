@@ -13,7 +13,7 @@ use Rattle.h41_focal.proofs.arithmetic.of_x.Goals as goal
 pub returns-in-Ok-clause-done : goal.returns-in-Ok-clause-done
 returns-in-Ok-clause-done g c = λ named.
     row_done _ (row_of_work (works.OfX c.args.value)) named _ _ _ c.in-Ok.register briefs.Done _ _
-    (ap machine_of c.machine.view_is) c.requires.next refl
+    (ap machine_of c.machine.view_is) refl
     (value_computed _ named (row_of_work (works.OfX c.args.value)) (value_of_one c.args.value X) _ refl refl (c.in-Ok.ensures named X refl))
     refl
     (c.keep_last.ensures.change named) c.go_on_lifting.ensures.state

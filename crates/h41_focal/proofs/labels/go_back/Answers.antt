@@ -9,7 +9,7 @@ pub returns-in-Program-clause-done : goal.returns-in-Program-clause-done
 returns-in-Program-clause-done g c = λ named.
     rw c.in-Program.is
     (goes_back (machine_of c.args.machine.now) (machine_of c.return_from.new.machine) c.return_from.result c.in-Program.field-0
-    named (let knows = c.requires.next in rw c.in-Program.is at knows) c.return_from.ensures.done)
+    named c.return_from.ensures.done)
 
 pub returns-in-Typed-clause-done : goal.returns-in-Typed-clause-done
 returns-in-Typed-clause-done g c = λ named.

@@ -15,9 +15,9 @@ use Rattle.h41_focal.proofs.labels.to_label.Goals as goal
 pub returns-in-Some-clause-done : goal.returns-in-Some-clause-done
 returns-in-Some-clause-done g c = λ named.
     rw (c.arrive.ensures.state, c.local.ensures.state)
-    (opened_row _ (to_label c.args.branch c.args.label) named _ _ _ _ (ap machine_of c.machine.view_is) c.requires.ready.next
-    (λ knows. label_found c.args.origin c.args.branch c.args.label named
-    (machine_with c.machine.inside.ram.registers c.machine.inside.focal.state) c.in-Some.position c.arrive.result knows
+    (opened_row _ (to_label c.args.branch c.args.label) named _ _ _ _ (ap machine_of c.machine.view_is)
+    (label_found c.args.origin c.args.branch c.args.label named
+    (machine_with c.machine.inside.ram.registers c.machine.inside.focal.state) c.in-Some.position c.arrive.result
     (let found = c.local.ensures.found in rw (c.in-Some.is, c.searched_from-from.ensures) at found) c.arrive.ensures.answer))
 
 pub returns-in-Some-clause-kept : goal.returns-in-Some-clause-kept
@@ -34,7 +34,7 @@ returns-in-None-clause-done g c = λ named.
     let lost = rw (c.in-None.is, c.searched_from-from.ensures) at found in
     let same : machine_with c.machine.inside.ram.registers c.local.new.self.state ≡ machine_of c.args.machine.now =
     ap (machine_with c.machine.inside.ram.registers) c.local.ensures.state ∙ ap machine_of c.machine.view_is in
-    label_lost c.args.origin c.args.branch c.args.label named _ _ _ c.requires.ready.next
+    label_lost c.args.origin c.args.branch c.args.label named _ _ _
     (subst (λ (machine : Machine). LocalFrom c.args.label machine.memory (from_of c.args.origin machine.focal.position) None)
     (ap machine_of c.machine.view_is) lost)
     (subst (λ (machine : Machine). FailsAs c.args.origin Nonexistent machine (machine_of c.fail.new.machine) c.fail.result) same

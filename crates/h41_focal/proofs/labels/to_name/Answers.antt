@@ -19,9 +19,9 @@ use Rattle.h41_focal.proofs.labels.to_name.Goals as goal
 pub returns-in-Some-default-clause-done : goal.returns-in-Some-default-clause-done
 returns-in-Some-default-clause-done g c = λ named.
     rw (c.arrive.ensures.state, c.global.ensures.state)
-    (opened_row _ (to_name c.args.branch c.args.name) named _ _ _ _ (ap machine_of c.machine.view_is) c.requires.ready.next
-    (λ knows. name_found c.args.origin c.args.branch c.args.name named
-    (machine_with c.machine.inside.ram.registers c.machine.inside.focal.state) c.in-Some-default.byte c.arrive.result knows
+    (opened_row _ (to_name c.args.branch c.args.name) named _ _ _ _ (ap machine_of c.machine.view_is)
+    (name_found c.args.origin c.args.branch c.args.name named
+    (machine_with c.machine.inside.ram.registers c.machine.inside.focal.state) c.in-Some-default.byte c.arrive.result
     (let found = c.global.ensures.found in rw c.in-Some-default.is-0 at found) c.arrive.ensures.answer))
 
 pub returns-in-Some-default-clause-kept : goal.returns-in-Some-default-clause-kept
@@ -38,7 +38,7 @@ returns-in-None-GoTo-clause-done g c = λ named.
     let same : machine_with c.machine.inside.ram.registers c.global.new.self.state ≡ machine_of c.args.machine.now =
     ap (machine_with c.machine.inside.ram.registers) c.global.ensures.state ∙ ap machine_of c.machine.view_is in
     rw c.in-None-GoTo.is-1
-    (name_lost c.args.origin c.args.name named _ _ _ c.requires.ready.next
+    (name_lost c.args.origin c.args.name named _ _ _
     (subst (λ (machine : Machine). AnswersOf (λ lines. position_of (named_in c.args.name lines)) machine.memory 0 None)
     (ap machine_of c.machine.view_is) lost)
     (failure_calling (Seeks c.args.name) c.args.origin Nonexistent (machine_of c.args.machine.now)
@@ -62,7 +62,7 @@ returns-in-None-Execute-clause-done g c = λ named.
     (λ (machine : Machine). LeavesCalling (Seeks c.args.name) c.args.origin (to_name Execute c.args.name) named
     (machine_of c.args.machine.now) machine briefs.Elsewhere)
     (sym (ap machine_of c.machine.view_is))
-    (name_sought c.args.origin c.args.name named (machine_of c.args.machine.now) c.requires.ready.next
+    (name_sought c.args.origin c.args.name named (machine_of c.args.machine.now)
     (subst (λ (machine : Machine). AnswersOf (λ lines. position_of (named_in c.args.name lines)) machine.memory 0 None)
     (ap machine_of c.machine.view_is) lost)))
 

@@ -20,7 +20,6 @@ returns-clause-failure c = failure_determined
 
 pub returns-clause-typed_failure : goal.returns-clause-typed_failure
 returns-clause-typed_failure c = typed_failure_determined
-    c.positions_are_read.ensures.read
 
 pub returns-clause-passing : goal.returns-clause-passing
 returns-clause-passing c = passing_determined

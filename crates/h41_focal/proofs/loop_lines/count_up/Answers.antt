@@ -16,20 +16,19 @@ returns-in_err-lead-in-Ok-clause-carried g c =
     let works = loop_works Up _ c.args.address _ (c.loop_up.ensures.register c.args.address Named refl) in
     let refused = err_from_is_err_and c.from_residual.result c.from_residual.ensures.1 in
     rw (refused.1, refused.2)
-    (opened_row _ (loop Up) c.args.address _ _ _ _ (ap machine_of c.machine.view_is) c.requires.next
-    (λ knows. loop_refused _ (loop Up) (Loops Up Named) c.in-Ok.counted.goes_on c.args.address _
+    (opened_row _ (loop Up) c.args.address _ _ _ _ (ap machine_of c.machine.view_is)
+    (loop_refused _ (loop Up) (Loops Up Named) c.in-Ok.counted.goes_on c.args.address _
     c.in-Ok.counted.register c.in_err-lead-in-Ok.field-0.0
-    knows refl (rw c.in-Ok.is at works) c.in-Ok.ensures.course c.in_err-lead-in-Ok.ensures))
+    refl (rw c.in-Ok.is at works) c.in-Ok.ensures.course c.in_err-lead-in-Ok.ensures))
 
 pub returns-in_ok-lead-in-Ok-clause-carried : goal.returns-in_ok-lead-in-Ok-clause-carried
 returns-in_ok-lead-in-Ok-clause-carried g c =
     let works = loop_works Up _ c.args.address _ (c.loop_up.ensures.register c.args.address Named refl) in
     rw (c.go_on_lifting.ensures.state, (ap (λ (ram : RamState). ram.registers) c.write.ensures.written))
-    (opened_row _ (loop Up) c.args.address _ _ _ _ (ap machine_of c.machine.view_is) c.requires.next
-    (λ knows.
-    loop_leads _ c.in_ok-lead-in-Ok.lead (loop Up) (Loops Up Named) c.in-Ok.counted.goes_on c.args.address _
+    (opened_row _ (loop Up) c.args.address _ _ _ _ (ap machine_of c.machine.view_is)
+    (loop_leads _ c.in_ok-lead-in-Ok.lead (loop Up) (Loops Up Named) c.in-Ok.counted.goes_on c.args.address _
     c.in-Ok.counted.register briefs.Done
-    knows refl refl refl (rw c.in-Ok.is at works) c.in-Ok.ensures.course c.in_ok-lead-in-Ok.ensures refl))
+    refl refl refl (rw c.in-Ok.is at works) c.in-Ok.ensures.course c.in_ok-lead-in-Ok.ensures refl))
 
 pub returns-in-Err-clause-carried : goal.returns-in-Err-clause-carried
 returns-in-Err-clause-carried g c =

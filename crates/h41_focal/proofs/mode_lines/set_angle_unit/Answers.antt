@@ -10,5 +10,5 @@ use Rattle.h41_focal.proofs.mode_lines.set_angle_unit.Goals as goal
 pub returns-clause-done : goal.returns-clause-done
 returns-clause-done g c = λ named.
     row_done _ (row_of_work (works.Angles c.args.grads c.args.radians)) named _ _ _
-    zeros briefs.Done _ _ (ap machine_of c.machine.view_is) c.requires.next refl refl refl
+    zeros briefs.Done _ _ (ap machine_of c.machine.view_is) refl refl refl
     c.set_angles.ensures.change c.go_on_lifting.ensures.state

@@ -11,12 +11,12 @@ pub returns-in-Format-clause-done : goal.returns-in-Format-clause-done
 returns-in-Format-clause-done g c = λ named.
     rw c.in-Format.is
     (row_done _ (digits_use_row (digits.Format c.in-Format.fixed c.in-Format.engineering) c.args.digits)
-    named _ _ _ zeros briefs.Done _ _ (ap machine_of c.machine.view_is) c.requires.ready.next refl refl refl
+    named _ _ _ zeros briefs.Done _ _ (ap machine_of c.machine.view_is) refl refl refl
     c.set_format.ensures.change c.go_on_lifting.ensures.state)
 
 pub returns-in-Tone-clause-done : goal.returns-in-Tone-clause-done
 returns-in-Tone-clause-done g c = λ named.
     rw c.in-Tone.is
     (row_done _ (digits_use_row digits.Tone c.args.digits) named _ _ _ zeros
-    briefs.Done _ _ (ap machine_of c.machine.view_is) c.requires.ready.next refl refl refl
+    briefs.Done _ _ (ap machine_of c.machine.view_is) refl refl refl
     refl c.go_on_lifting-in-Tone.ensures.state)

@@ -12,7 +12,7 @@ use Rattle.h41_focal.proofs.register_lines.combine.Goals as goal
 pub returns-in-Ok-clause-done : goal.returns-in-Ok-clause-done
 returns-in-Ok-clause-done g c =
     row_done _ (register_use_row (registers.Combine c.args.value)) c.args.address _
-    _ _ c.in-Ok.register briefs.Done _ _ (ap machine_of c.machine.view_is) c.requires.next refl
+    _ _ c.in-Ok.register briefs.Done _ _ (ap machine_of c.machine.view_is) refl
     (let worked = c.compute_of_two.ensures c.machine.inside.ram.registers c.args.address Named X refl refl refl in
     works_in_register c.args.value _ c.args.address _ (rw c.in-Ok.is at worked))
     refl (ap (λ (ram : RamState). ram.registers) c.write.ensures.written) c.go_on_lifting.ensures.state

@@ -10,5 +10,5 @@ use Rattle.h41_focal.proofs.register_lines.recall_alpha.Goals as goal
 pub returns-clause-done : goal.returns-clause-done
 returns-clause-done g c =
     row_done _ (register_use_row registers.RecallAlpha) c.args.address _ _ _
-    zeros briefs.Done _ _ (ap machine_of c.machine.view_is) c.requires.next refl refl refl
+    zeros briefs.Done _ _ (ap machine_of c.machine.view_is) refl refl refl
     c.append_register.ensures.change c.go_on_lifting.ensures.state

@@ -11,6 +11,6 @@ use Rattle.h41_focal.proofs.register_lines.store_alpha.Goals as goal
 pub returns-clause-done : goal.returns-clause-done
 returns-clause-done g c =
     row_done _ (register_use_row registers.StoreAlpha) c.args.address _ _ _
-    zeros briefs.Done _ _ (ap machine_of c.machine.view_is) c.requires.next refl refl refl
+    zeros briefs.Done _ _ (ap machine_of c.machine.view_is) refl refl refl
     (rw ((ap (λ (ram : RamState). ram.registers) c.write.ensures.written), c.first_six-characters.ensures) refl)
     c.go_on_lifting.ensures.state

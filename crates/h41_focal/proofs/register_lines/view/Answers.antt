@@ -10,6 +10,6 @@ use Rattle.h41_focal.proofs.register_lines.view.Goals as goal
 pub returns-clause-done : goal.returns-clause-done
 returns-clause-done g c =
     row_done _ (register_use_row registers.View) c.args.address _ _ _ zeros
-    (briefs.ViewedRegister c.args.address) _ _ (ap machine_of c.machine.view_is) c.requires.next refl refl
+    (briefs.ViewedRegister c.args.address) _ _ (ap machine_of c.machine.view_is) refl refl
     refl
     refl c.go_on_lifting.ensures.state

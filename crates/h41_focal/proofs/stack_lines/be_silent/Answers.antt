@@ -9,4 +9,4 @@ use Rattle.h41_ram.specs.RegisterMap.{zeros}
 pub returns-clause-done : goal.returns-clause-done
 returns-clause-done g c = λ named.
     row_done _ silent_row named _ _ _ zeros briefs.Done _ _
-    (ap machine_of c.machine.view_is) c.requires.next refl refl refl refl c.go_on.ensures.state
+    (ap machine_of c.machine.view_is) refl refl refl refl c.go_on.ensures.state

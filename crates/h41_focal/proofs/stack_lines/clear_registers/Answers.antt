@@ -10,5 +10,5 @@ use Rattle.h41_ram.specs.RegisterMap.{zeros}
 pub returns-clause-done : goal.returns-clause-done
 returns-clause-done g c = λ named.
     row_done _ (row_of_work works.ClearRegisters) named _ _ _ zeros briefs.Done _ _
-    (ap machine_of c.machine.view_is) c.requires.next refl refl refl
+    (ap machine_of c.machine.view_is) refl refl refl
     c.clear_data.ensures.change c.go_on_lifting.ensures.state

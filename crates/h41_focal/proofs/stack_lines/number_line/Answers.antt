@@ -14,5 +14,5 @@ returns-clause-done g c = λ text always named.
     let opened = ap (λ (inside : Inside g.row.REGS). machine_with inside.ram.registers inside.focal.state) c.machine-inside.view_is
     ∙ (ap machine_of c.machine.view_is) in
     row_done _ (row_of (lines.Number text) NoOperand) named _ _ _ c.args.number briefs.Done _ _ opened
-    c.requires.next refl (always _ named) refl (c.bring_in.ensures.change named)
+    refl (always _ named) refl (c.bring_in.ensures.change named)
     c.go_on_lifting.ensures.state

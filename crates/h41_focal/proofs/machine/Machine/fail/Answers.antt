@@ -1,8 +1,7 @@
-use Rattle.std.proofs.Common.{ap, ◌∙◌}
+use Rattle.std.proofs.Common.{Ok, Err, ap, refl, ◌∙◌}
 use Rattle.std.proofs.lemmas.Result.{err_from_is_err_and}
 use Rattle.h41_focal.specs.LabelledMachine.{machine_of}
 use Rattle.h41_focal.proofs.Briefly.{same_left}
-use Rattle.h41_focal.proofs.LinesTaken.{fail_refused, line_fails}
 use Rattle.h41_focal.proofs.machine.Machine.fail.Goals as goal
 use Rattle.h41_focal.specs.BriefOutcomes.{brief_answer}
 use Rattle.h41_focal.specs.LineStep.{Machine}
@@ -10,12 +9,11 @@ use Rattle.h41_focal.specs.LineStep.{Machine}
 pub returns-in_err-next-clause-line : goal.returns-in_err-next-clause-line
 returns-in_err-next-clause-line g c =
     let refused = err_from_is_err_and c.from_residual.result c.from_residual.ensures.1 in
-    rw (refused.1, refused.2) (fail_refused c.args.fault (machine_of c.args.self.now) c.in_err-next.field-0.0 c.in_err-next.ensures)
+    rw (refused.1, refused.2) (Err c.in_err-next.field-0.0, c.in_err-next.ensures, refl)
 
 pub returns-clause-line : goal.returns-clause-line
 returns-clause-line g c =
     rw (same_left (machine_of c.fail.new.machine) c.fail.result c.outcome.result
     (λ called. c.outcome.ensures called ∙ ap (λ (of : Machine). brief_answer called of.memory c.fail.result)
     (ap machine_of c.self.view_is)))
-    (line_fails c.args.fault (machine_of c.args.self.now) (machine_of c.fail.new.machine) c.in_ok-next.field-0-0
-    c.in_ok-next.next c.fail.result c.in_ok-next.ensures c.fail.ensures.done)
+    (Ok (c.in_ok-next.field-0-0, c.in_ok-next.next), c.in_ok-next.ensures, c.fail.ensures.done)

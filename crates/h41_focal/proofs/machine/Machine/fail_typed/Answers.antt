@@ -1,10 +1,9 @@
-use Rattle.std.proofs.Common.{◌≡◌, true, ap, refl, rules, ◌∙◌}
+use Rattle.std.proofs.Common.{◌≡◌, true, ap, rules, ◌∙◌}
 use Rattle.h41_focal.specs.LabelledMachine.{machine_of}
 use Rattle.h41_focal.proofs.Briefly.{same_left}
 use Rattle.h41_focal.proofs.machine.Machine.fail_typed.Goals as goal
 use Rattle.h41_focal.specs.BriefOutcomes.{brief_answer}
 use Rattle.h41_focal.specs.LineStep.{Machine}
-use Rattle.h41_focal.specs.private.Carrying.{ended}
 use Rattle.h41_ram.specs.RegisterMap.{is_sound}
 
 pub returns-clause-line : goal.returns-clause-line
@@ -13,4 +12,4 @@ returns-clause-line g c =
     rw (same_left (machine_of c.fail.new.machine) c.fail.result c.outcome.result
     (λ called. c.outcome.ensures called ∙ ap (λ (of : Machine). brief_answer called of.memory c.fail.result)
     (ap machine_of c.self-2.view_is)))
-    (rw sound (ended (machine_of c.fail.new.machine) c.fail.result, c.fail.ensures.done, refl))
+    (rw sound c.fail.ensures.done)

@@ -1,10 +1,9 @@
-use Rattle.std.proofs.Common.{ap, subst, Err, None}
+use Rattle.std.proofs.Common.{ap, refl, subst, Ok, Err, None}
 use Rattle.std.proofs.lemmas.Result.{err_from_is_err_and}
 use Rattle.h41_focal.specs.LabelledMachine.{machine_of}
 use Rattle.h41_focal.specs.LineStep.{Machine, StepsLine}
 use Rattle.h41_focal.specs.MachineCalls.{KeepsElsewhere, Steps}
 use Rattle.h41_focal.proofs.Elsewhere.{kept_elsewhere}
-use Rattle.h41_focal.proofs.LinesTaken.{step_refused, step_taken}
 use Rattle.h41_focal.proofs.machine.Machine.step.Goals as goal
 use Rattle.h41_focal.specs.declared.origin.Origin.TheVariants.{Program}
 
@@ -13,7 +12,7 @@ returns-in_err-line-clause-line g c =
     let refused = err_from_is_err_and c.from_residual.result c.from_residual.ensures.1 in
     rw (refused.1, refused.2)
     (subst (λ (machine : Machine). StepsLine None machine (Err c.in_err-line.field-0.0)) (ap machine_of c.begin.ensures.begun)
-    (step_refused None (machine_of c.begin.new.self) c.in_err-line.field-0.0 c.in_err-line.ensures))
+    (Err c.in_err-line.field-0.0, c.in_err-line.ensures, refl))
 
 pub returns-in_err-line-clause-right : goal.returns-in_err-line-clause-right
 returns-in_err-line-clause-right g c = λ clear. c.begin.ensures.right
@@ -22,7 +21,7 @@ pub returns-clause-line : goal.returns-clause-line
 returns-clause-line g c =
     subst (λ (machine : Machine). Steps None machine (machine_of c.carry_out.new.machine) c.carry_out.result)
     (ap machine_of c.begin.ensures.begun)
-    (step_taken None _ c.in_ok-line.line c.in_ok-line.next _ c.in_ok-line.ensures c.carry_out.ensures.taken)
+    (Ok (c.in_ok-line.line, c.in_ok-line.next), c.in_ok-line.ensures, c.carry_out.ensures.taken)
 
 pub returns-clause-elsewhere : goal.returns-clause-elsewhere
 returns-clause-elsewhere g c =

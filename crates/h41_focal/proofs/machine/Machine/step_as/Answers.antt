@@ -1,9 +1,8 @@
-use Rattle.std.proofs.Common.{ap, subst, Err, Some}
+use Rattle.std.proofs.Common.{ap, refl, subst, Ok, Err, Some}
 use Rattle.std.proofs.lemmas.Result.{err_from_is_err_and}
 use Rattle.h41_focal.specs.LabelledMachine.{machine_of}
 use Rattle.h41_focal.specs.LineStep.{Machine, StepsLine}
 use Rattle.h41_focal.specs.MachineCalls.{Steps}
-use Rattle.h41_focal.proofs.LinesTaken.{step_refused, step_taken}
 use Rattle.h41_focal.proofs.machine.Machine.step_as.Goals as goal
 
 pub returns-in_err-next-clause-line : goal.returns-in_err-next-clause-line
@@ -12,7 +11,7 @@ returns-in_err-next-clause-line g c =
     rw (refused.1, refused.2)
     (subst (λ (machine : Machine). StepsLine (Some c.args.function) machine (Err c.in_err-next.field-0.0))
     (ap machine_of c.begin.ensures.begun)
-    (step_refused (Some c.args.function) (machine_of c.begin.new.self) c.in_err-next.field-0.0 c.in_err-next.ensures))
+    (Err c.in_err-next.field-0.0, c.in_err-next.ensures, refl))
 
 pub returns-in_err-next-clause-right : goal.returns-in_err-next-clause-right
 returns-in_err-next-clause-right g c = λ clear. c.begin.ensures.right
@@ -21,7 +20,7 @@ pub returns-clause-line : goal.returns-clause-line
 returns-clause-line g c =
     subst (λ (machine : Machine). Steps (Some c.args.function) machine (machine_of c.carry_out.new.machine) c.carry_out.result)
     (ap machine_of c.begin.ensures.begun)
-    (step_taken (Some c.args.function) _ c.in_ok-next.field-0-0 c.in_ok-next.next _ c.in_ok-next.ensures c.carry_out.ensures.taken)
+    (Ok (c.in_ok-next.field-0-0, c.in_ok-next.next), c.in_ok-next.ensures, c.carry_out.ensures.taken)
 
 pub returns-clause-right : goal.returns-clause-right
 returns-clause-right g c =

@@ -1,13 +1,12 @@
-use Rattle.std.proofs.Common.{◌≡◌, ap, subst, sym, Ok, None}
+use Rattle.std.proofs.Common.{◌≡◌, ap, subst, sym, Ok}
 use Rattle.h41_codes.specs.ShortLines.{line_of}
 use Rattle.h41_focal.specs.BriefOutcomes.{StepsBriefly}
 use Rattle.h41_focal.specs.LabelSearches.{search_of}
 use Rattle.h41_focal.specs.LabelledMachine.{LabelledMachine, machine_of}
-use Rattle.h41_focal.specs.LineStep.{Machine}
+use Rattle.h41_focal.specs.LineStep.{Machine, Stands}
 use Rattle.h41_focal.proofs.Briefly.{call_changes_nothing, calls_elsewhere}
-use Rattle.h41_focal.proofs.LinesTaken.{step_taken}
 use Rattle.h41_focal.proofs.machine.Machine.step_briefly.Goals as goal
-use Rattle.h41_focal.specs.private.Carrying.{Stands, called_by}
+use Rattle.h41_focal.specs.private.Carrying.{called_by}
 use Rattle.h41_labels.specs.KeptAnswers.{KeepsSearch}
 use Rattle.h41_focal.specs.declared.origin.Origin.TheVariants.{Program}
 
@@ -17,9 +16,12 @@ returns-in-Some-clause-line g c =
     (ap machine_of c.begin.ensures.begun) (
       called_by c.begin.new.self.ram.registers (line_of c.in-Some.line),
       calls_elsewhere c.begin.new.self.ram.registers (line_of c.in-Some.line),
-      step_taken None _ (line_of c.in-Some.line) c.in-Some.next _
-          (subst (λ (machine : Machine). Stands machine (Ok (line_of c.in-Some.line, c.in-Some.next)))
-          (sym (ap machine_of c.begin.ensures.begun)) c.in-Some.ensures) c.carry_short.ensures.taken,
+      (
+        Ok (line_of c.in-Some.line, c.in-Some.next),
+        subst (λ (machine : Machine). Stands machine (Ok (line_of c.in-Some.line, c.in-Some.next)))
+            (sym (ap machine_of c.begin.ensures.begun)) c.in-Some.ensures,
+        c.carry_short.ensures.taken,
+      ),
     )
 
 pub returns-in-Some-clause-elsewhere : goal.returns-in-Some-clause-elsewhere
@@ -35,8 +37,7 @@ returns-in-Some-clause-right g c =
 
 pub returns-in-Some-clause-kept : goal.returns-in-Some-clause-kept
 returns-in-Some-clause-kept g c =
-    let stands = c.in-Some.ensures in
     let next = c.in-Some.next in
     let kept = subst (λ (m : LabelledMachine). KeepsSearch m.ram.registers (search_of m.ram.registers next (line_of c.in-Some.line))
     m.focal.labels c.carry_short.new.machine.focal.labels) c.begin.ensures.begun c.carry_short.ensures.kept in
-    rw stands.0 (Ok stands.1.0, stands.1.1, (next, stands.2, rw stands.1.2 kept))
+    (Ok (line_of c.in-Some.line, next), c.in-Some.ensures, kept)

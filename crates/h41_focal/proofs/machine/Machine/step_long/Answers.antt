@@ -1,47 +1,45 @@
-use Rattle.std.proofs.Common.{◌≡◌, ap, subst, sym, Ok, None, ◌∙◌}
+use Rattle.std.proofs.Common.{◌≡◌, ap, subst, sym, Ok, None, rules, ◌∙◌}
 use Rattle.h41_codes.specs.declared.line.Line.TheVariants.{Number}
 use Rattle.h41_focal.specs.BriefOutcomes.{StepsBriefly}
 use Rattle.h41_focal.specs.LabelledMachine.{LabelledMachine, machine_of}
-use Rattle.h41_focal.specs.LineStep.{Machine}
+use Rattle.h41_focal.specs.LineStep.{Machine, Stands}
 use Rattle.h41_focal.proofs.Briefly.{call_changes_nothing, calls_elsewhere}
-use Rattle.h41_focal.proofs.LinesTaken.{step_taken}
 use Rattle.h41_focal.proofs.machine.Machine.step_long.Goals as goal
-use Rattle.h41_focal.specs.private.Carrying.{Stands, called_by}
+use Rattle.h41_focal.specs.private.Carrying.{called_by}
 use Rattle.h41_focal.specs.declared.origin.Origin.TheVariants.{Program}
 
-pub returns-in-Some-clause-line : goal.returns-in-Some-clause-line
-returns-in-Some-clause-line g c =
+pub returns-in-Some : goal.returns-in-Some
+returns-in-Some g c =
     let found = c.in-Some.ensures in
-    let begun = c.begin in
-    subst (λ (machine : Machine). StepsBriefly machine (machine_of c.number_line.new.machine) (Ok c.number_line.result))
-    (ap machine_of begun.ensures.begun) (
-      called_by begun.new.self.ram.registers (Number found.0),
-      calls_elsewhere begun.new.self.ram.registers (Number found.0),
-      step_taken None _ (Number found.0) c.in-Some.next _
-          (subst (λ (machine : Machine). Stands machine (Ok (Number found.0, c.in-Some.next)))
-          (sym (ap machine_of begun.ensures.begun)) found.1)
-          (c.number_line.ensures.done found.0 (c.number_register-register.ensures found.0 found.2) 0),
-    )
-
-pub returns-in-Some-clause-elsewhere : goal.returns-in-Some-clause-elsewhere
-returns-in-Some-clause-elsewhere g c = λ elsewhere.
-    let found = c.in-Some.ensures in
-    let begun = c.begin in
-    subst (λ (machine : Machine). machine_of c.number_line.new.machine ≡ machine) (ap machine_of begun.ensures.begun)
-    (call_changes_nothing (Program c.in-Some.next) (Number found.0) (machine_of begun.new.self)
-    (machine_of c.number_line.new.machine) (Ok c.number_line.result)
-    (c.number_line.ensures.done found.0 (c.number_register-register.ensures found.0 found.2) 0) elsewhere)
-
-pub returns-in-Some-clause-right : goal.returns-in-Some-clause-right
-returns-in-Some-clause-right g c =
     let begun = c.begin in
     let keeps = c.number_line.ensures.keeps in
-    c.kept_answers_stay_right.ensures.searching begun.new.self c.number_line.new.machine None begun.ensures.right
-    keeps.labels keeps.mark
-
-pub returns-in-Some-clause-kept : goal.returns-in-Some-clause-kept
-returns-in-Some-clause-kept g c =
-    let stands = c.in-Some.ensures.1 in
-    let labels = c.number_line.ensures.keeps.labels
-    ∙ ap (λ (m : LabelledMachine). m.focal.labels) c.begin.ensures.begun in
-    rw stands.0 (Ok stands.1.0, stands.1.1, (c.in-Some.next, stands.2, rw stands.1.2 labels))
+    let done = c.number_line.ensures.done found.0 (c.number_register-register.ensures found.0 found.2) 0 in
+    record {
+      line =
+          subst (λ (machine : Machine). StepsBriefly machine (machine_of c.number_line.new.machine) (Ok c.number_line.result))
+          (ap machine_of begun.ensures.begun) (
+            called_by begun.new.self.ram.registers (Number found.0),
+            calls_elsewhere begun.new.self.ram.registers (Number found.0),
+            (
+              Ok (Number found.0, c.in-Some.next),
+              subst (λ (machine : Machine). Stands machine (Ok (Number found.0, c.in-Some.next)))
+                  (sym (ap machine_of begun.ensures.begun)) found.1,
+              done,
+            ),
+          );
+      unchanged = tt;
+      elsewhere = λ elsewhere.
+          subst (λ (machine : Machine). machine_of c.number_line.new.machine ≡ machine) (ap machine_of begun.ensures.begun)
+          (call_changes_nothing (Program c.in-Some.next) (Number found.0) (machine_of begun.new.self)
+          (machine_of c.number_line.new.machine) (Ok c.number_line.result) done elsewhere);
+      kept = (
+        Ok (Number found.0, c.in-Some.next),
+        found.1,
+        keeps.labels ∙ ap (λ (m : LabelledMachine). m.focal.labels) begun.ensures.begun,
+      );
+      mark = search rules;
+      clear = search rules;
+      right =
+          c.kept_answers_stay_right.ensures.searching begun.new.self c.number_line.new.machine None begun.ensures.right
+          keeps.labels keeps.mark;
+    }

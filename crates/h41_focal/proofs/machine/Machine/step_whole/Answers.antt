@@ -1,43 +1,50 @@
-use Rattle.std.proofs.Common.{◌≡◌, ap, subst, Err, None, refl}
+use Rattle.std.proofs.Common.{◌≡◌, ap, subst, Ok, Err, None, refl, rules}
 use Rattle.std.proofs.lemmas.Result.{err_from_is_err_and}
 use Rattle.h41_focal.specs.BriefOutcomes.{StepsBriefly}
 use Rattle.h41_focal.specs.LabelledMachine.{machine_of}
 use Rattle.h41_focal.specs.LineStep.{Machine, StepsLine}
 use Rattle.h41_focal.proofs.Briefly.{call_changes_nothing, calls_elsewhere}
-use Rattle.h41_focal.proofs.LinesTaken.{step_refused, step_taken}
 use Rattle.h41_focal.proofs.machine.Machine.step_whole.Goals as goal
 use Rattle.h41_focal.specs.private.Carrying.{called_by, nowhere}
 use Rattle.h41_focal.specs.declared.origin.Origin.TheVariants.{Program}
 
-pub returns-in_err-line-clause-line : goal.returns-in_err-line-clause-line
-returns-in_err-line-clause-line g c =
-    let refused = err_from_is_err_and c.from_residual.result c.from_residual.ensures.1 in (
-      nowhere,
-      refl,
-      rw (refused.1, refused.2)
-          (subst (λ (machine : Machine). StepsLine None machine (Err c.in_err-line.field-0.0)) (ap machine_of c.begin.ensures.begun)
-          (step_refused None (machine_of c.begin.new.self) c.in_err-line.field-0.0 c.in_err-line.ensures)),
-    )
+pub returns-in_err-line : goal.returns-in_err-line
+returns-in_err-line g c =
+    let refused = err_from_is_err_and c.from_residual.result c.from_residual.ensures.1 in
+    rw (refused.1, refused.2)
+    (record {
+      line = (
+        nowhere,
+        refl,
+        subst (λ (machine : Machine). StepsLine None machine (Err c.in_err-line.field-0.0)) (ap machine_of c.begin.ensures.begun)
+            (Err c.in_err-line.field-0.0, c.in_err-line.ensures, refl),
+      );
+      unchanged = search rules;
+      elsewhere = λ elsewhere. absurd (cc elsewhere);
+      kept = search rules;
+      mark = search rules;
+      clear = search rules;
+      right = λ clear. c.begin.ensures.right;
+    })
 
-pub returns-in_err-line-clause-right : goal.returns-in_err-line-clause-right
-returns-in_err-line-clause-right g c = λ clear. c.begin.ensures.right
-
-pub returns-clause-line : goal.returns-clause-line
-returns-clause-line g c =
-    subst (λ (machine : Machine). StepsBriefly machine (machine_of c.carry_briefly.new.machine) c.carry_briefly.result)
-    (ap machine_of c.begin.ensures.begun) (
-      called_by c.begin.new.self.ram.registers c.in_ok-line.line,
-      calls_elsewhere c.begin.new.self.ram.registers c.in_ok-line.line,
-      step_taken None _ c.in_ok-line.line c.in_ok-line.next _ c.in_ok-line.ensures c.carry_briefly.ensures.taken,
-    )
-
-pub returns-clause-elsewhere : goal.returns-clause-elsewhere
-returns-clause-elsewhere g c = λ elsewhere.
-    subst (λ (machine : Machine). machine_of c.carry_briefly.new.machine ≡ machine) (ap machine_of c.begin.ensures.begun)
-    (call_changes_nothing (Program c.in_ok-line.next) c.in_ok-line.line (machine_of c.begin.new.self)
-    (machine_of c.carry_briefly.new.machine) c.carry_briefly.result c.carry_briefly.ensures.taken elsewhere)
-
-pub returns-clause-right : goal.returns-clause-right
-returns-clause-right g c =
-    c.kept_answers_stay_right.ensures.searching c.begin.new.self c.carry_briefly.new.machine _ c.begin.ensures.right
-    c.carry_briefly.ensures.kept c.carry_briefly.ensures.mark
+pub returns : goal.returns
+returns g c = record {
+  line =
+      subst (λ (machine : Machine). StepsBriefly machine (machine_of c.carry_briefly.new.machine) c.carry_briefly.result)
+      (ap machine_of c.begin.ensures.begun) (
+        called_by c.begin.new.self.ram.registers c.in_ok-line.line,
+        calls_elsewhere c.begin.new.self.ram.registers c.in_ok-line.line,
+        (Ok (c.in_ok-line.line, c.in_ok-line.next), c.in_ok-line.ensures, c.carry_briefly.ensures.taken),
+      );
+  unchanged = search rules;
+  elsewhere = λ elsewhere.
+      subst (λ (machine : Machine). machine_of c.carry_briefly.new.machine ≡ machine) (ap machine_of c.begin.ensures.begun)
+      (call_changes_nothing (Program c.in_ok-line.next) c.in_ok-line.line (machine_of c.begin.new.self)
+      (machine_of c.carry_briefly.new.machine) c.carry_briefly.result c.carry_briefly.ensures.taken elsewhere);
+  kept = search rules;
+  mark = search rules;
+  clear = search rules;
+  right =
+      c.kept_answers_stay_right.ensures.searching c.begin.new.self c.carry_briefly.new.machine _ c.begin.ensures.right
+      c.carry_briefly.ensures.kept c.carry_briefly.ensures.mark;
+}

@@ -1,4 +1,4 @@
-use Rattle.h41_focal.proofs.alpha_lines.put_characters.Goals as goal
+use Rattle.h41_focal.proofs.alpha_lines.put_text.Goals as goal
 
 pub returns-in-Some-clause-change : goal.returns-in-Some-clause-change
 returns-in-Some-clause-change g c = λ named.
@@ -8,4 +8,4 @@ returns-in-Some-clause-change g c = λ named.
 pub returns-in-None-clause-change : goal.returns-in-None-clause-change
 returns-in-None-clause-change g c = λ named.
     let whole = c.appended.ensures.whole in
-    rw ((rw c.in-None.is at whole) c.requires) (c.replace_text.ensures.change named)
+    rw ((rw c.in-None.is at whole) c.in_default.len_at_least) (c.replace_text.ensures.change named)

@@ -7,6 +7,7 @@ use Rattle.h41_focal.specs.Outcomes as answers
 use Rattle.h41_focal.specs.declared.outcome.BriefOutcome.{BriefOutcome}
 use Rattle.h41_focal.specs.declared.outcome.BriefOutcome.TheVariants as briefs
 use Rattle.h41_focal.specs.declared.refusal.FocalRefusal.{FocalRefusal}
+use Rattle.h41_pages.specs.PageMap.{PageMap}
 use Rattle.h41_ram.specs.RegisterMap.{RegisterMap, register_at}
 use Rattle.h41_show.specs.DisplayFormat.{format_of}
 use Rattle.h41_show.specs.RegisterText.{alpha_text, register_text}
@@ -39,8 +40,8 @@ briefly_as called machine (Err refusal) = Err refusal
 
 -- the line at the position is carried out, and what it calls where memory does not have it is left
 -- to be asked for
-abbrev pub StepsBriefly : (old new : Machine) → Result BriefOutcome FocalRefusal → Type 0
-StepsBriefly old new result =
+abbrev pub StepsBriefly : PageMap → (old new : Machine) → Result BriefOutcome FocalRefusal → Type 0
+StepsBriefly pages old new result =
     (called : Answer)
     × IsTrue (is_elsewhere called)
-    × StepsLine None old (briefly_as called new result)
+    × StepsLine pages None old (briefly_as called new result)

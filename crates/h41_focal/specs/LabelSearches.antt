@@ -11,28 +11,30 @@ use Rattle.h41_labels.specs.KeptAnswers.{KeepsSearch}
 use Rattle.h41_labels.specs.declared.search.KeptAnswer.{KeptAnswer}
 use Rattle.h41_labels.specs.declared.search.Search.{Search}
 use Rattle.h41_labels.specs.declared.search.Search.TheVariants.{Global, Local}
-use Rattle.h41_program.specs.declared.position.Position.{Position}
-use Rattle.h41_program.specs.declared.position.Position.TheVariants.{Memory}
+use Rattle.h41_pages.specs.PageMap.{PageMap}
+use Rattle.h41_positions.specs.declared.position.Position.{Position}
+use Rattle.h41_positions.specs.declared.position.Position.TheVariants.{Memory, Page}
 use Rattle.h41_ram.specs.RegisterMap.{RegisterMap, is_sound}
 use Rattle.h41_rows.specs.Operands.{Count, Meant, Name, meant_of}
 use Rattle.h41_rows.specs.Profile.{is_left_out}
 use Rattle.h41_rows.specs.declared.fault.LineFault.{LineFault}
 
--- a search for LBL n, from a position on
-abbrev pub local_search : Position → ℕ → Search
-local_search (Memory byte) label = Local byte label
+-- a search for LBL n, from a position on; none that is kept in a page
+abbrev pub local_search : Position → ℕ → Option Search
+local_search (Memory byte) label = Some (Local byte label)
+local_search (Page address) label = None
 
 -- the search for what a register holds: a label's number, or a name; a fault has none
 abbrev pub search_for : Position → Result Meant LineFault → Option Search
-search_for from (Ok (Count label)) = Some (local_search from label)
+search_for from (Ok (Count label)) = local_search from label
 search_for from (Ok (Name name)) = Some (Global name)
 search_for from other = None
 
 -- the search that a line makes, by the position from which on a local label is looked for: GTO and
 -- XEQ make one, and no other line
 abbrev pub search_by : RegisterMap → Position → Line → Option Search
-search_by memory from (lines.ShortGoTo label distance) = Some (local_search from label)
-search_by memory from (lines.BranchTo branch distance far label) = Some (local_search from label)
+search_by memory from (lines.ShortGoTo label distance) = local_search from label
+search_by memory from (lines.BranchTo branch distance far label) = local_search from label
 search_by memory from (lines.Named function name) = Some (Global name)
 search_by memory from (lines.BranchIndirect branch register) =
     search_for from (meant_of memory (lines.BranchIndirect branch register))
@@ -59,10 +61,10 @@ KeepsPlaced function machine (Ok standing) before after =
 KeepsPlaced function machine (Err refusal) before after = after ≡ before
 
 -- the kept answers behind the line at the position, or behind a function in its place
-abbrev pub StepKeeps : Option Function → (old new : LabelledMachine) → Type 0
-StepKeeps function old new =
+abbrev pub StepKeeps : PageMap → Option Function → (old new : LabelledMachine) → Type 0
+StepKeeps pages function old new =
     (standing : Result (Line × Position) FocalRefusal)
-    × Stands (machine_of old) standing
+    × Stands pages (machine_of old) standing
     × KeepsPlaced function (machine_of old) standing (begun_labels old) new.focal.labels
 
 -- and behind a typed line

@@ -1,15 +1,16 @@
 -- What holds of lines, whatever the code does: each has one outcome; those that go on to the next
 -- leave the same, stepped or typed.
-use Rattle.std.specs.Prelude.{◌≡◌, false, All, IfOk, List, [], ◌∷◌, None, Ok, Option, Result}
+use Rattle.std.specs.Prelude.{◌≡◌, ℕ, false, All, IfOk, List, [], ◌∷◌, None, Ok, Option, Result}
 use Rattle.h41_codes.specs.declared.functions.Function.{Function}
 use Rattle.h41_codes.specs.declared.line.Line.{Line}
 use Rattle.h41_codes.specs.declared.line.Line.TheVariants.{Module}
-use Rattle.h41_focal.specs.LineStep.{FailsLine, FailsTyped, Left, Machine, PassesLine, StepsLine}
-use Rattle.h41_focal.specs.LineStep.{TypesLine}
+use Rattle.h41_focal.specs.LineStep.{EntersLine, FailsLine, FailsTyped, Left, Machine, PassesLine}
+use Rattle.h41_focal.specs.LineStep.{StepsLine, TypesLine}
 use Rattle.h41_focal.specs.Outcomes.{is_elsewhere}
 use Rattle.h41_focal.specs.declared.refusal.FocalRefusal.{FocalRefusal}
-use Rattle.h41_program.specs.Positions.{LineAt}
-use Rattle.h41_program.specs.declared.position.PlacedLine.{PlacedLine}
+use Rattle.h41_pages.specs.PageMap.{PageMap}
+use Rattle.h41_positions.specs.Positions.{LineAt}
+use Rattle.h41_positions.specs.declared.position.PlacedLine.{PlacedLine}
 use Rattle.h41_ram.specs.RegisterMap.{RegisterMap}
 use Rattle.h41_rows.specs.LineRows.{row_of}
 use Rattle.h41_rows.specs.Operands.{meant_of}
@@ -19,20 +20,23 @@ use Rattle.h41_rows.specs.declared.fault.LineFault.{LineFault}
 -- a stepped line has one outcome
 abbrev pub StepIsDetermined : Type 0
 StepIsDetermined =
-    (function : Option Function) (machine : Machine) (carried other : Result Left FocalRefusal)
-    → StepsLine function machine carried → StepsLine function machine other → carried ≡ other
+    (pages : PageMap) (function : Option Function) (machine : Machine)
+    (carried other : Result Left FocalRefusal)
+    → StepsLine pages function machine carried → StepsLine pages function machine other
+    → carried ≡ other
 
 -- so has a typed one
 abbrev pub TypedIsDetermined : Type 0
 TypedIsDetermined =
-    (line : Line) (machine : Machine) (carried other : Result Left FocalRefusal)
-    → TypesLine line machine carried → TypesLine line machine other → carried ≡ other
+    (pages : PageMap) (line : Line) (machine : Machine) (carried other : Result Left FocalRefusal)
+    → TypesLine pages line machine carried → TypesLine pages line machine other → carried ≡ other
 
 -- and one that fails
 abbrev pub FailureIsDetermined : Type 0
 FailureIsDetermined =
-    (fault : LineFault) (machine : Machine) (carried other : Result Left FocalRefusal)
-    → FailsLine fault machine carried → FailsLine fault machine other → carried ≡ other
+    (pages : PageMap) (fault : LineFault) (machine : Machine)
+    (carried other : Result Left FocalRefusal)
+    → FailsLine pages fault machine carried → FailsLine pages fault machine other → carried ≡ other
 
 -- and a typed one that fails so
 abbrev pub TypedFailureIsDetermined : Type 0
@@ -43,8 +47,15 @@ TypedFailureIsDetermined =
 -- and one that is passed
 abbrev pub PassingIsDetermined : Type 0
 PassingIsDetermined =
-    (machine : Machine) (after other : Result Machine FocalRefusal) → PassesLine machine after
-    → PassesLine machine other → after ≡ other
+    (pages : PageMap) (machine : Machine) (after other : Result Machine FocalRefusal)
+    → PassesLine pages machine after → PassesLine pages machine other → after ≡ other
+
+-- and one that calls a program of a page
+abbrev pub EnteringIsDetermined : Type 0
+EnteringIsDetermined =
+    (pages : PageMap) (address : ℕ) (machine : Machine) (after other : Result Machine FocalRefusal)
+    → EntersLine pages address machine after → EntersLine pages address machine other
+    → after ≡ other
 
 -- a line whose row goes on to the next one, whatever its operand means in whatever memory. Tests,
 -- loops, GTO, XEQ, RTN and END do not; PROMPT, STOP and OFF do, since only memory and lift are
@@ -56,23 +67,28 @@ GoesToNext line =
     (memory : RegisterMap) → IfOk (meant_of memory line) (λ meant. (row_of line meant).goes ≡ Next)
 
 -- a line stands at the position
-abbrev pub IsAt : Line → Machine → Type 0
-IsAt line machine =
-    (first : PlacedLine) × LineAt machine.memory machine.focal.position (Ok first)
+abbrev pub IsAt : PageMap → Line → Machine → Type 0
+IsAt pages line machine =
+    (first : PlacedLine)
+    × LineAt pages machine.memory machine.focal.position (Ok first)
     × (first.line ≡ line)
 
 -- lines that stand at the position in turn are stepped, each in what the one before it left
-abbrev pub StepsInTurn : List Line → Machine → Machine → Type 0
-StepsInTurn [] machine left = left ≡ machine
-StepsInTurn (line ∷ lines) machine left =
-    IsAt line machine
-    × (after : Left) × StepsLine None machine (Ok after) × StepsInTurn lines after.machine left
+abbrev pub StepsInTurn : PageMap → List Line → Machine → Machine → Type 0
+StepsInTurn pages [] machine left = left ≡ machine
+StepsInTurn pages (line ∷ lines) machine left =
+    IsAt pages line machine
+    × (after : Left)
+    × StepsLine pages None machine (Ok after)
+    × StepsInTurn pages lines after.machine left
 
 -- lines are typed in turn
-abbrev pub TypesInTurn : List Line → Machine → Machine → Type 0
-TypesInTurn [] machine left = left ≡ machine
-TypesInTurn (line ∷ lines) machine left =
-    (after : Left) × TypesLine line machine (Ok after) × TypesInTurn lines after.machine left
+abbrev pub TypesInTurn : PageMap → List Line → Machine → Machine → Type 0
+TypesInTurn pages [] machine left = left ≡ machine
+TypesInTurn pages (line ∷ lines) machine left =
+    (after : Left)
+    × TypesLine pages line machine (Ok after)
+    × TypesInTurn pages lines after.machine left
 
 -- the same memory, in which are the stack, the data registers, ALPHA and the flags, and the same
 -- lift; positions may differ
@@ -84,21 +100,23 @@ AreAlike machine other =
 -- and flag 25 included
 abbrev pub TypedAsStepped : Type 0
 TypedAsStepped =
-    (lines : List Line) (machine other left typed : Machine)
+    (pages : PageMap) (lines : List Line) (machine other left typed : Machine)
     → All GoesToNext lines → AreAlike machine other
-    → StepsInTurn lines machine left → TypesInTurn lines other typed → AreAlike left typed
+    → StepsInTurn pages lines machine left → TypesInTurn pages lines other typed
+    → AreAlike left typed
 
 -- and where they can be stepped they can be typed
 abbrev pub SteppedCanBeTyped : Type 0
 SteppedCanBeTyped =
-    (lines : List Line) (machine other left : Machine)
+    (pages : PageMap) (lines : List Line) (machine other left : Machine)
     → All GoesToNext lines → AreAlike machine other
-    → StepsInTurn lines machine left → (typed : Machine) × TypesInTurn lines other typed
+    → StepsInTurn pages lines machine left → (typed : Machine) × TypesInTurn pages lines other typed
 
 -- a line that goes on is done there: it calls no function of a module, and no name has to be looked
 -- up elsewhere
 abbrev pub NextIsHere : Type 0
 NextIsHere =
-    (line : Line) (machine : Machine) (left : Left) → GoesToNext line → IsAt line machine
-    → StepsLine None machine (Ok left)
+    (pages : PageMap) (line : Line) (machine : Machine) (left : Left)
+    → GoesToNext line → IsAt pages line machine
+    → StepsLine pages None machine (Ok left)
     → is_elsewhere left.answer ≡ false

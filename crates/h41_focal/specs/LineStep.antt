@@ -8,6 +8,7 @@ use Rattle.h41_codes.specs.declared.line.Line.{Line}
 use Rattle.h41_codes.specs.declared.line.Line.TheVariants.{Module, Plain}
 use Rattle.h41_focal.specs.Destinations.{Destination, Arrives, Halts, Stays, Tells, Runs, Seeks}
 use Rattle.h41_focal.specs.Destinations.{HasNoLabel, HasNoLine, Goes, Manner, Stepped, Typed}
+use Rattle.h41_focal.specs.Destinations.{with_return}
 use Rattle.h41_rows.specs.LineRows.{row_of}
 use Rattle.h41_rows.specs.Operands.{Meant, Address, meant_of}
 use Rattle.h41_focal.specs.Outcomes.{Answer}
@@ -22,10 +23,11 @@ use Rattle.h41_rows.specs.declared.fault.LineFault.TheVariants.{AlphaData, Nonex
 use Rattle.h41_focal.specs.declared.refusal.FocalRefusal.{FocalRefusal}
 use Rattle.h41_focal.specs.declared.refusal.FocalRefusal.TheVariants.{MemoryLost, BrokenProgram}
 use Rattle.h41_focal.specs.declared.refusal.FocalRefusal.TheVariants.{NotInProfile}
-use Rattle.h41_program.specs.Positions.{LineAt, NextAt}
-use Rattle.h41_program.specs.declared.position.PlacedLine.{PlacedLine}
-use Rattle.h41_program.specs.declared.position.Position.{Position}
-use Rattle.h41_program.specs.declared.position.Position.TheVariants.{Memory}
+use Rattle.h41_pages.specs.PageMap.{PageMap}
+use Rattle.h41_positions.specs.Positions.{LineAt, NextAt}
+use Rattle.h41_positions.specs.declared.position.PlacedLine.{PlacedLine}
+use Rattle.h41_positions.specs.declared.position.Position.{Position}
+use Rattle.h41_positions.specs.declared.position.Position.TheVariants.{Memory, Page}
 use Rattle.h41_program.specs.declared.refusal.ProgramRefusal.{ProgramRefusal}
 use Rattle.h41_ram.specs.NamedFlags.{error_ignore}
 use Rattle.h41_ram.specs.RegisterMap.{RegisterMap, flag_of, is_sound, register_at, with_flag, zeros}
@@ -170,20 +172,20 @@ with_row row named result machine = record {
 }
 
 -- a row is applied, where the register that its line names and what is computed are known
-abbrev pub AppliesWith : Manner → rows.LineRow → ℕ → Machine → Result (List ℕ) LineFault
+abbrev pub AppliesWith : PageMap → Manner → rows.LineRow → ℕ → Machine → Result (List ℕ) LineFault
     → Result Left FocalRefusal → Type 0
-AppliesWith how row named machine (Err fault) carried = FailsIn how machine fault carried
-AppliesWith how row named machine (Ok result) carried =
+AppliesWith pages how row named machine (Err fault) carried = FailsIn how machine fault carried
+AppliesWith pages how row named machine (Ok result) carried =
     (to : Destination)
-    × Goes how row.goes machine.memory named machine.focal.position machine.focal.returns to
+    × Goes pages how row.goes machine.memory named machine.focal.position machine.focal.returns to
     × Ends how machine (with_row row named result machine)
     (answer_of_showing machine.memory named row.shows row.ends) to carried
 
-abbrev pub Applies : Manner → rows.LineRow → ℕ → Machine → Result Left FocalRefusal → Type 0
-Applies how row named machine carried =
+abbrev pub Applies : PageMap → Manner → rows.LineRow → ℕ → Machine → Result Left FocalRefusal → Type 0
+Applies pages how row named machine carried =
     (result : Result (List ℕ) LineFault)
     × Works machine.memory named row result
-    × AppliesWith how row named machine result carried
+    × AppliesWith pages how row named machine result carried
 
 -- the address of the register that a line names; a line that names none has no use for it
 abbrev pub named_by : Meant → ℕ
@@ -191,30 +193,30 @@ named_by (Address address) = address
 named_by meant = 0
 
 -- a line whose operand means this
-abbrev pub AppliesTo : Manner → Line → Machine → Result Meant LineFault → Result Left FocalRefusal
+abbrev pub AppliesTo : PageMap → Manner → Line → Machine → Result Meant LineFault → Result Left FocalRefusal
     → Type 0
-AppliesTo how line machine (Err fault) carried = FailsIn how machine fault carried
-AppliesTo how line machine (Ok meant) carried =
-    Applies how (row_of line meant) (named_by meant) machine carried
+AppliesTo pages how line machine (Err fault) carried = FailsIn how machine fault carried
+AppliesTo pages how line machine (Ok meant) carried =
+    Applies pages how (row_of line meant) (named_by meant) machine carried
 
 -- a line that this bench carries out; for a function of a module nothing is changed, since the
 -- calculator calls it
-abbrev pub CarriesOut : Manner → Line → Machine → Result Left FocalRefusal → Type 0
-CarriesOut how (Module number entry) machine carried =
+abbrev pub CarriesOut : PageMap → Manner → Line → Machine → Result Left FocalRefusal → Type 0
+CarriesOut pages how (Module number entry) machine carried =
     carried ≡ Ok (record { machine = machine; answer = answers.Calls number entry })
-CarriesOut how line machine carried =
-    AppliesTo how line machine (meant_of machine.memory line) carried
+CarriesOut pages how line machine carried =
+    AppliesTo pages how line machine (meant_of machine.memory line) carried
 
 -- 13: a line that it does not carry out
-abbrev pub TakesLine : Manner → Line → Machine → Result Left FocalRefusal → Type 0
-TakesLine how line machine carried =
-    MatchBool (is_left_out line) (carried ≡ Err NotInProfile) (CarriesOut how line machine carried)
+abbrev pub TakesLine : PageMap → Manner → Line → Machine → Result Left FocalRefusal → Type 0
+TakesLine pages how line machine carried =
+    MatchBool (is_left_out line) (carried ≡ Err NotInProfile) (CarriesOut pages how line machine carried)
 
 -- a line is typed; 15 where memory is not sound
-abbrev pub TypesLine : Line → Machine → Result Left FocalRefusal → Type 0
-TypesLine line machine carried =
+abbrev pub TypesLine : PageMap → Line → Machine → Result Left FocalRefusal → Type 0
+TypesLine pages line machine carried =
     MatchBool (is_sound machine.memory)
-    (TakesLine Typed line machine carried) (carried ≡ Err MemoryLost)
+    (TakesLine pages Typed line machine carried) (carried ≡ Err MemoryLost)
 
 -- the line that stands there, or in its place the function that XEQ names there
 abbrev pub line_as : Option Function → Line → Line
@@ -223,31 +225,31 @@ line_as (Some function) line = Plain function
 
 -- the line that stands at a position, and where the next one stands; or why there is none: 15 where
 -- memory is not sound, 14 where no line stands there
-abbrev pub StandsAt : RegisterMap → Position → Result (Line × Position) FocalRefusal → Type 0
-StandsAt memory at (Ok standing) =
+abbrev pub StandsAt : PageMap → RegisterMap → Position → Result (Line × Position) FocalRefusal → Type 0
+StandsAt pages memory at (Ok standing) =
     IsTrue (is_sound memory)
-    × ((first : PlacedLine) × LineAt memory at (Ok first) × (first.line ≡ standing.0))
-    × NextAt memory at (Ok standing.1)
-StandsAt memory at (Err refusal) =
+    × ((first : PlacedLine) × LineAt pages memory at (Ok first) × (first.line ≡ standing.0))
+    × NextAt pages memory at (Ok standing.1)
+StandsAt pages memory at (Err refusal) =
     MatchBool (is_sound memory)
-    ((refusal ≡ BrokenProgram) × (why : ProgramRefusal) × LineAt memory at (Err why))
+    ((refusal ≡ BrokenProgram) × (why : ProgramRefusal) × LineAt pages memory at (Err why))
     (refusal ≡ MemoryLost)
 
-abbrev pub Stands : Machine → Result (Line × Position) FocalRefusal → Type 0
-Stands machine standing = StandsAt machine.memory machine.focal.position standing
+abbrev pub Stands : PageMap → Machine → Result (Line × Position) FocalRefusal → Type 0
+Stands pages machine standing = StandsAt pages machine.memory machine.focal.position standing
 
 -- the line at the position is carried out, or a function in its place
-abbrev pub StepsAs : Option Function → Machine → Result (Line × Position) FocalRefusal
+abbrev pub StepsAs : PageMap → Option Function → Machine → Result (Line × Position) FocalRefusal
     → Result Left FocalRefusal → Type 0
-StepsAs function machine (Ok standing) carried =
-    TakesLine (Stepped standing.1) (line_as function standing.0) machine carried
-StepsAs function machine (Err refusal) carried = carried ≡ Err refusal
+StepsAs pages function machine (Ok standing) carried =
+    TakesLine pages (Stepped standing.1) (line_as function standing.0) machine carried
+StepsAs pages function machine (Err refusal) carried = carried ≡ Err refusal
 
-abbrev pub StepsLine : Option Function → Machine → Result Left FocalRefusal → Type 0
-StepsLine function machine carried =
+abbrev pub StepsLine : PageMap → Option Function → Machine → Result Left FocalRefusal → Type 0
+StepsLine pages function machine carried =
     (standing : Result (Line × Position) FocalRefusal)
-    × Stands machine standing
-    × StepsAs function machine standing carried
+    × Stands pages machine standing
+    × StepsAs pages function machine standing carried
 
 -- the line at the position fails, as where what it calls is nowhere
 abbrev pub FailsWith : LineFault → Machine → Result (Line × Position) FocalRefusal
@@ -255,10 +257,10 @@ abbrev pub FailsWith : LineFault → Machine → Result (Line × Position) Focal
 FailsWith fault machine (Ok standing) carried = FailsIn (Stepped standing.1) machine fault carried
 FailsWith fault machine (Err refusal) carried = carried ≡ Err refusal
 
-abbrev pub FailsLine : LineFault → Machine → Result Left FocalRefusal → Type 0
-FailsLine fault machine carried =
+abbrev pub FailsLine : PageMap → LineFault → Machine → Result Left FocalRefusal → Type 0
+FailsLine pages fault machine carried =
     (standing : Result (Line × Position) FocalRefusal)
-    × Stands machine standing
+    × Stands pages machine standing
     × FailsWith fault machine standing carried
 
 -- a typed line fails, as where what it calls is nowhere: 15 as where one is typed
@@ -285,8 +287,32 @@ PassesWith machine (Ok standing) after =
     after ≡ Ok (with_line_passed standing.0 standing.1 machine)
 PassesWith machine (Err refusal) after = after ≡ Err refusal
 
-abbrev pub PassesLine : Machine → Result Machine FocalRefusal → Type 0
-PassesLine machine after =
+abbrev pub PassesLine : PageMap → Machine → Result Machine FocalRefusal → Type 0
+PassesLine pages machine after =
     (standing : Result (Line × Position) FocalRefusal)
-    × Stands machine standing
+    × Stands pages machine standing
     × PassesWith machine standing after
+
+-- the line at the position calls the program that begins at an address of a page, which is a
+-- function of its module: the program goes on there, and returns behind the line. Lift as behind a
+-- line that is passed.
+abbrev pub with_program_called : Line → (next start : Position) → Machine → Machine
+with_program_called line next start machine =
+    at_line start
+    (with_returns (with_return machine.focal.returns next) (with_line_passed line next machine))
+
+abbrev pub EntersWith : ℕ → Machine → Result (Line × Position) FocalRefusal
+    → Result Machine FocalRefusal → Type 0
+EntersWith address machine (Ok standing) after =
+    after ≡ Ok (with_program_called standing.0 standing.1 (Page address) machine)
+EntersWith address machine (Err refusal) after = after ≡ Err refusal
+
+abbrev pub EntersLine : PageMap → ℕ → Machine → Result Machine FocalRefusal → Type 0
+EntersLine pages address machine after =
+    (standing : Result (Line × Position) FocalRefusal)
+    × Stands pages machine standing
+    × EntersWith address machine standing after
+
+-- a typed line calls a program: it runs from a position on, with nowhere to return to
+abbrev pub with_program_run : Position → Machine → Machine
+with_program_run start machine = at_line start (with_returns [] machine)

@@ -1,13 +1,15 @@
 -- How the clauses of a machine's calls see what they leave: the machine, and an answer whose texts
 -- are their bytes.
-use Rattle.std.specs.Prelude.{◌≡◌, IfOk, IsTrue, Option, Result, Ok, Err}
+use Rattle.std.specs.Prelude.{◌≡◌, ℕ, IfOk, IsTrue, Option, Result, Ok, Err}
 use Rattle.h41_codes.specs.declared.functions.Function.{Function}
 use Rattle.h41_codes.specs.declared.line.Line.{Line}
-use Rattle.h41_focal.specs.LineStep.{FailsLine, Left, Machine, PassesLine, StepsLine, TypesLine}
+use Rattle.h41_focal.specs.LineStep.{EntersLine, FailsLine, Left, Machine, PassesLine, StepsLine}
+use Rattle.h41_focal.specs.LineStep.{TypesLine}
 use Rattle.h41_focal.specs.LineStep as steps
 use Rattle.h41_focal.specs.Outcomes.{answer_of, is_elsewhere}
 use Rattle.h41_focal.specs.declared.outcome.LineOutcome.{LineOutcome}
 use Rattle.h41_focal.specs.declared.refusal.FocalRefusal.{FocalRefusal}
+use Rattle.h41_pages.specs.PageMap.{PageMap}
 use Rattle.h41_rows.specs.declared.fault.LineFault.{LineFault}
 
 -- what a call leaves, and its answer
@@ -23,12 +25,12 @@ abbrev pub Call : Type 1
 Call = (old new : Machine) → Result LineOutcome FocalRefusal → Type 0
 
 -- the line at the position is carried out, or a function in its place
-abbrev pub Steps : Option Function → Call
-Steps function old new result = StepsLine function old (carried_as new result)
+abbrev pub Steps : PageMap → Option Function → Call
+Steps pages function old new result = StepsLine pages function old (carried_as new result)
 
 -- the line at the position fails
-abbrev pub Fails : LineFault → Call
-Fails fault old new result = FailsLine fault old (carried_as new result)
+abbrev pub Fails : PageMap → LineFault → Call
+Fails pages fault old new result = FailsLine pages fault old (carried_as new result)
 
 -- a typed line fails
 abbrev pub FailsTyped : LineFault → Call
@@ -39,12 +41,16 @@ abbrev pub passed_as : Machine → Result (Unit {0}) FocalRefusal → Result Mac
 passed_as machine (Ok done) = Ok machine
 passed_as machine (Err refusal) = Err refusal
 
-abbrev pub Passes : (old new : Machine) → Result (Unit {0}) FocalRefusal → Type 0
-Passes old new result = PassesLine old (passed_as new result)
+abbrev pub Passes : PageMap → (old new : Machine) → Result (Unit {0}) FocalRefusal → Type 0
+Passes pages old new result = PassesLine pages old (passed_as new result)
+
+-- the line at the position calls the program that begins at an address of a page
+abbrev pub Enters : PageMap → ℕ → (old new : Machine) → Result (Unit {0}) FocalRefusal → Type 0
+Enters pages address old new result = EntersLine pages address old (passed_as new result)
 
 -- a line is typed
-abbrev pub Types : Line → Call
-Types line old new result = TypesLine line old (carried_as new result)
+abbrev pub Types : PageMap → Line → Call
+Types pages line old new result = TypesLine pages line old (carried_as new result)
 
 -- what has to be looked up changes nothing
 abbrev pub KeepsElsewhere : Call

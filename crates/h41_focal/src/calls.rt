@@ -12,6 +12,7 @@ use crate::machine::Machine;
 use crate::outcome::LineOutcome;
 use crate::refusal::FocalRefusal;
 use h41_codes::{Function, Line};
+use h41_pages::Pages;
 use h41_ram::Ram;
 use std::mem::replace;
 
@@ -19,17 +20,18 @@ use std::mem::replace;
 /// calls here: who carries out many lines keeps a machine.
 pub fn step_line<const REGS: usize>(
     ram: &mut Ram<REGS>,
+    pages: &Pages,
     focal: &mut Focal,
 ) -> Result<LineOutcome, FocalRefusal>
     requires { AreRight (labelled_with ram.old focal.old) }
-    ensures line { Steps None (machine_with ram.old.registers focal.old.state)
+    ensures line { Steps pages.now None (machine_with ram.old.registers focal.old.state)
         (machine_with ram.new.registers focal.new.state)
         result }
     ensures unchanged { OnErr result (machine_with ram.new.registers focal.new.state
         ≡ machine_with ram.old.registers focal.old.state) }
     ensures elsewhere { KeepsElsewhere (machine_with ram.old.registers focal.old.state)
         (machine_with ram.new.registers focal.new.state) result }
-    ensures kept { StepKeeps None (labelled_with ram.old focal.old)
+    ensures kept { StepKeeps pages.now None (labelled_with ram.old focal.old)
         (labelled_with ram.new focal.new) }
     ensures mark { KeepsMark (begun_ram ram.old) ram.new }
     ensures clear { ram.new.touched ≡ false }
@@ -39,7 +41,7 @@ pub fn step_line<const REGS: usize>(
         ram: ram.take(),
         focal: replace(focal, Focal::new()),
     };
-    let result = machine.step();
+    let result = machine.step(pages);
     machine.part(ram, focal);
     result
 }
@@ -47,15 +49,16 @@ pub fn step_line<const REGS: usize>(
 /// A function is carried out in place of the line at the position, as by `Machine::step_as`.
 pub fn step_as<const REGS: usize>(
     ram: &mut Ram<REGS>,
+    pages: &Pages,
     focal: &mut Focal,
     function: Function,
 ) -> Result<LineOutcome, FocalRefusal>
     requires { AreRight (labelled_with ram.old focal.old) }
-    ensures line { Steps (Some function) (machine_with ram.old.registers focal.old.state)
+    ensures line { Steps pages.now (Some function) (machine_with ram.old.registers focal.old.state)
         (machine_with ram.new.registers focal.new.state) result }
     ensures unchanged { OnErr result (machine_with ram.new.registers focal.new.state
         ≡ machine_with ram.old.registers focal.old.state) }
-    ensures kept { StepKeeps (Some function) (labelled_with ram.old focal.old)
+    ensures kept { StepKeeps pages.now (Some function) (labelled_with ram.old focal.old)
         (labelled_with ram.new focal.new) }
     ensures mark { KeepsMark (begun_ram ram.old) ram.new }
     ensures clear { ram.new.touched ≡ false }
@@ -65,7 +68,7 @@ pub fn step_as<const REGS: usize>(
         ram: ram.take(),
         focal: replace(focal, Focal::new()),
     };
-    let result = machine.step_as(function);
+    let result = machine.step_as(pages, function);
     machine.part(ram, focal);
     result
 }
@@ -73,11 +76,12 @@ pub fn step_as<const REGS: usize>(
 /// A typed line is carried out, as by `Machine::key`.
 pub fn key_line<const REGS: usize>(
     ram: &mut Ram<REGS>,
+    pages: &Pages,
     focal: &mut Focal,
     line: &Line,
 ) -> Result<LineOutcome, FocalRefusal>
     requires { AreRight (labelled_with ram.old focal.old) }
-    ensures line { Types line.now (machine_with ram.old.registers focal.old.state)
+    ensures line { Types pages.now line.now (machine_with ram.old.registers focal.old.state)
         (machine_with ram.new.registers focal.new.state)
         result }
     ensures unchanged { OnErr result (machine_with ram.new.registers focal.new.state
@@ -94,7 +98,7 @@ pub fn key_line<const REGS: usize>(
         ram: ram.take(),
         focal: replace(focal, Focal::new()),
     };
-    let result = machine.key(line);
+    let result = machine.key(pages, line);
     machine.part(ram, focal);
     result
 }

@@ -16,6 +16,7 @@ use crate::outcome::BriefOutcome;
 use crate::questions::{answer, lead};
 use crate::refusal::FocalRefusal;
 use crate::uses::FlagUse;
+use h41_pages::Pages;
 use h41_ram::Ram;
 
 /// Whether a flag, 0 to 55, is set, or clear.
@@ -32,20 +33,21 @@ fn agrees_with<const REGS: usize>(ram: &Ram<REGS>, flag: u8, on: bool) -> bool
 /// over is none.
 fn ask_flag<const REGS: usize>(
     machine: &mut Machine<REGS>,
+    pages: &Pages,
     origin: Origin,
     flag: u8,
     on: bool,
 ) -> Result<BriefOutcome, FocalRefusal>
     requires flag { flag < 56 }
     requires sound { IsTrue (is_sound machine.old.ram.registers) }
-    ensures carried { CarriesFlag origin (Ask on) flag (machine_of machine.old)
+    ensures carried { CarriesFlag pages.now origin (Ask on) flag (machine_of machine.old)
         (machine_of machine.new) result }
     ensures unchanged { OnErr result (machine.new ≡ machine.old) }
     ensures keeps { Keeps machine.old machine.new }
     ensures left { LeavesMark machine.old.ram machine.new.ram }
 {
     let holds = agrees_with(&machine.ram, flag, on);
-    let lead = lead(&machine.ram, origin, holds)?;
+    let lead = lead(&machine.ram, pages, origin, holds)?;
     go_on_lifting(&mut machine.focal, lead);
     Ok(answer(origin, holds))
 }
@@ -53,20 +55,21 @@ fn ask_flag<const REGS: usize>(
 /// `FS?C` and `FC?C`: as `ask_flag`, and the flag is cleared then.
 fn ask_and_clear_flag<const REGS: usize>(
     machine: &mut Machine<REGS>,
+    pages: &Pages,
     origin: Origin,
     flag: u8,
     on: bool,
 ) -> Result<BriefOutcome, FocalRefusal>
     requires flag { flag < 56 }
     requires sound { IsTrue (is_sound machine.old.ram.registers) }
-    ensures carried { ClearsFlag origin on flag (machine_of machine.old)
+    ensures carried { ClearsFlag pages.now origin on flag (machine_of machine.old)
         (machine_of machine.new) result }
     ensures unchanged { OnErr result (machine.new ≡ machine.old) }
     ensures keeps { Keeps machine.old machine.new }
     ensures left { LeavesMark machine.old.ram machine.new.ram }
 {
     let holds = agrees_with(&machine.ram, flag, on);
-    let lead = lead(&machine.ram, origin, holds)?;
+    let lead = lead(&machine.ram, pages, origin, holds)?;
     machine.ram.set_flag(usize::from(flag), false);
     go_on_lifting(&mut machine.focal, lead);
     Ok(answer(origin, holds))
@@ -76,13 +79,14 @@ fn ask_and_clear_flag<const REGS: usize>(
 /// would be passed over is none.
 pub fn use_flag<const REGS: usize>(
     machine: &mut Machine<REGS>,
+    pages: &Pages,
     origin: Origin,
     taken: FlagUse,
     flag: u8,
 ) -> Result<BriefOutcome, FocalRefusal>
     requires flag { flag < 56 }
     requires sound { IsTrue (is_sound machine.old.ram.registers) }
-    ensures carried { CarriesFlag origin taken flag (machine_of machine.old)
+    ensures carried { CarriesFlag pages.now origin taken flag (machine_of machine.old)
         (machine_of machine.new) result }
     ensures unchanged { OnErr result (machine.new ≡ machine.old) }
     ensures keeps { Keeps machine.old machine.new }
@@ -94,7 +98,7 @@ pub fn use_flag<const REGS: usize>(
             go_on_lifting(&mut machine.focal, origin);
             Ok(BriefOutcome::Done)
         }
-        FlagUse::Ask(on) => ask_flag(machine, origin, flag, on),
-        FlagUse::AskAndClear(on) => ask_and_clear_flag(machine, origin, flag, on),
+        FlagUse::Ask(on) => ask_flag(machine, pages, origin, flag, on),
+        FlagUse::AskAndClear(on) => ask_and_clear_flag(machine, pages, origin, flag, on),
     }
 }

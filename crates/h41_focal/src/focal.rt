@@ -4,13 +4,14 @@ ghost use Rattle.h41_focal.specs.LabelSearches.{local_search};
 ghost use Rattle.h41_focal.specs.LineStep.{at_line_00, at_position, halted_at, start};
 ghost use Rattle.h41_labels.specs.KeptAnswers.{Finds, IsRight, KeepsSearch};
 ghost use Rattle.h41_labels.specs.declared.search.Search.TheVariants.{Global};
-ghost use Rattle.h41_program.specs.Positions.{LocalFrom};
+ghost use Rattle.h41_positions.specs.Positions.{LocalFrom};
 ghost use Rattle.h41_ram.specs.RegisterMap.{is_sound};
 
 use arrayvec::ArrayVec;
 use h41_codes::{Parameter, Text};
 use h41_labels::LabelCache;
-use h41_program::Position;
+use h41_pages::Pages;
+use h41_positions::{Position, local};
 use h41_ram::Ram;
 use std::marker::Model;
 
@@ -105,17 +106,19 @@ impl Focal {
         self.labels.forget();
     }
 
-    /// Where the local label stands that a position finds: a kept answer, else what the search finds, which is then kept.
+    /// Where the local label stands that a position finds: in memory a kept answer, else what the search finds, which is then kept; in
+    /// a page what the search finds.
     pub(crate) fn local<const REGS: usize>(
         &mut self,
         ram: &Ram<REGS>,
+        pages: &Pages,
         from: Position,
         label: Parameter,
     ) -> Option<Position>
         requires sound { IsTrue (is_sound ram.now.registers) }
         requires right { IsRight self.old.labels ram.now.registers }
-        ensures found { LocalFrom label ram.now.registers from result }
-        ensures kept { KeepsSearch ram.now.registers (Some (local_search from label))
+        ensures found { LocalFrom label pages.now ram.now.registers from result }
+        ensures kept { KeepsSearch ram.now.registers (local_search from label)
             self.old.labels self.new.labels }
         ensures state { self.new.state ≡ self.old.state }
     {
@@ -124,6 +127,7 @@ impl Focal {
                 Some(found) => Some(Position::Memory(found)),
                 None => None,
             },
+            Position::Page(_) => local(ram, pages, from, label),
         }
     }
 

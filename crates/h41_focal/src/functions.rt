@@ -20,40 +20,43 @@ use crate::refusal::FocalRefusal;
 use crate::stack_lines::{clear_registers, do_nothing, move_stack};
 use crate::works::{FunctionWork, work_of};
 use h41_codes::Function;
+use h41_pages::Pages;
 
 /// A function is carried out; 13 where it is left out.
 #[inline(never)]
 pub fn plain<const REGS: usize>(
     machine: &mut Machine<REGS>,
+    pages: &Pages,
     origin: Origin,
     function: Function,
 ) -> Result<BriefOutcome, FocalRefusal>
     requires { IsTrue (is_sound machine.old.ram.registers) }
-    ensures taken { TakesBriefly origin (Plain function) (machine_of machine.old)
+    ensures taken { TakesBriefly pages.now origin (Plain function) (machine_of machine.old)
         (machine_of machine.new) result }
     ensures unchanged { OnErr result (machine.new ≡ machine.old) }
     ensures keeps { Keeps machine.old machine.new }
     ensures left { LeavesMark machine.old.ram machine.new.ram }
 {
-    plain_at_once(machine, origin, function)
+    plain_at_once(machine, pages, origin, function)
 }
 
 /// The same where each line of a program that runs comes by: what these do most is done here, and the rest by `perform`.
 #[inline(always)]
 pub fn plain_at_once<const REGS: usize>(
     machine: &mut Machine<REGS>,
+    pages: &Pages,
     origin: Origin,
     function: Function,
 ) -> Result<BriefOutcome, FocalRefusal>
     requires { IsTrue (is_sound machine.old.ram.registers) }
-    ensures taken { TakesBriefly origin (Plain function) (machine_of machine.old)
+    ensures taken { TakesBriefly pages.now origin (Plain function) (machine_of machine.old)
         (machine_of machine.new) result }
     ensures unchanged { OnErr result (machine.new ≡ machine.old) }
     ensures keeps { Keeps machine.old machine.new }
     ensures left { LeavesMark machine.old.ram machine.new.ram }
 {
     match work_of(function) {
-        Some(work) => perform_at_once(machine, origin, work),
+        Some(work) => perform_at_once(machine, pages, origin, work),
         None => Err(FocalRefusal::NotInProfile),
     }
 }
@@ -62,11 +65,12 @@ pub fn plain_at_once<const REGS: usize>(
 #[inline(always)]
 fn perform_at_once<const REGS: usize>(
     machine: &mut Machine<REGS>,
+    pages: &Pages,
     origin: Origin,
     work: FunctionWork,
 ) -> Result<BriefOutcome, FocalRefusal>
     requires { IsTrue (is_sound machine.old.ram.registers) }
-    ensures carried { CarriesWork origin work (machine_of machine.old)
+    ensures carried { CarriesWork pages.now origin work (machine_of machine.old)
         (machine_of machine.new) result }
     ensures unchanged { OnErr result (machine.new ≡ machine.old) }
     ensures keeps { Keeps machine.old machine.new }
@@ -75,10 +79,10 @@ fn perform_at_once<const REGS: usize>(
     match work {
         FunctionWork::OfYAndX(value) => Ok(of_y_and_x(machine, origin, value)),
         FunctionWork::OfX(value) => Ok(of_x(machine, origin, value)),
-        FunctionWork::Ask(test) => ask(machine, origin, test),
+        FunctionWork::Ask(test) => ask(machine, pages, origin, test),
         FunctionWork::Move(movement) => Ok(move_stack(machine, origin, movement)),
-        FunctionWork::Return => Ok(go_back(machine, origin)),
-        work => perform(machine, origin, work),
+        FunctionWork::Return => Ok(go_back(machine, pages, origin)),
+        work => perform(machine, pages, origin, work),
     }
 }
 
@@ -86,11 +90,12 @@ fn perform_at_once<const REGS: usize>(
 #[inline(never)]
 fn perform<const REGS: usize>(
     machine: &mut Machine<REGS>,
+    pages: &Pages,
     origin: Origin,
     work: FunctionWork,
 ) -> Result<BriefOutcome, FocalRefusal>
     requires { IsTrue (is_sound machine.old.ram.registers) }
-    ensures carried { CarriesWork origin work (machine_of machine.old)
+    ensures carried { CarriesWork pages.now origin work (machine_of machine.old)
         (machine_of machine.new) result }
     ensures unchanged { OnErr result (machine.new ≡ machine.old) }
     ensures keeps { Keeps machine.old machine.new }
@@ -102,13 +107,13 @@ fn perform<const REGS: usize>(
         FunctionWork::Square => Ok(square(machine, origin)),
         FunctionWork::Percent => Ok(percent(machine, origin)),
         FunctionWork::ChangeSign => Ok(change_sign(machine, origin)),
-        FunctionWork::Ask(test) => ask(machine, origin, test),
+        FunctionWork::Ask(test) => ask(machine, pages, origin, test),
         FunctionWork::Move(movement) => Ok(move_stack(machine, origin, movement)),
         FunctionWork::Alpha(work) => Ok(change_alpha(machine, origin, work)),
         FunctionWork::Display(work) => Ok(show(machine, origin, work)),
         FunctionWork::Angles(grads, radians) => Ok(set_angle_unit(machine, origin, grads, radians)),
         FunctionWork::ClearRegisters => Ok(clear_registers(machine, origin)),
-        FunctionWork::Return => Ok(go_back(machine, origin)),
+        FunctionWork::Return => Ok(go_back(machine, pages, origin)),
         FunctionWork::Nothing => Ok(do_nothing(machine, origin)),
     }
 }

@@ -9,6 +9,7 @@ ghost use Rattle.h41_focal.specs.Destinations.{with_return};
 ghost use Rattle.h41_focal.specs.private.Searching.{AsksFrom};
 ghost use Rattle.h41_labels.specs.KeptAnswers.{IsRight};
 ghost use Rattle.h41_labels.specs.declared.search.Search.TheVariants.{Global};
+ghost use Rattle.h41_pages.specs.PageMap.{PageMap};
 ghost use Rattle.h41_ram.specs.RamState.{KeepsMark};
 ghost use Rattle.h41_ram.specs.RegisterMap.{is_sound};
 ghost use Rattle.h41_rows.specs.RowMarks.{LeavesMark};
@@ -20,28 +21,30 @@ use crate::origin::Origin;
 use crate::outcome::BriefOutcome;
 use arrayvec::ArrayVec;
 use h41_codes::{Branch, Parameter, Text};
-use h41_program::{Position, start_of};
+use h41_pages::Pages;
+use h41_positions::{Position, start_of};
 use h41_rows::LineFault;
 
 /// A line goes to a local label; `NONEXISTENT` where it stands nowhere in the program.
 #[inline(always)]
 pub fn to_label<const REGS: usize>(
     machine: &mut Machine<REGS>,
+    pages: &Pages,
     origin: Origin,
     branch: Branch,
     label: Parameter,
 ) -> BriefOutcome
     requires sound { IsTrue (is_sound machine.old.ram.registers) }
     requires right { IsRight machine.old.focal.labels machine.old.ram.registers }
-    ensures done { GoesToLabel origin branch label (machine_of machine.old)
+    ensures done { GoesToLabel pages.now origin branch label (machine_of machine.old)
         (machine_of machine.new) result }
-    ensures kept { AsksFrom origin (λ from. Some (local_search from label))
+    ensures kept { AsksFrom origin (λ from. local_search from label)
         machine.old machine.new }
     ensures mark { KeepsMark machine.old.ram machine.new.ram }
     ensures left { LeavesMark machine.old.ram machine.new.ram }
 {
     let from = searched_from(&machine.focal, origin);
-    match machine.focal.local(&machine.ram, from, label) {
+    match machine.focal.local(&machine.ram, pages, from, label) {
         Some(position) => arrive(&mut machine.focal, origin, branch, position),
         None => fail(machine, origin, LineFault::Nonexistent),
     }
@@ -66,7 +69,7 @@ pub fn to_name<const REGS: usize>(
 ) -> BriefOutcome
     requires sound { IsTrue (is_sound machine.old.ram.registers) }
     requires right { IsRight machine.old.focal.labels machine.old.ram.registers }
-    ensures done { GoesToName origin branch name (machine_of machine.old)
+    ensures done { (pages : PageMap) → GoesToName pages origin branch name (machine_of machine.old)
         (machine_of machine.new) result }
     ensures kept { AsksFrom origin (λ from. Some (Global name)) machine.old machine.new }
     ensures mark { KeepsMark machine.old.ram machine.new.ram }
@@ -104,7 +107,7 @@ fn arrive(focal: &mut Focal, origin: Origin, branch: Branch, position: Position)
 }
 
 /// A position to return to; a seventh loses the oldest.
-fn push_return(returns: &mut ArrayVec<Position, RETURNS>, position: Position)
+pub fn push_return(returns: &mut ArrayVec<Position, RETURNS>, position: Position)
     ensures { returns.new.items ≡ with_return returns.old.items position }
 {
     match returns.as_slice() {
@@ -116,16 +119,20 @@ fn push_return(returns: &mut ArrayVec<Position, RETURNS>, position: Position)
 }
 
 /// Back to the latest position to return to. Where there is none, and where the line is typed, to line 00 of the program.
-pub fn go_back<const REGS: usize>(machine: &mut Machine<REGS>, origin: Origin) -> BriefOutcome
+pub fn go_back<const REGS: usize>(
+    machine: &mut Machine<REGS>,
+    pages: &Pages,
+    origin: Origin,
+) -> BriefOutcome
     requires { IsTrue (is_sound machine.old.ram.registers) }
-    ensures done { GoesBack origin (machine_of machine.old) (machine_of machine.new) result }
+    ensures done { GoesBack pages.now origin (machine_of machine.old) (machine_of machine.new) result }
     ensures keeps { Keeps machine.old machine.new }
     ensures left { LeavesMark machine.old.ram machine.new.ram }
 {
     match origin {
-        Origin::Program(_) => return_from(machine),
+        Origin::Program(_) => return_from(machine, pages),
         Origin::Typed => {
-            let start = start_of(&machine.ram, machine.focal.position);
+            let start = start_of(&machine.ram, pages, machine.focal.position);
             machine.focal.halt_at(start);
             BriefOutcome::Done
         }
@@ -133,9 +140,9 @@ pub fn go_back<const REGS: usize>(machine: &mut Machine<REGS>, origin: Origin) -
 }
 
 /// Back to the latest position to return to, or to line 00 of the program, where it stops.
-fn return_from<const REGS: usize>(machine: &mut Machine<REGS>) -> BriefOutcome
+fn return_from<const REGS: usize>(machine: &mut Machine<REGS>, pages: &Pages) -> BriefOutcome
     requires { IsTrue (is_sound machine.old.ram.registers) }
-    ensures done { ReturnsFrom (machine_of machine.old) (machine_of machine.new) result }
+    ensures done { ReturnsFrom pages.now (machine_of machine.old) (machine_of machine.new) result }
     ensures keeps { Keeps machine.old machine.new }
     ensures left { LeavesMark machine.old.ram machine.new.ram }
 {
@@ -145,7 +152,7 @@ fn return_from<const REGS: usize>(machine: &mut Machine<REGS>) -> BriefOutcome
             BriefOutcome::Done
         }
         None => {
-            let start = start_of(&machine.ram, machine.focal.position);
+            let start = start_of(&machine.ram, pages, machine.focal.position);
             machine.focal.halt_at(start);
             BriefOutcome::Stopped
         }

@@ -2,13 +2,15 @@
 
 ghost use Rattle.std.specs.Prelude.{◌≡◌, ◌≤◌, length};
 ghost use Rattle.h41_focal.specs.LabelLaws.{KeepingStaysRight, SearchingStaysRight};
-ghost use Rattle.h41_focal.specs.LineLaws.{FailureIsDetermined, NextIsHere, PassingIsDetermined};
+ghost use Rattle.h41_focal.specs.LineLaws.{EnteringIsDetermined, FailureIsDetermined, NextIsHere};
+ghost use Rattle.h41_focal.specs.LineLaws.{PassingIsDetermined};
 ghost use Rattle.h41_focal.specs.LineLaws.{StepIsDetermined, SteppedCanBeTyped, TypedAsStepped};
 ghost use Rattle.h41_focal.specs.LineLaws.{TypedFailureIsDetermined, TypedIsDetermined};
 
 use crate::focal::Focal;
 use h41_labels::laws::{answers_stay_right, kept_answers_depend_on_the_program};
-use h41_program::laws::{positions_are_read, searches_are_determined};
+use h41_positions::laws::positions_are_read;
+use h41_program::laws::searches_are_determined;
 use h41_rows::laws::values_are_determined;
 
 /// How many positions there are to return to: six at most.
@@ -19,13 +21,14 @@ pub fn six_returns_at_most(focal: &Focal) -> usize
     focal.returns.len()
 }
 
-/// A line has one outcome: stepped, typed, failed from outside, stepped or typed, or passed.
+/// A line has one outcome: stepped, typed, failed from outside, stepped or typed, passed, or entered.
 pub fn line_is_determined()
     ensures step { StepIsDetermined }
     ensures typed { TypedIsDetermined }
     ensures failure { FailureIsDetermined }
     ensures typed_failure { TypedFailureIsDetermined }
     ensures passing { PassingIsDetermined }
+    ensures entering { EnteringIsDetermined }
 {
     values_are_determined();
     positions_are_read();

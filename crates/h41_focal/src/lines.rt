@@ -10,6 +10,7 @@ ghost use Rattle.h41_focal.specs.private.Carrying.{TakesAs, TakesBriefly};
 ghost use Rattle.h41_focal.specs.private.Carrying.{TakesBranch, TakesNamed, TakesShort};
 ghost use Rattle.h41_focal.specs.private.Searching.{AsksFrom, AsksOf};
 ghost use Rattle.h41_labels.specs.KeptAnswers.{IsRight};
+ghost use Rattle.h41_pages.specs.PageMap.{PageMap};
 ghost use Rattle.h41_ram.specs.RamState.{KeepsMark};
 ghost use Rattle.h41_rows.specs.Computing.{meant_by};
 ghost use Rattle.h41_ram.specs.RegisterMap.{is_sound};
@@ -28,7 +29,8 @@ use crate::refusal::FocalRefusal;
 use crate::register_lines::{recall, store};
 use crate::stack_lines::{be_silent, do_nothing, number_line};
 use h41_codes::{Branch, Line, NameFunction, Parameter, RegisterFunction, ShortRegister, Text};
-use h41_program::{Position, line_and_next};
+use h41_pages::Pages;
+use h41_positions::{Position, line_and_next};
 use h41_ram::Ram;
 use h41_rows::{BranchTarget, branch_target, data_address, written};
 
@@ -36,14 +38,15 @@ use h41_rows::{BranchTarget, branch_target, data_address, written};
 #[inline(always)]
 pub fn standing<const REGS: usize>(
     machine: &Machine<REGS>,
+    pages: &Pages,
 ) -> Result<(Line, Position), FocalRefusal>
-    ensures { Stands (machine_of machine.now) result }
+    ensures { Stands pages.now (machine_of machine.now) result }
 {
     let Machine { ram, focal } = machine;
     if !ram.is_sound() {
         return Err(FocalRefusal::MemoryLost);
     }
-    match line_and_next(ram, focal.position) {
+    match line_and_next(ram, pages, focal.position) {
         Ok(standing) => Ok(standing),
         Err(_) => Err(FocalRefusal::BrokenProgram),
     }
@@ -52,19 +55,20 @@ pub fn standing<const REGS: usize>(
 /// A line is carried out; 13 where it is left out.
 pub fn carry_out<const REGS: usize>(
     machine: &mut Machine<REGS>,
+    pages: &Pages,
     origin: Origin,
     line: &Line,
 ) -> Result<LineOutcome, FocalRefusal>
     requires sound { IsTrue (is_sound machine.old.ram.registers) }
     requires right { IsRight machine.old.focal.labels machine.old.ram.registers }
-    ensures taken { TakesAs origin line.now (machine_of machine.old)
+    ensures taken { TakesAs pages.now origin line.now (machine_of machine.old)
         (machine_of machine.new) result }
     ensures unchanged { OnErr result (machine.new ≡ machine.old) }
     ensures kept { AsksOf origin line.now machine.old machine.new }
     ensures mark { KeepsMark machine.old.ram machine.new.ram }
     ensures left { LeavesMark machine.old.ram machine.new.ram }
 {
-    let brief = carry_briefly(machine, origin, line)?;
+    let brief = carry_briefly(machine, pages, origin, line)?;
     Ok(outcome_of(&machine.ram, line, brief))
 }
 
@@ -72,12 +76,13 @@ pub fn carry_out<const REGS: usize>(
 #[inline(never)]
 pub fn carry_briefly<const REGS: usize>(
     machine: &mut Machine<REGS>,
+    pages: &Pages,
     origin: Origin,
     line: &Line,
 ) -> Result<BriefOutcome, FocalRefusal>
     requires sound { IsTrue (is_sound machine.old.ram.registers) }
     requires right { IsRight machine.old.focal.labels machine.old.ram.registers }
-    ensures taken { TakesBriefly origin line.now (machine_of machine.old)
+    ensures taken { TakesBriefly pages.now origin line.now (machine_of machine.old)
         (machine_of machine.new) result }
     ensures unchanged { OnErr result (machine.new ≡ machine.old) }
     ensures kept { AsksOf origin line.now machine.old machine.new }
@@ -91,21 +96,28 @@ pub fn carry_briefly<const REGS: usize>(
         Line::Number(number) => Ok(number_line(machine, origin, written(number))),
         Line::Named(function, name) => named(machine, origin, *function, *name),
         Line::Register(function, register) => short(machine, origin, *function, *register),
-        Line::Plain(function) => plain(machine, origin, *function),
-        Line::WithOperand(function, operand) => with_operand(machine, origin, *function, operand),
+        Line::Plain(function) => plain(machine, pages, origin, *function),
+        Line::WithOperand(function, operand) => with_operand(
+            machine, pages, origin, *function, operand,
+        ),
         Line::Module(_, _) => Ok(BriefOutcome::Elsewhere),
-        Line::BranchIndirect(branch, register) => indirect(machine, origin, *branch, *register),
+        Line::BranchIndirect(branch, register) => indirect(
+            machine, pages, origin, *branch, *register,
+        ),
         Line::ShortGoTo(label, _) => {
             Ok(to_label(
                 machine,
+                pages,
                 origin,
                 Branch::GoTo,
                 Parameter::new(label.number()),
             ))
         }
-        Line::End(_, _) => Ok(go_back(machine, origin)),
-        Line::FinalEnd(_, _) => Ok(go_back(machine, origin)),
-        Line::BranchTo(branch, _, _, label) => Ok(to_label(machine, origin, *branch, *label)),
+        Line::End(_, _) => Ok(go_back(machine, pages, origin)),
+        Line::FinalEnd(_, _) => Ok(go_back(machine, pages, origin)),
+        Line::BranchTo(branch, _, _, label) => Ok(to_label(
+            machine, pages, origin, *branch, *label,
+        )),
         Line::Text(text) => Ok(text_line(machine, origin, text)),
     }
 }
@@ -119,7 +131,7 @@ fn named<const REGS: usize>(
 ) -> Result<BriefOutcome, FocalRefusal>
     requires sound { IsTrue (is_sound machine.old.ram.registers) }
     requires right { IsRight machine.old.focal.labels machine.old.ram.registers }
-    ensures taken { TakesNamed origin function name (machine_of machine.old)
+    ensures taken { (pages : PageMap) → TakesNamed pages origin function name (machine_of machine.old)
         (machine_of machine.new) result }
     ensures unchanged { OnErr result (machine.new ≡ machine.old) }
     ensures kept { AsksOf origin (Named function name) machine.old machine.new }
@@ -141,7 +153,7 @@ pub fn short<const REGS: usize>(
     function: RegisterFunction,
     register: ShortRegister,
 ) -> Result<BriefOutcome, FocalRefusal>
-    ensures taken { TakesShort origin function register (machine_of machine.old)
+    ensures taken { (pages : PageMap) → TakesShort pages origin function register (machine_of machine.old)
         (machine_of machine.new) result }
     ensures unchanged { OnErr result (machine.new ≡ machine.old) }
     ensures keeps { Keeps machine.old machine.new }
@@ -160,13 +172,14 @@ pub fn short<const REGS: usize>(
 /// GTO IND and XEQ IND; 13 for a register that is left out.
 pub fn indirect<const REGS: usize>(
     machine: &mut Machine<REGS>,
+    pages: &Pages,
     origin: Origin,
     branch: Branch,
     register: Parameter,
 ) -> Result<BriefOutcome, FocalRefusal>
     requires sound { IsTrue (is_sound machine.old.ram.registers) }
     requires right { IsRight machine.old.focal.labels machine.old.ram.registers }
-    ensures taken { TakesBranch origin branch register (machine_of machine.old)
+    ensures taken { TakesBranch pages.now origin branch register (machine_of machine.old)
         (machine_of machine.new) result }
     ensures unchanged { OnErr result (machine.new ≡ machine.old) }
     ensures kept { AsksOf origin (BranchIndirect branch register) machine.old machine.new }
@@ -177,7 +190,7 @@ pub fn indirect<const REGS: usize>(
         return Err(FocalRefusal::NotInProfile);
     }
     match branch_target(&machine.ram, branch, register) {
-        Ok(target) => Ok(to_target(machine, origin, branch, target)),
+        Ok(target) => Ok(to_target(machine, pages, origin, branch, target)),
         Err(fault) => Ok(fail(machine, origin, fault)),
     }
 }
@@ -185,13 +198,14 @@ pub fn indirect<const REGS: usize>(
 /// GTO and XEQ of the label or the name that a register holds.
 fn to_target<const REGS: usize>(
     machine: &mut Machine<REGS>,
+    pages: &Pages,
     origin: Origin,
     branch: Branch,
     target: BranchTarget,
 ) -> BriefOutcome
     requires sound { IsTrue (is_sound machine.old.ram.registers) }
     requires right { IsRight machine.old.focal.labels machine.old.ram.registers }
-    ensures done { GoesToTarget origin branch target (machine_of machine.old)
+    ensures done { GoesToTarget pages.now origin branch target (machine_of machine.old)
         (machine_of machine.new) result }
     ensures kept { AsksFrom origin (λ from. search_for from (Ok (meant_by target)))
         machine.old machine.new }
@@ -199,7 +213,7 @@ fn to_target<const REGS: usize>(
     ensures left { LeavesMark machine.old.ram machine.new.ram }
 {
     match target {
-        BranchTarget::Label(label) => to_label(machine, origin, branch, label),
+        BranchTarget::Label(label) => to_label(machine, pages, origin, branch, label),
         BranchTarget::Name(name) => to_name(machine, origin, branch, name),
     }
 }

@@ -13,17 +13,19 @@ use crate::origin::Origin;
 use crate::outcome::BriefOutcome;
 use crate::questions::lead;
 use crate::refusal::FocalRefusal;
+use h41_pages::Pages;
 use h41_rows::{loop_down, loop_up};
 
 /// `ISG`: the register at an address counts up, and the program goes on with the next line while the loop goes on, else
 /// with the one behind it. `BrokenProgram`, with nothing changed, where the line that would be passed over is none.
 pub fn count_up<const REGS: usize>(
     machine: &mut Machine<REGS>,
+    pages: &Pages,
     origin: Origin,
     address: u16,
 ) -> Result<BriefOutcome, FocalRefusal>
     requires { IsTrue (is_sound machine.old.ram.registers) }
-    ensures carried { DoesUse origin CountUp address (machine_of machine.old)
+    ensures carried { DoesUse pages.now origin CountUp address (machine_of machine.old)
         (machine_of machine.new) result }
     ensures unchanged { OnErr result (machine.new ≡ machine.old) }
     ensures keeps { Keeps machine.old machine.new }
@@ -32,7 +34,7 @@ pub fn count_up<const REGS: usize>(
 {
     match loop_up(&machine.ram, address) {
         Ok(counted) => {
-            let lead = lead(&machine.ram, origin, counted.goes_on)?;
+            let lead = lead(&machine.ram, pages, origin, counted.goes_on)?;
             machine.ram.write(address, counted.register);
             go_on_lifting(&mut machine.focal, lead);
             Ok(BriefOutcome::Done)
@@ -45,11 +47,12 @@ pub fn count_up<const REGS: usize>(
 /// with the one behind it. `BrokenProgram`, with nothing changed, where the line that would be passed over is none.
 pub fn count_down<const REGS: usize>(
     machine: &mut Machine<REGS>,
+    pages: &Pages,
     origin: Origin,
     address: u16,
 ) -> Result<BriefOutcome, FocalRefusal>
     requires { IsTrue (is_sound machine.old.ram.registers) }
-    ensures carried { DoesUse origin CountDown address (machine_of machine.old)
+    ensures carried { DoesUse pages.now origin CountDown address (machine_of machine.old)
         (machine_of machine.new) result }
     ensures unchanged { OnErr result (machine.new ≡ machine.old) }
     ensures keeps { Keeps machine.old machine.new }
@@ -58,7 +61,7 @@ pub fn count_down<const REGS: usize>(
 {
     match loop_down(&machine.ram, address) {
         Ok(counted) => {
-            let lead = lead(&machine.ram, origin, counted.goes_on)?;
+            let lead = lead(&machine.ram, pages, origin, counted.goes_on)?;
             machine.ram.write(address, counted.register);
             go_on_lifting(&mut machine.focal, lead);
             Ok(BriefOutcome::Done)

@@ -3,19 +3,21 @@
 ghost use Rattle.std.specs.Prelude.{◌≡◌, ◌≤◌, ℕ, false, true, [], None, Ok, Some, OnErr};
 ghost use Rattle.h41_focal.specs.BriefOutcomes.{StepsBriefly};
 ghost use Rattle.h41_focal.specs.declared.outcome.BriefOutcome.TheVariants.{Elsewhere};
-ghost use Rattle.h41_focal.specs.MachineCalls.{Fails, FailsTyped, KeepsElsewhere, Passes, Steps};
-ghost use Rattle.h41_focal.specs.MachineCalls.{Types};
+ghost use Rattle.h41_focal.specs.MachineCalls.{Enters, Fails, FailsTyped, KeepsElsewhere, Passes};
+ghost use Rattle.h41_focal.specs.MachineCalls.{Steps, Types};
 ghost use Rattle.h41_focal.specs.LabelSearches.{StepKeeps, TypingKeeps};
 ghost use Rattle.h41_focal.specs.LabelledMachine.{AreRight, Keeps, begun_ram, labelled_with};
 ghost use Rattle.h41_focal.specs.LabelledMachine.{machine_of, with_line_begun};
-ghost use Rattle.h41_focal.specs.LineStep.{machine_with, start};
+ghost use Rattle.h41_focal.specs.LineStep.{machine_with, start, with_program_run};
 ghost use Rattle.h41_focal.specs.private.BriefSteps.{StepsMachine};
 ghost use Rattle.h41_labels.specs.KeptAnswers.{IsRight};
+ghost use Rattle.h41_positions.specs.declared.position.Position.TheVariants.{Page};
 ghost use Rattle.h41_ram.specs.RamState.{KeepsMark};
 ghost use Rattle.h41_ram.specs.RegisterMap as registers;
 
 use crate::course::{fail, go_on, go_on_lifting};
 use crate::focal::Focal;
+use crate::labels::push_return;
 use crate::laws::kept_answers_stay_right;
 use crate::lines::{carry_briefly, carry_out, standing};
 use crate::origin::Origin;
@@ -24,6 +26,8 @@ use crate::refusal::FocalRefusal;
 use crate::short_lines::{carry_short, number_standing, short_standing};
 use crate::stack_lines::number_line;
 use h41_codes::{Function, Line};
+use h41_pages::Pages;
+use h41_positions::Position;
 use h41_ram::Ram;
 use h41_rows::{LineFault, number_register};
 use std::marker::Model;
@@ -77,51 +81,51 @@ impl<const REGS: usize> Machine<REGS> {
     /// The line at the position is carried out: 15 where memory is not sound, 14 where no line stands there, 13 where it is left
     /// out, in this order, and last 14 where a line that a test or a loop would pass over is none. Nothing is changed then.
     #[inline(always)]
-    pub fn step(&mut self) -> Result<LineOutcome, FocalRefusal>
+    pub fn step(&mut self, pages: &Pages) -> Result<LineOutcome, FocalRefusal>
         requires { AreRight self.old }
-        ensures line { Steps None (machine_of self.old) (machine_of self.new) result }
+        ensures line { Steps pages.now None (machine_of self.old) (machine_of self.new) result }
         ensures unchanged { OnErr result (machine_of self.new ≡ machine_of self.old) }
         ensures elsewhere { KeepsElsewhere (machine_of self.old) (machine_of self.new) result }
-        ensures kept { StepKeeps None self.old self.new }
+        ensures kept { StepKeeps pages.now None self.old self.new }
         ensures mark { KeepsMark (begun_ram self.old.ram) self.new.ram }
         ensures clear { self.new.ram.touched ≡ false }
         ensures right { AreRight self.new }
     {
         kept_answers_stay_right();
         self.begin();
-        let (line, next) = standing(self)?;
-        carry_out(self, Origin::Program(next), &line)
+        let (line, next) = standing(self, pages)?;
+        carry_out(self, pages, Origin::Program(next), &line)
     }
 
     /// The line at the position is carried out as by `step`, and refused as there, but for the texts of its outcome. A line that
     /// calls what memory does not have changes nothing; `step` tells what it calls.
     #[inline(always)]
-    pub fn step_briefly(&mut self) -> Result<BriefOutcome, FocalRefusal>
+    pub fn step_briefly(&mut self, pages: &Pages) -> Result<BriefOutcome, FocalRefusal>
         requires { AreRight self.old }
-        ensures line { StepsBriefly (machine_of self.old) (machine_of self.new) result }
+        ensures line { StepsBriefly pages.now (machine_of self.old) (machine_of self.new) result }
         ensures unchanged { OnErr result (machine_of self.new ≡ machine_of self.old) }
         ensures elsewhere { result ≡ Ok Elsewhere
             → machine_of self.new ≡ machine_of self.old }
-        ensures kept { StepKeeps None self.old self.new }
+        ensures kept { StepKeeps pages.now None self.old self.new }
         ensures mark { KeepsMark (begun_ram self.old.ram) self.new.ram }
         ensures clear { self.new.ram.touched ≡ false }
         ensures right { AreRight self.new }
     {
-        match short_standing(self) {
+        match short_standing(self, pages) {
             Some((line, next)) => {
                 kept_answers_stay_right();
                 self.begin();
-                carry_short(self, Origin::Program(next), line)
+                carry_short(self, pages, Origin::Program(next), line)
             }
-            None => self.step_long(),
+            None => self.step_long(pages),
         }
     }
 
     /// The same for any line, apart from the short ones' machine code.
     #[inline(never)]
-    fn step_long(&mut self) -> Result<BriefOutcome, FocalRefusal>
+    fn step_long(&mut self, pages: &Pages) -> Result<BriefOutcome, FocalRefusal>
         requires { AreRight self.old }
-        ensures { StepsMachine self.old self.new result }
+        ensures { StepsMachine pages.now self.old self.new result }
     {
         match number_standing(self) {
             Some((number, next)) => {
@@ -130,48 +134,52 @@ impl<const REGS: usize> Machine<REGS> {
                 let register = number_register(number);
                 Ok(number_line(self, Origin::Program(next), register))
             }
-            None => self.step_whole(),
+            None => self.step_whole(pages),
         }
     }
 
     /// The same where the line is read whole.
     #[inline(never)]
-    fn step_whole(&mut self) -> Result<BriefOutcome, FocalRefusal>
+    fn step_whole(&mut self, pages: &Pages) -> Result<BriefOutcome, FocalRefusal>
         requires { AreRight self.old }
-        ensures { StepsMachine self.old self.new result }
+        ensures { StepsMachine pages.now self.old self.new result }
     {
         kept_answers_stay_right();
         self.begin();
-        let (line, next) = standing(self)?;
-        carry_briefly(self, Origin::Program(next), &line)
+        let (line, next) = standing(self, pages)?;
+        carry_briefly(self, pages, Origin::Program(next), &line)
     }
 
     /// A function is carried out in place of the line at the position, whatever that is, as for an XEQ that names it: refused as
     /// in `step`.
-    pub fn step_as(&mut self, function: Function) -> Result<LineOutcome, FocalRefusal>
+    pub fn step_as(
+        &mut self,
+        pages: &Pages,
+        function: Function,
+    ) -> Result<LineOutcome, FocalRefusal>
         requires { AreRight self.old }
-        ensures line { Steps (Some function) (machine_of self.old) (machine_of self.new) result }
+        ensures line { Steps pages.now (Some function) (machine_of self.old) (machine_of self.new) result }
         ensures unchanged { OnErr result (machine_of self.new ≡ machine_of self.old) }
-        ensures kept { StepKeeps (Some function) self.old self.new }
+        ensures kept { StepKeeps pages.now (Some function) self.old self.new }
         ensures mark { KeepsMark (begun_ram self.old.ram) self.new.ram }
         ensures clear { self.new.ram.touched ≡ false }
         ensures right { AreRight self.new }
     {
         kept_answers_stay_right();
         self.begin();
-        let (_, next) = standing(self)?;
-        carry_out(self, Origin::Program(next), &Line::Plain(function))
+        let (_, next) = standing(self, pages)?;
+        carry_out(self, pages, Origin::Program(next), &Line::Plain(function))
     }
 
     /// The line at the position fails, as where what it calls is nowhere: its fault is answered, or flag 25 has the program go
     /// on. 15 and 14 as in `step`, nothing else.
-    pub fn fail(&mut self, fault: LineFault) -> Result<LineOutcome, FocalRefusal>
-        ensures line { Fails fault (machine_of self.old) (machine_of self.new) result }
+    pub fn fail(&mut self, pages: &Pages, fault: LineFault) -> Result<LineOutcome, FocalRefusal>
+        ensures line { Fails pages.now fault (machine_of self.old) (machine_of self.new) result }
         ensures unchanged { OnErr result (machine_of self.new ≡ machine_of self.old) }
         ensures keeps { Keeps self.old self.new }
         ensures mark { self.new.ram.touched ≡ self.old.ram.touched }
     {
-        let (_, next) = standing(self)?;
+        let (_, next) = standing(self, pages)?;
         Ok(fail(self, Origin::Program(next), fault).outcome(&self.ram))
     }
 
@@ -190,13 +198,13 @@ impl<const REGS: usize> Machine<REGS> {
 
     /// The line at the position is passed, since what it calls is carried out elsewhere: on to the next line, with lift behind an
     /// XROM line. 15 and 14 as in `step`; nothing is changed then.
-    pub fn pass(&mut self) -> Result<(), FocalRefusal>
-        ensures line { Passes (machine_of self.old) (machine_of self.new) result }
+    pub fn pass(&mut self, pages: &Pages) -> Result<(), FocalRefusal>
+        ensures line { Passes pages.now (machine_of self.old) (machine_of self.new) result }
         ensures unchanged { OnErr result (machine_of self.new ≡ machine_of self.old) }
         ensures keeps { Keeps self.old self.new }
         ensures mark { self.new.ram.touched ≡ self.old.ram.touched }
     {
-        let (line, next) = standing(self)?;
+        let (line, next) = standing(self, pages)?;
         match line {
             Line::Module(_, _) => go_on_lifting(&mut self.focal, Origin::Program(next)),
             _ => go_on(&mut self.focal, Origin::Program(next)),
@@ -204,10 +212,39 @@ impl<const REGS: usize> Machine<REGS> {
         Ok(())
     }
 
+    /// The line at the position calls the program that begins at an address of a page: on there, with the next line as the latest to
+    /// return to, of which there are six at most, and with lift as by `pass`. 15 and 14 as in `step`; nothing is changed then.
+    pub fn enter(&mut self, pages: &Pages, address: u16) -> Result<(), FocalRefusal>
+        ensures line { Enters pages.now address (machine_of self.old) (machine_of self.new) result }
+        ensures unchanged { OnErr result (machine_of self.new ≡ machine_of self.old) }
+        ensures keeps { Keeps self.old self.new }
+        ensures mark { self.new.ram.touched ≡ self.old.ram.touched }
+    {
+        let (line, next) = standing(self, pages)?;
+        if let Line::Module(_, _) = line {
+            self.focal.lift = true;
+        }
+        push_return(&mut self.focal.returns, next);
+        self.focal.go_to(Position::Page(address));
+        Ok(())
+    }
+
+    /// A typed line calls the program that begins at an address of a page: the position is there, with nowhere to return to. Lift
+    /// stays. The program runs then.
+    pub fn enter_typed(&mut self, address: u16)
+        ensures machine { machine_of self.new
+            ≡ with_program_run (Page address) (machine_of self.old) }
+        ensures keeps { Keeps self.old self.new }
+        ensures mark { self.new.ram.touched ≡ self.old.ram.touched }
+    {
+        self.focal.returns.clear();
+        self.focal.go_to(Position::Page(address));
+    }
+
     /// A typed line is carried out: 15 where memory is not sound, 13 where the line is left out.
-    pub fn key(&mut self, line: &Line) -> Result<LineOutcome, FocalRefusal>
+    pub fn key(&mut self, pages: &Pages, line: &Line) -> Result<LineOutcome, FocalRefusal>
         requires { AreRight self.old }
-        ensures line { Types line.now (machine_of self.old) (machine_of self.new) result }
+        ensures line { Types pages.now line.now (machine_of self.old) (machine_of self.new) result }
         ensures unchanged { OnErr result (machine_of self.new ≡ machine_of self.old) }
         ensures elsewhere { KeepsElsewhere (machine_of self.old) (machine_of self.new) result }
         ensures kept { TypingKeeps line.now self.old self.new }
@@ -220,8 +257,9 @@ impl<const REGS: usize> Machine<REGS> {
         if !self.ram.is_sound() {
             return Err(FocalRefusal::MemoryLost);
         }
-        carry_out(self, Origin::Typed, line)
+        carry_out(self, pages, Origin::Typed, line)
     }
+
     /// Memory and what else lines work on, each where it is held apart.
     pub fn part(self, ram: &mut Ram<REGS>, focal: &mut Focal)
         ensures { labelled_with ram.new focal.new ≡ self.entry }

@@ -4,6 +4,7 @@ ghost use Rattle.std.specs.Prelude.{◌≡◌, false, OnErr, IsTrue};
 ghost use Rattle.h41_focal.specs.LabelledMachine.{Keeps, machine_of};
 ghost use Rattle.h41_focal.specs.private.Carrying.{TakenBy, UsesDigits, UsesFlag};
 ghost use Rattle.h41_focal.specs.private.Carrying.{UsesAddress};
+ghost use Rattle.h41_pages.specs.PageMap.{PageMap};
 ghost use Rattle.h41_rows.specs.Profile.{is_operand_left_out, is_parameter_left_out};
 ghost use Rattle.h41_rows.specs.Profile.{is_use_left_out};
 ghost use Rattle.h41_ram.specs.RegisterMap.{is_sound};
@@ -20,18 +21,20 @@ use crate::register_uses::use_register;
 use crate::stack_lines::be_silent;
 use crate::uses::{DigitsUse, FlagUse, OperandUse, RegisterUse, use_of};
 use h41_codes::{Operand, Parameter, ParameterFunction};
+use h41_pages::Pages;
 use h41_rows::{digit_of, flag_of, register_of};
 
 /// A function with an operand is carried out; 13 where it is left out.
 #[inline(always)]
 pub fn with_operand<const REGS: usize>(
     machine: &mut Machine<REGS>,
+    pages: &Pages,
     origin: Origin,
     function: ParameterFunction,
     operand: &Operand,
 ) -> Result<BriefOutcome, FocalRefusal>
     requires { IsTrue (is_sound machine.old.ram.registers) }
-    ensures taken { TakenBy origin function operand.now (machine_of machine.old)
+    ensures taken { TakenBy pages.now origin function operand.now (machine_of machine.old)
         (machine_of machine.new) result }
     ensures unchanged { OnErr result (machine.new ≡ machine.old) }
     ensures keeps { Keeps machine.old machine.new }
@@ -41,9 +44,9 @@ pub fn with_operand<const REGS: usize>(
         return Err(FocalRefusal::NotInProfile);
     }
     match use_of(function) {
-        OperandUse::Register(taken) => with_register(machine, origin, taken, operand),
+        OperandUse::Register(taken) => with_register(machine, pages, origin, taken, operand),
         OperandUse::Digits(taken) => with_digits(machine, origin, taken, operand),
-        OperandUse::Flag(taken) => with_flag(machine, origin, taken, operand),
+        OperandUse::Flag(taken) => with_flag(machine, pages, origin, taken, operand),
         OperandUse::Label => Ok(be_silent(machine, origin)),
     }
 }
@@ -75,20 +78,21 @@ pub fn is_parameter_out(parameter: Parameter) -> bool
 #[inline(always)]
 fn with_register<const REGS: usize>(
     machine: &mut Machine<REGS>,
+    pages: &Pages,
     origin: Origin,
     taken: RegisterUse,
     operand: &Operand,
 ) -> Result<BriefOutcome, FocalRefusal>
     requires sound { IsTrue (is_sound machine.old.ram.registers) }
     requires held { is_operand_left_out operand.now ≡ false }
-    ensures used { UsesAddress origin taken operand.now (machine_of machine.old)
+    ensures used { UsesAddress pages.now origin taken operand.now (machine_of machine.old)
         (machine_of machine.new) result }
     ensures unchanged { OnErr result (machine.new ≡ machine.old) }
     ensures keeps { Keeps machine.old machine.new }
     ensures left { LeavesMark machine.old.ram machine.new.ram }
 {
     match register_of(&machine.ram, operand) {
-        Ok(address) => use_register(machine, origin, taken, address),
+        Ok(address) => use_register(machine, pages, origin, taken, address),
         Err(fault) => Ok(fail(machine, origin, fault)),
     }
 }
@@ -101,7 +105,7 @@ fn with_digits<const REGS: usize>(
     operand: &Operand,
 ) -> Result<BriefOutcome, FocalRefusal>
     requires { is_operand_left_out operand.now ≡ false }
-    ensures used { UsesDigits origin taken operand.now (machine_of machine.old)
+    ensures used { (pages : PageMap) → UsesDigits pages origin taken operand.now (machine_of machine.old)
         (machine_of machine.new) result }
     ensures unchanged { OnErr result (machine.new ≡ machine.old) }
     ensures keeps { Keeps machine.old machine.new }
@@ -116,20 +120,21 @@ fn with_digits<const REGS: usize>(
 /// The flag of an operand is used, or is NONEXISTENT.
 fn with_flag<const REGS: usize>(
     machine: &mut Machine<REGS>,
+    pages: &Pages,
     origin: Origin,
     taken: FlagUse,
     operand: &Operand,
 ) -> Result<BriefOutcome, FocalRefusal>
     requires sound { IsTrue (is_sound machine.old.ram.registers) }
     requires held { is_operand_left_out operand.now ≡ false }
-    ensures used { UsesFlag origin taken operand.now (machine_of machine.old)
+    ensures used { UsesFlag pages.now origin taken operand.now (machine_of machine.old)
         (machine_of machine.new) result }
     ensures unchanged { OnErr result (machine.new ≡ machine.old) }
     ensures keeps { Keeps machine.old machine.new }
     ensures left { LeavesMark machine.old.ram machine.new.ram }
 {
     match flag_of(&machine.ram, operand, taken.highest()) {
-        Ok(flag) => use_flag(machine, origin, taken, flag),
+        Ok(flag) => use_flag(machine, pages, origin, taken, flag),
         Err(fault) => Ok(fail(machine, origin, fault)),
     }
 }

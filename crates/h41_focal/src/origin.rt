@@ -1,6 +1,6 @@
 //! How a line comes to be carried out.
 
-use h41_program::Position;
+use h41_positions::Position;
 
 /// How a line comes to be carried out.
 #[derive(Clone, Copy, Debug, PartialEq, Eq)]

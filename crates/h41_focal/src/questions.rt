@@ -12,7 +12,8 @@ use crate::machine::Machine;
 use crate::origin::Origin;
 use crate::outcome::BriefOutcome;
 use crate::refusal::FocalRefusal;
-use h41_program::next;
+use h41_pages::Pages;
+use h41_positions::next;
 use h41_ram::Ram;
 use h41_rows::{Test, asks};
 
@@ -20,16 +21,17 @@ use h41_rows::{Test, asks};
 /// `BrokenProgram` where the line that would be passed over is none.
 pub fn lead<const REGS: usize>(
     ram: &Ram<REGS>,
+    pages: &Pages,
     origin: Origin,
     holds: bool,
 ) -> Result<Origin, FocalRefusal>
     requires sound { IsTrue (is_sound ram.now.registers) }
-    ensures { Leads origin ram.now.registers holds result }
+    ensures { Leads pages.now origin ram.now.registers holds result }
 {
     match origin {
         Origin::Typed => Ok(Origin::Typed),
         Origin::Program(following) if holds => Ok(Origin::Program(following)),
-        Origin::Program(following) => match next(ram, following) {
+        Origin::Program(following) => match next(ram, pages, following) {
             Ok(position) => Ok(Origin::Program(position)),
             Err(_) => Err(FocalRefusal::BrokenProgram),
         },
@@ -50,11 +52,12 @@ pub fn answer(origin: Origin, holds: bool) -> BriefOutcome
 /// answered. `BrokenProgram`, with nothing changed, where the line that would be passed over is none.
 pub fn ask<const REGS: usize>(
     machine: &mut Machine<REGS>,
+    pages: &Pages,
     origin: Origin,
     test: Test,
 ) -> Result<BriefOutcome, FocalRefusal>
     requires { IsTrue (is_sound machine.old.ram.registers) }
-    ensures carried { CarriesWork origin (Ask test) (machine_of machine.old)
+    ensures carried { CarriesWork pages.now origin (Ask test) (machine_of machine.old)
         (machine_of machine.new) result }
     ensures unchanged { OnErr result (machine.new ≡ machine.old) }
     ensures keeps { Keeps machine.old machine.new }
@@ -62,7 +65,7 @@ pub fn ask<const REGS: usize>(
 {
     match asks(&machine.ram, test) {
         Ok(holds) => {
-            let lead = lead(&machine.ram, origin, holds)?;
+            let lead = lead(&machine.ram, pages, origin, holds)?;
             go_on_lifting(&mut machine.focal, lead);
             Ok(answer(origin, holds))
         }

@@ -13,17 +13,19 @@ use crate::outcome::BriefOutcome;
 use crate::refusal::FocalRefusal;
 use crate::register_lines::{combine, exchange_x, recall, recall_alpha, store, store_alpha, view};
 use crate::uses::RegisterUse;
+use h41_pages::Pages;
 
 /// The register at an address is used; a loop's line is refused where the line that it would skip cannot be read.
 #[inline(always)]
 pub fn use_register<const REGS: usize>(
     machine: &mut Machine<REGS>,
+    pages: &Pages,
     origin: Origin,
     taken: RegisterUse,
     address: u16,
 ) -> Result<BriefOutcome, FocalRefusal>
     requires { IsTrue (is_sound machine.old.ram.registers) }
-    ensures carried { DoesUse origin taken address (machine_of machine.old)
+    ensures carried { DoesUse pages.now origin taken address (machine_of machine.old)
         (machine_of machine.new) result }
     ensures unchanged { OnErr result (machine.new ≡ machine.old) }
     ensures keeps { Keeps machine.old machine.new }
@@ -34,8 +36,8 @@ pub fn use_register<const REGS: usize>(
         RegisterUse::Recall => Ok(recall(machine, origin, address)),
         RegisterUse::Store => Ok(store(machine, origin, address)),
         RegisterUse::Combine(value) => Ok(combine(machine, origin, value, address)),
-        RegisterUse::CountUp => count_up(machine, origin, address),
-        RegisterUse::CountDown => count_down(machine, origin, address),
+        RegisterUse::CountUp => count_up(machine, pages, origin, address),
+        RegisterUse::CountDown => count_down(machine, pages, origin, address),
         RegisterUse::View => Ok(view(machine, origin, address)),
         RegisterUse::StoreAlpha => Ok(store_alpha(machine, origin, address)),
         RegisterUse::RecallAlpha => Ok(recall_alpha(machine, origin, address)),

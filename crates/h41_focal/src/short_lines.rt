@@ -8,6 +8,7 @@ ghost use Rattle.h41_focal.specs.private.Carrying.{StandsNumber};
 ghost use Rattle.h41_focal.specs.private.Carrying.{TakesBriefly};
 ghost use Rattle.h41_focal.specs.private.Searching.{AsksOf};
 ghost use Rattle.h41_labels.specs.KeptAnswers.{IsRight};
+ghost use Rattle.h41_pages.specs.PageMap.{PageMap};
 ghost use Rattle.h41_ram.specs.RamState.{KeepsMark};
 ghost use Rattle.h41_ram.specs.RegisterMap.{is_sound};
 ghost use Rattle.h41_rows.specs.RowMarks.{LeavesMark};
@@ -24,38 +25,43 @@ use crate::stack_lines::be_silent;
 use h41_codes::{Branch, Parameter, ShortLine};
 use h41_decimal::Ten;
 use h41_numbers::plain_number;
-use h41_program::{Position, short_line};
+use h41_pages::Pages;
+use h41_positions::{Position, short_line};
 use h41_ram::Ram;
 
 /// The short line that stands at the position itself, and the position of the next, as `standing` answers them; `None` also where
 /// `standing` has to tell more.
 #[inline(always)]
-pub fn short_standing<const REGS: usize>(machine: &Machine<REGS>) -> Option<(ShortLine, Position)>
+pub fn short_standing<const REGS: usize>(
+    machine: &Machine<REGS>,
+    pages: &Pages,
+) -> Option<(ShortLine, Position)>
     ensures { IfSome result
-        (λ found. Stands (machine_of machine.now) (Ok (line_of found.0, found.1))) }
+        (λ found. Stands pages.now (machine_of machine.now) (Ok (line_of found.0, found.1))) }
 {
     let Machine { ram, focal } = machine;
     if !ram.is_sound() {
         return None;
     }
-    match short_line(ram, focal.position) {
-        Some((line, next)) => Some((line, next)),
-        None => None,
-    }
+    short_line(ram, pages, focal.position)
 }
 
-/// The number of the number line that stands at the position, and the position of the next, where it is read in one pass.
+/// The number of the number line that stands at the position, and the position of the next, where it is read in one pass. `None` also in pages.
 #[inline(always)]
 pub fn number_standing<const REGS: usize>(machine: &Machine<REGS>) -> Option<(Ten, Position)>
-    ensures { IfSome result (λ found. StandsNumber (machine_of machine.now) found.0 found.1) }
+    ensures { IfSome result (λ found. (pages : PageMap)
+        → StandsNumber pages (machine_of machine.now) found.0 found.1) }
 {
     let Machine { ram, focal } = machine;
     if !ram.is_sound() {
         return None;
     }
-    match plain_number(ram, focal.position) {
-        Some((number, next)) => Some((number, next)),
-        None => None,
+    match focal.position {
+        Position::Memory(at) => match plain_number(ram, at) {
+            Some((number, next)) => Some((number, Position::Memory(next))),
+            None => None,
+        },
+        Position::Page(_) => None,
     }
 }
 
@@ -63,12 +69,13 @@ pub fn number_standing<const REGS: usize>(machine: &Machine<REGS>) -> Option<(Te
 #[inline(always)]
 pub fn carry_short<const REGS: usize>(
     machine: &mut Machine<REGS>,
+    pages: &Pages,
     origin: Origin,
     line: ShortLine,
 ) -> Result<BriefOutcome, FocalRefusal>
     requires sound { IsTrue (is_sound machine.old.ram.registers) }
     requires right { IsRight machine.old.focal.labels machine.old.ram.registers }
-    ensures taken { TakesBriefly origin (line_of line) (machine_of machine.old)
+    ensures taken { TakesBriefly pages.now origin (line_of line) (machine_of machine.old)
         (machine_of machine.new) result }
     ensures unchanged { OnErr result (machine.new ≡ machine.old) }
     ensures kept { AsksOf origin (line_of line) machine.old machine.new }
@@ -78,20 +85,25 @@ pub fn carry_short<const REGS: usize>(
     match line {
         ShortLine::LocalLabel(_) => Ok(be_silent(machine, origin)),
         ShortLine::Register(function, register) => short(machine, origin, function, register),
-        ShortLine::Plain(function) => plain_at_once(machine, origin, function),
+        ShortLine::Plain(function) => plain_at_once(machine, pages, origin, function),
         ShortLine::WithOperand(function, operand) => {
-            with_operand(machine, origin, function, &operand)
+            with_operand(machine, pages, origin, function, &operand)
         }
         ShortLine::Module(_, _) => Ok(BriefOutcome::Elsewhere),
-        ShortLine::BranchIndirect(branch, register) => indirect(machine, origin, branch, register),
+        ShortLine::BranchIndirect(branch, register) => indirect(
+            machine, pages, origin, branch, register,
+        ),
         ShortLine::ShortGoTo(label, _) => {
             Ok(to_label(
                 machine,
+                pages,
                 origin,
                 Branch::GoTo,
                 Parameter::new(label.number()),
             ))
         }
-        ShortLine::BranchTo(branch, _, _, label) => Ok(to_label(machine, origin, branch, label)),
+        ShortLine::BranchTo(branch, _, _, label) => Ok(to_label(
+            machine, pages, origin, branch, label,
+        )),
     }
 }

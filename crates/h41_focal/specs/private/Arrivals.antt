@@ -9,8 +9,9 @@ use Rattle.h41_focal.specs.declared.origin.Origin.{Origin}
 use Rattle.h41_focal.specs.declared.origin.Origin.TheVariants.{Program, Typed}
 use Rattle.h41_focal.specs.declared.outcome.BriefOutcome.{BriefOutcome}
 use Rattle.h41_focal.specs.declared.outcome.BriefOutcome.TheVariants as briefs
-use Rattle.h41_program.specs.Positions.{StartOf}
-use Rattle.h41_program.specs.declared.position.Position.{Position}
+use Rattle.h41_pages.specs.PageMap.{PageMap}
+use Rattle.h41_positions.specs.Positions.{StartOf}
+use Rattle.h41_positions.specs.declared.position.Position.{Position}
 
 -- where the search for a local label begins
 abbrev pub from_of : Origin → Position → Position
@@ -30,12 +31,12 @@ answer_at (Program next) Execute = briefs.Done
 answer_at Typed Execute = briefs.Runs
 
 -- back to the latest position to return to, or to line 00
-abbrev pub GoesBackFrom : List Position → (old new : Machine) → BriefOutcome → Type 0
-GoesBackFrom [] old new brief =
-    (start : Position) × StartOf old.memory old.focal.position start
+abbrev pub GoesBackFrom : PageMap → List Position → (old new : Machine) → BriefOutcome → Type 0
+GoesBackFrom pages [] old new brief =
+    (start : Position) × StartOf pages old.memory old.focal.position start
     × (new ≡ at_halt start old) × (brief ≡ briefs.Stopped)
-GoesBackFrom (latest ∷ others) old new brief =
+GoesBackFrom pages (latest ∷ others) old new brief =
     (new ≡ at_line latest (with_returns (reverse others) old)) × (brief ≡ briefs.Done)
 
-abbrev pub ReturnsFrom : (old new : Machine) → BriefOutcome → Type 0
-ReturnsFrom old new brief = GoesBackFrom (reverse old.focal.returns) old new brief
+abbrev pub ReturnsFrom : PageMap → (old new : Machine) → BriefOutcome → Type 0
+ReturnsFrom pages old new brief = GoesBackFrom pages (reverse old.focal.returns) old new brief

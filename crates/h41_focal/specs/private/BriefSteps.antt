@@ -6,15 +6,16 @@ use Rattle.h41_focal.specs.LabelledMachine.{AreRight, LabelledMachine, begun_ram
 use Rattle.h41_focal.specs.declared.outcome.BriefOutcome.{BriefOutcome}
 use Rattle.h41_focal.specs.declared.outcome.BriefOutcome.TheVariants.{Elsewhere}
 use Rattle.h41_focal.specs.declared.refusal.FocalRefusal.{FocalRefusal}
+use Rattle.h41_pages.specs.PageMap.{PageMap}
 use Rattle.h41_ram.specs.RamState.{KeepsMark}
 
 -- the line at the position is carried out, but for the texts of its outcome
-pub record StepsMachine (old new : LabelledMachine) (result : Result BriefOutcome FocalRefusal)
+pub record StepsMachine (pages : PageMap) (old new : LabelledMachine) (result : Result BriefOutcome FocalRefusal)
     : Type 0 where
-  pub line : StepsBriefly (machine_of old) (machine_of new) result
+  pub line : StepsBriefly pages (machine_of old) (machine_of new) result
   pub unchanged : OnErr result (machine_of new ≡ machine_of old)
   pub elsewhere : result ≡ Ok Elsewhere → machine_of new ≡ machine_of old
-  pub kept : StepKeeps None old new
+  pub kept : StepKeeps pages None old new
   pub mark : KeepsMark (begun_ram old.ram) new.ram
   pub clear : new.ram.touched ≡ false
   pub right : AreRight new

@@ -44,8 +44,9 @@ use Rattle.h41_focal.specs.declared.uses.DigitsUse.{DigitsUse}
 use Rattle.h41_focal.specs.declared.uses.FlagUse.{FlagUse}
 use Rattle.h41_focal.specs.declared.uses.FlagUse.TheVariants.{AskAndClear}
 use Rattle.h41_focal.specs.declared.uses.RegisterUse.{RegisterUse}
-use Rattle.h41_program.specs.Positions.{NextAt}
-use Rattle.h41_program.specs.declared.position.Position.{Position}
+use Rattle.h41_pages.specs.PageMap.{PageMap}
+use Rattle.h41_positions.specs.Positions.{NextAt}
+use Rattle.h41_positions.specs.declared.position.Position.{Position}
 use Rattle.h41_program.specs.declared.refusal.ProgramRefusal.TheVariants as program
 use Rattle.h41_ram.specs.RegisterMap.{RegisterMap}
 
@@ -83,36 +84,36 @@ ended new brief = briefly nowhere new brief
 abbrev pub ended_as : Machine → Result BriefOutcome FocalRefusal → Result Left FocalRefusal
 ended_as new result = briefly_as nowhere new result
 
--- a row was applied to a machine, by a line that looks for no position
+-- a row was applied to a machine, by a line that looks for no position, whatever pages have
 abbrev pub Leaves : Origin → LineRow → ℕ → (old new : Machine) → BriefOutcome → Type 0
 Leaves origin row named old new brief =
-    Applies (manner_of origin) row named old (Ok (ended new brief))
+    (pages : PageMap) → Applies pages (manner_of origin) row named old (Ok (ended new brief))
 
 -- the same of a line that may call what memory does not have
-abbrev pub LeavesCalling : Answer → Origin → LineRow → ℕ → (old new : Machine) → BriefOutcome
+abbrev pub LeavesCalling : PageMap → Answer → Origin → LineRow → ℕ → (old new : Machine) → BriefOutcome
     → Type 0
-LeavesCalling called origin row named old new brief =
-    Applies (manner_of origin) row named old (Ok (briefly called new brief))
+LeavesCalling pages called origin row named old new brief =
+    Applies pages (manner_of origin) row named old (Ok (briefly called new brief))
 
 -- a row was applied to a machine, or the line refused
-abbrev pub CarriesRow : Origin → LineRow → ℕ → (old new : Machine)
+abbrev pub CarriesRow : PageMap → Origin → LineRow → ℕ → (old new : Machine)
     → Result BriefOutcome FocalRefusal
     → Type 0
-CarriesRow origin row named old new result =
-    Applies (manner_of origin) row named old (ended_as new result)
+CarriesRow pages origin row named old new result =
+    Applies pages (manner_of origin) row named old (ended_as new result)
 
 -- where a line that asks goes on: the next line where the answer is yes, else the one behind it; a
 -- typed line stays
-abbrev pub Leads : Origin → RegisterMap → Bool → Result Origin FocalRefusal → Type 0
-Leads (Program next) memory holds (Ok lead) =
+abbrev pub Leads : PageMap → Origin → RegisterMap → Bool → Result Origin FocalRefusal → Type 0
+Leads pages (Program next) memory holds (Ok lead) =
     (position : Position)
     × (lead ≡ Program position)
-    × MatchBool holds (position ≡ next) (NextAt memory next (Ok position))
-Leads (Program next) memory holds (Err refusal) =
+    × MatchBool holds (position ≡ next) (NextAt pages memory next (Ok position))
+Leads pages (Program next) memory holds (Err refusal) =
     (refusal ≡ BrokenProgram)
     × (holds ≡ false)
-    × NextAt memory next (Err program.BrokenProgram)
-Leads Typed memory holds lead = lead ≡ Ok Typed
+    × NextAt pages memory next (Err program.BrokenProgram)
+Leads pages Typed memory holds lead = lead ≡ Ok Typed
 
 -- what a test answers: where it was typed, whether it holds
 abbrev pub test_answer : Origin → Bool → BriefOutcome
@@ -120,53 +121,53 @@ test_answer (Program next) holds = briefs.Done
 test_answer Typed holds = briefs.Answered holds
 
 -- a line was taken, or refused
-abbrev pub TakesAs : Origin → Line → (old new : Machine) → Result LineOutcome FocalRefusal → Type 0
-TakesAs origin line old new result =
-    TakesLine (manner_of origin) line old (carried_as new result)
+abbrev pub TakesAs : PageMap → Origin → Line → (old new : Machine) → Result LineOutcome FocalRefusal → Type 0
+TakesAs pages origin line old new result =
+    TakesLine pages (manner_of origin) line old (carried_as new result)
 
 -- what a call takes, then what it leaves, and its brief outcome
 abbrev pub BriefCall : Type 1
 BriefCall = (old new : Machine) → Result BriefOutcome FocalRefusal → Type 0
 
-abbrev pub TakesBriefly : Origin → Line → BriefCall
-TakesBriefly origin line old new result =
-    TakesLine (manner_of origin) line old (briefly_as (called_by old.memory line) new result)
+abbrev pub TakesBriefly : PageMap → Origin → Line → BriefCall
+TakesBriefly pages origin line old new result =
+    TakesLine pages (manner_of origin) line old (briefly_as (called_by old.memory line) new result)
 
 -- a row was applied to what an operand means, of which this was found, or its fault
-abbrev pub CarriesFound : {A : Type 0} → Origin → (A → LineRow) → (A → ℕ) → Result A LineFault
+abbrev pub CarriesFound : {A : Type 0} → PageMap → Origin → (A → LineRow) → (A → ℕ) → Result A LineFault
     → (old new : Machine) → Result BriefOutcome FocalRefusal → Type 0
-CarriesFound origin row named (Ok found) old new result =
-    CarriesRow origin (row found) (named found) old new result
-CarriesFound origin row named (Err fault) old new result =
+CarriesFound pages origin row named (Ok found) old new result =
+    CarriesRow pages origin (row found) (named found) old new result
+CarriesFound pages origin row named (Err fault) old new result =
     FailsIn (manner_of origin) old fault (ended_as new result)
 
 -- with a register, a number of digits, a flag
-abbrev pub UsesAddress : Origin → RegisterUse → Operand → (old new : Machine)
+abbrev pub UsesAddress : PageMap → Origin → RegisterUse → Operand → (old new : Machine)
     → Result BriefOutcome FocalRefusal → Type 0
-UsesAddress origin taken operand old new result =
+UsesAddress pages origin taken operand old new result =
     (found : Result ℕ LineFault)
     × (result_map Address found ≡ meant_as RegisterKind old.memory operand)
-    × CarriesFound origin (λ address. register_use_row taken)
+    × CarriesFound pages origin (λ address. register_use_row taken)
     (λ address. address) found old new result
 
-abbrev pub UsesDigits : Origin → DigitsUse → Operand → (old new : Machine)
+abbrev pub UsesDigits : PageMap → Origin → DigitsUse → Operand → (old new : Machine)
     → Result BriefOutcome FocalRefusal → Type 0
-UsesDigits origin taken operand old new result =
+UsesDigits pages origin taken operand old new result =
     (found : Result ℕ LineFault) × (result_map Count found ≡ meant_as DigitKind old.memory operand)
-    × CarriesFound origin (digits_use_row taken) (λ digits. 0) found old new result
+    × CarriesFound pages origin (digits_use_row taken) (λ digits. 0) found old new result
 
-abbrev pub UsesFlag : Origin → FlagUse → Operand → (old new : Machine)
+abbrev pub UsesFlag : PageMap → Origin → FlagUse → Operand → (old new : Machine)
     → Result BriefOutcome FocalRefusal → Type 0
-UsesFlag origin taken operand old new result =
+UsesFlag pages origin taken operand old new result =
     (found : Result ℕ LineFault)
     × (result_map Count found ≡ meant_as (FlagKind (highest_of taken)) old.memory operand)
-    × CarriesFound origin (flag_use_row taken) (λ flag. 0) found old new result
+    × CarriesFound pages origin (flag_use_row taken) (λ flag. 0) found old new result
 
 -- the line that stands there is a number line, of this number
-abbrev pub StandsNumber : Machine → Ten → Position → Type 0
-StandsNumber machine number next =
+abbrev pub StandsNumber : PageMap → Machine → Ten → Position → Type 0
+StandsNumber pages machine number next =
     (text : List Character)
-    × Stands machine (Ok (lines.Number text, next))
+    × Stands pages machine (Ok (lines.Number text, next))
     × IsNumberOf text number
 
 -- the same of a row that names no register, of a line without an operand, of the work of a
@@ -180,42 +181,42 @@ DoesLine origin line old new brief = LeavesRow origin (row_of line NoOperand) ol
 abbrev pub DoesWork : Origin → FunctionWork → (old new : Machine) → BriefOutcome → Type 0
 DoesWork origin work old new brief = LeavesRow origin (row_of_work work) old new brief
 
-abbrev pub CarriesWork : Origin → FunctionWork → (old new : Machine)
+abbrev pub CarriesWork : PageMap → Origin → FunctionWork → (old new : Machine)
     → Result BriefOutcome FocalRefusal → Type 0
-CarriesWork origin work old new result =
-    (named : ℕ) → CarriesRow origin (row_of_work work) named old new result
+CarriesWork pages origin work old new result =
+    (named : ℕ) → CarriesRow pages origin (row_of_work work) named old new result
 
 abbrev pub UsesAt : Origin → RegisterUse → ℕ → (old new : Machine) → BriefOutcome → Type 0
 UsesAt origin taken address old new brief =
     Leaves origin (register_use_row taken) address old new brief
 
-abbrev pub DoesUse : Origin → RegisterUse → ℕ → (old new : Machine)
+abbrev pub DoesUse : PageMap → Origin → RegisterUse → ℕ → (old new : Machine)
     → Result BriefOutcome FocalRefusal → Type 0
-DoesUse origin taken address old new result =
-    CarriesRow origin (register_use_row taken) address old new result
+DoesUse pages origin taken address old new result =
+    CarriesRow pages origin (register_use_row taken) address old new result
 
-abbrev pub CarriesFlag : Origin → FlagUse → ℕ → (old new : Machine)
+abbrev pub CarriesFlag : PageMap → Origin → FlagUse → ℕ → (old new : Machine)
     → Result BriefOutcome FocalRefusal → Type 0
-CarriesFlag origin taken flag old new result =
-    (named : ℕ) → CarriesRow origin (flag_use_row taken flag) named old new result
+CarriesFlag pages origin taken flag old new result =
+    (named : ℕ) → CarriesRow pages origin (flag_use_row taken flag) named old new result
 
 abbrev pub LeavesDigits : Origin → DigitsUse → ℕ → (old new : Machine) → BriefOutcome → Type 0
 LeavesDigits origin taken digits old new brief =
     LeavesRow origin (digits_use_row taken digits) old new brief
 
 -- of a branch to a label, or to a name
-abbrev pub GoesToLabel : Origin → Branch → ℕ → (old new : Machine) → BriefOutcome → Type 0
-GoesToLabel origin branch label old new brief =
-    (named : ℕ) → CarriesRow origin (to_label branch label) named old new (Ok brief)
+abbrev pub GoesToLabel : PageMap → Origin → Branch → ℕ → (old new : Machine) → BriefOutcome → Type 0
+GoesToLabel pages origin branch label old new brief =
+    (named : ℕ) → CarriesRow pages origin (to_label branch label) named old new (Ok brief)
 
-abbrev pub GoesToName : Origin → Branch → List ℕ → (old new : Machine) → BriefOutcome → Type 0
-GoesToName origin branch name old new brief =
+abbrev pub GoesToName : PageMap → Origin → Branch → List ℕ → (old new : Machine) → BriefOutcome → Type 0
+GoesToName pages origin branch name old new brief =
     (named : ℕ)
-    → LeavesCalling (answers.Seeks name) origin (to_name branch name) named old new brief
+    → LeavesCalling pages (answers.Seeks name) origin (to_name branch name) named old new brief
 
 -- back, or to line 00
-abbrev pub GoesBack : Origin → (old new : Machine) → BriefOutcome → Type 0
-GoesBack origin old new brief = CarriesWork origin Return old new (Ok brief)
+abbrev pub GoesBack : PageMap → Origin → (old new : Machine) → BriefOutcome → Type 0
+GoesBack pages origin old new brief = CarriesWork pages origin Return old new (Ok brief)
 
 -- of a fault
 abbrev pub FailsAs : Origin → LineFault → (old new : Machine) → BriefOutcome → Type 0
@@ -223,32 +224,32 @@ FailsAs origin fault old new brief =
     FailsIn (manner_of origin) old fault (Ok (ended new brief))
 
 -- lines of each kind are taken
-abbrev pub TakesNamed : Origin → NameFunction → List ℕ → BriefCall
-TakesNamed origin function name old new result =
-    TakesBriefly origin (lines.Named function name) old new result
+abbrev pub TakesNamed : PageMap → Origin → NameFunction → List ℕ → BriefCall
+TakesNamed pages origin function name old new result =
+    TakesBriefly pages origin (lines.Named function name) old new result
 
-abbrev pub TakesShort : Origin → RegisterFunction → ℕ → BriefCall
-TakesShort origin function register old new result =
-    TakesBriefly origin (lines.Register function register) old new result
+abbrev pub TakesShort : PageMap → Origin → RegisterFunction → ℕ → BriefCall
+TakesShort pages origin function register old new result =
+    TakesBriefly pages origin (lines.Register function register) old new result
 
-abbrev pub TakenBy : Origin → ParameterFunction → Operand → BriefCall
-TakenBy origin function operand old new result =
-    TakesBriefly origin (lines.WithOperand function operand) old new result
+abbrev pub TakenBy : PageMap → Origin → ParameterFunction → Operand → BriefCall
+TakenBy pages origin function operand old new result =
+    TakesBriefly pages origin (lines.WithOperand function operand) old new result
 
-abbrev pub TakesBranch : Origin → Branch → ℕ → BriefCall
-TakesBranch origin branch register old new result =
-    TakesBriefly origin (lines.BranchIndirect branch register) old new result
+abbrev pub TakesBranch : PageMap → Origin → Branch → ℕ → BriefCall
+TakesBranch pages origin branch register old new result =
+    TakesBriefly pages origin (lines.BranchIndirect branch register) old new result
 
 -- a flag is asked, and cleared
-abbrev pub ClearsFlag : Origin → Bool → ℕ → BriefCall
-ClearsFlag origin on flag old new result = CarriesFlag origin (AskAndClear on) flag old new result
+abbrev pub ClearsFlag : PageMap → Origin → Bool → ℕ → BriefCall
+ClearsFlag pages origin on flag old new result = CarriesFlag pages origin (AskAndClear on) flag old new result
 
 -- of a branch to what a register holds
-abbrev pub GoesToTarget : Origin → Branch → BranchTarget → (old new : Machine) → BriefOutcome
+abbrev pub GoesToTarget : PageMap → Origin → Branch → BranchTarget → (old new : Machine) → BriefOutcome
     → Type 0
-GoesToTarget origin branch target old new brief =
+GoesToTarget pages origin branch target old new brief =
     (named : ℕ)
-    → LeavesCalling (answers.Seeks (name_meant (Ok (meant_by target)))) origin
+    → LeavesCalling pages (answers.Seeks (name_meant (Ok (meant_by target)))) origin
     (to_meant branch (meant_by target)) named old new brief
 
 -- a text comes into ALPHA

@@ -7,7 +7,7 @@ use Rattle.h41_focal.specs.declared.origin.Origin.{Origin}
 use Rattle.h41_focal.specs.private.Arrivals.{from_of}
 use Rattle.h41_labels.specs.KeptAnswers.{KeepsSearch}
 use Rattle.h41_labels.specs.declared.search.Search.{Search}
-use Rattle.h41_program.specs.declared.position.Position.{Position}
+use Rattle.h41_positions.specs.declared.position.Position.{Position}
 
 -- a search was made from where the line has local labels looked for, or none
 abbrev pub AsksFrom : Origin → (Position → Option Search) → (old new : LabelledMachine) → Type 0

@@ -25,7 +25,6 @@ use Rattle.h41_keys.specs.declared.key.Key.{Key}
 use Rattle.h41_pages.specs.FunctionTables.{function_of_name}
 use Rattle.h41_pages.specs.PageMap.{PageMap}
 use Rattle.h41_positions.specs.PositionLaws.{IsReadOnce}
-use Rattle.h41_positions.specs.declared.position.PlacedLine.{PlacedLine}
 use Rattle.h41_positions.specs.declared.position.Position.{Position}
 use Rattle.h41_positions.specs.declared.position.Position.TheVariants.{Memory, Page}
 use Rattle.h41_program.specs.LastProgram.{open_in}

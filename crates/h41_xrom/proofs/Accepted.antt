@@ -1,5 +1,5 @@
 -- What the action of an accepted key needs of memory.
-use Rattle.std.proofs.Common.{◌≡◌, Bool, true, false, not, ◌&&◌, Option, Some, None, refl, sym, subst}
+use Rattle.std.proofs.Common.{◌≡◌, Bool, true, false, not, ◌&&◌, Option, None, refl, sym, subst}
 use Rattle.std.specs.Bool.{then_some}
 use Rattle.std.specs.Prelude.{IsTrue}
 use Rattle.h41_codes.specs.declared.line.Line.{Line}

@@ -5,20 +5,21 @@ use Rattle.h41_editor.specs.EditorLaws.{TextIsDetermined}
 use Rattle.h41_focal.specs.LineStep.{Machine}
 use Rattle.h41_keys.specs.declared.input.TypedEntry.{TypedEntry}
 use Rattle.h41_keys.specs.declared.prompt.Prompt.{Prompt}
+use Rattle.h41_pages.specs.PageMap.{PageMap}
 use Rattle.h41_xrom.specs.Calculator.{CalculatorState, machine_of}
 use Rattle.h41_xrom.specs.CalculatorLaws.{DisplayIsDetermined}
 use Rattle.h41_xrom.specs.Display.{ShowsMessage, ShowsPrompt, ShowsShownLine, cursor_of, entry_text}
 
 module _ (same_program : TextIsDetermined) where
-  same_shown : (machine : Machine) (entry : TypedEntry) (a b : List ℕ) → ShowsShownLine machine entry a
-      → ShowsShownLine machine entry b → a ≡ b
-  same_shown machine entry a b (p, p_shows, p_is) (q, q_shows, q_is) =
-      p_is ∙ ap (λ (of : List ℕ). of ++ cursor_of entry) (same_program machine p q p_shows q_shows) ∙ sym q_is
+  same_shown : (pages : PageMap) (machine : Machine) (entry : TypedEntry) (a b : List ℕ) → ShowsShownLine pages machine entry a
+      → ShowsShownLine pages machine entry b → a ≡ b
+  same_shown pages machine entry a b (p, p_shows, p_is) (q, q_shows, q_is) =
+      p_is ∙ ap (λ (of : List ℕ). of ++ cursor_of entry) (same_program pages machine p q p_shows q_shows) ∙ sym q_is
 
   same_entry : (program_mode : Bool) (s : CalculatorState) (a b : List ℕ)
-      → MatchBool program_mode (ShowsShownLine (machine_of s) s.input.entry a) (a ≡ entry_text s.nut.ram s.input.entry)
-      → MatchBool program_mode (ShowsShownLine (machine_of s) s.input.entry b) (b ≡ entry_text s.nut.ram s.input.entry) → a ≡ b
-  same_entry true s a b p q = same_shown (machine_of s) s.input.entry a b p q
+      → MatchBool program_mode (ShowsShownLine s.nut.pages (machine_of s) s.input.entry a) (a ≡ entry_text s.nut.ram s.input.entry)
+      → MatchBool program_mode (ShowsShownLine s.nut.pages (machine_of s) s.input.entry b) (b ≡ entry_text s.nut.ram s.input.entry) → a ≡ b
+  same_entry true s a b p q = same_shown s.nut.pages (machine_of s) s.input.entry a b p q
   same_entry false s a b p q = p ∙ sym q
 
   same_prompt : (prompt : Option Prompt) (s : CalculatorState) (a b : List ℕ) → ShowsPrompt s prompt a → ShowsPrompt s prompt b → a ≡ b

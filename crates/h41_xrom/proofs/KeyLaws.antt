@@ -1,5 +1,5 @@
 -- Why a key leaves nothing open.
-use Rattle.std.proofs.Common.{◌≡◌, ℕ, Bool, true, false, List, Option, Some, None, Result, Ok, Err, sym, ap, subst, ◌∙◌}
+use Rattle.std.proofs.Common.{◌≡◌, ℕ, Bool, true, false, ◌||◌, List, Option, Some, None, Result, Ok, Err, sym, ap, subst, ◌∙◌}
 use Rattle.std.specs.Prelude.{MatchBool, MatchOption}
 use Rattle.std.specs.Result.{result_err, result_unwrap_or}
 use Rattle.h41_codes.specs.declared.characters.Character.{Character}
@@ -11,15 +11,23 @@ use Rattle.h41_codes.specs.declared.line.Line.TheVariants as lines
 use Rattle.h41_editor.specs.Changes.{Deletes, Inserts, Replaces}
 use Rattle.h41_editor.specs.EditorLaws.{ChangeIsDetermined, MoveIsDetermined}
 use Rattle.h41_editor.specs.Moves.{GoesToEnd, ShowsBefore, ShowsNext}
-use Rattle.h41_focal.specs.LineLaws.{FailureIsDetermined, PassingIsDetermined, StepIsDetermined, TypedIsDetermined}
+use Rattle.h41_focal.specs.LineLaws.{EnteringIsDetermined, FailureIsDetermined, PassingIsDetermined, StepIsDetermined}
+use Rattle.h41_focal.specs.LineLaws.{TypedIsDetermined}
 use Rattle.h41_focal.specs.LineStep.{Machine}
 use Rattle.h41_keys.specs.declared.action.Action.{Action}
 use Rattle.h41_keys.specs.declared.action.Action.TheVariants as actions
+use Rattle.h41_keys.specs.declared.input.Flags.{Flags}
 use Rattle.h41_keys.specs.declared.input.Input.{Input}
+use Rattle.h41_keys.specs.declared.input.Place.{Place}
+use Rattle.h41_keys.specs.declared.input.Place.TheVariants as places
 use Rattle.h41_keys.specs.declared.input.Pressed.{Pressed}
 use Rattle.h41_keys.specs.declared.key.Key.{Key}
 use Rattle.h41_pages.specs.FunctionTables.{function_of_name}
 use Rattle.h41_pages.specs.PageMap.{PageMap}
+use Rattle.h41_positions.specs.PositionLaws.{IsReadOnce}
+use Rattle.h41_positions.specs.declared.position.Position.{Position}
+use Rattle.h41_positions.specs.declared.position.Position.TheVariants.{Memory, Page}
+use Rattle.h41_program.specs.LastProgram.{open_in}
 use Rattle.h41_program.specs.SearchLaws.{AnswersAreDetermined}
 use Rattle.h41_program.specs.Searches.{named_in, position_of}
 use Rattle.h41_program.specs.declared.listed_line.ListedLine.{ListedLine}
@@ -32,10 +40,10 @@ use Rattle.h41_text.specs.TextLaws.{OneLineOfText}
 use Rattle.h41_xrom.proofs.StepLaws.{line_determined, same_function}
 use Rattle.h41_xrom.specs.Calculator.{CalculatorState, machine_of}
 use Rattle.h41_xrom.specs.CalculatorLaws.{KeyIsDetermined}
-use Rattle.h41_xrom.specs.KeyActions.{Acts, BeginsNumber, Carries, ChangesNumber, Edits, KeyOutcome, IsStoredAs, KeyMakes, Leaves}
-use Rattle.h41_xrom.specs.KeyActions.{StoredElsewhere, StoredFunction, StoredName, StoresLine, with_line_begun, with_line_changed}
-use Rattle.h41_xrom.specs.KeyActions.{edit_effect, after_outcome}
-use Rattle.h41_xrom.specs.KeyActions.{key_refusal, line_effect, press_of, with_key_told}
+use Rattle.h41_xrom.specs.KeyActions.{Acts, BeginsNumber, Carries, ChangesNumber, Edits, HasFlags, IsPlace, IsStoredAs, KeyMakes}
+use Rattle.h41_xrom.specs.KeyActions.{KeyOutcome, Leaves, StoredElsewhere, StoredFunction, StoredName, StoresLine, after_outcome}
+use Rattle.h41_xrom.specs.KeyActions.{edit_effect, flags_at, is_final, key_refusal, line_effect, press_of, puts_end, with_key_told}
+use Rattle.h41_xrom.specs.KeyActions.{with_line_begun, with_line_changed}
 use Rattle.h41_xrom.specs.declared.lines.LineSource.{LineSource}
 use Rattle.h41_xrom.specs.declared.lines.LineSource.TheVariants as sources
 use Rattle.h41_xrom.specs.declared.refusal.CalculatorRefusal.{CalculatorRefusal}
@@ -71,15 +79,29 @@ module _ (same_value : ValuesAreDetermined) where
       p_is ∙ ap (λ (of : List ℕ). Ok (Leaves (with_line_changed machine of))) (same_written text machine.memory p q p_computes q_computes)
       ∙ sym q_is
 
+-- where the shown line stands
+module _ (positions : IsReadOnce) (same_last : AnswersAreDetermined (Result Bool ProgramRefusal)) where
+  same_place : (pages : PageMap) (machine : Machine) (at : Position) (a b : Place) → IsPlace pages machine at a → IsPlace pages machine at b
+      → a ≡ b
+  same_place pages machine (Memory byte) a b p q = p ∙ sym q
+  same_place pages machine (Page address) a b (f, l, f_stands, l_answers, a_is) (g, m, g_stands, m_answers, b_is) =
+      let first : f ≡ g = positions.line pages machine.memory (Page address) f g f_stands g_stands in
+      let last : l ≡ m = same_last machine.memory open_in 0 l m l_answers m_answers in
+      a_is ∙ (λ i. places.Page (machine.focal.at_line_00 || is_final (first i)) (puts_end (last i))) ∙ sym b_is
+
+  same_flags : (s : CalculatorState) (a b : Flags) → HasFlags s a → HasFlags s b → a ≡ b
+  same_flags s a b (p, p_place, a_is) (q, q_place, b_is) =
+      a_is ∙ ap (λ (place : Place). flags_at place s) (same_place s.nut.pages (machine_of s) s.focal.position p q p_place q_place) ∙ sym b_is
+
 module _ (same_step : StepIsDetermined) (same_typing : TypedIsDetermined) (same_failure : FailureIsDetermined)
-    (same_passing : PassingIsDetermined) (one_line : OneLineOfText) where
+    (same_passing : PassingIsDetermined) (same_entering : EnteringIsDetermined) (one_line : OneLineOfText) where
   -- a line that is carried out
   same_carry : (source : LineSource) (pages : PageMap) (machine : Machine) (a b : Made) → Carries source pages machine a
       → Carries source pages machine b → a ≡ b
   same_carry source pages machine a b (p, p_carries, p_is) (q, q_carries, q_is) =
       p_is
       ∙ ap line_effect
-      (line_determined same_step same_typing same_failure same_passing one_line source pages machine p q p_carries q_carries)
+      (line_determined same_step same_typing same_failure same_passing same_entering one_line source pages machine p q p_carries q_carries)
       ∙ sym q_is
 
   -- the line that is stored
@@ -92,7 +114,7 @@ module _ (same_step : StepIsDetermined) (same_typing : TypedIsDetermined) (same_
       → StoredElsewhere line name numbers a → StoredElsewhere line name numbers b → a ≡ b
   same_elsewhere (Some numbers) line name a b p q = p ∙ sym q
   same_elsewhere None line name a b (f, f_named, f_stored) (g, g_named, g_stored) =
-      let same : f ≡ g = same_function same_step same_typing same_failure same_passing one_line name f g f_named g_named in
+      let same : f ≡ g = same_function same_step same_typing same_failure same_passing same_entering one_line name f g f_named g_named in
       same_stored_function g line a b (subst (λ (function : Option Function). StoredFunction line function a) same f_stored) g_stored
 
   same_stored_name : (label : Option ℕ) (pages : PageMap) (line : Line) (name : List ℕ) (a b : Line)
@@ -125,20 +147,24 @@ module _ (same_step : StepIsDetermined) (same_typing : TypedIsDetermined) (same_
     same_stored (lines.BranchTo branch distance backwards label) pages memory a b p q = p ∙ sym q
     same_stored (lines.Text text) pages memory a b p q = p ∙ sym q
 
-    module _ (same_next : MoveIsDetermined ShowsNext) (same_before : MoveIsDetermined ShowsBefore)
-        (same_ending : MoveIsDetermined GoesToEnd) (same_insertion : ChangeIsDetermined Inserts)
-        (same_replacement : ChangeIsDetermined Replaces) (same_deletion : MoveIsDetermined Deletes) (same_value : ValuesAreDetermined) where
+    module _ (positions : IsReadOnce) (same_last : AnswersAreDetermined (Result Bool ProgramRefusal))
+        (same_next : (pages : PageMap) → MoveIsDetermined (ShowsNext pages))
+        (same_before : (pages : PageMap) → MoveIsDetermined (ShowsBefore pages))
+        (same_ending : MoveIsDetermined GoesToEnd) (same_insertion : (pages : PageMap) → ChangeIsDetermined (Inserts pages))
+        (same_replacement : ChangeIsDetermined Replaces) (same_deletion : (pages : PageMap) → MoveIsDetermined (Deletes pages))
+        (same_value : ValuesAreDetermined) where
       same_storing : (pages : PageMap) (line : Line) (machine : Machine) (a b : Made) → StoresLine pages line machine a
           → StoresLine pages line machine b → a ≡ b
       same_storing pages line machine a b (p, p_stored, p_edits) (q, q_stored, q_edits) =
           let same : p ≡ q = same_stored line pages machine.memory p q p_stored q_stored in
-          same_edit (Inserts q) (same_insertion q) machine a b (subst (λ (of : Line). Edits (Inserts of) machine a) same p_edits) q_edits
+          same_edit (Inserts pages q) (same_insertion pages q) machine a b
+          (subst (λ (of : Line). Edits (Inserts pages of) machine a) same p_edits) q_edits
 
       -- SST
       same_single : (program_mode : Bool) (pages : PageMap) (machine : Machine) (a b : Made)
-          → MatchBool program_mode (Edits ShowsNext machine a) (Carries sources.Program pages machine a)
-          → MatchBool program_mode (Edits ShowsNext machine b) (Carries sources.Program pages machine b) → a ≡ b
-      same_single true pages machine a b p q = same_edit ShowsNext same_next machine a b p q
+          → MatchBool program_mode (Edits (ShowsNext pages) machine a) (Carries sources.Program pages machine a)
+          → MatchBool program_mode (Edits (ShowsNext pages) machine b) (Carries sources.Program pages machine b) → a ≡ b
+      same_single true pages machine a b p q = same_edit (ShowsNext pages) (same_next pages) machine a b p q
       same_single false pages machine a b p q = same_carry sources.Program pages machine a b p q
 
       -- each action
@@ -148,12 +174,12 @@ module _ (same_step : StepIsDetermined) (same_typing : TypedIsDetermined) (same_
       same_act actions.Stop pages program_mode machine a b p q = p ∙ sym q
       same_act actions.Run pages program_mode machine a b p q = p ∙ sym q
       same_act actions.Step pages program_mode machine a b p q = same_single program_mode pages machine a b p q
-      same_act actions.StepBack pages program_mode machine a b p q = same_edit ShowsBefore same_before machine a b p q
+      same_act actions.StepBack pages program_mode machine a b p q = same_edit (ShowsBefore pages) (same_before pages) machine a b p q
       same_act actions.GoToEnd pages program_mode machine a b p q = same_edit GoesToEnd same_ending machine a b p q
       same_act (actions.CarryOut line) pages program_mode machine a b p q = same_carry (sources.Keys line) pages machine a b p q
       same_act (actions.Insert line) pages program_mode machine a b p q = same_storing pages line machine a b p q
       same_act (actions.Replace line) pages program_mode machine a b p q = same_edit (Replaces line) (same_replacement line) machine a b p q
-      same_act actions.Delete pages program_mode machine a b p q = same_edit Deletes same_deletion machine a b p q
+      same_act actions.Delete pages program_mode machine a b p q = same_edit (Deletes pages) (same_deletion pages) machine a b p q
       same_act (actions.BeginNumber text) pages program_mode machine a b p q = same_beginning same_value text machine a b p q
       same_act (actions.ChangeNumber text) pages program_mode machine a b p q = same_change same_value text machine a b p q
       same_act actions.EndNumber pages program_mode machine a b p q = same_carry (sources.Keys (lines.Plain ClearX)) pages machine a b p q
@@ -186,8 +212,10 @@ module _ (same_step : StepIsDetermined) (same_typing : TypedIsDetermined) (same_
       same_key (Some of) s key a b p q = same_made (key_refusal s) s key of.action of.input a b p q
 
       pub key_determined : KeyIsDetermined
-      key_determined key s t u a b p q =
-          let made : p.0 ≡ q.0 = same_key (press_of s key) s key p.0 q.0 p.1 q.1 in (
-            p.2.0 ∙ ap (λ (of : Result CalculatorState CalculatorRefusal). result_unwrap_or of s) made ∙ sym q.2.0,
-            p.2.1 ∙ ap result_err made ∙ sym q.2.1,
+      key_determined key s t u a b (f, f_has, p, p_makes, p_becomes) (g, g_has, q, q_makes, q_becomes) =
+          let flags : f ≡ g = same_flags positions same_last s f g f_has g_has in
+          let makes = subst (λ (of : Flags). KeyMakes s key (press_of s key of) p) flags p_makes in
+          let made : p ≡ q = same_key (press_of s key g) s key p q makes q_makes in (
+            p_becomes.0 ∙ ap (λ (of : Result CalculatorState CalculatorRefusal). result_unwrap_or of s) made ∙ sym q_becomes.0,
+            p_becomes.1 ∙ ap result_err made ∙ sym q_becomes.1,
           )

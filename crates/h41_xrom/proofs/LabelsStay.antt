@@ -2,7 +2,7 @@
 use Rattle.std.proofs.Common.{◌≡◌, List, refl, subst, sym}
 use Rattle.std.specs.Prelude.{IsFalse}
 use Rattle.h41_focal.specs.LabelLaws.{KeepingStaysRight}
-use Rattle.h41_focal.specs.LabelledMachine.{AreRight, Keeps, LabelledMachine, labelled_with}
+use Rattle.h41_focal.specs.LabelledMachine.{AreRight, LabelledMachine, labelled_with}
 use Rattle.h41_labels.specs.KeptAnswers.{IsRight}
 use Rattle.h41_labels.specs.declared.search.KeptAnswer.{KeptAnswer}
 use Rattle.h41_ram.specs.RamState.{KeepsMark, RamState}

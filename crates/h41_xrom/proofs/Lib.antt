@@ -6,6 +6,7 @@ pub mod LabelsStay
 pub mod Loading
 pub mod Named
 pub mod Pressing
+pub mod ShownPlace
 pub mod StepLaws
 pub mod Stepping
 pub mod TypedLines

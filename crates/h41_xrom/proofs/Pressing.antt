@@ -13,7 +13,7 @@ use Rattle.h41_keys.specs.declared.key.Key.{Key}
 use Rattle.h41_keys.specs.declared.meaning.Meaning.{Meaning}
 use Rattle.h41_keys.specs.declared.meaning.Meaning.TheVariants as means
 use Rattle.h41_xrom.specs.Calculator.{CalculatorState}
-use Rattle.h41_xrom.specs.KeyActions.{Presses, flags_of, press_of, activity_of}
+use Rattle.h41_xrom.specs.KeyActions.{HasFlags, Presses, activity_of, press_of}
 use Rattle.h41_xrom.specs.private.PrivateCalls.{Accepts, IsQuiet}
 use Rattle.h41_xrom.specs.declared.calculator.Mode.{Mode}
 use Rattle.h41_xrom.specs.declared.calculator.Mode.TheVariants as modes
@@ -84,8 +84,8 @@ quiet (modes.Micro caller) input key flags action after is = quiet_in_micro call
 
 -- what the keyboard was asked
 asked : (from s : CalculatorState) (key : Key) (mode : Activity) (flags : Flags) → from ≡ s → mode ≡ activity_of s.mode
-    → flags ≡ flags_of s → presses from.input key mode flags ≡ press_of s key
-asked from s key mode flags is waits held = λ i. presses (is i).input key (waits i) (held i)
+    → presses from.input key mode flags ≡ press_of s key flags
+asked from s key mode flags is waits = λ i. presses (is i).input key (waits i) flags
 
 pub key_quiet : (input : Input) (s : CalculatorState) (key : Key)
     (mode : Activity) (flags : Flags) (action : Action) (after : Input)
@@ -95,15 +95,15 @@ key_quiet input s key mode flags action after waits accepts =
 
 -- it has no meaning
 pub key_unknown : (from s : CalculatorState) (key : Key) (mode : Activity) (flags : Flags) (why : CalculatorRefusal) → from ≡ s
-    → mode ≡ activity_of s.mode → flags ≡ flags_of s → presses from.input key mode flags ≡ None → why ≡ KeyNotHeld
+    → mode ≡ activity_of s.mode → HasFlags s flags → presses from.input key mode flags ≡ None → why ≡ KeyNotHeld
     → Presses key s s (Some why)
 key_unknown from s key mode flags why is waits held none same =
-    (Err KeyNotHeld, rw (sym (asked from s key mode flags is waits held) ∙ none) refl, (refl, ap Some same))
+    (flags, held, Err KeyNotHeld, rw (sym (asked from s key mode flags is waits) ∙ none) refl, (refl, ap Some same))
 
 -- it has one
 pub key_known : (from s t : CalculatorState) (key : Key) (mode : Activity)
     (flags : Flags) (action : Action) (after : Input) (refusal : Option CalculatorRefusal)
-    → from ≡ s → mode ≡ activity_of s.mode → flags ≡ flags_of s → keyboard.Accepts from.input key mode flags action after
+    → from ≡ s → mode ≡ activity_of s.mode → HasFlags s flags → keyboard.Accepts from.input key mode flags action after
     → Accepts key after action s t refusal → Presses key s t refusal
 key_known from s t key mode flags action after refusal is waits held accepts (made, makes, becomes) =
-    (made, rw (sym (asked from s key mode flags is waits held) ∙ accepts) makes, becomes)
+    (flags, held, made, rw (sym (asked from s key mode flags is waits) ∙ accepts) makes, becomes)

@@ -4,7 +4,8 @@ use Rattle.std.specs.Prelude.{MatchBool, MatchOption, option_map}
 use Rattle.std.specs.Result.{result_err, result_unwrap_or}
 use Rattle.h41_codes.specs.declared.functions.Function.{Function}
 use Rattle.h41_codes.specs.declared.line.Line.TheVariants.{Plain}
-use Rattle.h41_focal.specs.LineLaws.{FailureIsDetermined, PassingIsDetermined, StepIsDetermined, TypedIsDetermined}
+use Rattle.h41_focal.specs.LineLaws.{EnteringIsDetermined, FailureIsDetermined, PassingIsDetermined, StepIsDetermined}
+use Rattle.h41_focal.specs.LineLaws.{TypedIsDetermined}
 use Rattle.h41_focal.specs.Destinations.{Typed}
 use Rattle.h41_focal.specs.LineStep.{FailsIn, Left, Machine, line_as}
 use Rattle.h41_focal.specs.Outcomes.{Answer}
@@ -29,16 +30,16 @@ use Rattle.h41_xrom.specs.Calculator.{CalculatorState, CarriesHere, RefusesLine,
 use Rattle.h41_xrom.specs.Calculator.{machine_of, not_typing}
 use Rattle.h41_xrom.specs.CalculatorLaws as CalculatorLaws
 use Rattle.h41_xrom.specs.CalculatorLaws.{LoadIsDetermined, StepRefusalIsDetermined}
-use Rattle.h41_xrom.specs.Lines.{CallsEntry, CallsName, CarriesFrom, CarriesLine, CarriesNamed, Ended, Fails, FailsFrom, GoesOn, GoesOnFrom}
-use Rattle.h41_xrom.specs.Lines.{IsNamed, PassesFrom, end_of_answer, begun_at, of_line}
+use Rattle.h41_xrom.specs.Lines.{CallsEntry, CallsName, CarriesFrom, CarriesLine, CarriesNamed, Ended, EntersFrom, Fails, FailsFrom}
+use Rattle.h41_xrom.specs.Lines.{GoesOn, GoesOnFrom, IsNamed, PassesFrom, begun_at, end_of_answer, entered, of_line}
 use Rattle.h41_xrom.specs.declared.lines.LineSource.{LineSource}
 use Rattle.h41_xrom.specs.declared.lines.LineSource.TheVariants as sources
 use Rattle.h41_xrom.specs.Programs.{change_refusal, after_load}
 
 -- a function begins
-abbrev Begun : LineSource → ℕ → Machine → Result Ended FocalRefusal → Type 0
-Begun source address machine ended =
-    (after : Result Machine FocalRefusal) × PassesFrom source machine after × (ended ≡ begun_at address after)
+abbrev Begun : LineSource → PageMap → ℕ → Machine → Result Ended FocalRefusal → Type 0
+Begun source pages address machine ended =
+    (after : Result Machine FocalRefusal) × PassesFrom source pages machine after × (ended ≡ begun_at address after)
 
 -- a line
 same_function_by : (a b : Function) → Plain a ≡ Plain b → a ≡ b
@@ -52,38 +53,44 @@ same_typed_fault true machine a b p q = p ∙ sym q
 same_typed_fault false machine a b p q = p ∙ sym q
 
 module _ (same_step : StepIsDetermined) (same_typing : TypedIsDetermined) (same_failure : FailureIsDetermined)
-    (same_passing : PassingIsDetermined) (one_line : OneLineOfText) where
-  same_carried : (source : LineSource) (function : Option Function) (machine : Machine) (a b : Result Left FocalRefusal)
-      → CarriesFrom source function machine a → CarriesFrom source function machine b → a ≡ b
-  same_carried sources.Program function machine a b p q = same_step function machine a b p q
-  same_carried (sources.Keys line) function machine a b p q = same_typing (line_as function line) machine a b p q
+    (same_passing : PassingIsDetermined) (same_entering : EnteringIsDetermined) (one_line : OneLineOfText) where
+  same_carried : (source : LineSource) (pages : PageMap) (function : Option Function) (machine : Machine) (a b : Result Left FocalRefusal)
+      → CarriesFrom source pages function machine a → CarriesFrom source pages function machine b → a ≡ b
+  same_carried sources.Program pages function machine a b p q = same_step pages function machine a b p q
+  same_carried (sources.Keys line) pages function machine a b p q = same_typing pages (line_as function line) machine a b p q
 
-  same_failing : (source : LineSource) (machine : Machine) (a b : Result Left FocalRefusal) → FailsFrom source machine a
-      → FailsFrom source machine b → a ≡ b
-  same_failing sources.Program machine a b p q = same_failure Nonexistent machine a b p q
-  same_failing (sources.Keys line) machine a b p q = same_typed_fault (is_sound machine.memory) machine a b p q
+  same_failing : (source : LineSource) (pages : PageMap) (machine : Machine) (a b : Result Left FocalRefusal)
+      → FailsFrom source pages machine a → FailsFrom source pages machine b → a ≡ b
+  same_failing sources.Program pages machine a b p q = same_failure pages Nonexistent machine a b p q
+  same_failing (sources.Keys line) pages machine a b p q = same_typed_fault (is_sound machine.memory) machine a b p q
 
-  same_passed : (source : LineSource) (machine : Machine) (a b : Result Machine FocalRefusal) → PassesFrom source machine a
-      → PassesFrom source machine b → a ≡ b
-  same_passed sources.Program machine a b p q = same_passing machine a b p q
-  same_passed (sources.Keys line) machine a b p q = p ∙ sym q
+  same_passed : (source : LineSource) (pages : PageMap) (machine : Machine) (a b : Result Machine FocalRefusal)
+      → PassesFrom source pages machine a → PassesFrom source pages machine b → a ≡ b
+  same_passed sources.Program pages machine a b p q = same_passing pages machine a b p q
+  same_passed (sources.Keys line) pages machine a b p q = p ∙ sym q
 
-  same_failed : (source : LineSource) (machine : Machine) (a b : Result Ended FocalRefusal) → Fails source machine a
-      → Fails source machine b → a ≡ b
-  same_failed source machine a b (p, p_fails, p_is) (q, q_fails, q_is) =
-      p_is ∙ ap end_of_answer (same_failing source machine p q p_fails q_fails) ∙ sym q_is
+  same_failed : (source : LineSource) (pages : PageMap) (machine : Machine) (a b : Result Ended FocalRefusal) → Fails source pages machine a
+      → Fails source pages machine b → a ≡ b
+  same_failed source pages machine a b (p, p_fails, p_is) (q, q_fails, q_is) =
+      p_is ∙ ap end_of_answer (same_failing source pages machine p q p_fails q_fails) ∙ sym q_is
 
-  same_begun : (keystroke : Bool) (source : LineSource) (address : ℕ) (machine : Machine) (a b : Result Ended FocalRefusal)
-      → MatchBool keystroke (a ≡ Err lines.NotInProfile) (Begun source address machine a)
-      → MatchBool keystroke (b ≡ Err lines.NotInProfile) (Begun source address machine b) → a ≡ b
-  same_begun true source address machine a b p q = p ∙ sym q
-  same_begun false source address machine a b (p, p_passes, p_is) (q, q_passes, q_is) =
-      p_is ∙ ap (begun_at address) (same_passed source machine p q p_passes q_passes) ∙ sym q_is
+  same_entered : (source : LineSource) (pages : PageMap) (address : ℕ) (machine : Machine) (a b : Result Ended FocalRefusal)
+      → EntersFrom source pages address machine a → EntersFrom source pages address machine b → a ≡ b
+  same_entered sources.Program pages address machine a b (p, p_enters, p_is) (q, q_enters, q_is) =
+      p_is ∙ ap entered (same_entering pages address machine p q p_enters q_enters) ∙ sym q_is
+  same_entered (sources.Keys line) pages address machine a b p q = p ∙ sym q
 
-  same_entry : (source : LineSource) (entry : Option Entry) (machine : Machine) (a b : Result Ended FocalRefusal)
-      → CallsEntry source entry machine a → CallsEntry source entry machine b → a ≡ b
-  same_entry source (Some entry) machine a b p q = same_begun entry.keystroke source entry.address machine a b p q
-  same_entry source None machine a b p q = same_failed source machine a b p q
+  same_begun : (keystroke : Bool) (source : LineSource) (pages : PageMap) (address : ℕ) (machine : Machine) (a b : Result Ended FocalRefusal)
+      → MatchBool keystroke (EntersFrom source pages address machine a) (Begun source pages address machine a)
+      → MatchBool keystroke (EntersFrom source pages address machine b) (Begun source pages address machine b) → a ≡ b
+  same_begun true source pages address machine a b p q = same_entered source pages address machine a b p q
+  same_begun false source pages address machine a b (p, p_passes, p_is) (q, q_passes, q_is) =
+      p_is ∙ ap (begun_at address) (same_passed source pages machine p q p_passes q_passes) ∙ sym q_is
+
+  same_entry : (source : LineSource) (pages : PageMap) (entry : Option Entry) (machine : Machine) (a b : Result Ended FocalRefusal)
+      → CallsEntry source pages entry machine a → CallsEntry source pages entry machine b → a ≡ b
+  same_entry source pages (Some entry) machine a b p q = same_begun entry.keystroke source pages entry.address machine a b p q
+  same_entry source pages None machine a b p q = same_failed source pages machine a b p q
 
   pub same_function : (name : List ℕ) (a b : Option Function) → IsNamed name a → IsNamed name b → a ≡ b
   same_function name (Some a) (Some b) p q =
@@ -92,25 +99,26 @@ module _ (same_step : StepIsDetermined) (same_typing : TypedIsDetermined) (same_
   same_function name None (Some b) p q = absurd (p b q)
   same_function name None None p q = refl
 
-  same_named : (source : LineSource) (function : Option Function) (machine : Machine) (a b : Result Ended FocalRefusal)
-      → CarriesNamed source function machine a → CarriesNamed source function machine b → a ≡ b
-  same_named source (Some function) machine a b (p, p_steps, p_is) (q, q_steps, q_is) =
-      p_is ∙ ap end_of_answer (same_carried source (Some function) machine p q p_steps q_steps) ∙ sym q_is
-  same_named source None machine a b p q = same_failed source machine a b p q
+  same_named : (source : LineSource) (pages : PageMap) (function : Option Function) (machine : Machine) (a b : Result Ended FocalRefusal)
+      → CarriesNamed source pages function machine a → CarriesNamed source pages function machine b → a ≡ b
+  same_named source pages (Some function) machine a b (p, p_steps, p_is) (q, q_steps, q_is) =
+      p_is ∙ ap end_of_answer (same_carried source pages (Some function) machine p q p_steps q_steps) ∙ sym q_is
+  same_named source pages None machine a b p q = same_failed source pages machine a b p q
 
   same_name : (source : LineSource) (numbers : Option (ℕ × ℕ)) (pages : PageMap)
       (name : List ℕ) (machine : Machine) (a b : Result Ended FocalRefusal)
       → CallsName source numbers pages name machine a → CallsName source numbers pages name machine b → a ≡ b
-  same_name source (Some numbers) pages name machine a b p q = same_entry source (entry_at pages numbers.0 numbers.1) machine a b p q
+  same_name source (Some numbers) pages name machine a b p q =
+      same_entry source pages (entry_at pages numbers.0 numbers.1) machine a b p q
   same_name source None pages name machine a b (f, f_named, f_carries) (g, g_named, g_carries) =
       let same : f ≡ g = same_function name f g f_named g_named in
-      same_named source g machine a b
-      (subst (λ (function : Option Function). CarriesNamed source function machine a) same f_carries) g_carries
+      same_named source pages g machine a b
+      (subst (λ (function : Option Function). CarriesNamed source pages function machine a) same f_carries) g_carries
 
   same_going : (source : LineSource) (answer : Answer) (pages : PageMap) (machine : Machine) (left : Left) (a b : Result Ended FocalRefusal)
       → GoesOn source pages machine left answer a → GoesOn source pages machine left answer b → a ≡ b
   same_going source (answers.Calls number entry) pages machine left a b p q =
-      same_entry source (entry_at pages number entry) machine a b p q
+      same_entry source pages (entry_at pages number entry) machine a b p q
   same_going source (answers.Seeks name) pages machine left a b p q =
       same_name source (function_of_name pages name) pages name machine a b p q
   same_going source answers.Done pages machine left a b p q = p ∙ sym q
@@ -131,7 +139,7 @@ module _ (same_step : StepIsDetermined) (same_typing : TypedIsDetermined) (same_
   pub line_determined : (source : LineSource) (pages : PageMap) (machine : Machine) (a b : Result Ended FocalRefusal)
       → CarriesLine source pages machine a → CarriesLine source pages machine b → a ≡ b
   line_determined source pages machine a b (own, own_steps, own_goes) (other, other_steps, other_goes) =
-      let same : own ≡ other = same_carried source None machine own other own_steps other_steps in
+      let same : own ≡ other = same_carried source pages None machine own other own_steps other_steps in
       same_from source other pages machine a b
       (subst (λ (of : Result Left FocalRefusal). GoesOnFrom source pages machine of a) same own_goes) other_goes
 

@@ -64,19 +64,19 @@ goes_on_briefly called pages machine new briefs.Elsewhere here = absurd (here re
 goes_on_briefly called pages machine new (briefs.Failed fault) here = refl
 
 carried_briefly : (called : Answer) (from s : CalculatorState) (new : Machine) (brief : BriefOutcome)
-    → from ≡ s → StepsLine None (machine_of from) (Ok (briefly called new brief)) → (brief ≡ briefs.Elsewhere → ⊥)
+    → from ≡ s → StepsLine from.nut.pages None (machine_of from) (Ok (briefly called new brief)) → (brief ≡ briefs.Elsewhere → ⊥)
     → CarriesHere Program s (Ok (Answers (briefly called new brief)))
 carried_briefly called from s new brief is steps here =
     subst (λ (of : CalculatorState). CarriesHere Program of (Ok (Answers (briefly called new brief)))) is
     (Ok (briefly called new brief), steps, goes_on_briefly called from.nut.pages (machine_of from) new brief here)
 
 pub brief_accepted : (called : Answer) (from s : CalculatorState) (new : Machine) (brief : BriefOutcome)
-    → from ≡ s → StepsLine None (machine_of from) (Ok (briefly called new brief)) → (brief ≡ briefs.Elsewhere → ⊥) → RefusesLine s None
+    → from ≡ s → StepsLine from.nut.pages None (machine_of from) (Ok (briefly called new brief)) → (brief ≡ briefs.Elsewhere → ⊥) → RefusesLine s None
 brief_accepted called from s new brief is steps here =
     (Ok (Answers (briefly called new brief)), carried_briefly called from s new brief is steps here, refl)
 
 pub brief_left : (called : Answer) (from s t : CalculatorState) (new : Machine) (brief : BriefOutcome)
-    → from ≡ s → StepsLine None (machine_of from) (Ok (briefly called new brief)) → (brief ≡ briefs.Elsewhere → ⊥)
+    → from ≡ s → StepsLine from.nut.pages None (machine_of from) (Ok (briefly called new brief)) → (brief ≡ briefs.Elsewhere → ⊥)
     → t ≡ answered_briefly called brief (not_typing (with_machine new from)) → StepsByLine s t
 brief_left called from s t new brief is steps here shown = (
   Answers (briefly called new brief),
@@ -86,7 +86,7 @@ brief_left called from s t new brief is steps here shown = (
 
 -- a refused one
 pub brief_refused : (from s : CalculatorState) (refusal : FocalRefusal) (why : Option CalculatorRefusal)
-    → from ≡ s → StepsLine None (machine_of from) (Err refusal) → why ≡ Some (of_line refusal) → RefusesLine s why
+    → from ≡ s → StepsLine from.nut.pages None (machine_of from) (Err refusal) → why ≡ Some (of_line refusal) → RefusesLine s why
 brief_refused from s refusal why is steps refused =
     (Err refusal, subst (λ (of : CalculatorState). CarriesHere Program of (Err refusal)) is (Err refusal, steps, refl), refused)
 

@@ -54,8 +54,9 @@ still_lines (answers.Failed fault) mode takes = refl
 -- what a step of the calculator leaves is what its line leaves
 record LineStepped (s next : CalculatorState) : Type 0 where
   left : Left
-  stepped : StepsLine None (machine_of s) (Ok left)
+  stepped : StepsLine s.nut.pages None (machine_of s) (Ok left)
   same : machine_of next ≡ left.machine
+  pages : next.nut.pages ≡ s.nut.pages
   takes : takes_lines next.mode ≡ true
 
 by_line : (mode : Mode) (s next : CalculatorState) → takes_lines mode ≡ true → StepIn mode s next → StepsByLine s next
@@ -65,11 +66,11 @@ by_line (modes.Micro caller) s next takes step = cc
 
 module _ (here : NextIsHere) where
   from_own : (line : Line) (s next : CalculatorState) (own : Result Left FocalRefusal) (ended : Ended) → GoesToNext line
-      → IsAt line (machine_of s) → takes_lines s.mode ≡ true → StepsLine None (machine_of s) own
+      → IsAt s.nut.pages line (machine_of s) → takes_lines s.mode ≡ true → StepsLine s.nut.pages None (machine_of s) own
       → GoesOnFrom Program s.nut.pages (machine_of s) own (Ok ended) → next ≡ after_line (not_typing s) ended → LineStepped s next
   from_own line s next (Err refusal) ended goes_on stands takes stepped goes is = absurd (no_end ended refusal goes)
   from_own line s next (Ok left) ended goes_on stands takes stepped goes is =
-      let none = here line (machine_of s) left goes_on stands stepped in
+      let none = here s.nut.pages line (machine_of s) left goes_on stands stepped in
       let done : ended ≡ Answers left = done_here s.nut.pages (machine_of s) left left.answer ended none goes in
       let after : next ≡ after_line (not_typing s) (Answers left) =
       is ∙ ap (λ (ended : Ended). after_line (not_typing s) ended) done in
@@ -77,23 +78,25 @@ module _ (here : NextIsHere) where
         left = left;
         stepped = stepped;
         same = ap (λ (at : CalculatorState). machine_of at) after;
+        pages = ap (λ (at : CalculatorState). at.nut.pages) after;
         takes = ap (λ (at : CalculatorState). takes_lines at.mode) after ∙ still_lines left.answer s.mode takes;
       }
 
-  one_line : (line : Line) (s next : CalculatorState) → GoesToNext line → IsAt line (machine_of s) → takes_lines s.mode ≡ true → Step s next
-      → LineStepped s next
+  one_line : (line : Line) (s next : CalculatorState) → GoesToNext line → IsAt s.nut.pages line (machine_of s)
+      → takes_lines s.mode ≡ true → Step s next → LineStepped s next
   one_line line s next goes_on stands takes step =
       let (ended, (own, carried, goes), is) = by_line s.mode s next takes step in
       from_own line s next own ended goes_on stands takes carried goes is
 
   in_turn : (lines : List Line) (s t : CalculatorState) → takes_lines s.mode ≡ true → All GoesToNext lines → StepsLines lines s t
-      → StepsInTurn lines (machine_of s) (machine_of t)
+      → StepsInTurn s.nut.pages lines (machine_of s) (machine_of t)
   in_turn [] s t takes go_on is = ap (λ (at : CalculatorState). machine_of at) is
   in_turn (line ∷ lines) s t takes go_on (stands, next, step, others) =
       let one = one_line line s next (All-head GoesToNext line lines go_on) stands takes step in
       let rest = in_turn lines next t one.takes (All-tail GoesToNext line lines go_on) others in
-      (stands, one.left, one.stepped, subst (λ (from : Machine). StepsInTurn lines from (machine_of t)) one.same rest)
+      let here = subst (λ (pages : PageMap). StepsInTurn pages lines (machine_of next) (machine_of t)) one.pages rest in
+      (stands, one.left, one.stepped, subst (λ (from : Machine). StepsInTurn s.nut.pages lines from (machine_of t)) one.same here)
 
   pub typed_lines : lines.TypedAsStepped → TypedAsStepped
   typed_lines alike lines s t other typed takes go_on same steps types =
-      alike lines (machine_of s) other (machine_of t) typed go_on same (in_turn lines s t takes go_on steps) types
+      alike s.nut.pages lines (machine_of s) other (machine_of t) typed go_on same (in_turn lines s t takes go_on steps) types

@@ -142,7 +142,7 @@ with_machine machine s =
     record s { nut = record s.nut { ram = machine.memory }; focal = machine.focal }
 
 -- a running program stops at STOP, OFF, PROMPT, a return to nowhere, and a fault; a typed line that
--- went to a label has it run
+-- went to a label, or called a module's program, has it run
 abbrev pub mode_after : Answer → Mode → Mode
 mode_after answers.Stopped mode = modes.Idle
 mode_after answers.TurnedOff mode = modes.Idle
@@ -155,7 +155,8 @@ mode_after answer mode = mode
 abbrev pub after_answer : Answer → CalculatorState → CalculatorState
 after_answer answer s = record (with_shown answer s) { mode = mode_after answer s.mode }
 
--- the calculator after a line was carried out, by how it ended; or a module's function runs
+-- the calculator after a line was carried out, by how it ended; or a module's function in microcode
+-- runs
 abbrev pub after_line : CalculatorState → Ended → CalculatorState
 after_line s (Answers left) = after_answer left.answer (with_machine left.machine s)
 after_line s (Begins machine address) = with_function address (with_machine machine s)

@@ -50,7 +50,8 @@ takes_lines (modes.Micro caller) = false
 abbrev pub StepsLines : List Line → CalculatorState → CalculatorState → Type 0
 StepsLines [] s t = t ≡ s
 StepsLines (line ∷ lines) s t =
-    IsAt line (machine_of s) × (next : CalculatorState) × Step s next × StepsLines lines next t
+    IsAt s.nut.pages line (machine_of s)
+    × (next : CalculatorState) × Step s next × StepsLines lines next t
 
 -- lines that go on to the next leave the same where they are typed in turn as where the calculator
 -- steps them: stack, data registers, ALPHA and flags, which memory has, and lift
@@ -58,4 +59,5 @@ abbrev pub TypedAsStepped : Type 0
 TypedAsStepped =
     (lines : List Line) (s t : CalculatorState) (other typed : Machine)
     → IsTrue (takes_lines s.mode) → All GoesToNext lines → AreAlike (machine_of s) other
-    → StepsLines lines s t → TypesInTurn lines other typed → AreAlike (machine_of t) typed
+    → StepsLines lines s t → TypesInTurn s.nut.pages lines other typed
+    → AreAlike (machine_of t) typed

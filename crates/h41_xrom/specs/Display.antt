@@ -10,6 +10,7 @@ use Rattle.h41_keys.specs.declared.input.TypedEntry.{TypedEntry}
 use Rattle.h41_keys.specs.declared.input.TypedEntry.TheVariants as entries
 use Rattle.h41_keys.specs.declared.prompt.Prompt.{Prompt}
 use Rattle.h41_lines.specs.Characters.{characters_text}
+use Rattle.h41_pages.specs.PageMap.{PageMap}
 use Rattle.h41_ram.specs.NamedFlags.{alpha_mode}
 use Rattle.h41_ram.specs.NamedRegisters.{status_of}
 use Rattle.h41_ram.specs.RegisterMap.{RegisterMap, flag_of}
@@ -43,14 +44,15 @@ cursor_of (entries.Number text) = cursor
 cursor_of (entries.TextLine text) = cursor
 cursor_of entry = []
 
-abbrev pub ShowsShownLine : Machine → TypedEntry → List ℕ → Type 0
-ShowsShownLine machine entry text =
-    (shown : List ℕ) × ShowsProgram machine shown × (text ≡ shown ++ cursor_of entry)
+abbrev pub ShowsShownLine : PageMap → Machine → TypedEntry → List ℕ → Type 0
+ShowsShownLine pages machine entry text =
+    (shown : List ℕ) × ShowsProgram pages machine shown × (text ≡ shown ++ cursor_of entry)
 
 -- in program mode the line, and else ALPHA or X
 abbrev pub ShowsEntry : CalculatorState → List ℕ → Type 0
 ShowsEntry s text =
-    MatchBool s.input.program_mode (ShowsShownLine (machine_of s) s.input.entry text)
+    MatchBool s.input.program_mode
+    (ShowsShownLine s.nut.pages (machine_of s) s.input.entry text)
     (text ≡ entry_text s.nut.ram s.input.entry)
 
 -- the function that waits for its parameter, by its characters

@@ -1,10 +1,11 @@
 -- What a key does to the calculator. What it means is the keyboard's (h41_keys); here is what
 -- becomes of memory, position, stack, ALPHA, display and mode. The order of refusals, and what a
 -- refused key leaves, is this project's choice.
-use Rattle.std.specs.Prelude.{◌≡◌, ℕ, Bool, true, false, not, ◌&&◌, is_some, List, [], ◌∷◌, ◌++◌}
-use Rattle.std.specs.Prelude.{take, MatchBool, MatchOption, if◌then◌else◌, Option, Some, None}
+use Rattle.std.specs.Prelude.{◌≡◌, ℕ, Bool, true, false, not, ◌&&◌, ◌||◌, is_some, List, [], ◌∷◌}
+use Rattle.std.specs.Prelude.{◌++◌, take, MatchBool, MatchOption, if◌then◌else◌, Option, Some, None}
 use Rattle.std.specs.Prelude.{Result, Ok, Err}
 use Rattle.std.specs.Bool.{then_some}
+use Rattle.std.specs.Result.{result_unwrap_or}
 use Rattle.h41_codes.specs.declared.characters.Character.{Character}
 use Rattle.h41_codes.specs.declared.functions.Function.{Function}
 use Rattle.h41_codes.specs.declared.functions.Function.TheVariants.{ClearX}
@@ -23,11 +24,19 @@ use Rattle.h41_keys.specs.declared.input.Flags.{Flags}
 use Rattle.h41_keys.specs.declared.input.Input.{Input}
 use Rattle.h41_keys.specs.declared.input.Activity as keyboard
 use Rattle.h41_keys.specs.declared.input.Activity.TheVariants as waits
+use Rattle.h41_keys.specs.declared.input.Place.{Place}
+use Rattle.h41_keys.specs.declared.input.Place.TheVariants as places
 use Rattle.h41_keys.specs.declared.input.Pressed.{Pressed}
 use Rattle.h41_keys.specs.declared.key.Key.{Key}
 use Rattle.h41_nut.specs.RegisterWords.{with_display}
 use Rattle.h41_pages.specs.FunctionTables.{function_of_name}
 use Rattle.h41_pages.specs.PageMap.{PageMap}
+use Rattle.h41_positions.specs.Positions.{LineAt}
+use Rattle.h41_positions.specs.declared.position.PlacedLine.{PlacedLine}
+use Rattle.h41_positions.specs.declared.position.Position.{Position}
+use Rattle.h41_positions.specs.declared.position.Position.TheVariants.{Memory, Page}
+use Rattle.h41_program.specs.LastProgram.{open_in}
+use Rattle.h41_program.specs.Lines.{is_final_end}
 use Rattle.h41_program.specs.ProgramLines.{AnswersOf}
 use Rattle.h41_program.specs.Searches.{named_in, position_of}
 use Rattle.h41_program.specs.declared.refusal.ProgramRefusal.{ProgramRefusal}
@@ -118,7 +127,7 @@ abbrev pub StoresLine : PageMap → Line → Machine → Result KeyOutcome Calcu
 StoresLine pages line machine effect =
     (stored : Line)
     × IsStoredAs pages machine.memory line stored
-    × Edits (Inserts stored) machine effect
+    × Edits (Inserts pages stored) machine effect
 
 -- A NUMBER that is typed is worth what a number line with these characters is. It comes into X as
 -- it begins: the stack is lifted where lift is on, which it is then, and flag 22 is set. Where its
@@ -166,15 +175,16 @@ Acts pages program_mode actions.Stop machine effect = effect ≡ Ok (Stops machi
 Acts pages program_mode actions.Run machine effect = effect ≡ Ok (Starts machine)
 -- SST carries a line out, or in program mode shows the next one
 Acts pages program_mode actions.Step machine effect =
-    MatchBool program_mode (Edits ShowsNext machine effect)
+    MatchBool program_mode (Edits (ShowsNext pages) machine effect)
     (Carries sources.Program pages machine effect)
-Acts pages program_mode actions.StepBack machine effect = Edits ShowsBefore machine effect
+Acts pages program_mode actions.StepBack machine effect =
+    Edits (ShowsBefore pages) machine effect
 Acts pages program_mode actions.GoToEnd machine effect = Edits GoesToEnd machine effect
 Acts pages program_mode (actions.CarryOut line) machine effect =
     Carries (sources.Keys line) pages machine effect
 Acts pages program_mode (actions.Insert line) machine effect = StoresLine pages line machine effect
 Acts pages program_mode (actions.Replace line) machine effect = Edits (Replaces line) machine effect
-Acts pages program_mode actions.Delete machine effect = Edits Deletes machine effect
+Acts pages program_mode actions.Delete machine effect = Edits (Deletes pages) machine effect
 Acts pages program_mode (actions.BeginNumber text) machine effect = BeginsNumber text machine effect
 Acts pages program_mode (actions.ChangeNumber text) machine effect =
     ChangesNumber text machine effect
@@ -198,11 +208,40 @@ activity_of modes.Idle = waits.Idle
 activity_of modes.Run = waits.Run
 activity_of (modes.Micro caller) = waits.Micro
 
-abbrev pub flags_of : CalculatorState → Flags
-flags_of s = record { alpha = flag_of s.nut.ram alpha_mode; message = is_some s.message }
+-- at a position in a page, whose lines stay, BACK changes nothing at line 00, and where the line is
+-- .END.
+abbrev pub is_final : Result PlacedLine ProgramRefusal → Bool
+is_final (Ok first) = is_final_end first.line
+is_final (Err refusal) = false
 
-abbrev pub press_of : CalculatorState → Key → Option Pressed
-press_of s key = presses s.input key (activity_of s.mode) (flags_of s)
+-- and GTO . . puts an END where the last program of memory has lines and no END of its own. Where
+-- memory is not sound, or its list does not reach .END., it puts none: it is then refused as
+-- elsewhere
+abbrev pub puts_end : Result Bool ProgramRefusal → Bool
+puts_end last = result_unwrap_or last false
+
+-- where the shown line stands, as the keyboard needs to know it
+abbrev pub IsPlace : PageMap → Machine → Position → Place → Type 0
+IsPlace pages machine (Memory byte) place = place ≡ places.Memory
+IsPlace pages machine (Page address) place =
+    (first : Result PlacedLine ProgramRefusal)
+    × (last : Result Bool ProgramRefusal)
+    × LineAt pages machine.memory (Page address) first
+    × AnswersOf open_in machine.memory 0 last
+    × (place ≡ places.Page (machine.focal.at_line_00 || is_final first) (puts_end last))
+
+abbrev pub flags_at : Place → CalculatorState → Flags
+flags_at place s =
+    record { alpha = flag_of s.nut.ram alpha_mode; message = is_some s.message; place = place }
+
+abbrev pub HasFlags : CalculatorState → Flags → Type 0
+HasFlags s flags =
+    (place : Place)
+    × IsPlace s.nut.pages (machine_of s) s.focal.position place
+    × (flags ≡ flags_at place s)
+
+abbrev pub press_of : CalculatorState → Key → Flags → Option Pressed
+press_of s key flags = presses s.input key (activity_of s.mode) flags
 
 -- a key that is accepted tells its code, sets the key flag and turns the display on; where nothing
 -- runs the message goes
@@ -254,6 +293,8 @@ KeyMakes s key (Some press_of) made = ActionMakes s key press_of.action press_of
 -- a key is accepted, or refused and nothing changes
 abbrev pub Presses : Key → CalculatorState → CalculatorState → Option CalculatorRefusal → Type 0
 Presses key s t refusal =
-    (made : Result CalculatorState CalculatorRefusal)
-    × KeyMakes s key (press_of s key) made
+    (flags : Flags)
+    × HasFlags s flags
+    × (made : Result CalculatorState CalculatorRefusal)
+    × KeyMakes s key (press_of s key flags) made
     × Becomes made s t refusal

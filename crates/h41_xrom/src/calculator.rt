@@ -27,13 +27,15 @@ ghost use Rattle.h41_xrom.specs.Programs.{Becomes, Loads, change_refusal, size_m
 use crate::acting::{KeyEffect, act};
 use crate::lines::{LineEnd, LineSource, carry_line};
 use crate::messages::{fault_text, test_text};
+use crate::places::shown_place;
 use crate::refusal::CalculatorRefusal;
 use h41_focal::laws::kept_answers_stay_right;
 use h41_focal::{BriefOutcome, DisplayText, Focal, LineOutcome, Machine};
 use h41_keys::{Action, Flags, Input, Key, TypedEntry, press};
 use h41_nut::{Cpu, Keys, WordRefusal, step_to_end};
 use h41_pages::{FIRST_ADDRESS, Pages, PlugRefusal, UnplugRefusal};
-use h41_program::{Position, load, set_size};
+use h41_positions::Position;
+use h41_program::{load, set_size};
 use h41_ram::Ram;
 use h41_ram::flags::ALPHA_MODE;
 use std::alloc::{AllocError, Global};
@@ -260,7 +262,7 @@ impl<const REGS: usize> Calculator<REGS> {
         ensures change { OnOk result (StepsByLine self.old self.new) }
         ensures unchanged { OnErr result (self.new ≡ self.old) }
     {
-        match self.machine.step_briefly() {
+        match self.machine.step_briefly(&self.pages) {
             Ok(brief) => match brief {
                 BriefOutcome::Done => {
                     self.end_entry();
@@ -343,8 +345,8 @@ impl<const REGS: usize> Calculator<REGS> {
         }
     }
 
-    /// Presses a key. Refused, in this order, as 18 where it has no meaning in the state that the keyboard is in, and while nothing
-    /// runs as 15 where memory is not sound, as 14 where bytes are no line or a program has no line at the position, as 13 where
+    /// Presses a key. Refused, in this order, as 18 where it has no meaning in the state that the keyboard is in, or in program mode
+    /// would change a page, and while nothing runs as 15 where memory is not sound, as 14 where bytes are no line or a program has no line at the position, as 13 where
     /// a line is not carried out, as 16 where there is no room; nothing is changed then. Every key that is accepted tells its code,
     /// sets the key flag and turns the display on, and while nothing runs it takes a message away.
     pub fn key(&mut self, key: Key) -> Result<(), CalculatorRefusal>
@@ -396,11 +398,12 @@ impl<const REGS: usize> Calculator<REGS> {
 
     /// What else decides what a key means.
     fn key_flags(&self) -> Flags
-        ensures { result ≡ keys.flags_of self.now }
+        ensures { keys.HasFlags self.now result }
     {
         Flags {
             alpha: self.machine.ram.flag(ALPHA_MODE),
             message: self.message.is_some(),
+            place: shown_place(&self.machine, &self.pages),
         }
     }
 

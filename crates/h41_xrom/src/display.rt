@@ -12,6 +12,7 @@ use h41_editor::program_text;
 use h41_focal::Machine;
 use h41_keys::{Input, Prompt, TypedEntry};
 use h41_lines::characters::push_characters;
+use h41_pages::Pages;
 use h41_ram::flags::ALPHA_MODE;
 use h41_ram::{Ram, StatusRegister};
 use h41_show::{Format, TEXT_CAPACITY, alpha_text, register_text};
@@ -44,7 +45,7 @@ impl<const REGS: usize> Calculator<REGS> {
     {
         let input = self.input();
         if input.program_mode {
-            return shown_line(self.machine(), input.entry);
+            return shown_line(self.machine(), self.pages(), input.entry);
         }
         entry_text(self.ram(), input.entry)
     }
@@ -62,12 +63,13 @@ fn prompt_text(prompt: &Prompt) -> ArrayString<TEXT_CAPACITY>
 /// In program mode the line, with what stands behind it while it is being typed.
 fn shown_line<const REGS: usize>(
     machine: &Machine<REGS>,
+    pages: &Pages,
     entry: TypedEntry,
 ) -> ArrayString<TEXT_CAPACITY>
-    ensures { spec.ShowsShownLine (machine_of machine.now) entry result.bytes }
+    ensures { spec.ShowsShownLine pages.now (machine_of machine.now) entry result.bytes }
 {
     let mut text = ArrayString::new();
-    text.push_str(program_text(machine).as_str());
+    text.push_str(program_text(machine, pages).as_str());
     text.push_str(cursor_of(entry));
     text
 }

@@ -7,6 +7,7 @@ ghost use Rattle.h41_xrom.specs.CalculatorLaws.{StepRefusalIsDetermined, TypedAs
 use h41_editor::laws::{changes_are_determined, moves_are_determined, text_is_determined};
 use h41_focal::laws::{line_is_determined, typed_as_stepped as lines_typed_as_stepped};
 use h41_nut::laws::micro_is_determined;
+use h41_positions::laws::positions_are_read;
 use h41_program::laws::{edits_are_determined, searches_are_determined};
 use h41_rows::laws::values_are_determined;
 use h41_text::laws::line_text_round_trip;
@@ -34,6 +35,7 @@ pub fn key_is_determined()
 {
     line_is_determined();
     line_text_round_trip();
+    positions_are_read();
     moves_are_determined();
     changes_are_determined();
     searches_are_determined();

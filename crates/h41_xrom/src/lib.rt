@@ -7,6 +7,7 @@ mod display;
 pub mod laws;
 mod lines;
 mod messages;
+mod places;
 mod refusal;
 mod storing;
 mod typing;

@@ -1,6 +1,6 @@
 -- What private functions promise one another of lines and of keys. No public contract needs this
 -- file.
-use Rattle.std.specs.Prelude.{◌≡◌, IsTrue, List, ℕ, Option, Some, None, Result, Ok, Err}
+use Rattle.std.specs.Prelude.{◌≡◌, Bool, IsTrue, List, ℕ, Option, Some, None, Result, Ok, Err}
 use Rattle.std.specs.Option.{option_map_or}
 use Rattle.h41_codes.specs.declared.functions.Function.{Function}
 use Rattle.h41_codes.specs.declared.line.Line.{Line}
@@ -17,6 +17,10 @@ use Rattle.h41_keys.specs.declared.action.Action.TheVariants as actions
 use Rattle.h41_keys.specs.declared.input.Input.{Input}
 use Rattle.h41_keys.specs.declared.key.Key.{Key}
 use Rattle.h41_pages.specs.PageMap.{PageMap}
+use Rattle.h41_positions.specs.Positions.{LineAt}
+use Rattle.h41_positions.specs.declared.position.PlacedLine.{PlacedLine}
+use Rattle.h41_positions.specs.declared.position.Position.TheVariants.{Page}
+use Rattle.h41_program.specs.LastProgram.{open_in}
 use Rattle.h41_program.specs.Lines.{is_inner}
 use Rattle.h41_program.specs.ProgramLines.{AnswersOf}
 use Rattle.h41_program.specs.Searches.{named_in, position_of}
@@ -46,8 +50,10 @@ ended_as new (Ok end) = Ok (ended_with new end)
 ended_as new (Err refusal) = Err refusal
 
 -- a function is carried out in place of a line
-abbrev pub CarriesFunction : LineSource → Function → Machine → Result Left FocalRefusal → Type 0
-CarriesFunction source function machine left = CarriesFrom source (Some function) machine left
+abbrev pub CarriesFunction : LineSource → PageMap → Function → Machine → Result Left FocalRefusal
+    → Type 0
+CarriesFunction source pages function machine left =
+    CarriesFrom source pages (Some function) machine left
 
 -- the function that a line is
 abbrev pub IsFunction : Line → Option Function → Type 0
@@ -110,6 +116,21 @@ Accepts key input action s t refusal =
     (made : Result CalculatorState CalculatorRefusal)
     × spec.ActionMakes s key action input made
     × Becomes made s t refusal
+
+-- whether the line at an address of a page is .END., whatever memory holds
+abbrev pub IsFinalAt : PageMap → ℕ → Bool → Type 0
+IsFinalAt pages address final =
+    (memory : RegisterMap)
+    → (first : Result PlacedLine ProgramRefusal)
+    × LineAt pages memory (Page address) first
+    × (final ≡ spec.is_final first)
+
+-- whether GTO . . puts an END into memory
+abbrev pub PutsEnd : RegisterMap → Bool → Type 0
+PutsEnd memory puts =
+    (last : Result Bool ProgramRefusal)
+    × AnswersOf open_in memory 0 last
+    × (puts ≡ spec.puts_end last)
 
 -- while a program or a function runs a key does nothing but to stop it
 abbrev pub IsQuiet : Mode → Action → Type 0

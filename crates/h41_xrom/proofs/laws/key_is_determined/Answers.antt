@@ -4,9 +4,11 @@ use Rattle.h41_xrom.proofs.laws.key_is_determined.Goals as goal
 pub returns : goal.returns
 returns c =
     key_determined c.line_is_determined.ensures.step c.line_is_determined.ensures.typed c.line_is_determined.ensures.failure
-    c.line_is_determined.ensures.passing
+    c.line_is_determined.ensures.passing c.line_is_determined.ensures.entering
     c.line_text_round_trip.ensures.one
     c.searches_are_determined.ensures.global
+    c.positions_are_read.ensures.read
+    c.searches_are_determined.ensures.last
     c.moves_are_determined.ensures.next
     c.moves_are_determined.ensures.before
     c.moves_are_determined.ensures.end

@@ -1,0 +1,55 @@
+//! Where the shown line stands, as the keyboard needs to know it.
+
+ghost use Rattle.std.specs.Prelude.{◌≡◌};
+ghost use Rattle.h41_focal.specs.LabelledMachine.{machine_of};
+ghost use Rattle.h41_xrom.specs.KeyActions.{IsPlace};
+ghost use Rattle.h41_xrom.specs.private.PrivateCalls.{IsFinalAt, PutsEnd};
+
+use h41_focal::Machine;
+use h41_keys::Place;
+use h41_pages::{PAGE_WORDS, Pages};
+use h41_positions::Position;
+use h41_program::{is_final_end, is_last_open, line_in};
+use h41_ram::Ram;
+
+/// Where the shown line stands: in memory, or in a page, with what keys would do there.
+pub fn shown_place<const REGS: usize>(machine: &Machine<REGS>, pages: &Pages) -> Place
+    ensures { IsPlace pages.now (machine_of machine.now)
+        (machine_of machine.now).focal.position result }
+{
+    match machine.focal.position {
+        Position::Memory(_) => Place::Memory,
+        Position::Page(address) => {
+            let is_final = is_final_at(pages, address);
+            Place::Page {
+                kept: machine.focal.is_at_line_00 || is_final,
+                puts_end: puts_end(&machine.ram),
+            }
+        }
+    }
+}
+
+/// Whether the line at an address of a page is `.END.`.
+fn is_final_at(pages: &Pages, address: u16) -> bool
+    ensures { IsFinalAt pages.now address result }
+{
+    let at = usize::from(address);
+    match line_in(pages.code(at / PAGE_WORDS), at % PAGE_WORDS) {
+        Some(taken) => is_final_end(taken.line),
+        None => false,
+    }
+}
+
+/// Whether `GTO . .` puts an END into memory: the last program has lines and no END of its own. It puts none where memory is not
+/// sound, or where its list does not reach `.END.`.
+fn puts_end<const REGS: usize>(ram: &Ram<REGS>) -> bool
+    ensures { PutsEnd ram.now.registers result }
+{
+    if !ram.is_sound() {
+        return false;
+    }
+    match is_last_open(ram) {
+        Ok(open) => open,
+        Err(_) => false,
+    }
+}

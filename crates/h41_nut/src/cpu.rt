@@ -15,7 +15,7 @@ use std::marker::Model;
 mod arithmetic;
 mod jumps;
 pub(crate) mod pointers;
-mod registers;
+pub(crate) mod registers;
 mod status;
 
 /// How many return addresses the processor keeps.

@@ -1,23 +1,24 @@
 //! One step: the word at the processor's address, and what it changes.
 
-ghost use Rattle.std.specs.Prelude.{◌≡◌, ◌<◌, ◌≤◌, ◌==◌, IfOk, OnOk};
+ghost use Rattle.std.specs.Prelude.{◌≡◌, ◌<◌, ◌≤◌, ◌==◌, false, IfOk, OnOk};
 ghost use Rattle.h41_words.specs.WordTable.{row_of};
 ghost use Rattle.h41_words.specs.declared.rows.Bank.{Bank};
 ghost use Rattle.h41_words.specs.declared.rows.Row.TheVariants.{EnableBank};
 ghost use Rattle.h41_pages.specs.Addresses.{first_address};
 ghost use Rattle.h41_pages.specs.PageMap.{with_chosen};
 ghost use Rattle.h41_nut.specs.Addresses.{end_of_function};
-ghost use Rattle.h41_nut.specs.private.RowStep.{ArrivesFrom, Ran, is_jump};
+ghost use Rattle.h41_nut.specs.private.ProcessorSteps.{TellsEnd};
+ghost use Rattle.h41_nut.specs.private.RowStep.{Ran, is_jump};
 ghost use Rattle.h41_nut.specs.WordStep.{Stepped};
 ghost use Rattle.h41_ram.specs.RamState.{KeepsMark};
 
-use crate::addresses::END_OF_FUNCTION;
 use crate::base::Base;
 use crate::cpu::Cpu;
 use crate::cpu::pointers::{place_above, place_below};
+use crate::cpu::registers::{digits_and, digits_or};
 use crate::keys::Keys;
 use crate::machine::memory::{read_register, write_data, write_register};
-use crate::machine::peripherals::{clear_key_flag, constant_refusal, select_peripheral};
+use crate::machine::peripherals::{constant_refusal, select_peripheral};
 use crate::machine::rom::{fetch, fetch_word, write_rom};
 use crate::refusal::WordRefusal;
 use h41_pages::Pages;
@@ -60,31 +61,47 @@ pub fn step_to_end<const REGS: usize>(
     ensures end { IfOk result (λ ends. ends ≡ (cpu.new.pc == end_of_function)) }
 {
     let word = fetch(pages, cpu.pc())?;
-    let row = row(word);
-    let jumps = is_jump(row);
-    execute_row(word, row, cpu, ram, pages, keys)?;
-    Ok(jumps && cpu.pc() == END_OF_FUNCTION)
+    execute_row(word, row(word), cpu, ram, pages, keys)
 }
 
-/// Whether a word jumps or returns; each other one goes on with the word behind it.
-#[inline(always)]
-fn is_jump(row: Row) -> bool
-    ensures { result ≡ is_jump row }
-{
-    matches!(
-        row,
-        Row::LongJump(_)
-            | Row::ShortJump(_, _)
-            | Row::ReturnIf(_)
-            | Row::Return
-            | Row::GoToAddress
-            | Row::GoToKey
-    )
-}
-
-/// Carries out a word, in a page that may be plugged, by its row of the table of words.
+/// Carries out a word, in a page that may be plugged, by its row of the table of words. Tells whether a function ends where it arrives:
+/// a word that jumps or returns finds that as it goes, and each other one goes on behind itself, where none ends.
 #[inline(always)]
 fn execute_row<const REGS: usize>(
+    word: Word,
+    row: Row,
+    cpu: &mut Cpu,
+    ram: &mut Ram<REGS>,
+    pages: &mut Pages,
+    keys: &mut Keys,
+) -> Result<bool, WordRefusal>
+    requires held { first_address ≤ cpu.old.pc }
+    requires row { row_of word ≡ row }
+    ensures change { Ran row result cpu.old ram.old.registers pages.old keys.old cpu.new
+        ram.new.registers pages.new keys.new }
+    ensures mark { KeepsMark ram.old ram.new }
+    ensures end { TellsEnd result cpu.new }
+{
+    match row {
+        Row::LongJump(low_byte) => {
+            let second = fetch(pages, cpu.next_address())?;
+            cpu.long_jump(low_byte, SecondWord::of(second))
+        }
+        Row::ShortJump(condition, displacement) => cpu.short_jump(condition, displacement),
+        Row::ReturnIf(condition) => cpu.return_if(condition),
+        Row::Return => cpu.return_to_newest(),
+        Row::GoToAddress => cpu.go_to(cpu.address_in_c()),
+        Row::GoToKey => cpu.go_to_key(keys.ky),
+        _ => {
+            execute_straight(word, row, cpu, ram, pages, keys)?;
+            Ok(false)
+        }
+    }
+}
+
+/// Carries out a word that neither jumps nor returns, and so arrives where no function ends.
+#[inline(always)]
+fn execute_straight<const REGS: usize>(
     word: Word,
     row: Row,
     cpu: &mut Cpu,
@@ -94,18 +111,15 @@ fn execute_row<const REGS: usize>(
 ) -> Result<(), WordRefusal>
     requires held { first_address ≤ cpu.old.pc }
     requires row { row_of word ≡ row }
+    requires straight { is_jump row ≡ false }
     ensures change { Ran row result cpu.old ram.old.registers pages.old keys.old cpu.new
         ram.new.registers pages.new keys.new }
     ensures mark { KeepsMark ram.old ram.new }
-    ensures place { OnOk result (ArrivesFrom row cpu.old cpu.new) }
+    ensures end { OnOk result ((cpu.new.pc == end_of_function) ≡ false) }
 {
+    let address = cpu.pc();
     match row {
         Row::Arithmetic(operation, field) => cpu.arithmetic::<REGS>(operation, field),
-        Row::LongJump(low_byte) => {
-            let second = fetch(pages, cpu.next_address())?;
-            cpu.long_jump(low_byte, SecondWord::of(second))
-        }
-        Row::ShortJump(condition, displacement) => cpu.short_jump(condition, displacement),
         Row::ClearStatus(bit) => cpu.set_status(bit, false),
         Row::SetStatus(bit) => cpu.set_status(bit, true),
         Row::TestStatus(bit) => cpu.answer(cpu.is_status_set(bit)),
@@ -115,48 +129,54 @@ fn execute_row<const REGS: usize>(
         Row::LoadDigit(digit) => cpu.load_digit(digit),
         Row::Write(register) => write_register(cpu, ram, register),
         Row::Read(register) => read_register(cpu, ram, register),
-        Row::Constant(word) => Err(constant_refusal(word, cpu.pc())),
+        Row::Constant(word) => Err(constant_refusal(word, address)),
         Row::Nop | Row::TestLowBattery => cpu.go_on(),
         Row::WriteRom => write_rom(cpu, pages),
         Row::EnableBank(_) => {
-            let page = (cpu.pc() / 0x1000) as u8;
+            let page = (address / 0x1000) as u8;
             cpu.go_on()?;
             enable_bank(pages, page, word);
             Ok(())
         }
         Row::ClearStatusByte => cpu.clear_status_byte(),
-        Row::ClearKeyFlag => clear_key_flag(cpu, keys),
+        Row::ClearKeyFlag => {
+            cpu.go_on()?;
+            keys.flag = false;
+            Ok(())
+        }
         Row::TestKeyFlag => cpu.answer(keys.flag),
         Row::DecrementPointer => cpu.set_pointer(place_below(cpu.pointer())),
         Row::IncrementPointer => cpu.set_pointer(place_above(cpu.pointer())),
         Row::Transfer(transfer) => cpu.transfer(transfer),
         Row::DropReturn => cpu.drop_return(),
-        Row::PowerOff => Err(WordRefusal::Asleep(cpu.pc())),
+        Row::PowerOff => Err(WordRefusal::Asleep(address)),
         Row::SelectPointer(pointer) => cpu.select_pointer(pointer),
         Row::TestPointersEqual => cpu.answer(cpu.p() == cpu.q()),
         Row::ClearRegisters => cpu.clear_registers(),
-        Row::GoToAddress => cpu.go_to(cpu.address_in_c()),
         Row::ReadKey => cpu.load_key(keys.ky),
         Row::SetHexadecimal => cpu.set_base(Base::Hexadecimal),
         Row::SetDecimal => cpu.set_base(Base::Decimal),
         Row::DisplayOff => cpu.set_display(false),
         Row::ToggleDisplay => cpu.set_display(!cpu.display()),
-        Row::ReturnIf(condition) => cpu.return_if(condition),
-        Row::Return => cpu.return_to_newest(),
         Row::LoadImmediate => {
             let second = fetch(pages, cpu.next_address())?;
             cpu.load_immediate(second)
         }
         Row::PushAddress => cpu.push_address(),
         Row::PopAddress => cpu.pop_address(),
-        Row::GoToKey => cpu.go_to_key(keys.ky),
         Row::SelectRegister => cpu.select(cpu.word_in_c()),
         Row::WriteData => write_data(cpu, ram),
         Row::ReadData => cpu.load_register(ram.read(cpu.selected())),
         Row::FetchWord => fetch_word(cpu, pages),
-        Row::Or => cpu.or_with_a(),
-        Row::And => cpu.and_with_a(),
+        Row::Or => cpu.load_register(digits_or(cpu.c(), cpu.a())),
+        Row::And => cpu.load_register(digits_and(cpu.c(), cpu.a())),
         Row::SelectPeripheral => select_peripheral(cpu),
+        Row::LongJump(_)
+        | Row::ShortJump(_, _)
+        | Row::ReturnIf(_)
+        | Row::Return
+        | Row::GoToAddress
+        | Row::GoToKey => unreachable!(),
     }
 }
 

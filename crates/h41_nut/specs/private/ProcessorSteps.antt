@@ -1,11 +1,13 @@
 -- What the methods of the processor promise the functions that call them: that it goes to an
 -- address with a change, or is refused.
-use Rattle.std.specs.Prelude.{◌≡◌, ℕ, ℤ, Bool, false, List, Option, None, Result, OnOk, OnErr}
+use Rattle.std.specs.Prelude.{◌≡◌, ◌==◌, ℕ, ℤ, Bool, false, List, Option, None, Result}
+use Rattle.std.specs.Prelude.{IfOk, OnOk, OnErr}
 use Rattle.std.specs.Option.{option_or}
 use Rattle.std.specs.Result.{result_err}
 use Rattle.h41_words.specs.declared.rows.Condition.{Condition}
 use Rattle.h41_words.specs.declared.second_word.SecondWord.{SecondWord}
 use Rattle.h41_pages.specs.PageMap.{PageMap}
+use Rattle.h41_nut.specs.Addresses.{end_of_function}
 use Rattle.h41_nut.specs.Arrivals.{next_address, arrival_refusal, at_address}
 use Rattle.h41_nut.specs.declared.refusal.WordRefusal.{WordRefusal}
 use Rattle.h41_nut.specs.Jumps.{jump_target, jump_change, short_jump_target, return_target}
@@ -27,6 +29,10 @@ pub record Goes {T : Type 0} (first : Option WordRefusal) (address : ℕ) (carry
 abbrev pub GoesTo : {T : Type 0} → (Processor → ℕ) → (Processor → Processor) → Processor → Processor
     → Result T WordRefusal → Type 0
 GoesTo address change s t result = Goes None (address s) false (change s) s t result
+
+-- it is told whether a function ends where a processor arrives
+abbrev pub TellsEnd : Result Bool WordRefusal → Processor → Type 0
+TellsEnd result t = IfOk result (λ ends. ends ≡ (t.pc == end_of_function))
 
 -- it goes on after its word with a change and no carry
 abbrev pub GoesOn : {T : Type 0} → (Processor → Processor) → Processor → Processor

@@ -1,10 +1,9 @@
 -- What carrying out a row promises a step.
-use Rattle.std.specs.Prelude.{◌≡◌, Bool, true, false, ⊤, Result}
+use Rattle.std.specs.Prelude.{Bool, true, false, Result}
 use Rattle.h41_words.specs.declared.rows.Row.{Row}
 use Rattle.h41_words.specs.declared.rows.Row.TheVariants as rows
 use Rattle.h41_pages.specs.PageMap.{PageMap}
 use Rattle.h41_ram.specs.RegisterMap.{RegisterMap}
-use Rattle.h41_nut.specs.Arrivals.{next_address}
 use Rattle.h41_nut.specs.declared.keys.Keys.{Keys}
 use Rattle.h41_nut.specs.declared.refusal.WordRefusal.{WordRefusal}
 use Rattle.h41_nut.specs.Processor.{Processor}
@@ -28,8 +27,3 @@ is_jump rows.Return = true
 is_jump rows.GoToAddress = true
 is_jump rows.GoToKey = true
 is_jump row = false
-
--- arithmetic goes on with the next word; of each other row `WordEffect` says where it goes
-abbrev pub ArrivesFrom : Row → Processor → Processor → Type 0
-ArrivesFrom (rows.Arithmetic operation field) s t = t.pc ≡ next_address s
-ArrivesFrom row s t = ⊤

@@ -1,13 +1,13 @@
 //! How the processor goes on: to the next word, by jumps, and by returns.
 
-ghost use Rattle.std.specs.Prelude.{◌≡◌, ◌<◌, ◌≤◌, IfOk};
+ghost use Rattle.std.specs.Prelude.{◌≡◌, ◌<◌, ◌≤◌, ◌==◌, IfOk};
 ghost use Rattle.std.specs.Result.{result_err};
 ghost use Rattle.h41_nut.specs.Addresses as addresses;
-ghost use Rattle.h41_nut.specs.Addresses.{displaced_address};
+ghost use Rattle.h41_nut.specs.Addresses.{displaced_address, end_of_function};
 ghost use Rattle.h41_pages.specs.Addresses.{first_address};
 ghost use Rattle.h41_nut.specs.Arrivals as arrivals;
 ghost use Rattle.h41_nut.specs.private.ProcessorSteps.{GoesTo, GoesOn, GoesOnTelling, JumpsLong};
-ghost use Rattle.h41_nut.specs.private.ProcessorSteps.{JumpsShort, ReturnsIf};
+ghost use Rattle.h41_nut.specs.private.ProcessorSteps.{JumpsShort, ReturnsIf, TellsEnd};
 ghost use Rattle.h41_nut.specs.Jumps as spec;
 ghost use Rattle.h41_nut.specs.RegisterWords.{with_address_pushed, with_address_popped};
 
@@ -48,14 +48,15 @@ impl Cpu {
         self.carry = carry;
     }
 
-    /// Goes to an address, with no carry.
+    /// Goes to an address, with no carry; tells whether a function ends there.
     #[inline(always)]
-    pub(crate) fn go_to(&mut self, address: u16) -> Result<(), WordRefusal>
-        ensures { GoesTo (λ _. address) (λ s. s) self.old self.new result }
+    pub(crate) fn go_to(&mut self, address: u16) -> Result<bool, WordRefusal>
+        ensures change { GoesTo (λ _. address) (λ s. s) self.old self.new result }
+        ensures end { TellsEnd result self.new }
     {
-        let next = arrival(address)?;
-        self.arrive(next, false);
-        Ok(())
+        let ends = arrival(address)?;
+        self.arrive(address, false);
+        Ok(ends)
     }
 
     /// Goes on after the word, with no carry.
@@ -79,59 +80,72 @@ impl Cpu {
     }
 
     /// `?NC XQ` and the like: goes to the address of both words, where the carry is as the second word says. `XQ` keeps the
-    /// address after both words.
+    /// address after both words. Tells whether a function ends where it goes.
     #[inline(always)]
-    pub(crate) fn long_jump(&mut self, low_byte: u8, second: SecondWord) -> Result<(), WordRefusal>
-        ensures { JumpsLong low_byte second self.old self.new result }
+    pub(crate) fn long_jump(
+        &mut self,
+        low_byte: u8,
+        second: SecondWord,
+    ) -> Result<bool, WordRefusal>
+        ensures change { JumpsLong low_byte second self.old self.new result }
+        ensures end { TellsEnd result self.new }
     {
         let after_both = self.pc.wrapping_add(2);
         if !is_taken(second.condition, self.carry) {
             return self.go_to(after_both);
         }
-        let next = arrival(u16::from(second.high_byte) * 256 + u16::from(low_byte))?;
+        let address = u16::from(second.high_byte) * 256 + u16::from(low_byte);
+        let ends = arrival(address)?;
         if second.kind == LongJumpKind::Execute {
             self.push(after_both);
         }
-        self.arrive(next, false);
-        Ok(())
+        self.arrive(address, false);
+        Ok(ends)
     }
 
-    /// `JNC` and `JC`: goes by the displacement from the word's own address, where the carry is as the condition says.
+    /// `JNC` and `JC`: goes by the displacement from the word's own address, where the carry is as the condition says. Tells whether a
+    /// function ends where it goes.
     #[inline(always)]
     pub(crate) fn short_jump(
         &mut self,
         condition: Condition,
         displacement: Displacement,
-    ) -> Result<(), WordRefusal>
+    ) -> Result<bool, WordRefusal>
         requires { first_address ≤ self.old.pc }
-        ensures { JumpsShort condition displacement self.old self.new result }
+        ensures change { JumpsShort condition displacement self.old self.new result }
+        ensures end { TellsEnd result self.new }
     {
         if is_taken(condition, self.carry) {
             self.go_to(displaced(self.pc, displacement))
         } else {
-            self.go_on()
+            self.go_on()?;
+            Ok(false)
         }
     }
 
-    /// `RTN`: goes to the newest return address, which is taken off.
-    pub(crate) fn return_to_newest(&mut self) -> Result<(), WordRefusal>
-        ensures { GoesTo spec.newest_return spec.with_return_popped self.old self.new result }
+    /// `RTN`: goes to the newest return address, which is taken off. Tells whether a function ends there.
+    pub(crate) fn return_to_newest(&mut self) -> Result<bool, WordRefusal>
+        ensures change { GoesTo spec.newest_return spec.with_return_popped self.old self.new result }
+        ensures end { TellsEnd result self.new }
     {
-        let next = arrival(self.returns[0])?;
+        let address = self.returns[0];
+        let ends = arrival(address)?;
         self.pop();
-        self.arrive(next, false);
-        Ok(())
+        self.arrive(address, false);
+        Ok(ends)
     }
 
-    /// `?C RTN` and `?NC RTN`: returns where the carry is as the condition says.
-    pub(crate) fn return_if(&mut self, condition: Condition) -> Result<(), WordRefusal>
+    /// `?C RTN` and `?NC RTN`: returns where the carry is as the condition says. Tells whether a function ends where it goes.
+    pub(crate) fn return_if(&mut self, condition: Condition) -> Result<bool, WordRefusal>
         requires { first_address ≤ self.old.pc }
-        ensures { ReturnsIf condition self.old self.new result }
+        ensures change { ReturnsIf condition self.old self.new result }
+        ensures end { TellsEnd result self.new }
     {
         if is_taken(condition, self.carry) {
             self.return_to_newest()
         } else {
-            self.go_on()
+            self.go_on()?;
+            Ok(false)
         }
     }
 
@@ -170,9 +184,10 @@ impl Cpu {
         Ok(())
     }
 
-    /// `GOTO KEY`: goes to the next address with the key's code as its low byte.
-    pub(crate) fn go_to_key(&mut self, key: u8) -> Result<(), WordRefusal>
-        ensures { GoesTo (spec.key_target key) (λ s. s) self.old self.new result }
+    /// `GOTO KEY`: goes to the next address with the key's code as its low byte. Tells whether a function ends there.
+    pub(crate) fn go_to_key(&mut self, key: u8) -> Result<bool, WordRefusal>
+        ensures change { GoesTo (spec.key_target key) (λ s. s) self.old self.new result }
+        ensures end { TellsEnd result self.new }
     {
         self.go_to(self.next_address() / 256 * 256 + u16::from(key))
     }
@@ -218,16 +233,18 @@ fn displaced(address: u16, displacement: Displacement) -> u16
     }
 }
 
-/// The address, unless no step may arrive there.
+/// Whether a function ends at an address, unless no step may arrive there.
 #[inline(always)]
-pub(crate) fn arrival(address: u16) -> Result<u16, WordRefusal>
+pub(crate) fn arrival(address: u16) -> Result<bool, WordRefusal>
     ensures refusal { result_err result ≡ arrivals.arrival_refusal address }
-    ensures address { IfOk result (λ arrived. arrived ≡ address) }
+    ensures end { IfOk result (λ ends. ends ≡ (address == end_of_function)) }
 {
-    if address < FIRST_ADDRESS && is_closed(address) {
+    if address >= FIRST_ADDRESS {
+        Ok(false)
+    } else if is_closed(address) {
         Err(WordRefusal::SystemRom(address))
     } else {
-        Ok(address)
+        Ok(true)
     }
 }
 

@@ -43,7 +43,8 @@ impl Cpu {
     pub(crate) fn load_immediate(&mut self, second: Word) -> Result<(), WordRefusal>
         ensures { GoesTo address_after_both (spec.with_word_in_c second) self.old self.new result }
     {
-        let next = arrival(self.pc.wrapping_add(2))?;
+        let next = self.pc.wrapping_add(2);
+        arrival(next)?;
         self.put_word(second);
         self.arrive(next, false);
         Ok(())
@@ -84,7 +85,7 @@ impl Cpu {
         Ok(())
     }
 
-    /// `READ DATA`: a register of the memory goes to C.
+    /// `READ DATA`, `C=C OR A` and `C=C AND A`: a register goes to C.
     pub(crate) fn load_register(&mut self, register: Reg) -> Result<(), WordRefusal>
         requires { first_address ≤ self.old.pc }
         ensures { GoesOn (spec.with_c register) self.old self.new result }
@@ -102,28 +103,6 @@ impl Cpu {
     {
         let next = self.following()?;
         self.c = rotated(self.c, usize::from(digits.number()));
-        self.arrive(next, false);
-        Ok(())
-    }
-
-    /// `C=C OR A`: C keeps its bits and takes those of A.
-    pub(crate) fn or_with_a(&mut self) -> Result<(), WordRefusal>
-        requires { first_address ≤ self.old.pc }
-        ensures { GoesOn spec.with_c_or_a self.old self.new result }
-    {
-        let next = self.following()?;
-        self.c = digits_or(self.c, self.a);
-        self.arrive(next, false);
-        Ok(())
-    }
-
-    /// `C=C AND A`: C keeps the bits that A has too.
-    pub(crate) fn and_with_a(&mut self) -> Result<(), WordRefusal>
-        requires { first_address ≤ self.old.pc }
-        ensures { GoesOn spec.with_c_and_a self.old self.new result }
-    {
-        let next = self.following()?;
-        self.c = digits_and(self.c, self.a);
         self.arrive(next, false);
         Ok(())
     }
@@ -272,14 +251,14 @@ fn rotated(register: Reg, digits: usize) -> Reg
 }
 
 /// The bits that stand in one of two registers or in both.
-fn digits_or(x: Reg, y: Reg) -> Reg
+pub(crate) fn digits_or(x: Reg, y: Reg) -> Reg
     ensures { result ≡ spec.digits_or x y }
 {
     Reg::holding(x.to_u64() | y.to_u64())
 }
 
 /// The bits that stand in both of two registers.
-fn digits_and(x: Reg, y: Reg) -> Reg
+pub(crate) fn digits_and(x: Reg, y: Reg) -> Reg
     ensures { result ≡ spec.digits_and x y }
 {
     Reg::holding(x.to_u64() & y.to_u64())

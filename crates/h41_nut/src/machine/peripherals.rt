@@ -1,26 +1,13 @@
-//! The words of the key flag and of peripherals, and those that stand for nothing.
+//! The words of peripherals, and those that stand for nothing.
 
-ghost use Rattle.std.specs.Prelude.{◌≡◌, ◌≤◌, false, OnOk, OnErr};
+ghost use Rattle.std.specs.Prelude.{◌≡◌, ◌≤◌};
 ghost use Rattle.h41_pages.specs.Addresses.{first_address};
-ghost use Rattle.h41_nut.specs.private.ProcessorSteps.{GoesOn, GoesOnUnless};
+ghost use Rattle.h41_nut.specs.private.ProcessorSteps.{GoesOnUnless};
 ghost use Rattle.h41_nut.specs.Unheld as spec;
 
 use crate::cpu::Cpu;
-use crate::keys::Keys;
 use crate::refusal::WordRefusal;
 use h41_words::UnassignedWord;
-
-/// `CLRKEY`: clears the key flag.
-pub fn clear_key_flag(cpu: &mut Cpu, keys: &mut Keys) -> Result<(), WordRefusal>
-    requires { first_address ≤ cpu.old.pc }
-    ensures processor { GoesOn (λ s. s) cpu.old cpu.new result }
-    ensures flag { OnOk result (keys.new ≡ record keys.old { flag = false }) }
-    ensures unchanged { OnErr result (keys.new ≡ keys.old) }
-{
-    cpu.go_on()?;
-    keys.flag = false;
-    Ok(())
-}
 
 /// `PRPH SLCT`: does nothing where C's digits 1 and 0 are zero, and is refused as 10 else.
 pub fn select_peripheral(cpu: &mut Cpu) -> Result<(), WordRefusal>

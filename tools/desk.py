@@ -322,7 +322,7 @@ class Desk:
         if word == "reset":
             self.lights = Lights()
         elif word in ("break", "unbreak"):
-            place = (words[1], words[2].upper() if words[1] == "w" else f"{int(words[2]):04d}")
+            place = (words[1], words[2].upper() if words[1] in ("w", "p") else f"{int(words[2]):04d}")
             (self.breaks.add if word == "break" else self.breaks.discard)(place)
         elif word in ("asm", "words", "image", "unplug"):
             self.labels.follow(lines_of(part.text))

@@ -27,8 +27,8 @@ REFERENCE = re.compile(rb":(" + NAME + rb")\Z")
 LOOKS_LIKE_LABEL = re.compile(rb"[ \t]*(" + NAME + rb")(?![0-9A-Za-z_])")
 CODE = re.compile(rb'(?:[^;"]|"[^"]*"|"[^"]*\Z)*')
 
-# A line of the bench that ends in an address: where a function runs, or a refusal.
-OF_AN_ADDRESS = re.compile(r"(?:Micro|! (?:0[6-9]|1[0-2]) \w+) ([4-9A-F][0-9A-F]{3})")
+# A line of the bench that ends in an address: where a function or a page's program is, or a refusal.
+OF_AN_ADDRESS = re.compile(r"(?:Micro |(?:Run|Idle) P|! (?:0[6-9]|1[0-2]) \w+ )([4-9A-F][0-9A-F]{3})")
 
 # Instructions by what they do with the carry. Sums, differences and tests set it to what comes out; all others clear it, so it
 # is clear wherever a jump or return arrives.

@@ -481,7 +481,7 @@ function showStack(state, before) {
 /** A button that sets a breakpoint, or takes it away. */
 function breakpoint(kind, place, isNamed = false) {
   const isSet = present().breaks.some(([of, at]) => of === kind && at === place);
-  const name = `${kind === "l" ? "line" : "word"} ${place}`;
+  const name = `${kind === "w" ? "word " : kind === "l" ? "line " : "line P"}${place}`;
   const button = make("button", { type: "button", class: "break", "aria-pressed": String(isSet), "data-at": kind + place,
     "aria-label": `breakpoint at ${name}` }, isSet ? "●" : "○", isNamed ? ` ${name}` : "");
   const deck = `${isSet ? "unbreak" : "break"} ${kind} ${kind === "l" ? Number(place) : place}\n`;

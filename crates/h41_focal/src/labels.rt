@@ -114,7 +114,8 @@ pub fn go_back<const REGS: usize>(
     origin: Origin,
 ) -> BriefOutcome
     requires { IsTrue (is_sound machine.old.ram.registers) }
-    ensures done { GoesBack pages.now origin (machine_of machine.old) (machine_of machine.new) result }
+    ensures done { GoesBack pages.now origin
+        (machine_of machine.old) (machine_of machine.new) result }
     ensures keeps { Keeps machine.old machine.new }
     ensures left { LeavesMark machine.old.ram machine.new.ram }
 {

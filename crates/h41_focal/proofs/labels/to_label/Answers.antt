@@ -23,7 +23,8 @@ returns-in-Some-clause-done g c = λ named.
     (opened_row c.args.pages.now _ (to_label c.args.branch c.args.label) named _ _ _ _ (ap machine_of c.machine.view_is)
     (label_found c.args.pages.now c.args.origin c.args.branch c.args.label named
     (machine_with c.machine.inside.ram.registers c.machine.inside.focal.state) c.in-Some.position c.arrive.result
-    (let found = c.local.ensures.found in rw (c.in-Some.is, from_is) at found) (let answer = c.arrive.ensures.answer in rw origin_is at answer)))
+    (let found = c.local.ensures.found in rw (c.in-Some.is, from_is) at found)
+    (let answer = c.arrive.ensures.answer in rw origin_is at answer)))
 
 pub returns-in-Some-clause-kept : goal.returns-in-Some-clause-kept
 returns-in-Some-clause-kept g c =
@@ -46,7 +47,8 @@ returns-in-None-clause-done g c = λ named.
     let same : machine_with c.machine.inside.ram.registers c.local.new.self.state ≡ machine_of c.args.machine.now =
     ap (machine_with c.machine.inside.ram.registers) c.local.ensures.state ∙ ap machine_of c.machine.view_is in
     label_lost c.args.pages.now c.args.origin c.args.branch c.args.label named _ _ _
-    (subst (λ (machine : Machine). LocalFrom c.args.label c.args.pages.now machine.memory (from_of c.args.origin machine.focal.position) None)
+    (subst (λ (machine : Machine). LocalFrom c.args.label c.args.pages.now machine.memory (from_of c.args.origin machine.focal.position)
+    None)
     (ap machine_of c.machine.view_is) lost)
     (subst (λ (machine : Machine). FailsAs c.args.origin Nonexistent machine (machine_of c.fail.new.machine) c.fail.result) same
     (let fails = c.fail.ensures.done in rw origin_is at fails))

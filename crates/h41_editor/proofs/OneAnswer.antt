@@ -39,11 +39,13 @@ Moved = Result Machine ProgramRefusal
 
 -- the next line is shown
 abbrev GoesOn : PageMap → Machine → Moved → Type 0
-GoesOn pages machine moved = (next : Position) × NextAt pages machine.memory machine.focal.position (Ok next) × (moved ≡ Ok (at_line next machine))
+GoesOn pages machine moved = (next : Position) × NextAt pages machine.memory machine.focal.position (Ok next)
+    × (moved ≡ Ok (at_line next machine))
 
 -- what holds of the line at the position, or of there being none
 abbrev ByFirst : PageMap → Machine → (Result PlacedLine ProgramRefusal → Type 0) → Type 0
-ByFirst pages machine holds = (first : Result PlacedLine ProgramRefusal) × LineAt pages machine.memory machine.focal.position first × holds first
+ByFirst pages machine holds = (first : Result PlacedLine ProgramRefusal) × LineAt pages machine.memory machine.focal.position first
+    × holds first
 
 same_next : (once : IsReadOnce) (pages : PageMap) (memory : RegisterMap) (at a b : Position)
     → NextAt pages memory at (Ok a) → NextAt pages memory at (Ok b) → a ≡ b
@@ -81,8 +83,10 @@ module _ (once : IsReadOnce) (same_one : HasOneAnswer NumberAt) where
   same_in_sound pages false machine a b p q = same_shown pages machine a b p q
 
   same_text : (pages : PageMap) (sound : Bool) (machine : Machine) (a b : List ℕ)
-      → MatchBool sound (MatchBool machine.focal.at_line_00 (a ≡ line_00_text machine.memory) (ShowsLine pages machine a)) (a ≡ unknown_text)
-      → MatchBool sound (MatchBool machine.focal.at_line_00 (b ≡ line_00_text machine.memory) (ShowsLine pages machine b)) (b ≡ unknown_text)
+      → MatchBool sound (MatchBool machine.focal.at_line_00 (a ≡ line_00_text machine.memory) (ShowsLine pages machine a))
+      (a ≡ unknown_text)
+      → MatchBool sound (MatchBool machine.focal.at_line_00 (b ≡ line_00_text machine.memory) (ShowsLine pages machine b))
+      (b ≡ unknown_text)
       → a ≡ b
   same_text pages true machine a b p q = same_in_sound pages machine.focal.at_line_00 machine a b p q
   same_text pages false machine a b p q = p ∙ sym q
@@ -93,7 +97,8 @@ module _ (once : IsReadOnce) (same_one : HasOneAnswer NumberAt) where
 -- SST
 module _ (once : IsReadOnce) (same_start : HasOneAnswer StartOf) where
   same_onward : (pages : PageMap) (last : Bool) (machine : Machine) (a b : Moved)
-      → MatchBool last (ShowsStart pages machine a) (GoesOn pages machine a) → MatchBool last (ShowsStart pages machine b) (GoesOn pages machine b) → a ≡ b
+      → MatchBool last (ShowsStart pages machine a) (GoesOn pages machine a)
+      → MatchBool last (ShowsStart pages machine b) (GoesOn pages machine b) → a ≡ b
   same_onward pages true machine a b p q = same_shown_start same_start pages machine a b p q
   same_onward pages false machine a b p q =
       let same = same_next once pages machine.memory machine.focal.position p.0 q.0 p.1 q.1 in
@@ -105,13 +110,16 @@ module _ (once : IsReadOnce) (same_start : HasOneAnswer StartOf) where
   same_shown_behind pages machine (Err refusal) a b p q = p ∙ sym q
 
   same_step : (pages : PageMap) (at_line_00 : Bool) (machine : Machine) (a b : Moved)
-      → MatchBool at_line_00 (a ≡ Ok (at_line machine.focal.position machine)) (ByFirst pages machine (λ first. ShowsBehind pages machine first a))
-      → MatchBool at_line_00 (b ≡ Ok (at_line machine.focal.position machine)) (ByFirst pages machine (λ first. ShowsBehind pages machine first b))
+      → MatchBool at_line_00 (a ≡ Ok (at_line machine.focal.position machine))
+      (ByFirst pages machine (λ first. ShowsBehind pages machine first a))
+      → MatchBool at_line_00 (b ≡ Ok (at_line machine.focal.position machine))
+      (ByFirst pages machine (λ first. ShowsBehind pages machine first b))
       → a ≡ b
   same_step pages true machine a b p q = p ∙ sym q
   same_step pages false machine a b p q =
       let same = once.line pages machine.memory machine.focal.position p.0 q.0 p.1 q.1 in
-      same_shown_behind pages machine q.0 a b (subst (λ (first : Result PlacedLine ProgramRefusal). ShowsBehind pages machine first a) same p.2) q.2
+      same_shown_behind pages machine q.0 a b (subst (λ (first : Result PlacedLine ProgramRefusal). ShowsBehind pages machine first a) same
+      p.2) q.2
 
   pub next_determined : (pages : PageMap) → MoveIsDetermined (ShowsNext pages)
   next_determined pages machine a b p q = same_step pages machine.focal.at_line_00 machine a b p q
@@ -123,15 +131,18 @@ module _
     (same_ends : HasOneAnswer EndOf)
     (same_prior : HasOneAnswer LineBefore)
     (same_one : HasOneAnswer NumberAt) where
-  same_shown_end : (pages : PageMap) (machine : Machine) (first : PlacedLine) (a b : Moved) → ShowsEnd pages machine first a → ShowsEnd pages machine first b → a ≡ b
+  same_shown_end : (pages : PageMap) (machine : Machine) (first : PlacedLine) (a b : Moved) → ShowsEnd pages machine first a
+      → ShowsEnd pages machine first b → a ≡ b
   same_shown_end pages machine first a b p q =
       p.2 ∙ ap (shown_end machine) (same_ends pages machine.memory first.position p.0 q.0 p.1 q.1) ∙ sym q.2
 
-  same_shown_at : (pages : PageMap) (machine : Machine) (before : Option Position) (a b : Moved) → ShowsAt pages machine before a → ShowsAt pages machine before b → a ≡ b
+  same_shown_at : (pages : PageMap) (machine : Machine) (before : Option Position) (a b : Moved) → ShowsAt pages machine before a
+      → ShowsAt pages machine before b → a ≡ b
   same_shown_at pages machine (Some position) a b p q = p ∙ sym q
   same_shown_at pages machine None a b p q = same_shown_start same_start pages machine a b p q
 
-  same_in_front : (pages : PageMap) (machine : Machine) (first : PlacedLine) (a b : Moved) → ShowsInFront pages machine first a → ShowsInFront pages machine first b
+  same_in_front : (pages : PageMap) (machine : Machine) (first : PlacedLine) (a b : Moved) → ShowsInFront pages machine first a
+      → ShowsInFront pages machine first b
       → a ≡ b
   same_in_front pages machine first a b p q =
       let same = same_prior pages machine.memory first.position p.0 q.0 p.1 q.1 in
@@ -151,7 +162,8 @@ module _
   pub before_determined : (pages : PageMap) → MoveIsDetermined (ShowsBefore pages)
   before_determined pages machine a b p q =
       let same = numbered_determined once same_one pages machine.memory machine.focal.position p.0 q.0 p.1 q.1 in
-      same_before_line pages machine q.0 a b (subst (λ (numbered : Option NumberedLine). ShowsBeforeLine pages machine numbered a) same p.2) q.2
+      same_before_line pages machine q.0 a b (subst (λ (numbered : Option NumberedLine). ShowsBeforeLine pages machine numbered a) same p.2)
+      q.2
 
 -- GTO . .
 module _ (same_lines : ListsAreDetermined) (same_start : AnswersAreDetermined ℕ) where
@@ -163,7 +175,11 @@ module _ (same_lines : ListsAreDetermined) (same_start : AnswersAreDetermined �
       ∙ ap
       (λ (start : ℕ). Ok (record {
         memory = closed.0;
-        focal = record machine.focal { position = Memory start; at_line_00 = true; returns = returns_kept (open_in lines) machine.focal.returns };
+        focal = record machine.focal {
+          position = Memory start;
+          at_line_00 = true;
+          returns = returns_kept (open_in lines) machine.focal.returns;
+        };
       }))
       same
       ∙ sym q.2
@@ -236,7 +252,8 @@ module _ (same_edit : EditsAreDetermined) (same_place : PlacesAreDetermined (Opt
     pub insertion_determined : (pages : PageMap) → ChangeIsDetermined (Inserts pages)
     insertion_determined pages line machine a b p q =
         let same = numbered_determined once same_one pages machine.memory machine.focal.position p.0 q.0 p.1 q.1 in
-        same_inserted pages line machine q.0 a b (subst (λ (numbered : Option NumberedLine). InsertsBy pages line machine numbered a) same p.2) q.2
+        same_inserted pages line machine q.0 a b (subst (λ (numbered : Option NumberedLine). InsertsBy pages line machine numbered a) same
+        p.2) q.2
 
 -- BACK
 module _ (same_edit : EditsAreDetermined) (same_front : PlacesAreDetermined InFront) (once : IsReadOnce) where

@@ -1,7 +1,7 @@
 -- Lines that are typed in program mode: inserted behind the shown line, put in its place, and taken
--- away, in memory alone: in a page each is 14. Each change shows the new line, or the one before, and leaves nothing to return to. Where
--- lines come, and what BACK does at line 00 and .END., is this project's choice but for what the
--- Owner's Handbook shows.
+-- away; in memory alone, since in a page each is 14. Each change shows the new line, or the one
+-- before, and leaves nothing to return to. Where lines come, and what BACK does at line 00 and
+-- .END., is this project's choice but for what the Owner's Handbook shows.
 use Rattle.std.specs.Prelude.{◌≡◌, ℕ, [], MatchBool, Option, Some, None, Result, Ok, Err}
 use Rattle.h41_codes.specs.declared.line.Line.{Line}
 use Rattle.h41_editor.specs.Moves.{is_last}
@@ -65,7 +65,8 @@ InsertsBefore line machine (Page address) made = made ≡ Err BrokenProgram
 
 -- 14 where the position's program has no line there, at line 00 too, and where the list of lines
 -- does not reach .END.; 16 where there is no room
-abbrev pub InsertsBy : PageMap → Line → Machine → Option NumberedLine → Result Machine ProgramRefusal → Type 0
+abbrev pub InsertsBy : PageMap → Line → Machine → Option NumberedLine
+    → Result Machine ProgramRefusal → Type 0
 InsertsBy pages line machine (Some numbered) made =
     (before : Position)
     × InsertsAt pages machine numbered.placed before

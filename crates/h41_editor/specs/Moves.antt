@@ -41,7 +41,8 @@ is_last at_line = is_end at_line.line || is_final_end at_line.line
 -- SST: from line 00 to the line that the position stands for; from the last line of a program to
 -- its line 00 (this project's choice), from others to the next line, or to the byte behind where no
 -- line follows; 14 where the shown line cannot be read
-abbrev pub ShowsBehind : PageMap → Machine → Result PlacedLine ProgramRefusal → Result Machine ProgramRefusal
+abbrev pub ShowsBehind : PageMap → Machine → Result PlacedLine ProgramRefusal
+    → Result Machine ProgramRefusal
     → Type 0
 ShowsBehind pages machine (Ok first) moved =
     MatchBool (is_last first) (ShowsStart pages machine moved)
@@ -79,7 +80,8 @@ ShowsInFront pages machine first moved =
     × LineBefore pages machine.memory first.position before
     × ShowsAt pages machine before moved
 
-abbrev pub ShowsBeforeLine : PageMap → Machine → Option NumberedLine → Result Machine ProgramRefusal → Type 0
+abbrev pub ShowsBeforeLine : PageMap → Machine → Option NumberedLine → Result Machine ProgramRefusal
+    → Type 0
 ShowsBeforeLine pages machine (Some numbered) moved =
     MatchBool machine.focal.at_line_00 (ShowsEnd pages machine numbered.placed moved)
     (ShowsInFront pages machine numbered.placed moved)

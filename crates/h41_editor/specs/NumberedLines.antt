@@ -15,7 +15,8 @@ with_number placed number = record { placed = placed; number = number }
 
 -- the first line from a position on is numbered in its program; none where no line can be read
 -- there, or its program has none there
-abbrev pub Numbers : PageMap → RegisterMap → Result PlacedLine ProgramRefusal → Option NumberedLine → Type 0
+abbrev pub Numbers : PageMap → RegisterMap → Result PlacedLine ProgramRefusal → Option NumberedLine
+    → Type 0
 Numbers pages memory (Ok first) numbered =
     (number : Option ℕ) × NumberAt pages memory first.position number
     × (numbered ≡ option_map (with_number first) number)

@@ -27,7 +27,8 @@ pub fn insert_line<const REGS: usize>(
 ) -> Result<(), ProgramRefusal>
     requires sound { IsTrue (is_sound machine.old.ram.registers) }
     requires inner { IsTrue (is_inner line) }
-    ensures line { Inserts pages.now line (machine_of machine.old) (made_as (machine_of machine.new) result) }
+    ensures line { Inserts pages.now line
+        (machine_of machine.old) (made_as (machine_of machine.new) result) }
     ensures unchanged { OnErr result (machine_of machine.new ≡ machine_of machine.old) }
     ensures sound { IsTrue (is_sound machine.new.ram.registers) }
     ensures keeps { Keeps machine.old machine.new }
@@ -99,7 +100,8 @@ pub fn delete_line<const REGS: usize>(
     pages: &Pages,
 ) -> Result<(), ProgramRefusal>
     requires { IsTrue (is_sound machine.old.ram.registers) }
-    ensures line { Deletes pages.now (machine_of machine.old) (made_as (machine_of machine.new) result) }
+    ensures line { Deletes pages.now
+        (machine_of machine.old) (made_as (machine_of machine.new) result) }
     ensures unchanged { OnErr result (machine_of machine.new ≡ machine_of machine.old) }
     ensures sound { IsTrue (is_sound machine.new.ram.registers) }
     ensures keeps { Keeps machine.old machine.new }

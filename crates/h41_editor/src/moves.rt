@@ -20,7 +20,8 @@ pub fn show_next<const REGS: usize>(
     pages: &Pages,
 ) -> Result<(), ProgramRefusal>
     requires { IsTrue (is_sound machine.old.ram.registers) }
-    ensures line { ShowsNext pages.now (machine_of machine.old) (made_as (machine_of machine.new) result) }
+    ensures line { ShowsNext pages.now
+        (machine_of machine.old) (made_as (machine_of machine.new) result) }
     ensures unchanged { OnErr result (machine.new ≡ machine.old) }
     ensures keeps { Keeps machine.old machine.new }
 {
@@ -45,7 +46,8 @@ pub fn show_before<const REGS: usize>(
     pages: &Pages,
 ) -> Result<(), ProgramRefusal>
     requires { IsTrue (is_sound machine.old.ram.registers) }
-    ensures line { ShowsBefore pages.now (machine_of machine.old) (made_as (machine_of machine.new) result) }
+    ensures line { ShowsBefore pages.now
+        (machine_of machine.old) (made_as (machine_of machine.new) result) }
     ensures unchanged { OnErr result (machine.new ≡ machine.old) }
     ensures keeps { Keeps machine.old machine.new }
 {

@@ -24,7 +24,8 @@ pub fn numbered_line<const REGS: usize>(
     pages: &Pages,
 ) -> Option<NumberedLine>
     requires { IsTrue (is_sound machine.now.ram.registers) }
-    ensures { HasNumbered pages.now machine.now.ram.registers machine.now.focal.state.position result }
+    ensures { HasNumbered pages.now machine.now.ram.registers
+        machine.now.focal.state.position result }
 {
     match line_at(&machine.ram, pages, machine.focal.position) {
         Ok(placed) => {

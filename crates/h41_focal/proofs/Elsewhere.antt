@@ -86,7 +86,8 @@ ends_keeps how old new answer (Seeks name) left own is elsewhere = ap (λ (of : 
 ends_keeps how old new answer HasNoLabel left own failing elsewhere = fails_in how old old Nonexistent left failing elsewhere
 ends_keeps how old new answer HasNoLine left own is elsewhere = cc
 
-applies_with : (pages : PageMap) (how : Manner) (row : rows.LineRow) (named : ℕ) (machine : Machine) (result : Result (List ℕ) LineFault) (left : Left)
+applies_with : (pages : PageMap) (how : Manner) (row : rows.LineRow) (named : ℕ) (machine : Machine) (result : Result (List ℕ) LineFault)
+    (left : Left)
     → AppliesWith pages how row named machine result (Ok left) → is_elsewhere left.answer ≡ true → left.machine ≡ machine
 applies_with pages how row named machine (Err fault) left failing elsewhere = fails_in how machine machine fault left failing elsewhere
 applies_with pages how row named machine (Ok result) left (to, goes, ends) elsewhere =
@@ -137,7 +138,8 @@ takes_by : (pages : PageMap) (out : Bool) (how : Manner) (line : Line) (machine 
 takes_by pages true how line machine left is elsewhere = cc
 takes_by pages false how line machine left carries elsewhere = carries_out pages how line machine left carries elsewhere
 
-pub elsewhere_keeps : (pages : PageMap) (how : Manner) (line : Line) (machine : Machine) (left : Left) → TakesLine pages how line machine (Ok left)
+pub elsewhere_keeps : (pages : PageMap) (how : Manner) (line : Line) (machine : Machine) (left : Left)
+    → TakesLine pages how line machine (Ok left)
     → is_elsewhere left.answer ≡ true → left.machine ≡ machine
 elsewhere_keeps pages how line machine left takes elsewhere = takes_by pages (is_left_out line) how line machine left takes elsewhere
 

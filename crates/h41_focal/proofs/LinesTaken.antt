@@ -33,7 +33,8 @@ use Rattle.h41_rows.specs.declared.fault.LineFault.{LineFault}
 
 -- a function, by its work
 pub plain_taken :
-    (pages : PageMap) (origin : Origin) (function : Function) (work : FunctionWork) (old new : Machine) (result : Result BriefOutcome FocalRefusal)
+    (pages : PageMap) (origin : Origin) (function : Function) (work : FunctionWork) (old new : Machine)
+    (result : Result BriefOutcome FocalRefusal)
     → Some (row_of_work work) ≡ function_row function
     → CarriesRow pages origin (row_of_work work) 0 old new result
     → TakesBriefly pages origin (lines.Plain function) old new result
@@ -86,7 +87,8 @@ flag_taken pages origin function operand taken old new result held kind row (Err
 
 -- a label
 pub label_taken :
-    (pages : PageMap) (origin : Origin) (function : ParameterFunction) (operand : Operand) (old new : Machine) (result : Result BriefOutcome FocalRefusal)
+    (pages : PageMap) (origin : Origin) (function : ParameterFunction) (operand : Operand) (old new : Machine)
+    (result : Result BriefOutcome FocalRefusal)
     → is_use_left_out function operand ≡ false
     → kind_of function ≡ LabelKind
     → register_row function ≡ silent_row

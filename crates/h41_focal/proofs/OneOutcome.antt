@@ -12,7 +12,8 @@ use Rattle.h41_focal.specs.Destinations.{Stepped, StepsFrom, Tells, Typed, Typed
 use Rattle.h41_focal.specs.LineLaws.{EnteringIsDetermined, FailureIsDetermined, PassingIsDetermined, StepIsDetermined, TypedIsDetermined}
 use Rattle.h41_focal.specs.LineLaws.{TypedFailureIsDetermined}
 use Rattle.h41_focal.specs.LineStep.{Applies, AppliesTo, AppliesWith, CarriesOut, ComputesIn, Ends, FailsIn, FailsWith, Left, Machine}
-use Rattle.h41_focal.specs.LineStep.{EntersWith, PassesWith, Stands, StandsAt, StepsAs, TakesLine, Works, answer_of_showing, line_as, named_by}
+use Rattle.h41_focal.specs.LineStep.{EntersWith, PassesWith, Stands, StandsAt, StepsAs, TakesLine, Works, answer_of_showing, line_as}
+use Rattle.h41_focal.specs.LineStep.{named_by}
 use Rattle.h41_focal.specs.LineStep.{with_row}
 use Rattle.h41_focal.specs.Outcomes.{Answer}
 use Rattle.h41_focal.specs.declared.refusal.FocalRefusal.{FocalRefusal}
@@ -67,7 +68,8 @@ module _ (once : IsReadOnce) where
       let one : first ≡ again = cc same in
       sym is ∙ (ap (λ (first : PlacedLine). first.line) one ∙ is_so)
 
-  never_refused : (pages : PageMap) (memory : RegisterMap) (at : Position) (first : PlacedLine) (refusal : FocalRefusal) → is_sound memory ≡ true
+  never_refused : (pages : PageMap) (memory : RegisterMap) (at : Position) (first : PlacedLine) (refusal : FocalRefusal)
+      → is_sound memory ≡ true
       → LineAt pages memory at (Ok first) → StandsAt pages memory at (Err refusal) → ⊥
   never_refused pages memory at first refusal sound stands refused =
       let (is, why, none) = rw sound at refused in
@@ -159,7 +161,8 @@ module _
     (same_start : HasOneAnswer StartOf)
     (same_local : HasOneAnswerEach LocalFrom)
     (same_global : AnswersAreDetermined (Option ℕ)) where
-  same_pass : (pages : PageMap) (memory : RegisterMap) (next : Position) (returns : List Position) (a b : Destination) → Passes pages memory next returns a
+  same_pass : (pages : PageMap) (memory : RegisterMap) (next : Position) (returns : List Position) (a b : Destination)
+      → Passes pages memory next returns a
       → Passes pages memory next returns b → a ≡ b
   same_pass pages memory next returns a b p q = elim p [
     | inl past ↦ elim q [
@@ -202,7 +205,8 @@ module _
       ∙ sym q.2
   same_from_next pages rows.Returns memory named at next returns a b p q = same_back pages memory at (reverse returns) a b p q
 
-  same_from_here : (pages : PageMap) (going : rows.Going) (memory : RegisterMap) (named : ℕ) (at : Position) (returns : List Position) (a b : Destination)
+  same_from_here : (pages : PageMap) (going : rows.Going) (memory : RegisterMap) (named : ℕ) (at : Position) (returns : List Position)
+      (a b : Destination)
       → TypedFrom pages going memory named at returns a → TypedFrom pages going memory named at returns b → a ≡ b
   same_from_here pages rows.Next memory named at returns a b p q = p ∙ sym q
   same_from_here pages (rows.Tests condition) memory named at returns a b p q = p ∙ sym q
@@ -217,10 +221,12 @@ module _
   same_from_here pages rows.Returns memory named at returns a b p q =
       p.2 ∙ ap (λ (start : Position). Halts start) (same_start pages memory at p.0 q.0 p.1 q.1) ∙ sym q.2
 
-  same_destination : (pages : PageMap) (how : Manner) (going : rows.Going) (memory : RegisterMap) (named : ℕ) (at : Position) (returns : List Position)
+  same_destination : (pages : PageMap) (how : Manner) (going : rows.Going) (memory : RegisterMap) (named : ℕ) (at : Position)
+      (returns : List Position)
       (a b : Destination)
       → Goes pages how going memory named at returns a → Goes pages how going memory named at returns b → a ≡ b
-  same_destination pages (Stepped next) going memory named at returns a b p q = same_from_next pages going memory named at next returns a b p q
+  same_destination pages (Stepped next) going memory named at returns a b p q =
+      same_from_next pages going memory named at next returns a b p q
   same_destination pages Typed going memory named at returns a b p q = same_from_here pages going memory named at returns a b p q
 
 -- what a destination leaves
@@ -262,7 +268,8 @@ module _
       same_with pages how row named machine q.0 a b
       (subst (λ (result : Result (List ℕ) LineFault). AppliesWith pages how row named machine result a) same p.2) q.2
 
-  same_meant : (pages : PageMap) (how : Manner) (line : Line) (machine : Machine) (meant : Result Meant LineFault) (a b : Result Left FocalRefusal)
+  same_meant : (pages : PageMap) (how : Manner) (line : Line) (machine : Machine) (meant : Result Meant LineFault)
+      (a b : Result Left FocalRefusal)
       → AppliesTo pages how line machine meant a → AppliesTo pages how line machine meant b → a ≡ b
   same_meant pages how line machine (Err fault) a b p q = p ∙ sym q
   same_meant pages how line machine (Ok meant) a b p q = same_row pages how (row_of line meant) (named_by meant) machine a b p q
@@ -300,4 +307,5 @@ module _
   same_stepped pages function machine (Err refusal) a b p q = p ∙ sym q
 
   pub step_determined : StepIsDetermined
-  step_determined pages function machine a b p q = by_standing once pages (StepsAs pages function) (same_stepped pages function) machine a b p q
+  step_determined pages function machine a b p q =
+      by_standing once pages (StepsAs pages function) (same_stepped pages function) machine a b p q

@@ -17,7 +17,6 @@ use Rattle.h41_focal.specs.declared.origin.Origin.{Origin}
 use Rattle.h41_focal.specs.declared.outcome.BriefOutcome.{BriefOutcome}
 use Rattle.h41_focal.specs.declared.outcome.BriefOutcome.TheVariants as briefs
 use Rattle.h41_focal.specs.declared.uses.RegisterUse.TheVariants as registers
-use Rattle.h41_pages.specs.PageMap.{PageMap}
 use Rattle.h41_rows.specs.declared.values.ValueOfTwo.{ValueOfTwo}
 use Rattle.h41_rows.specs.declared.values.ValueOfTwo.TheVariants as twos
 use Rattle.h41_ram.specs.RegisterMap.{RegisterMap, zeros}

@@ -91,7 +91,8 @@ with_alike pages next row named machine focal (Ok result) left goes_on (to, goes
     goes_on goes in
     let is = subst (λ (to : Destination). Ends (Stepped next) machine new answer to (Ok left)) arrives ends in
     let stays =
-    subst (λ (going : rows.Going). TypedFrom pages going other.memory named other.focal.position other.focal.returns Stays) (sym goes_on) refl in
+    subst (λ (going : rows.Going). TypedFrom pages going other.memory named other.focal.position other.focal.returns Stays) (sym goes_on)
+    refl in
     let typed : Left = record { machine = with_row row named result other; answer = answer } in
     let same = same_left left _ is in (
       typed,
@@ -100,14 +101,16 @@ with_alike pages next row named machine focal (Ok result) left goes_on (to, goes
       here left _ same (own_answer machine.memory named row.shows row.ends),
     )
 
-row_alike : (pages : PageMap) (next : Position) (row : rows.LineRow) (named : ℕ) (machine : Machine) (focal : FocalState) (left : Left) → row.goes ≡ rows.Next
+row_alike : (pages : PageMap) (next : Position) (row : rows.LineRow) (named : ℕ) (machine : Machine) (focal : FocalState) (left : Left)
+    → row.goes ≡ rows.Next
     → Applies pages (Stepped next) row named machine (Ok left) → LeavesLike (Applies pages Typed row named (beside machine focal)) left
 row_alike pages next row named machine focal left goes_on (result, works, applies) =
     let found = with_alike pages next row named machine focal result left goes_on applies in
     (found.0, (result, works, found.1), found.2, found.3)
 
 -- a line that goes on to the next one
-meant_alike : (pages : PageMap) (next : Position) (line : Line) (machine : Machine) (focal : FocalState) (meant : Result Meant LineFault) (left : Left)
+meant_alike : (pages : PageMap) (next : Position) (line : Line) (machine : Machine) (focal : FocalState) (meant : Result Meant LineFault)
+    (left : Left)
     → IfOk meant (λ meant. (row_of line meant).goes ≡ rows.Next) → AppliesTo pages (Stepped next) line machine meant (Ok left)
     → LeavesLike (AppliesTo pages Typed line (beside machine focal) meant) left
 meant_alike pages next line machine focal (Err fault) left goes_on applies = failure_alike next machine focal fault left applies
@@ -115,36 +118,44 @@ meant_alike pages next line machine focal (Ok meant) left goes_on applies =
     row_alike pages next (row_of line meant) (named_by meant) machine focal left goes_on applies
 
 carried_alike : (pages : PageMap) (next : Position) (line : Line) (machine : Machine) (focal : FocalState) (left : Left)
-    → GoesToNext line → CarriesOut pages (Stepped next) line machine (Ok left) → LeavesLike (CarriesOut pages Typed line (beside machine focal)) left
+    → GoesToNext line → CarriesOut pages (Stepped next) line machine (Ok left)
+    → LeavesLike (CarriesOut pages Typed line (beside machine focal)) left
 carried_alike pages next (Module number entry) machine focal left goes_on carries = absurd goes_on
 carried_alike pages next line machine focal left goes_on carries =
     meant_alike pages next line machine focal (meant_of machine.memory line) left (goes_on machine.memory) carries
 
-profile_alike : (pages : PageMap) (left_out : Bool) (next : Position) (line : Line) (machine : Machine) (focal : FocalState) (left : Left) → GoesToNext line
+profile_alike : (pages : PageMap) (left_out : Bool) (next : Position) (line : Line) (machine : Machine) (focal : FocalState) (left : Left)
+    → GoesToNext line
     → MatchBool left_out (◌≡◌ {A = Result Left FocalRefusal} (Ok left) (Err NotInProfile))
     (CarriesOut pages (Stepped next) line machine (Ok left))
-    → LeavesLike (λ carried. MatchBool left_out (carried ≡ Err NotInProfile) (CarriesOut pages Typed line (beside machine focal) carried)) left
+    → LeavesLike (λ carried. MatchBool left_out (carried ≡ Err NotInProfile) (CarriesOut pages Typed line (beside machine focal) carried))
+    left
 profile_alike pages true next line machine focal left goes_on is = absurd (no_refusal left NotInProfile is)
 profile_alike pages false next line machine focal left goes_on carries = carried_alike pages next line machine focal left goes_on carries
 
 taken_alike : (pages : PageMap) (next : Position) (line : Line) (machine : Machine) (focal : FocalState) (left : Left)
-    → GoesToNext line → TakesLine pages (Stepped next) line machine (Ok left) → LeavesLike (TakesLine pages Typed line (beside machine focal)) left
-taken_alike pages next line machine focal left goes_on takes = profile_alike pages (is_left_out line) next line machine focal left goes_on takes
+    → GoesToNext line → TakesLine pages (Stepped next) line machine (Ok left)
+    → LeavesLike (TakesLine pages Typed line (beside machine focal)) left
+taken_alike pages next line machine focal left goes_on takes =
+    profile_alike pages (is_left_out line) next line machine focal left goes_on takes
 
 -- the line at the position, where no bytes have two first lines
 module _ (once : IsReadOnce) where
-  stands_alike : (pages : PageMap) (standing : Result (Line × Position) FocalRefusal) (line : Line) (machine : Machine) (focal : FocalState) (left : Left)
+  stands_alike : (pages : PageMap) (standing : Result (Line × Position) FocalRefusal) (line : Line) (machine : Machine) (focal : FocalState)
+      (left : Left)
       → GoesToNext line → IsAt pages line machine → Stands pages machine standing → StepsAs pages None machine standing (Ok left)
       → LeavesLike (TypesLine pages line (beside machine focal)) left
   stands_alike pages (Ok (own, next)) line machine focal left goes_on stands (sound, stands_so, behind) takes =
       let same = same_line once pages machine.memory machine.focal.position own line stands_so stands in
       let found =
-      taken_alike pages next line machine focal left goes_on (subst (λ (line : Line). TakesLine pages (Stepped next) line machine (Ok left)) same takes)
+      taken_alike pages next line machine focal left goes_on
+      (subst (λ (line : Line). TakesLine pages (Stepped next) line machine (Ok left)) same takes)
       in
       (found.0, rw sound found.1, found.2, found.3)
   stands_alike pages (Err refusal) line machine focal left goes_on stands refused is = absurd (no_refusal left refusal is)
 
-  line_alike : (pages : PageMap) (line : Line) (machine other : Machine) (left : Left) → GoesToNext line → AreAlike machine other → IsAt pages line machine
+  line_alike : (pages : PageMap) (line : Line) (machine other : Machine) (left : Left) → GoesToNext line → AreAlike machine other
+      → IsAt pages line machine
       → StepsLine pages None machine (Ok left) → LeavesLike (TypesLine pages line other) left
   line_alike pages line machine other left goes_on alike stands steps =
       subst (λ (other : Machine). LeavesLike (TypesLine pages line other) left) (same_beside machine other alike)
@@ -176,7 +187,8 @@ same_turn : TypedIsDetermined → (pages : PageMap) (lines : List Line) (machine
 same_turn determined pages [] machine left other p q = p ∙ sym q
 same_turn determined pages (line ∷ lines) machine left other p q =
     let same = same_left p.0 q.0 (determined pages line machine (Ok p.0) (Ok q.0) p.1 q.1) in
-    same_turn determined pages lines q.0.machine left other (subst (λ (after : Left). TypesInTurn pages lines after.machine left) same p.2) q.2
+    same_turn determined pages lines q.0.machine left other (subst (λ (after : Left). TypesInTurn pages lines after.machine left) same p.2)
+    q.2
 
 -- so they leave what is like that which is left where they are stepped
 module _

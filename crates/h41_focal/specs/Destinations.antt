@@ -47,7 +47,8 @@ with_return returns position = drop (length returns - 5) returns ++ position ∷
 -- refusal (this project's choice).
 abbrev pub Passes : PageMap → RegisterMap → Position → List Position → Destination → Type 0
 Passes pages memory next returns to =
-    ((position : Position) × NextAt pages memory next (Ok position) × (to ≡ Arrives position returns))
+    ((position : Position) × NextAt pages memory next (Ok position)
+    × (to ≡ Arrives position returns))
     ⊎ (NextAt pages memory next (Err BrokenProgram) × (to ≡ HasNoLine))
 
 -- on to the next line, or past it where a condition does not hold
@@ -100,7 +101,8 @@ typed_at Execute returns lost (Some position) = Runs position
 
 -- where a typed line goes: a test answers, a loop asks nothing, labels are looked for from the
 -- position on
-abbrev pub TypedFrom : PageMap → rows.Going → RegisterMap → ℕ → Position → List Position → Destination
+abbrev pub TypedFrom : PageMap → rows.Going → RegisterMap → ℕ → Position → List Position
+    → Destination
     → Type 0
 TypedFrom pages rows.Next memory named at returns to = to ≡ Stays
 TypedFrom pages (rows.Tests condition) memory named at returns to =
@@ -118,7 +120,8 @@ TypedFrom pages rows.Returns memory named at returns to =
     (start : Position) × StartOf pages memory at start × (to ≡ Halts start)
 
 -- where a line goes
-abbrev pub Goes : PageMap → Manner → rows.Going → RegisterMap → ℕ → Position → List Position → Destination
+abbrev pub Goes : PageMap → Manner → rows.Going → RegisterMap → ℕ → Position → List Position
+    → Destination
     → Type 0
 Goes pages (Stepped next) going memory named at returns to =
     StepsFrom pages going memory named at next returns to

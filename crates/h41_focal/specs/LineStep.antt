@@ -181,7 +181,8 @@ AppliesWith pages how row named machine (Ok result) carried =
     × Ends how machine (with_row row named result machine)
     (answer_of_showing machine.memory named row.shows row.ends) to carried
 
-abbrev pub Applies : PageMap → Manner → rows.LineRow → ℕ → Machine → Result Left FocalRefusal → Type 0
+abbrev pub Applies : PageMap → Manner → rows.LineRow → ℕ → Machine → Result Left FocalRefusal
+    → Type 0
 Applies pages how row named machine carried =
     (result : Result (List ℕ) LineFault)
     × Works machine.memory named row result
@@ -193,7 +194,8 @@ named_by (Address address) = address
 named_by meant = 0
 
 -- a line whose operand means this
-abbrev pub AppliesTo : PageMap → Manner → Line → Machine → Result Meant LineFault → Result Left FocalRefusal
+abbrev pub AppliesTo : PageMap → Manner → Line → Machine → Result Meant LineFault
+    → Result Left FocalRefusal
     → Type 0
 AppliesTo pages how line machine (Err fault) carried = FailsIn how machine fault carried
 AppliesTo pages how line machine (Ok meant) carried =
@@ -210,7 +212,8 @@ CarriesOut pages how line machine carried =
 -- 13: a line that it does not carry out
 abbrev pub TakesLine : PageMap → Manner → Line → Machine → Result Left FocalRefusal → Type 0
 TakesLine pages how line machine carried =
-    MatchBool (is_left_out line) (carried ≡ Err NotInProfile) (CarriesOut pages how line machine carried)
+    MatchBool (is_left_out line) (carried ≡ Err NotInProfile)
+    (CarriesOut pages how line machine carried)
 
 -- a line is typed; 15 where memory is not sound
 abbrev pub TypesLine : PageMap → Line → Machine → Result Left FocalRefusal → Type 0
@@ -225,7 +228,8 @@ line_as (Some function) line = Plain function
 
 -- the line that stands at a position, and where the next one stands; or why there is none: 15 where
 -- memory is not sound, 14 where no line stands there
-abbrev pub StandsAt : PageMap → RegisterMap → Position → Result (Line × Position) FocalRefusal → Type 0
+abbrev pub StandsAt : PageMap → RegisterMap → Position → Result (Line × Position) FocalRefusal
+    → Type 0
 StandsAt pages memory at (Ok standing) =
     IsTrue (is_sound memory)
     × ((first : PlacedLine) × LineAt pages memory at (Ok first) × (first.line ≡ standing.0))

@@ -30,7 +30,7 @@ pub struct Focal {
     /// Whether the stack is lifted when a number comes in.
     pub lift: bool,
     /// The searches for labels that lines made, with their answers.
-    labels: LabelCache,
+    pub(crate) labels: LabelCache,
 }
 
 impl Model for Focal {
@@ -96,14 +96,6 @@ impl Focal {
     {
         self.go_to_line_00(start);
         self.returns.clear();
-    }
-
-    /// No search is kept any more.
-    pub(crate) fn forget_labels(&mut self)
-        ensures state { self.new.state ≡ self.old.state }
-        ensures labels { self.new.labels ≡ [] }
-    {
-        self.labels.forget();
     }
 
     /// Where the local label stands that a position finds: in memory a kept answer, else what the search finds, which is then kept; in

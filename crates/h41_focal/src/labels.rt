@@ -3,9 +3,8 @@
 ghost use Rattle.std.specs.Prelude.{◌≡◌, ℕ, IsTrue, Some};
 ghost use Rattle.h41_focal.specs.LabelSearches.{local_search};
 ghost use Rattle.h41_focal.specs.LabelledMachine.{Keeps, machine_of};
-ghost use Rattle.h41_focal.specs.private.Arrivals.{ReturnsFrom, answer_at, focal_at, from_of};
+ghost use Rattle.h41_focal.specs.private.Arrivals.{ReturnsFrom, answer_at, focal_at};
 ghost use Rattle.h41_focal.specs.private.Carrying.{GoesBack, GoesToLabel, GoesToName};
-ghost use Rattle.h41_focal.specs.Destinations.{with_return};
 ghost use Rattle.h41_focal.specs.private.Searching.{AsksFrom};
 ghost use Rattle.h41_labels.specs.KeptAnswers.{IsRight};
 ghost use Rattle.h41_labels.specs.declared.search.Search.TheVariants.{Global};
@@ -15,7 +14,7 @@ ghost use Rattle.h41_ram.specs.RegisterMap.{is_sound};
 ghost use Rattle.h41_rows.specs.RowMarks.{LeavesMark};
 
 use crate::course::fail;
-use crate::focal::{Focal, RETURNS};
+use crate::focal::Focal;
 use crate::machine::Machine;
 use crate::origin::Origin;
 use crate::outcome::BriefOutcome;
@@ -25,7 +24,8 @@ use h41_pages::Pages;
 use h41_positions::{Position, start_of};
 use h41_rows::LineFault;
 
-/// A line goes to a local label; `NONEXISTENT` where it stands nowhere in the program.
+/// A line goes to a local label, looked for behind a line of the program, and from the position on for a typed one; `NONEXISTENT`
+/// where it stands nowhere in the program.
 #[inline(always)]
 pub fn to_label<const REGS: usize>(
     machine: &mut Machine<REGS>,
@@ -43,20 +43,13 @@ pub fn to_label<const REGS: usize>(
     ensures mark { KeepsMark machine.old.ram machine.new.ram }
     ensures left { LeavesMark machine.old.ram machine.new.ram }
 {
-    let from = searched_from(&machine.focal, origin);
+    let from = match origin {
+        Origin::Program(next) => next,
+        Origin::Typed => machine.focal.position,
+    };
     match machine.focal.local(&machine.ram, pages, from, label) {
         Some(position) => arrive(&mut machine.focal, origin, branch, position),
         None => fail(machine, origin, LineFault::Nonexistent),
-    }
-}
-
-/// Where the search for a local label begins: behind a line of the program, at the position for a typed one.
-fn searched_from(focal: &Focal, origin: Origin) -> Position
-    ensures { result ≡ from_of origin focal.now.state.position }
-{
-    match origin {
-        Origin::Program(next) => next,
-        Origin::Typed => focal.position,
     }
 }
 
@@ -85,7 +78,8 @@ pub fn to_name<const REGS: usize>(
     }
 }
 
-/// The label was found. XEQ returns to the next line; typed, it has the program run, with nowhere to return to.
+/// The label was found. XEQ returns to the next line, and a seventh position to return to loses the oldest; typed, it has the
+/// program run, with nowhere to return to.
 #[inline(always)]
 pub fn arrive(focal: &mut Focal, origin: Origin, branch: Branch, position: Position) -> BriefOutcome
     ensures state { focal.new.state ≡ focal_at origin branch position focal.old.state }
@@ -96,25 +90,20 @@ pub fn arrive(focal: &mut Focal, origin: Origin, branch: Branch, position: Posit
     match (branch, origin) {
         (Branch::GoTo, _) => BriefOutcome::Done,
         (Branch::Execute, Origin::Program(next)) => {
-            push_return(&mut focal.returns, next);
+            match focal.returns.as_slice() {
+                [_, second, third, fourth, fifth, sixth] => {
+                    focal.returns = ArrayVec::from([
+                        *second, *third, *fourth, *fifth, *sixth, next,
+                    ]);
+                }
+                _ => focal.returns.push(next),
+            }
             BriefOutcome::Done
         }
         (Branch::Execute, Origin::Typed) => {
             focal.returns.clear();
             BriefOutcome::Runs
         }
-    }
-}
-
-/// A position to return to; a seventh loses the oldest.
-fn push_return(returns: &mut ArrayVec<Position, RETURNS>, position: Position)
-    ensures { returns.new.items ≡ with_return returns.old.items position }
-{
-    match returns.as_slice() {
-        [_, second, third, fourth, fifth, sixth] => {
-            *returns = ArrayVec::from([*second, *third, *fourth, *fifth, *sixth, position]);
-        }
-        _ => returns.push(position),
     }
 }
 
@@ -125,7 +114,8 @@ pub fn go_back<const REGS: usize>(
     origin: Origin,
 ) -> BriefOutcome
     requires { IsTrue (is_sound machine.old.ram.registers) }
-    ensures done { GoesBack pages.now origin (machine_of machine.old) (machine_of machine.new) result }
+    ensures done { GoesBack pages.now origin
+        (machine_of machine.old) (machine_of machine.new) result }
     ensures keeps { Keeps machine.old machine.new }
     ensures left { LeavesMark machine.old.ram machine.new.ram }
 {

@@ -131,8 +131,8 @@ fn named<const REGS: usize>(
 ) -> Result<BriefOutcome, FocalRefusal>
     requires sound { IsTrue (is_sound machine.old.ram.registers) }
     requires right { IsRight machine.old.focal.labels machine.old.ram.registers }
-    ensures taken { (pages : PageMap) → TakesNamed pages origin function name (machine_of machine.old)
-        (machine_of machine.new) result }
+    ensures taken { (pages : PageMap) → TakesNamed pages origin function name
+        (machine_of machine.old) (machine_of machine.new) result }
     ensures unchanged { OnErr result (machine.new ≡ machine.old) }
     ensures kept { AsksOf origin (Named function name) machine.old machine.new }
     ensures mark { KeepsMark machine.old.ram machine.new.ram }
@@ -153,8 +153,8 @@ pub fn short<const REGS: usize>(
     function: RegisterFunction,
     register: ShortRegister,
 ) -> Result<BriefOutcome, FocalRefusal>
-    ensures taken { (pages : PageMap) → TakesShort pages origin function register (machine_of machine.old)
-        (machine_of machine.new) result }
+    ensures taken { (pages : PageMap) → TakesShort pages origin function register
+        (machine_of machine.old) (machine_of machine.new) result }
     ensures unchanged { OnErr result (machine.new ≡ machine.old) }
     ensures keeps { Keeps machine.old machine.new }
     ensures left { LeavesMark machine.old.ram machine.new.ram }

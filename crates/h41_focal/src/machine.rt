@@ -73,7 +73,7 @@ impl<const REGS: usize> Machine<REGS> {
         ensures right { IsRight self.new.focal.labels self.new.ram.registers }
     {
         if self.ram.program_touched() {
-            self.focal.forget_labels();
+            self.focal.labels.forget();
             self.ram.clear_touched();
         }
     }
@@ -158,7 +158,8 @@ impl<const REGS: usize> Machine<REGS> {
         function: Function,
     ) -> Result<LineOutcome, FocalRefusal>
         requires { AreRight self.old }
-        ensures line { Steps pages.now (Some function) (machine_of self.old) (machine_of self.new) result }
+        ensures line { Steps pages.now (Some function)
+            (machine_of self.old) (machine_of self.new) result }
         ensures unchanged { OnErr result (machine_of self.new ≡ machine_of self.old) }
         ensures kept { StepKeeps pages.now (Some function) self.old self.new }
         ensures mark { KeepsMark (begun_ram self.old.ram) self.new.ram }
@@ -219,13 +220,9 @@ impl<const REGS: usize> Machine<REGS> {
     {
         let (line, next) = standing(self, pages)?;
         go_behind(&mut self.focal, &line, next);
+        let origin = Origin::Program(next);
         let start = Position::Page(address);
-        arrive(
-            &mut self.focal,
-            Origin::Program(next),
-            Branch::Execute,
-            start,
-        );
+        arrive(&mut self.focal, origin, Branch::Execute, start);
         Ok(())
     }
 

@@ -105,8 +105,8 @@ fn with_digits<const REGS: usize>(
     operand: &Operand,
 ) -> Result<BriefOutcome, FocalRefusal>
     requires { is_operand_left_out operand.now ≡ false }
-    ensures used { (pages : PageMap) → UsesDigits pages origin taken operand.now (machine_of machine.old)
-        (machine_of machine.new) result }
+    ensures used { (pages : PageMap) → UsesDigits pages origin taken operand.now
+        (machine_of machine.old) (machine_of machine.new) result }
     ensures unchanged { OnErr result (machine.new ≡ machine.old) }
     ensures keeps { Keeps machine.old machine.new }
     ensures left { LeavesMark machine.old.ram machine.new.ram }

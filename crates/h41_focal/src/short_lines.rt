@@ -46,7 +46,8 @@ pub fn short_standing<const REGS: usize>(
     short_line(ram, pages, focal.position)
 }
 
-/// The number of the number line that stands at the position, and the position of the next, where it is read in one pass. `None` also in pages.
+/// The number of the number line that stands at the position, and the position of the next, where it is read in one pass; `None` also
+/// in pages.
 #[inline(always)]
 pub fn number_standing<const REGS: usize>(machine: &Machine<REGS>) -> Option<(Ten, Position)>
     ensures { IfSome result (λ found. (pages : PageMap)

@@ -60,6 +60,7 @@ pub fn line_at(code: &[u8], at: u16) -> Result<ListedLine, ProgramRefusal>
 
 /// The offset of the line behind the first from an offset on, or that behind this one where no line follows or it ends its program. 14
 /// where there is no first.
+#[inline(never)]
 pub fn next(code: &[u8], at: u16) -> Result<u16, ProgramRefusal>
     requires { length code.now ≤ 4096 }
     ensures { AnswersOffset code.now at result }

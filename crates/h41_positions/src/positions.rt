@@ -148,6 +148,7 @@ pub fn short_line<const REGS: usize>(
 /// Where the program of a position begins: in memory behind the last END whose first byte is before the position, or at 0, `.END.`
 /// being no END here; in a page at the first function in keystroke code from which the lines reach the position's, or at the position
 /// itself.
+#[inline(never)]
 pub fn start_of<const REGS: usize>(ram: &Ram<REGS>, pages: &Pages, at: Position) -> Position
     requires { IsTrue (is_sound ram.now.registers) }
     ensures { StartOf pages.now ram.now.registers at result }
@@ -166,6 +167,7 @@ pub fn start_of<const REGS: usize>(ram: &Ram<REGS>, pages: &Pages, at: Position)
 }
 
 /// Where the `LBL n` stands that a position finds: the first from there to the END, else the first of its program.
+#[inline(never)]
 pub fn local<const REGS: usize>(
     ram: &Ram<REGS>,
     pages: &Pages,

@@ -78,7 +78,9 @@ module _ (one : OneLine) (ends : Line → Bool) (bytes : List ℕ) (final : ℕ)
 
 pub lists_determined : OneLine → ListsAreDetermined
 lists_determined one memory at lines others from again = elim (cases_Bool (is_sound memory)) [
-  | inl sound ↦ read_determined one is_final_end (program_bytes memory) (final_position memory) at lines others (from.sound sound) (again.sound sound)
+  | inl sound ↦
+      read_determined one is_final_end (program_bytes memory) (final_position memory) at lines others (from.sound sound)
+      (again.sound sound)
   | inr lost ↦ from.lost lost ∙ sym (again.lost lost)
 ]
 

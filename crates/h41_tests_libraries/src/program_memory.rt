@@ -7,9 +7,9 @@ ghost use Rattle.h41_ram.specs.RegisterMap.{is_sound};
 use h41_codes::{Function, Line, RegisterFunction, ShortRegister, decode};
 use h41_digits::Reg;
 use h41_program::{
-    InFront, ListedLine, Position, ProgramRefusal, close_last, delete, end_of, final_position,
-    first_from, global, insert, is_last_open, line_at, line_before, line_number, load, next,
-    replace, set_size, start_of,
+    InFront, ListedLine, ProgramRefusal, close_last, delete, end_of, final_position, first_from,
+    global, insert, is_last_open, line_at, line_before, line_number, load, next, replace, set_size,
+    start_of,
 };
 use h41_ram::Ram;
 
@@ -70,37 +70,11 @@ fn is_recall(listed: ListedLine, position: u16) -> bool {
 fn finds_recall(ram: &Ram<320>, at: u16, position: u16, behind: u16) -> bool
     requires { IsTrue (is_sound ram.now.registers) }
 {
-    match (line_at(ram, Position::Memory(at)), first_from(ram, at)) {
-        (Ok(placed), Some(found)) => {
-            placed.position == Position::Memory(position)
-                && placed.line == found.listed.line
-                && is_recall(found.listed, position)
-                && found.behind == behind
+    match (line_at(ram, at), first_from(ram, at)) {
+        (Ok(listed), Some(found)) => {
+            listed == found.listed && is_recall(found.listed, position) && found.behind == behind
         }
         _ => false,
-    }
-}
-
-/// The byte of a position.
-fn byte_of(position: Position) -> u16 {
-    match position {
-        Position::Memory(byte) => byte,
-    }
-}
-
-/// The byte of a position that was found.
-fn found_byte(found: Option<Position>) -> Option<u16> {
-    match found {
-        Some(position) => Some(byte_of(position)),
-        None => None,
-    }
-}
-
-/// The byte of a position, or its refusal.
-fn next_byte(next: Result<Position, ProgramRefusal>) -> Result<u16, ProgramRefusal> {
-    match next {
-        Ok(position) => Ok(byte_of(position)),
-        Err(refusal) => Err(refusal),
     }
 }
 
@@ -114,21 +88,17 @@ fn makes(ram: &mut Ram<320>, step: &Step) -> bool
         Step::Replace(at, bytes, answer) => replace(ram, *at, line(bytes)) == *answer,
         Step::Delete(at, answer) => delete(ram, *at) == *answer,
         Step::SetSize(size, answer) => set_size(ram, *size) == *answer,
-        Step::Next(at, answer) => next_byte(next(ram, Position::Memory(*at))) == *answer,
-        Step::StartOf(at, answer) => byte_of(start_of(ram, Position::Memory(*at))) == *answer,
+        Step::Next(at, answer) => next(ram, *at) == *answer,
+        Step::StartOf(at, answer) => start_of(ram, *at) == *answer,
         Step::Final(answer) => final_position(ram) == *answer,
         Step::Global(name, answer) => global(ram, name) == *answer,
-        Step::Number(at, answer) => line_number(ram, Position::Memory(*at)) == *answer,
-        Step::EndOf(at, answer) => found_byte(end_of(ram, Position::Memory(*at))) == *answer,
-        Step::Before(at, answer) => {
-            found_byte(line_before(ram, Position::Memory(*at))) == *answer
-        }
+        Step::Number(at, answer) => line_number(ram, *at) == *answer,
+        Step::EndOf(at, answer) => end_of(ram, *at) == *answer,
+        Step::Before(at, answer) => line_before(ram, *at) == *answer,
         Step::Open(answer) => is_last_open(ram) == *answer,
         Step::Close(answer) => close_last(ram) == *answer,
         Step::Recall(at, position, behind) => finds_recall(ram, *at, *position, *behind),
-        Step::SameLine(at, other) => {
-            line_at(ram, Position::Memory(*at)) == line_at(ram, Position::Memory(*other))
-        }
+        Step::SameLine(at, other) => line_at(ram, *at) == line_at(ram, *other),
         Step::Write(address, digits) => match Reg::from_u64(*digits) {
             Some(register) => {
                 ram.write(*address, register);

@@ -10,7 +10,8 @@ use Rattle.h41_pages.specs.PageMap.{PageMap}
 use Rattle.h41_ram.specs.RamState.{KeepsMark}
 
 -- the line at the position is carried out, but for the texts of its outcome
-pub record StepsMachine (pages : PageMap) (old new : LabelledMachine) (result : Result BriefOutcome FocalRefusal)
+pub record StepsMachine (pages : PageMap) (old new : LabelledMachine)
+    (result : Result BriefOutcome FocalRefusal)
     : Type 0 where
   pub line : StepsBriefly pages (machine_of old) (machine_of new) result
   pub unchanged : OnErr result (machine_of new ≡ machine_of old)

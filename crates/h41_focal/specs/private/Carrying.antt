@@ -95,7 +95,8 @@ Leaves origin row named old new brief =
     (pages : PageMap) → Applies pages (manner_of origin) row named old (Ok (ended new brief))
 
 -- the same of a line that may call what memory does not have
-abbrev pub LeavesCalling : PageMap → Answer → Origin → LineRow → ℕ → (old new : Machine) → BriefOutcome
+abbrev pub LeavesCalling : PageMap → Answer → Origin → LineRow → ℕ → (old new : Machine)
+    → BriefOutcome
     → Type 0
 LeavesCalling pages called origin row named old new brief =
     Applies pages (manner_of origin) row named old (Ok (briefly called new brief))
@@ -126,7 +127,8 @@ test_answer (Program next) holds = briefs.Done
 test_answer Typed holds = briefs.Answered holds
 
 -- a line was taken, or refused
-abbrev pub TakesAs : PageMap → Origin → Line → (old new : Machine) → Result LineOutcome FocalRefusal → Type 0
+abbrev pub TakesAs : PageMap → Origin → Line → (old new : Machine) → Result LineOutcome FocalRefusal
+    → Type 0
 TakesAs pages origin line old new result =
     TakesLine pages (manner_of origin) line old (carried_as new result)
 
@@ -139,7 +141,8 @@ TakesBriefly pages origin line old new result =
     TakesLine pages (manner_of origin) line old (briefly_as (called_by old.memory line) new result)
 
 -- a row was applied to what an operand means, of which this was found, or its fault
-abbrev pub CarriesFound : {A : Type 0} → PageMap → Origin → (A → LineRow) → (A → ℕ) → Result A LineFault
+abbrev pub CarriesFound : {A : Type 0} → PageMap → Origin → (A → LineRow) → (A → ℕ)
+    → Result A LineFault
     → (old new : Machine) → Result BriefOutcome FocalRefusal → Type 0
 CarriesFound pages origin row named (Ok found) old new result =
     CarriesRow pages origin (row found) (named found) old new result
@@ -214,7 +217,8 @@ abbrev pub GoesToLabel : PageMap → Origin → Branch → ℕ → (old new : Ma
 GoesToLabel pages origin branch label old new brief =
     (named : ℕ) → CarriesRow pages origin (to_label branch label) named old new (Ok brief)
 
-abbrev pub GoesToName : PageMap → Origin → Branch → List ℕ → (old new : Machine) → BriefOutcome → Type 0
+abbrev pub GoesToName : PageMap → Origin → Branch → List ℕ → (old new : Machine) → BriefOutcome
+    → Type 0
 GoesToName pages origin branch name old new brief =
     (named : ℕ)
     → LeavesCalling pages (answers.Seeks name) origin (to_name branch name) named old new brief
@@ -247,10 +251,12 @@ TakesBranch pages origin branch register old new result =
 
 -- a flag is asked, and cleared
 abbrev pub ClearsFlag : PageMap → Origin → Bool → ℕ → BriefCall
-ClearsFlag pages origin on flag old new result = CarriesFlag pages origin (AskAndClear on) flag old new result
+ClearsFlag pages origin on flag old new result =
+    CarriesFlag pages origin (AskAndClear on) flag old new result
 
 -- of a branch to what a register holds
-abbrev pub GoesToTarget : PageMap → Origin → Branch → BranchTarget → (old new : Machine) → BriefOutcome
+abbrev pub GoesToTarget : PageMap → Origin → Branch → BranchTarget → (old new : Machine)
+    → BriefOutcome
     → Type 0
 GoesToTarget pages origin branch target old new brief =
     (named : ℕ)

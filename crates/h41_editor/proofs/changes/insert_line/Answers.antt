@@ -9,17 +9,21 @@ returns-in_err-byte-in-Memory-clause-line g c =
     let refused = err_from_is_err_and c.from_residual-in_err-byte-in-Memory.result c.from_residual-in_err-byte-in-Memory.ensures.1 in
     let place = c.in_ok-before-in-Some.before in
     rw (refused.1, refused.2)
-    (insert_refused c.args.pages.now c.args.line _ (machine_of c.args.machine.now) c.insert.new.ram.registers c.in-Some.shown place c.in-Memory.before
+    (insert_refused c.args.pages.now c.args.line _ (machine_of c.args.machine.now) c.insert.new.ram.registers c.in-Some.shown place
+    c.in-Memory.before
     c.in_err-byte-in-Memory.field-0.0
-    (ap machine_of c.machine.view_is) c.in-Some.ensures c.in_ok-before-in-Some.ensures.place c.in-Memory.is c.in_err-byte-in-Memory.ensures.lines)
+    (ap machine_of c.machine.view_is) c.in-Some.ensures c.in_ok-before-in-Some.ensures.place c.in-Memory.is
+    c.in_err-byte-in-Memory.ensures.lines)
 
 pub returns-in_ok-byte-in-Memory-clause-line : goal.returns-in_ok-byte-in-Memory-clause-line
 returns-in_ok-byte-in-Memory-clause-line g c =
     let place = c.in_ok-before-in-Some.before in
-    line_inserted c.args.pages.now c.args.line _ (machine_of c.args.machine.now) c.insert.new.ram.registers c.show_line.new.focal.state c.in-Some.shown
+    line_inserted c.args.pages.now c.args.line _ (machine_of c.args.machine.now) c.insert.new.ram.registers c.show_line.new.focal.state
+    c.in-Some.shown
     place c.in-Memory.before
     c.in_ok-byte-in-Memory.byte
-    (ap machine_of c.machine.view_is) c.in-Some.ensures c.in_ok-before-in-Some.ensures.place c.in-Memory.is c.in_ok-byte-in-Memory.ensures.lines
+    (ap machine_of c.machine.view_is) c.in-Some.ensures c.in_ok-before-in-Some.ensures.place c.in-Memory.is
+    c.in_ok-byte-in-Memory.ensures.lines
     c.in_ok-byte-in-Memory.ensures.answer c.show_line.ensures.state
 
 pub returns-in-Page-clause-line : goal.returns-in-Page-clause-line

@@ -16,7 +16,8 @@ returns-in_err-byte-in-Memory-clause-line g c =
 
 pub returns-in_ok-byte-in-Memory-clause-line : goal.returns-in_ok-byte-in-Memory-clause-line
 returns-in_ok-byte-in-Memory-clause-line g c =
-    line_replaced c.args.line _ (machine_of c.args.machine.now) c.replace.new.ram.registers c.show_line.new.focal.state _ c.in_ok-byte-in-Memory.byte
+    line_replaced c.args.line _ (machine_of c.args.machine.now) c.replace.new.ram.registers c.show_line.new.focal.state _
+    c.in_ok-byte-in-Memory.byte
     (read_of _ _ _ _ _ (λ i. (c.machine-inside.view_is i).ram.registers) (λ i. (c.machine-inside.view_is i).focal.state)
     (ap machine_of c.machine.view_is))
     c.in-Memory.is c.in_ok-byte-in-Memory.ensures.lines c.in_ok-byte-in-Memory.ensures.answer c.show_line.ensures.state

@@ -16,5 +16,6 @@ returns-clause-line g c =
 pub returns-clause-kept : goal.returns-clause-kept
 returns-clause-kept g c =
     let kept = c.step_as-result.ensures.kept in
-    subst (λ (machine : LabelledMachine). StepKeeps c.args.pages.now (Some c.args.function) (labelled_with c.args.ram.now c.args.focal.now) machine)
+    subst (λ (machine : LabelledMachine). StepKeeps c.args.pages.now (Some c.args.function) (labelled_with c.args.ram.now c.args.focal.now)
+    machine)
     (sym c.part.ensures) (rw (c.take.ensures.taken, c.replace.ensures.value) at kept)

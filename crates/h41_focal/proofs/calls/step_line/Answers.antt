@@ -9,7 +9,8 @@ pub returns-clause-line : goal.returns-clause-line
 returns-clause-line g c =
     let line = c.step-result.ensures.line in
     subst
-    (λ (machine : Machine). Steps c.args.pages.now None (machine_with c.args.ram.now.registers c.args.focal.now.state) machine c.step-result.result)
+    (λ (machine : Machine). Steps c.args.pages.now None (machine_with c.args.ram.now.registers c.args.focal.now.state) machine
+    c.step-result.result)
     (sym (ap machine_of c.part.ensures)) (rw (c.take.ensures.taken, c.replace.ensures.value) at line)
 
 pub returns-clause-kept : goal.returns-clause-kept

@@ -15,7 +15,8 @@ returns-in_err-brief-clause-taken g c =
 pub outcome_of-requires : goal.outcome_of-requires
 outcome_of-requires g c = (
   search rules,
-  taken_is_held c.args.pages.now c.args.origin c.args.line.now (machine_of c.args.machine.now) (machine_of c.carry_briefly.new.machine) c.in_ok-brief.brief
+  taken_is_held c.args.pages.now c.args.origin c.args.line.now (machine_of c.args.machine.now) (machine_of c.carry_briefly.new.machine)
+      c.in_ok-brief.brief
       c.in_ok-brief.ensures.taken,
 )
 

@@ -1,4 +1,4 @@
-use Rattle.std.proofs.Common.{Ok, refl, subst, sym, ◌∙◌}
+use Rattle.std.proofs.Common.{Ok, subst, sym, ◌∙◌}
 use Rattle.h41_codes.specs.declared.functions.RegisterFunction.TheVariants.{RecallRegister, StoreRegister}
 use Rattle.h41_focal.proofs.Apart.{IsAt, data_found}
 use Rattle.h41_focal.proofs.LinesTaken.{short_taken}

@@ -6,8 +6,12 @@ returns-clause-each c = PositionsFound.each c.one_list.ensures c.each_is_listed.
 
 pub returns-clause-read : goal.returns-clause-read
 returns-clause-read c = record {
-  line = PositionsFound.line c.lists_are_determined.ensures.first c.lists_are_determined.ensures.read c.searches_are_determined.ensures.line;
-  next = PositionsFound.next c.lists_are_determined.ensures.first c.lists_are_determined.ensures.read c.searches_are_determined.ensures.next;
+  line =
+      PositionsFound.line c.lists_are_determined.ensures.first c.lists_are_determined.ensures.read
+      c.searches_are_determined.ensures.line;
+  next =
+      PositionsFound.next c.lists_are_determined.ensures.first c.lists_are_determined.ensures.read
+      c.searches_are_determined.ensures.next;
 }
 
 pub returns-clause-onward : goal.returns-clause-onward

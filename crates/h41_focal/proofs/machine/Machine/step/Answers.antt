@@ -11,7 +11,8 @@ pub returns-in_err-line-clause-line : goal.returns-in_err-line-clause-line
 returns-in_err-line-clause-line g c =
     let refused = err_from_is_err_and c.from_residual.result c.from_residual.ensures.1 in
     rw (refused.1, refused.2)
-    (subst (λ (machine : Machine). StepsLine c.args.pages.now None machine (Err c.in_err-line.field-0.0)) (ap machine_of c.begin.ensures.begun)
+    (subst (λ (machine : Machine). StepsLine c.args.pages.now None machine (Err c.in_err-line.field-0.0))
+    (ap machine_of c.begin.ensures.begun)
     (Err c.in_err-line.field-0.0, c.in_err-line.ensures, refl))
 
 pub returns-in_err-line-clause-right : goal.returns-in_err-line-clause-right

@@ -18,7 +18,8 @@ returns-in_err-next-clause-right g c = λ clear. c.begin.ensures.right
 
 pub returns-clause-line : goal.returns-clause-line
 returns-clause-line g c =
-    subst (λ (machine : Machine). Steps c.args.pages.now (Some c.args.function) machine (machine_of c.carry_out.new.machine) c.carry_out.result)
+    subst (λ (machine : Machine). Steps c.args.pages.now (Some c.args.function) machine (machine_of c.carry_out.new.machine)
+    c.carry_out.result)
     (ap machine_of c.begin.ensures.begun)
     (Ok (c.in_ok-next.field-0-0, c.in_ok-next.next), c.in_ok-next.ensures, c.carry_out.ensures.taken)
 

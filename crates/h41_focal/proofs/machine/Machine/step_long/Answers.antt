@@ -16,7 +16,8 @@ returns-in-Some g c =
     let done = c.number_line.ensures.done found.0 (c.number_register-register.ensures found.0 found.2) 0 c.args.pages.now in
     record {
       line =
-          subst (λ (machine : Machine). StepsBriefly c.args.pages.now machine (machine_of c.number_line.new.machine) (Ok c.number_line.result))
+          subst (λ (machine : Machine). StepsBriefly c.args.pages.now machine (machine_of c.number_line.new.machine)
+          (Ok c.number_line.result))
           (ap machine_of begun.ensures.begun) (
             called_by begun.new.self.ram.registers (Number found.0),
             calls_elsewhere begun.new.self.ram.registers (Number found.0),

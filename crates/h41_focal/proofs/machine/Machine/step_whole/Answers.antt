@@ -16,7 +16,8 @@ returns-in_err-line g c =
       line = (
         nowhere,
         refl,
-        subst (λ (machine : Machine). StepsLine c.args.pages.now None machine (Err c.in_err-line.field-0.0)) (ap machine_of c.begin.ensures.begun)
+        subst (λ (machine : Machine). StepsLine c.args.pages.now None machine (Err c.in_err-line.field-0.0))
+            (ap machine_of c.begin.ensures.begun)
             (Err c.in_err-line.field-0.0, c.in_err-line.ensures, refl),
       );
       unchanged = search rules;

@@ -91,7 +91,8 @@ module _ (positions : IsReadOnce) (same_last : AnswersAreDetermined (Result Bool
 
   same_flags : (s : CalculatorState) (a b : Flags) → HasFlags s a → HasFlags s b → a ≡ b
   same_flags s a b (p, p_place, a_is) (q, q_place, b_is) =
-      a_is ∙ ap (λ (place : Place). flags_at place s) (same_place s.nut.pages (machine_of s) s.focal.position p q p_place q_place) ∙ sym b_is
+      a_is ∙ ap (λ (place : Place). flags_at place s) (same_place s.nut.pages (machine_of s) s.focal.position p q p_place q_place)
+      ∙ sym b_is
 
 module _ (same_step : StepIsDetermined) (same_typing : TypedIsDetermined) (same_failure : FailureIsDetermined)
     (same_passing : PassingIsDetermined) (same_entering : EnteringIsDetermined) (one_line : OneLineOfText) where

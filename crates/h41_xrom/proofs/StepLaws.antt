@@ -80,7 +80,8 @@ module _ (same_step : StepIsDetermined) (same_typing : TypedIsDetermined) (same_
       p_is ∙ ap entered (same_entering pages address machine p q p_enters q_enters) ∙ sym q_is
   same_entered (sources.Keys line) pages address machine a b p q = p ∙ sym q
 
-  same_begun : (keystroke : Bool) (source : LineSource) (pages : PageMap) (address : ℕ) (machine : Machine) (a b : Result Ended FocalRefusal)
+  same_begun : (keystroke : Bool) (source : LineSource) (pages : PageMap) (address : ℕ) (machine : Machine)
+      (a b : Result Ended FocalRefusal)
       → MatchBool keystroke (EntersFrom source pages address machine a) (Begun source pages address machine a)
       → MatchBool keystroke (EntersFrom source pages address machine b) (Begun source pages address machine b) → a ≡ b
   same_begun true source pages address machine a b p q = same_entered source pages address machine a b p q

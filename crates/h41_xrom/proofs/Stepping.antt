@@ -71,7 +71,8 @@ carried_briefly called from s new brief is steps here =
     (Ok (briefly called new brief), steps, goes_on_briefly called from.nut.pages (machine_of from) new brief here)
 
 pub brief_accepted : (called : Answer) (from s : CalculatorState) (new : Machine) (brief : BriefOutcome)
-    → from ≡ s → StepsLine from.nut.pages None (machine_of from) (Ok (briefly called new brief)) → (brief ≡ briefs.Elsewhere → ⊥) → RefusesLine s None
+    → from ≡ s → StepsLine from.nut.pages None (machine_of from) (Ok (briefly called new brief)) → (brief ≡ briefs.Elsewhere → ⊥)
+    → RefusesLine s None
 brief_accepted called from s new brief is steps here =
     (Ok (Answers (briefly called new brief)), carried_briefly called from s new brief is steps here, refl)
 

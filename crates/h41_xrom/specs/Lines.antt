@@ -76,9 +76,8 @@ Fails source pages machine ended =
     × FailsFrom source pages machine left
     × (ended ≡ end_of_answer left)
 
--- a module's program is called like one of memory: the position is where it begins, with the next
--- line to return to, and nothing else begins or stops to run; a typed line has it run, with nothing
--- to return to
+-- a module's program is called like one of memory: on where it begins, with the next line to return
+-- to, and the mode stays; a typed line has it run, with nothing to return to
 abbrev pub EntersFrom : LineSource → PageMap → ℕ → Machine → Result Ended FocalRefusal → Type 0
 EntersFrom sources.Program pages address machine ended =
     (after : Result Machine FocalRefusal)

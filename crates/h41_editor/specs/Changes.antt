@@ -1,5 +1,5 @@
 -- Lines that are typed in program mode: inserted behind the shown line, put in its place, and taken
--- away. Each change shows the new line, or the one before, and leaves nothing to return to. Where
+-- away, in memory alone: in a page each is 14. Each change shows the new line, or the one before, and leaves nothing to return to. Where
 -- lines come, and what BACK does at line 00 and .END., is this project's choice but for what the
 -- Owner's Handbook shows.
 use Rattle.std.specs.Prelude.{◌≡◌, ℕ, [], MatchBool, Option, Some, None, Result, Ok, Err}
@@ -8,15 +8,16 @@ use Rattle.h41_editor.specs.Moves.{is_last}
 use Rattle.h41_editor.specs.NumberedLines.{HasNumbered}
 use Rattle.h41_editor.specs.declared.numbered.NumberedLine.{NumberedLine}
 use Rattle.h41_focal.specs.LineStep.{FocalState, Machine, at_position, halted_at}
+use Rattle.h41_pages.specs.PageMap.{PageMap}
 use Rattle.h41_program.specs.Edits.{EditGives, StandsBefore, StandsNew, with_inserted}
 use Rattle.h41_program.specs.Edits.{with_replaced, without_deleted}
 use Rattle.h41_program.specs.Lines.{is_final_end}
-use Rattle.h41_program.specs.Positions.{LineAt, NextAt, StartOf}
+use Rattle.h41_positions.specs.Positions.{LineAt, NextAt, StartOf}
 use Rattle.h41_program.specs.declared.editing.InFront.{InFront}
 use Rattle.h41_program.specs.declared.editing.InFront.TheVariants as fronts
-use Rattle.h41_program.specs.declared.position.PlacedLine.{PlacedLine}
-use Rattle.h41_program.specs.declared.position.Position.{Position}
-use Rattle.h41_program.specs.declared.position.Position.TheVariants.{Memory}
+use Rattle.h41_positions.specs.declared.position.PlacedLine.{PlacedLine}
+use Rattle.h41_positions.specs.declared.position.Position.{Position}
+use Rattle.h41_positions.specs.declared.position.Position.TheVariants.{Memory, Page}
 use Rattle.h41_program.specs.declared.refusal.ProgramRefusal.{ProgramRefusal}
 use Rattle.h41_program.specs.declared.refusal.ProgramRefusal.TheVariants.{BrokenProgram}
 use Rattle.h41_ram.specs.RegisterMap.{RegisterMap}
@@ -49,32 +50,33 @@ ShowsNew machine at (Err refusal) made = made ≡ Err refusal
 
 -- where a line is inserted: at line 00 in front of the program's first line, in front of an END or
 -- .END. that is shown, and else behind the shown line
-abbrev pub InsertsAt : Machine → PlacedLine → Position → Type 0
-InsertsAt machine shown before =
-    MatchBool machine.focal.at_line_00 (StartOf machine.memory machine.focal.position before)
+abbrev pub InsertsAt : PageMap → Machine → PlacedLine → Position → Type 0
+InsertsAt pages machine shown before =
+    MatchBool machine.focal.at_line_00 (StartOf pages machine.memory machine.focal.position before)
     (MatchBool (is_last shown) (before ≡ shown.position)
-    (NextAt machine.memory machine.focal.position (Ok before)))
+    (NextAt pages machine.memory machine.focal.position (Ok before)))
 
 abbrev pub InsertsBefore : Line → Machine → Position → Result Machine ProgramRefusal → Type 0
 InsertsBefore line machine (Memory before) made =
     (changed : Changed)
     × EditGives machine.memory (with_inserted line) before changed
     × ShowsNew machine before changed made
+InsertsBefore line machine (Page address) made = made ≡ Err BrokenProgram
 
 -- 14 where the position's program has no line there, at line 00 too, and where the list of lines
 -- does not reach .END.; 16 where there is no room
-abbrev pub InsertsBy : Line → Machine → Option NumberedLine → Result Machine ProgramRefusal → Type 0
-InsertsBy line machine (Some numbered) made =
+abbrev pub InsertsBy : PageMap → Line → Machine → Option NumberedLine → Result Machine ProgramRefusal → Type 0
+InsertsBy pages line machine (Some numbered) made =
     (before : Position)
-    × InsertsAt machine numbered.placed before
+    × InsertsAt pages machine numbered.placed before
     × InsertsBefore line machine before made
-InsertsBy line machine None made = made ≡ Err BrokenProgram
+InsertsBy pages line machine None made = made ≡ Err BrokenProgram
 
-abbrev pub Inserts : Line → Machine → Result Machine ProgramRefusal → Type 0
-Inserts line machine made =
+abbrev pub Inserts : PageMap → Line → Machine → Result Machine ProgramRefusal → Type 0
+Inserts pages line machine made =
     (numbered : Option NumberedLine)
-    × HasNumbered machine.memory machine.focal.position numbered
-    × InsertsBy line machine numbered made
+    × HasNumbered pages machine.memory machine.focal.position numbered
+    × InsertsBy pages line machine numbered made
 
 -- a line comes in the place of the shown one
 abbrev pub ReplacesAt : Line → Machine → Position → Result Machine ProgramRefusal → Type 0
@@ -82,6 +84,7 @@ ReplacesAt line machine (Memory at) made =
     (changed : Changed)
     × EditGives machine.memory (with_replaced line) at changed
     × ShowsNew machine at changed made
+ReplacesAt line machine (Page address) made = made ≡ Err BrokenProgram
 
 abbrev pub Replaces : Line → Machine → Result Machine ProgramRefusal → Type 0
 Replaces line machine made = ReplacesAt line machine machine.focal.position made
@@ -104,6 +107,7 @@ DeletesAt machine (Memory at) made =
     (changed : Changed)
     × EditGives machine.memory without_deleted at changed
     × ShowsFront machine at changed made
+DeletesAt machine (Page address) made = made ≡ Err BrokenProgram
 
 -- BACK: the shown line goes; line 00 and .END. stay, whatever else stands in memory
 abbrev pub DeletesLine : Machine → Result PlacedLine ProgramRefusal → Result Machine ProgramRefusal
@@ -113,9 +117,9 @@ DeletesLine machine (Ok first) made =
     (DeletesAt machine machine.focal.position made)
 DeletesLine machine (Err refusal) made = made ≡ Err BrokenProgram
 
-abbrev pub Deletes : Machine → Result Machine ProgramRefusal → Type 0
-Deletes machine made =
+abbrev pub Deletes : PageMap → Machine → Result Machine ProgramRefusal → Type 0
+Deletes pages machine made =
     MatchBool machine.focal.at_line_00 (made ≡ Ok machine)
     ((first : Result PlacedLine ProgramRefusal)
-    × LineAt machine.memory machine.focal.position first
+    × LineAt pages machine.memory machine.focal.position first
     × DeletesLine machine first made)

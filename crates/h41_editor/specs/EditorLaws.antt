@@ -5,7 +5,8 @@ use Rattle.h41_codes.specs.declared.line.Line.{Line}
 use Rattle.h41_editor.specs.NumberedLines.{HasNumbered}
 use Rattle.h41_editor.specs.ProgramText.{ShowsProgram}
 use Rattle.h41_focal.specs.LineStep.{Machine}
-use Rattle.h41_program.specs.PositionLaws.{HasOneAnswer}
+use Rattle.h41_pages.specs.PageMap.{PageMap}
+use Rattle.h41_positions.specs.PositionLaws.{HasOneAnswer}
 use Rattle.h41_program.specs.declared.refusal.ProgramRefusal.{ProgramRefusal}
 
 -- what a key does has one outcome: what it leaves, or its refusal
@@ -25,5 +26,5 @@ NumberedIsDetermined = HasOneAnswer HasNumbered
 -- the display shows one text
 abbrev pub TextIsDetermined : Type 0
 TextIsDetermined =
-    (machine : Machine) (text other : List ℕ) → ShowsProgram machine text
-    → ShowsProgram machine other → text ≡ other
+    (pages : PageMap) (machine : Machine) (text other : List ℕ) → ShowsProgram pages machine text
+    → ShowsProgram pages machine other → text ≡ other

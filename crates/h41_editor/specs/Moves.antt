@@ -1,21 +1,23 @@
 -- What SST, BST and GTO . . do to the position. A position shows the line that it stands for, or
 -- line 00 of its program. That they keep the positions to return to, and what they refuse, is this
 -- project's choice.
-use Rattle.std.specs.Prelude.{◌≡◌, Bool, true, ◌||◌, List, [], MatchBool, Option, Some, None}
+use Rattle.std.specs.Prelude.{◌≡◌, ℕ, Bool, true, ◌||◌, List, [], MatchBool, Option, Some, None}
 use Rattle.std.specs.Prelude.{Result, Ok, Err}
 use Rattle.h41_editor.specs.NumberedLines.{HasNumbered}
 use Rattle.h41_editor.specs.declared.numbered.NumberedLine.{NumberedLine}
 use Rattle.h41_focal.specs.LineStep.{Machine, at_line_00, at_line}
+use Rattle.h41_pages.specs.PageMap.{PageMap}
 use Rattle.h41_program.specs.Edits.{before_end, close_behind}
 use Rattle.h41_program.specs.LastProgram.{open_in}
 use Rattle.h41_program.specs.Lines.{is_end, is_final_end}
 use Rattle.h41_program.specs.ProgramBytes.{final_position}
-use Rattle.h41_program.specs.Positions.{EndOf, LineAt, LineBefore, NextAt, StartOf}
-use Rattle.h41_program.specs.ProgramLines.{LinesFrom}
+use Rattle.h41_positions.specs.Positions.{EndOf, LineAt, LineBefore, NextAt, StartOf}
+use Rattle.h41_program.specs.ProgramLines.{AnswersOf, LinesFrom}
+use Rattle.h41_program.specs.Searches.{start_in}
 use Rattle.h41_program.specs.declared.listed_line.ListedLine.{ListedLine}
-use Rattle.h41_program.specs.declared.position.PlacedLine.{PlacedLine}
-use Rattle.h41_program.specs.declared.position.Position.{Position}
-use Rattle.h41_program.specs.declared.position.Position.TheVariants.{Memory}
+use Rattle.h41_positions.specs.declared.position.PlacedLine.{PlacedLine}
+use Rattle.h41_positions.specs.declared.position.Position.{Position}
+use Rattle.h41_positions.specs.declared.position.Position.TheVariants.{Memory}
 use Rattle.h41_program.specs.declared.refusal.ProgramRefusal.{ProgramRefusal}
 use Rattle.h41_program.specs.declared.refusal.ProgramRefusal.TheVariants.{BrokenProgram}
 use Rattle.h41_ram.specs.RegisterMap.{RegisterMap}
@@ -26,10 +28,10 @@ made_as machine (Ok done) = Ok machine
 made_as machine (Err refusal) = Err refusal
 
 -- to line 00 of the program of the position
-abbrev pub ShowsStart : Machine → Result Machine ProgramRefusal → Type 0
-ShowsStart machine moved =
+abbrev pub ShowsStart : PageMap → Machine → Result Machine ProgramRefusal → Type 0
+ShowsStart pages machine moved =
     (start : Position)
-    × StartOf machine.memory machine.focal.position start
+    × StartOf pages machine.memory machine.focal.position start
     × (moved ≡ Ok (record machine { focal = at_line_00 start machine.focal }))
 
 -- whether a line is the last of its program
@@ -39,21 +41,21 @@ is_last at_line = is_end at_line.line || is_final_end at_line.line
 -- SST: from line 00 to the line that the position stands for; from the last line of a program to
 -- its line 00 (this project's choice), from others to the next line, or to the byte behind where no
 -- line follows; 14 where the shown line cannot be read
-abbrev pub ShowsBehind : Machine → Result PlacedLine ProgramRefusal → Result Machine ProgramRefusal
+abbrev pub ShowsBehind : PageMap → Machine → Result PlacedLine ProgramRefusal → Result Machine ProgramRefusal
     → Type 0
-ShowsBehind machine (Ok first) moved =
-    MatchBool (is_last first) (ShowsStart machine moved)
+ShowsBehind pages machine (Ok first) moved =
+    MatchBool (is_last first) (ShowsStart pages machine moved)
     ((next : Position)
-    × NextAt machine.memory machine.focal.position (Ok next)
+    × NextAt pages machine.memory machine.focal.position (Ok next)
     × (moved ≡ Ok (at_line next machine)))
-ShowsBehind machine (Err refusal) moved = moved ≡ Err BrokenProgram
+ShowsBehind pages machine (Err refusal) moved = moved ≡ Err BrokenProgram
 
-abbrev pub ShowsNext : Machine → Result Machine ProgramRefusal → Type 0
-ShowsNext machine moved =
+abbrev pub ShowsNext : PageMap → Machine → Result Machine ProgramRefusal → Type 0
+ShowsNext pages machine moved =
     MatchBool machine.focal.at_line_00 (moved ≡ Ok (at_line machine.focal.position machine))
     ((first : Result PlacedLine ProgramRefusal)
-    × LineAt machine.memory machine.focal.position first
-    × ShowsBehind machine first moved)
+    × LineAt pages machine.memory machine.focal.position first
+    × ShowsBehind pages machine first moved)
 
 -- BST: from line 00 to the program's END or .END., from line 1 to line 00, from others to the line
 -- before; 14 where the position's program has no line there, and from line 00 where it has no end
@@ -61,33 +63,33 @@ abbrev pub shown_end : Machine → Option Position → Result Machine ProgramRef
 shown_end machine (Some position) = Ok (at_line position machine)
 shown_end machine None = Err BrokenProgram
 
-abbrev pub ShowsEnd : Machine → PlacedLine → Result Machine ProgramRefusal → Type 0
-ShowsEnd machine first moved =
+abbrev pub ShowsEnd : PageMap → Machine → PlacedLine → Result Machine ProgramRefusal → Type 0
+ShowsEnd pages machine first moved =
     (end : Option Position)
-    × EndOf machine.memory first.position end
+    × EndOf pages machine.memory first.position end
     × (moved ≡ shown_end machine end)
 
-abbrev pub ShowsAt : Machine → Option Position → Result Machine ProgramRefusal → Type 0
-ShowsAt machine (Some position) moved = moved ≡ Ok (at_line position machine)
-ShowsAt machine None moved = ShowsStart machine moved
+abbrev pub ShowsAt : PageMap → Machine → Option Position → Result Machine ProgramRefusal → Type 0
+ShowsAt pages machine (Some position) moved = moved ≡ Ok (at_line position machine)
+ShowsAt pages machine None moved = ShowsStart pages machine moved
 
-abbrev pub ShowsInFront : Machine → PlacedLine → Result Machine ProgramRefusal → Type 0
-ShowsInFront machine first moved =
+abbrev pub ShowsInFront : PageMap → Machine → PlacedLine → Result Machine ProgramRefusal → Type 0
+ShowsInFront pages machine first moved =
     (before : Option Position)
-    × LineBefore machine.memory first.position before
-    × ShowsAt machine before moved
+    × LineBefore pages machine.memory first.position before
+    × ShowsAt pages machine before moved
 
-abbrev pub ShowsBeforeLine : Machine → Option NumberedLine → Result Machine ProgramRefusal → Type 0
-ShowsBeforeLine machine (Some numbered) moved =
-    MatchBool machine.focal.at_line_00 (ShowsEnd machine numbered.placed moved)
-    (ShowsInFront machine numbered.placed moved)
-ShowsBeforeLine machine None moved = moved ≡ Err BrokenProgram
+abbrev pub ShowsBeforeLine : PageMap → Machine → Option NumberedLine → Result Machine ProgramRefusal → Type 0
+ShowsBeforeLine pages machine (Some numbered) moved =
+    MatchBool machine.focal.at_line_00 (ShowsEnd pages machine numbered.placed moved)
+    (ShowsInFront pages machine numbered.placed moved)
+ShowsBeforeLine pages machine None moved = moved ≡ Err BrokenProgram
 
-abbrev pub ShowsBefore : Machine → Result Machine ProgramRefusal → Type 0
-ShowsBefore machine moved =
+abbrev pub ShowsBefore : PageMap → Machine → Result Machine ProgramRefusal → Type 0
+ShowsBefore pages machine moved =
     (numbered : Option NumberedLine)
-    × HasNumbered machine.memory machine.focal.position numbered
-    × ShowsBeforeLine machine numbered moved
+    × HasNumbered pages machine.memory machine.focal.position numbered
+    × ShowsBeforeLine pages machine numbered moved
 
 -- GTO . .: an END comes behind the last program where it has lines and none, and then nothing is
 -- left to return to; to line 00 of the last program. 14 where the list of lines does not reach
@@ -99,10 +101,11 @@ returns_kept other returns = returns
 abbrev pub EndsBy : Machine → List ListedLine → Result (RegisterMap × Unit {0}) ProgramRefusal
     → Result Machine ProgramRefusal → Type 0
 EndsBy machine lines (Ok closed) moved =
-    (start : Position) × StartOf closed.0 (Memory (final_position closed.0)) start
+    (start : ℕ)
+    × AnswersOf (start_in (final_position closed.0)) closed.0 0 start
     × (moved ≡ Ok (record {
       memory = closed.0;
-      focal = record (at_line_00 start machine.focal) {
+      focal = record (at_line_00 (Memory start) machine.focal) {
         returns = returns_kept (open_in lines) machine.focal.returns;
       };
     }))

@@ -2,9 +2,10 @@
 use Rattle.std.specs.Prelude.{◌≡◌, ℕ, Option, None, Result, Ok, Err}
 use Rattle.std.specs.Option.{option_map}
 use Rattle.h41_editor.specs.declared.numbered.NumberedLine.{NumberedLine}
-use Rattle.h41_program.specs.Positions.{LineAt, NumberAt}
-use Rattle.h41_program.specs.declared.position.PlacedLine.{PlacedLine}
-use Rattle.h41_program.specs.declared.position.Position.{Position}
+use Rattle.h41_pages.specs.PageMap.{PageMap}
+use Rattle.h41_positions.specs.Positions.{LineAt, NumberAt}
+use Rattle.h41_positions.specs.declared.position.PlacedLine.{PlacedLine}
+use Rattle.h41_positions.specs.declared.position.Position.{Position}
 use Rattle.h41_program.specs.declared.refusal.ProgramRefusal.{ProgramRefusal}
 use Rattle.h41_ram.specs.RegisterMap.{RegisterMap}
 
@@ -14,14 +15,14 @@ with_number placed number = record { placed = placed; number = number }
 
 -- the first line from a position on is numbered in its program; none where no line can be read
 -- there, or its program has none there
-abbrev pub Numbers : RegisterMap → Result PlacedLine ProgramRefusal → Option NumberedLine → Type 0
-Numbers memory (Ok first) numbered =
-    (number : Option ℕ) × NumberAt memory first.position number
+abbrev pub Numbers : PageMap → RegisterMap → Result PlacedLine ProgramRefusal → Option NumberedLine → Type 0
+Numbers pages memory (Ok first) numbered =
+    (number : Option ℕ) × NumberAt pages memory first.position number
     × (numbered ≡ option_map (with_number first) number)
-Numbers memory (Err refusal) numbered = numbered ≡ None
+Numbers pages memory (Err refusal) numbered = numbered ≡ None
 
-abbrev pub HasNumbered : RegisterMap → Position → Option NumberedLine → Type 0
-HasNumbered memory at numbered =
+abbrev pub HasNumbered : PageMap → RegisterMap → Position → Option NumberedLine → Type 0
+HasNumbered pages memory at numbered =
     (first : Result PlacedLine ProgramRefusal)
-    × LineAt memory at first
-    × Numbers memory first numbered
+    × LineAt pages memory at first
+    × Numbers pages memory first numbered

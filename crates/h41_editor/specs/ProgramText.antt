@@ -6,6 +6,7 @@ use Rattle.std.specs.Fmt.{decimal}
 use Rattle.h41_editor.specs.NumberedLines.{HasNumbered}
 use Rattle.h41_editor.specs.declared.numbered.NumberedLine.{NumberedLine}
 use Rattle.h41_focal.specs.LineStep.{Machine}
+use Rattle.h41_pages.specs.PageMap.{PageMap}
 use Rattle.h41_ram.specs.RegisterMap.{RegisterMap, end_of, is_sound, main_start}
 use Rattle.h41_text.specs.LineText.{line_text}
 
@@ -30,16 +31,16 @@ text_of (Some numbered) = numbered_text numbered
 text_of None = unknown_text
 
 -- the line that a position stands for
-abbrev pub ShowsLine : Machine → List ℕ → Type 0
-ShowsLine machine text =
+abbrev pub ShowsLine : PageMap → Machine → List ℕ → Type 0
+ShowsLine pages machine text =
     (numbered : Option NumberedLine)
-    × HasNumbered machine.memory machine.focal.position numbered
+    × HasNumbered pages machine.memory machine.focal.position numbered
     × (text ≡ text_of numbered)
 
 -- line 00, or that line; nothing is known of memory that is not sound
-abbrev pub ShowsProgram : Machine → List ℕ → Type 0
-ShowsProgram machine text =
+abbrev pub ShowsProgram : PageMap → Machine → List ℕ → Type 0
+ShowsProgram pages machine text =
     MatchBool (is_sound machine.memory)
     (MatchBool machine.focal.at_line_00
-    (text ≡ line_00_text machine.memory) (ShowsLine machine text))
+    (text ≡ line_00_text machine.memory) (ShowsLine pages machine text))
     (text ≡ unknown_text)

@@ -4,8 +4,10 @@ ghost use Rattle.h41_editor.specs.Changes.{Deletes, Inserts, Replaces};
 ghost use Rattle.h41_editor.specs.EditorLaws.{ChangeIsDetermined, MoveIsDetermined};
 ghost use Rattle.h41_editor.specs.EditorLaws.{NumberedIsDetermined, TextIsDetermined};
 ghost use Rattle.h41_editor.specs.Moves.{GoesToEnd, ShowsBefore, ShowsNext};
+ghost use Rattle.h41_pages.specs.PageMap.{PageMap};
 
-use h41_program::laws::{edits_are_determined, lists_are_determined, positions_are_read};
+use h41_positions::laws::positions_are_read;
+use h41_program::laws::{edits_are_determined, lists_are_determined, searches_are_determined};
 
 /// A position stands for one line with one number, or for none.
 pub fn numbered_is_determined()
@@ -16,19 +18,20 @@ pub fn numbered_is_determined()
 
 /// SST, BST and `GTO . .` have one outcome each.
 pub fn moves_are_determined()
-    ensures next { MoveIsDetermined ShowsNext }
-    ensures before { MoveIsDetermined ShowsBefore }
+    ensures next { (pages : PageMap) → MoveIsDetermined (ShowsNext pages) }
+    ensures before { (pages : PageMap) → MoveIsDetermined (ShowsBefore pages) }
     ensures end { MoveIsDetermined GoesToEnd }
 {
     lists_are_determined();
+    searches_are_determined();
     positions_are_read();
 }
 
 /// A line that is inserted, one that comes in the place of another and BACK have one outcome each.
 pub fn changes_are_determined()
-    ensures insertion { ChangeIsDetermined Inserts }
+    ensures insertion { (pages : PageMap) → ChangeIsDetermined (Inserts pages) }
     ensures replacement { ChangeIsDetermined Replaces }
-    ensures deletion { MoveIsDetermined Deletes }
+    ensures deletion { (pages : PageMap) → MoveIsDetermined (Deletes pages) }
 {
     positions_are_read();
     edits_are_determined();

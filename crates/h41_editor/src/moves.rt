@@ -8,17 +8,19 @@ ghost use Rattle.h41_ram.specs.RegisterMap.{is_sound};
 
 use crate::numbered::numbered_line;
 use h41_focal::Machine;
+use h41_pages::Pages;
+use h41_positions::{PlacedLine, Position, end_of, line_at, line_before, next, start_of};
 use h41_program::laws::lists_are_determined;
-use h41_program::{
-    PlacedLine, Position, ProgramRefusal, close_last, end_of, final_position, is_end, is_final_end,
-    is_last_open, line_at, line_before, next, start_of,
-};
+use h41_program::{ProgramRefusal, close_last, final_position, is_end, is_final_end, is_last_open};
 
 /// `SST` in program mode shows the next line: from line 00 the line that the position stands for, from the last of a program its
 /// line 00. 14 where the shown line cannot be read; nothing is changed then.
-pub fn show_next<const REGS: usize>(machine: &mut Machine<REGS>) -> Result<(), ProgramRefusal>
+pub fn show_next<const REGS: usize>(
+    machine: &mut Machine<REGS>,
+    pages: &Pages,
+) -> Result<(), ProgramRefusal>
     requires { IsTrue (is_sound machine.old.ram.registers) }
-    ensures line { ShowsNext (machine_of machine.old) (made_as (machine_of machine.new) result) }
+    ensures line { ShowsNext pages.now (machine_of machine.old) (made_as (machine_of machine.new) result) }
     ensures unchanged { OnErr result (machine.new ≡ machine.old) }
     ensures keeps { Keeps machine.old machine.new }
 {
@@ -27,10 +29,10 @@ pub fn show_next<const REGS: usize>(machine: &mut Machine<REGS>) -> Result<(), P
         machine.focal.go_to(position);
         return Ok(());
     }
-    if is_last(&line_at(&machine.ram, position)?) {
-        show_start(machine);
+    if is_last(&line_at(&machine.ram, pages, position)?) {
+        show_start(machine, pages);
     } else {
-        let behind = next(&machine.ram, position)?;
+        let behind = next(&machine.ram, pages, position)?;
         machine.focal.go_to(behind);
     }
     Ok(())
@@ -38,22 +40,25 @@ pub fn show_next<const REGS: usize>(machine: &mut Machine<REGS>) -> Result<(), P
 
 /// `BST` shows the line before: from line 1 line 00, from line 00 the program's END or `.END.`. 14 where the program has no line
 /// at the position, and from line 00 where it has no end; nothing is changed then.
-pub fn show_before<const REGS: usize>(machine: &mut Machine<REGS>) -> Result<(), ProgramRefusal>
+pub fn show_before<const REGS: usize>(
+    machine: &mut Machine<REGS>,
+    pages: &Pages,
+) -> Result<(), ProgramRefusal>
     requires { IsTrue (is_sound machine.old.ram.registers) }
-    ensures line { ShowsBefore (machine_of machine.old) (made_as (machine_of machine.new) result) }
+    ensures line { ShowsBefore pages.now (machine_of machine.old) (made_as (machine_of machine.new) result) }
     ensures unchanged { OnErr result (machine.new ≡ machine.old) }
     ensures keeps { Keeps machine.old machine.new }
 {
-    let shown = match numbered_line(machine) {
+    let shown = match numbered_line(machine, pages) {
         Some(shown) => shown.placed,
         None => return Err(ProgramRefusal::BrokenProgram),
     };
     if machine.focal.is_at_line_00 {
-        return show_end(machine, &shown);
+        return show_end(machine, pages, &shown);
     }
-    match line_before(&machine.ram, shown.position) {
+    match line_before(&machine.ram, pages, shown.position) {
         Some(before) => machine.focal.go_to(before),
-        None => show_start(machine),
+        None => show_start(machine, pages),
     }
     Ok(())
 }
@@ -70,8 +75,8 @@ pub fn go_to_end<const REGS: usize>(machine: &mut Machine<REGS>) -> Result<(), P
     lists_are_determined();
     let open = is_last_open(&machine.ram)?;
     close_last(&mut machine.ram)?;
-    let end = Position::Memory(final_position(&machine.ram));
-    let start = start_of(&machine.ram, end);
+    let end = final_position(&machine.ram);
+    let start = Position::Memory(h41_program::start_of(&machine.ram, end));
     if open {
         machine.focal.halt_at(start);
     } else {
@@ -88,27 +93,28 @@ pub fn is_last(placed: &PlacedLine) -> bool
 }
 
 /// Line 00 of the position's program is shown.
-fn show_start<const REGS: usize>(machine: &mut Machine<REGS>)
+fn show_start<const REGS: usize>(machine: &mut Machine<REGS>, pages: &Pages)
     requires { IsTrue (is_sound machine.old.ram.registers) }
-    ensures done { ShowsStart (machine_of machine.old) (Ok (machine_of machine.new)) }
+    ensures done { ShowsStart pages.now (machine_of machine.old) (Ok (machine_of machine.new)) }
     ensures keeps { Keeps machine.old machine.new }
 {
-    let start = start_of(&machine.ram, machine.focal.position);
+    let start = start_of(&machine.ram, pages, machine.focal.position);
     machine.focal.go_to_line_00(start);
 }
 
 /// The end of the program is shown that a line is of.
 fn show_end<const REGS: usize>(
     machine: &mut Machine<REGS>,
+    pages: &Pages,
     shown: &PlacedLine,
 ) -> Result<(), ProgramRefusal>
     requires { IsTrue (is_sound machine.old.ram.registers) }
-    ensures line { ShowsEnd (machine_of machine.old) shown.now
+    ensures line { ShowsEnd pages.now (machine_of machine.old) shown.now
         (made_as (machine_of machine.new) result) }
     ensures unchanged { OnErr result (machine.new ≡ machine.old) }
     ensures keeps { Keeps machine.old machine.new }
 {
-    match end_of(&machine.ram, shown.position) {
+    match end_of(&machine.ram, pages, shown.position) {
         Some(end) => {
             machine.focal.go_to(end);
             Ok(())

@@ -5,7 +5,8 @@ ghost use Rattle.h41_editor.specs.NumberedLines.{HasNumbered};
 ghost use Rattle.h41_ram.specs.RegisterMap.{is_sound};
 
 use h41_focal::Machine;
-use h41_program::{PlacedLine, line_at, line_number};
+use h41_pages::Pages;
+use h41_positions::{PlacedLine, line_at, line_number};
 
 /// A line of a program with its number there.
 #[derive(Clone, Copy, Debug, PartialEq, Eq)]
@@ -18,13 +19,16 @@ pub struct NumberedLine {
 
 /// The line that the position stands for: the first from there on. `None` where no line can be read there, and where its program
 /// has none there, as within a line.
-pub fn numbered_line<const REGS: usize>(machine: &Machine<REGS>) -> Option<NumberedLine>
+pub fn numbered_line<const REGS: usize>(
+    machine: &Machine<REGS>,
+    pages: &Pages,
+) -> Option<NumberedLine>
     requires { IsTrue (is_sound machine.now.ram.registers) }
-    ensures { HasNumbered machine.now.ram.registers machine.now.focal.state.position result }
+    ensures { HasNumbered pages.now machine.now.ram.registers machine.now.focal.state.position result }
 {
-    match line_at(&machine.ram, machine.focal.position) {
+    match line_at(&machine.ram, pages, machine.focal.position) {
         Ok(placed) => {
-            let number = line_number(&machine.ram, placed.position)?;
+            let number = line_number(&machine.ram, pages, placed.position)?;
             Some(NumberedLine { placed, number })
         }
         Err(_) => None,

@@ -7,6 +7,7 @@ ghost use Rattle.h41_ram.specs.RegisterMap.{is_sound};
 use crate::numbered::{NumberedLine, numbered_line};
 use arrayvec::ArrayString;
 use h41_focal::Machine;
+use h41_pages::Pages;
 use h41_ram::Ram;
 use h41_text::write_line;
 use itoa::Buffer;
@@ -21,15 +22,16 @@ const MAIN_START: u16 = 0x0C0;
 /// registers that are left for programs; `?` where its program has no line there, and where memory is not sound.
 pub fn program_text<const REGS: usize>(
     machine: &Machine<REGS>,
+    pages: &Pages,
 ) -> ArrayString<PROGRAM_TEXT_CAPACITY>
-    ensures { spec.ShowsProgram (machine_of machine.now) result.bytes }
+    ensures { spec.ShowsProgram pages.now (machine_of machine.now) result.bytes }
 {
     if !machine.ram.is_sound() {
         unknown_text()
     } else if machine.focal.is_at_line_00 {
         line_00_text(&machine.ram)
     } else {
-        match numbered_line(machine) {
+        match numbered_line(machine, pages) {
             Some(numbered) => numbered_text(&numbered),
             None => unknown_text(),
         }

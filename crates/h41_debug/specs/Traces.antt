@@ -8,10 +8,10 @@ use Rattle.h41_dis.specs.Spelling.{piece_text}
 use Rattle.h41_nut.specs.Addresses.{address_after}
 use Rattle.h41_pages.specs.PageMap.{PageMap, fetched}
 use Rattle.h41_pages.specs.declared.refusal.FetchRefusal.{FetchRefusal}
-use Rattle.h41_program.specs.declared.position.PlacedLine.{PlacedLine}
-use Rattle.h41_program.specs.declared.position.Position.{Position}
+use Rattle.h41_positions.specs.declared.position.PlacedLine.{PlacedLine}
+use Rattle.h41_positions.specs.declared.position.Position.{Position}
 use Rattle.h41_program.specs.declared.refusal.ProgramRefusal.{ProgramRefusal}
-use Rattle.h41_program.specs.Positions.{LineAt}
+use Rattle.h41_positions.specs.Positions.{LineAt}
 use Rattle.h41_ram.specs.RegisterMap.{RegisterMap, is_sound}
 use Rattle.h41_text.specs.LineText.{line_text}
 use Rattle.h41_words.specs.WordTable.{length_of}

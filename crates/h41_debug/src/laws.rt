@@ -5,7 +5,7 @@ ghost use Rattle.h41_debug.specs.BenchLaws.{RunsAreDetermined, StatesAreTold, St
 ghost use Rattle.h41_debug.specs.BenchLaws.{StepsAreDetermined, StepsAreTraced};
 ghost use Rattle.h41_debug.specs.BenchLaws.{TracesAreDetermined, TracesAreSteps};
 
-use h41_program::laws::positions_are_read;
+use h41_positions::laws::positions_are_read;
 use h41_xrom::laws::{key_is_determined, step_is_determined};
 
 /// So many single steps are determined: whether one is refused, its refusal, and the state that they leave.

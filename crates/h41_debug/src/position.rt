@@ -7,11 +7,11 @@ use crate::bench::Bench;
 use arrayvec::ArrayString;
 use h41_breakpoints::Location;
 use h41_lines::characters::{address_digits, two_digits};
-use h41_program::Position;
+use h41_positions::Position;
 use h41_xrom::Mode;
 
 /// The most bytes of a position's text: `Micro`, a blank, and four digits.
-const CAPACITY: usize = 10;
+const CAPACITY: usize = 11;
 
 impl<const REGS: usize> Bench<REGS> {
     /// `Micro` and the address of the next word while a function runs, else `Run` or `Idle` and the position in program memory.
@@ -39,12 +39,26 @@ fn mode_name(mode: Mode) -> &'static str
 }
 
 /// The four digits of a location: those of an address, or the last four of a byte of program memory.
-fn location_digits(location: Location) -> ArrayString<4>
+fn location_digits(location: Location) -> ArrayString<5>
     ensures { result.bytes ≡ spec.location_digits location }
 {
     match location {
-        Location::Word(address) => address_digits(address),
-        Location::Line(Position::Memory(byte)) => byte_digits(byte),
+        Location::Word(address) => {
+            let mut text = ArrayString::new();
+            text.push_str(address_digits(address).as_str());
+            text
+        }
+        Location::Line(Position::Memory(byte)) => {
+            let mut text = ArrayString::new();
+            text.push_str(byte_digits(byte).as_str());
+            text
+        }
+        Location::Line(Position::Page(address)) => {
+            let mut text = ArrayString::new();
+            text.push_str("P");
+            text.push_str(address_digits(address).as_str());
+            text
+        }
     }
 }
 

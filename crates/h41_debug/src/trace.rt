@@ -9,7 +9,7 @@ use arrayvec::ArrayString;
 use h41_breakpoints::Location;
 use h41_dis::instruction;
 use h41_pages::{FetchRefusal, Pages};
-use h41_program::{Position, line_at};
+use h41_positions::{Position, line_at};
 use h41_ram::Ram;
 use h41_text::write_line;
 use h41_words::{Word, length};
@@ -18,8 +18,8 @@ use h41_xrom::Calculator;
 /// The most bytes of the text of an instruction or a line.
 const NEXT: usize = 51;
 
-/// The most bytes that a trace tells of a step: a position of 10, a blank, and what comes next.
-pub const TRACE_CAPACITY: usize = 62;
+/// The most bytes that a trace tells of a step: a position of 11, a blank, and what comes next.
+pub const TRACE_CAPACITY: usize = 63;
 
 /// What stands for an instruction or a line that cannot be read.
 const UNKNOWN: &str = "?";
@@ -47,12 +47,12 @@ fn text_at<const REGS: usize>(
 {
     match location {
         Location::Word(address) => instruction_text(calculator.pages(), address),
-        Location::Line(position) => line_text(calculator.ram(), position),
+        Location::Line(position) => line_text(calculator.ram(), calculator.pages(), position),
     }
 }
 
 /// The text of the line at a position.
-fn line_text<const REGS: usize>(ram: &Ram<REGS>, position: Position) -> ArrayString<NEXT>
+fn line_text<const REGS: usize>(ram: &Ram<REGS>, pages: &Pages, position: Position) -> ArrayString<NEXT>
     ensures { TellsLine ram.now.registers position result.bytes }
 {
     let mut text = ArrayString::new();
@@ -60,7 +60,7 @@ fn line_text<const REGS: usize>(ram: &Ram<REGS>, position: Position) -> ArrayStr
         text.push_str(UNKNOWN);
         return text;
     }
-    match line_at(ram, position) {
+    match line_at(ram, pages, position) {
         Ok(placed) => text.push_str(write_line(placed.line).as_str()),
         Err(_) => text.push_str(UNKNOWN),
     }

@@ -5,16 +5,18 @@ use Rattle.h41_editor.specs.Changes.{Changed, Deletes, Inserts, InsertsAt, Repla
 use Rattle.h41_editor.specs.NumberedLines.{HasNumbered}
 use Rattle.h41_editor.specs.declared.numbered.NumberedLine.{NumberedLine}
 use Rattle.h41_focal.specs.LineStep.{FocalState, Machine}
+use Rattle.h41_pages.specs.PageMap.{PageMap}
 use Rattle.h41_program.specs.Edits.{EditGives, Edits, StandsBefore, StandsNew, with_inserted, with_replaced, without_deleted}
 use Rattle.h41_program.specs.Lines.{is_final_end}
-use Rattle.h41_program.specs.Positions.{LineAt}
+use Rattle.h41_positions.specs.Positions.{LineAt}
 use Rattle.h41_program.specs.Rewriting.{HasOutcome}
 use Rattle.h41_program.specs.declared.editing.InFront.{InFront}
 use Rattle.h41_program.specs.declared.listed_line.ListedLine.{ListedLine}
-use Rattle.h41_program.specs.declared.position.PlacedLine.{PlacedLine}
-use Rattle.h41_program.specs.declared.position.Position.{Position}
-use Rattle.h41_program.specs.declared.position.Position.TheVariants.{Memory}
+use Rattle.h41_positions.specs.declared.position.PlacedLine.{PlacedLine}
+use Rattle.h41_positions.specs.declared.position.Position.{Position}
+use Rattle.h41_positions.specs.declared.position.Position.TheVariants.{Memory, Page}
 use Rattle.h41_program.specs.declared.refusal.ProgramRefusal.{ProgramRefusal}
+use Rattle.h41_program.specs.declared.refusal.ProgramRefusal.TheVariants.{BrokenProgram}
 use Rattle.h41_ram.specs.RegisterMap.{RegisterMap}
 
 -- a change that was made gave this memory
@@ -54,17 +56,17 @@ edit_refused memory new change at refusal edits = given_refused memory new chang
 
 -- a line is inserted
 pub line_inserted :
-    (line : Line) (from machine : Machine) (new : RegisterMap) (after : FocalState) (numbered : NumberedLine)
+    (pages : PageMap) (line : Line) (from machine : Machine) (new : RegisterMap) (after : FocalState) (numbered : NumberedLine)
     (place : Position) (before position : ℕ)
     → from ≡ machine
-    → HasNumbered machine.memory machine.focal.position (Some numbered)
-    → InsertsAt machine numbered.placed place
+    → HasNumbered pages machine.memory machine.focal.position (Some numbered)
+    → InsertsAt pages machine numbered.placed place
     → place ≡ Memory before
     → Edits from.memory new (with_inserted line) before (Ok tt)
     → StandsNew from.memory before new position
     → after ≡ with_line_shown (Memory position) from.focal
-    → Inserts line machine (Ok (record { memory = new; focal = after }))
-line_inserted line from machine new after numbered place before position is has at_place byte edits stands shown =
+    → Inserts pages line machine (Ok (record { memory = new; focal = after }))
+line_inserted pages line from machine new after numbered place before position is has at_place byte edits stands shown =
     let there = rw (← is) at has in
     let here = rw (← is, byte) at at_place in
     rw (shown, ← is) (
@@ -74,15 +76,15 @@ line_inserted line from machine new after numbered place before position is has 
     )
 
 pub insert_refused :
-    (line : Line) (from machine : Machine) (new : RegisterMap) (numbered : NumberedLine) (place : Position) (before : ℕ)
+    (pages : PageMap) (line : Line) (from machine : Machine) (new : RegisterMap) (numbered : NumberedLine) (place : Position) (before : ℕ)
     (refusal : ProgramRefusal)
     → from ≡ machine
-    → HasNumbered machine.memory machine.focal.position (Some numbered)
-    → InsertsAt machine numbered.placed place
+    → HasNumbered pages machine.memory machine.focal.position (Some numbered)
+    → InsertsAt pages machine numbered.placed place
     → place ≡ Memory before
     → Edits from.memory new (with_inserted line) before (Err refusal)
-    → Inserts line machine (Err refusal)
-insert_refused line from machine new numbered place before refusal is has at_place byte edits =
+    → Inserts pages line machine (Err refusal)
+insert_refused pages line from machine new numbered place before refusal is has at_place byte edits =
     let there = rw (← is) at has in
     let here = rw (← is, byte) at at_place in
     rw (← is) (
@@ -114,17 +116,17 @@ replace_refused line from machine new at refusal is byte edits =
 
 -- one is taken away
 pub line_deleted :
-    (from machine left : Machine) (new : RegisterMap) (first : PlacedLine) (at : ℕ) (front : InFront)
+    (pages : PageMap) (from machine left : Machine) (new : RegisterMap) (first : PlacedLine) (at : ℕ) (front : InFront)
     → from ≡ machine
     → from.focal.at_line_00 ≡ false
-    → LineAt from.memory from.focal.position (Ok first)
+    → LineAt pages from.memory from.focal.position (Ok first)
     → false ≡ is_final_end first.line
     → from.focal.position ≡ Memory at
     → Edits from.memory new without_deleted at (Ok tt)
     → StandsBefore from.memory at new front
     → left ≡ shown_in_front from new front
-    → Deletes machine (Ok left)
-line_deleted from machine left new first at front is behind there inner byte edits stands shown =
+    → Deletes pages machine (Ok left)
+line_deleted pages from machine left new first at front is behind there inner byte edits stands shown =
     rw (shown, ← is, behind) (
       Ok first,
       there,
@@ -132,14 +134,41 @@ line_deleted from machine left new first at front is behind there inner byte edi
     )
 
 pub delete_refused :
-    (from machine : Machine) (new : RegisterMap) (first : PlacedLine) (at : ℕ) (refusal : ProgramRefusal)
+    (pages : PageMap) (from machine : Machine) (new : RegisterMap) (first : PlacedLine) (at : ℕ) (refusal : ProgramRefusal)
     → from ≡ machine
     → from.focal.at_line_00 ≡ false
-    → LineAt from.memory from.focal.position (Ok first)
+    → LineAt pages from.memory from.focal.position (Ok first)
     → false ≡ is_final_end first.line
     → from.focal.position ≡ Memory at
     → Edits from.memory new without_deleted at (Err refusal)
-    → Deletes machine (Err refusal)
-delete_refused from machine new first at refusal is behind there inner byte edits =
+    → Deletes pages machine (Err refusal)
+delete_refused pages from machine new first at refusal is behind there inner byte edits =
     rw (← is, behind)
     (Ok first, there, rw (sym inner, byte) (Err refusal, edit_refused from.memory new without_deleted at refusal edits, refl))
+
+-- in a page nothing is changed
+pub insert_in_page :
+    (pages : PageMap) (line : Line) (machine : Machine) (numbered : NumberedLine) (place : Position) (address : ℕ)
+    → HasNumbered pages machine.memory machine.focal.position (Some numbered)
+    → InsertsAt pages machine numbered.placed place
+    → place ≡ Page address
+    → Inserts pages line machine (Err BrokenProgram)
+insert_in_page pages line machine numbered place address has at_place page = (Some numbered, has, (place, at_place, rw page refl))
+
+pub replace_in_page :
+    (line : Line) (from machine : Machine) (address : ℕ)
+    → from ≡ machine
+    → from.focal.position ≡ Page address
+    → Replaces line machine (Err BrokenProgram)
+replace_in_page line from machine address is page = rw (← is, page) refl
+
+pub delete_in_page :
+    (pages : PageMap) (from machine : Machine) (first : PlacedLine) (address : ℕ)
+    → from ≡ machine
+    → from.focal.at_line_00 ≡ false
+    → LineAt pages from.memory from.focal.position (Ok first)
+    → false ≡ is_final_end first.line
+    → from.focal.position ≡ Page address
+    → Deletes pages machine (Err BrokenProgram)
+delete_in_page pages from machine first address is behind there inner page =
+    rw (← is, behind) (Ok first, there, rw (sym inner, page) refl)

@@ -1,5 +1,4 @@
 mod Edited
-mod MemoryBytes
 mod OneAnswer
 mod Opened
 mod Shown

@@ -14,19 +14,22 @@ use Rattle.h41_editor.specs.NumberedLines.{Numbers, with_number}
 use Rattle.h41_editor.specs.ProgramText.{ShowsLine, line_00_text, text_of, unknown_text}
 use Rattle.h41_editor.specs.declared.numbered.NumberedLine.{NumberedLine}
 use Rattle.h41_focal.specs.LineStep.{Machine, at_line_00, at_line}
+use Rattle.h41_pages.specs.PageMap.{PageMap}
 use Rattle.h41_program.specs.Edits.{EditGives, PlacesAreDetermined, before_end, close_behind, position_behind, position_in_front}
 use Rattle.h41_program.specs.Edits.{with_inserted, with_replaced, without_deleted}
 use Rattle.h41_program.specs.LastProgram.{open_in}
 use Rattle.h41_program.specs.Lines.{is_final_end}
 use Rattle.h41_program.specs.ProgramBytes.{final_position}
 use Rattle.h41_program.specs.ProgramLaws.{EditsAreDetermined, ListsAreDetermined}
-use Rattle.h41_program.specs.PositionLaws.{HasOneAnswer, IsReadOnce}
-use Rattle.h41_program.specs.Positions.{EndOf, LineAt, LineBefore, NextAt, NumberAt, StartOf}
+use Rattle.h41_program.specs.SearchLaws.{AnswersAreDetermined}
+use Rattle.h41_program.specs.Searches.{start_in}
+use Rattle.h41_positions.specs.PositionLaws.{HasOneAnswer, IsReadOnce}
+use Rattle.h41_positions.specs.Positions.{EndOf, LineAt, LineBefore, NextAt, NumberAt, StartOf}
 use Rattle.h41_program.specs.declared.editing.InFront.{InFront}
 use Rattle.h41_program.specs.declared.listed_line.ListedLine.{ListedLine}
-use Rattle.h41_program.specs.declared.position.PlacedLine.{PlacedLine}
-use Rattle.h41_program.specs.declared.position.Position.{Position}
-use Rattle.h41_program.specs.declared.position.Position.TheVariants.{Memory}
+use Rattle.h41_positions.specs.declared.position.PlacedLine.{PlacedLine}
+use Rattle.h41_positions.specs.declared.position.Position.{Position}
+use Rattle.h41_positions.specs.declared.position.Position.TheVariants.{Memory, Page}
 use Rattle.h41_program.specs.declared.refusal.ProgramRefusal.{ProgramRefusal}
 use Rattle.h41_ram.specs.RegisterMap.{RegisterMap, is_sound}
 
@@ -35,83 +38,83 @@ abbrev Moved : Type 0
 Moved = Result Machine ProgramRefusal
 
 -- the next line is shown
-abbrev GoesOn : Machine → Moved → Type 0
-GoesOn machine moved = (next : Position) × NextAt machine.memory machine.focal.position (Ok next) × (moved ≡ Ok (at_line next machine))
+abbrev GoesOn : PageMap → Machine → Moved → Type 0
+GoesOn pages machine moved = (next : Position) × NextAt pages machine.memory machine.focal.position (Ok next) × (moved ≡ Ok (at_line next machine))
 
 -- what holds of the line at the position, or of there being none
-abbrev ByFirst : Machine → (Result PlacedLine ProgramRefusal → Type 0) → Type 0
-ByFirst machine holds = (first : Result PlacedLine ProgramRefusal) × LineAt machine.memory machine.focal.position first × holds first
+abbrev ByFirst : PageMap → Machine → (Result PlacedLine ProgramRefusal → Type 0) → Type 0
+ByFirst pages machine holds = (first : Result PlacedLine ProgramRefusal) × LineAt pages machine.memory machine.focal.position first × holds first
 
-same_next : (once : IsReadOnce) (memory : RegisterMap) (at a b : Position)
-    → NextAt memory at (Ok a) → NextAt memory at (Ok b) → a ≡ b
-same_next once memory at a b p q = let same = once.next memory at (Ok a) (Ok b) p q in cc
+same_next : (once : IsReadOnce) (pages : PageMap) (memory : RegisterMap) (at a b : Position)
+    → NextAt pages memory at (Ok a) → NextAt pages memory at (Ok b) → a ≡ b
+same_next once pages memory at a b p q = let same = once.next pages memory at (Ok a) (Ok b) p q in cc
 
 -- line 00, where each program has one start
 module _ (same_start : HasOneAnswer StartOf) where
-  same_shown_start : (machine : Machine) (a b : Moved) → ShowsStart machine a → ShowsStart machine b → a ≡ b
-  same_shown_start machine a b p q =
-      let same = same_start machine.memory machine.focal.position p.0 q.0 p.1 q.1 in
+  same_shown_start : (pages : PageMap) (machine : Machine) (a b : Moved) → ShowsStart pages machine a → ShowsStart pages machine b → a ≡ b
+  same_shown_start pages machine a b p q =
+      let same = same_start pages machine.memory machine.focal.position p.0 q.0 p.1 q.1 in
       p.2 ∙ ap (λ (start : Position). Ok (record machine { focal = at_line_00 start machine.focal })) same ∙ sym q.2
 
 -- the line that a position stands for, and the text, where besides each line has one number
 module _ (once : IsReadOnce) (same_one : HasOneAnswer NumberAt) where
-  same_number : (memory : RegisterMap) (first : Result PlacedLine ProgramRefusal) (a b : Option NumberedLine)
-      → Numbers memory first a → Numbers memory first b → a ≡ b
-  same_number memory (Ok first) a b p q =
-      let same = same_one memory first.position p.0 q.0 p.1 q.1 in
+  same_number : (pages : PageMap) (memory : RegisterMap) (first : Result PlacedLine ProgramRefusal) (a b : Option NumberedLine)
+      → Numbers pages memory first a → Numbers pages memory first b → a ≡ b
+  same_number pages memory (Ok first) a b p q =
+      let same = same_one pages memory first.position p.0 q.0 p.1 q.1 in
       p.2 ∙ ap (λ (number : Option ℕ). option_map (with_number first) number) same ∙ sym q.2
-  same_number memory (Err refusal) a b p q = p ∙ sym q
+  same_number pages memory (Err refusal) a b p q = p ∙ sym q
 
   pub numbered_determined : NumberedIsDetermined
-  numbered_determined memory at a b p q =
-      let same = once.line memory at p.0 q.0 p.1 q.1 in
-      same_number memory q.0 a b (subst (λ (first : Result PlacedLine ProgramRefusal). Numbers memory first a) same p.2) q.2
+  numbered_determined pages memory at a b p q =
+      let same = once.line pages memory at p.0 q.0 p.1 q.1 in
+      same_number pages memory q.0 a b (subst (λ (first : Result PlacedLine ProgramRefusal). Numbers pages memory first a) same p.2) q.2
 
-  same_shown : (machine : Machine) (a b : List ℕ) → ShowsLine machine a → ShowsLine machine b → a ≡ b
-  same_shown machine a b p q =
-      p.2 ∙ ap text_of (numbered_determined machine.memory machine.focal.position p.0 q.0 p.1 q.1) ∙ sym q.2
+  same_shown : (pages : PageMap) (machine : Machine) (a b : List ℕ) → ShowsLine pages machine a → ShowsLine pages machine b → a ≡ b
+  same_shown pages machine a b p q =
+      p.2 ∙ ap text_of (numbered_determined pages machine.memory machine.focal.position p.0 q.0 p.1 q.1) ∙ sym q.2
 
-  same_in_sound : (at_line_00 : Bool) (machine : Machine) (a b : List ℕ)
-      → MatchBool at_line_00 (a ≡ line_00_text machine.memory) (ShowsLine machine a)
-      → MatchBool at_line_00 (b ≡ line_00_text machine.memory) (ShowsLine machine b) → a ≡ b
-  same_in_sound true machine a b p q = p ∙ sym q
-  same_in_sound false machine a b p q = same_shown machine a b p q
+  same_in_sound : (pages : PageMap) (at_line_00 : Bool) (machine : Machine) (a b : List ℕ)
+      → MatchBool at_line_00 (a ≡ line_00_text machine.memory) (ShowsLine pages machine a)
+      → MatchBool at_line_00 (b ≡ line_00_text machine.memory) (ShowsLine pages machine b) → a ≡ b
+  same_in_sound pages true machine a b p q = p ∙ sym q
+  same_in_sound pages false machine a b p q = same_shown pages machine a b p q
 
-  same_text : (sound : Bool) (machine : Machine) (a b : List ℕ)
-      → MatchBool sound (MatchBool machine.focal.at_line_00 (a ≡ line_00_text machine.memory) (ShowsLine machine a)) (a ≡ unknown_text)
-      → MatchBool sound (MatchBool machine.focal.at_line_00 (b ≡ line_00_text machine.memory) (ShowsLine machine b)) (b ≡ unknown_text)
+  same_text : (pages : PageMap) (sound : Bool) (machine : Machine) (a b : List ℕ)
+      → MatchBool sound (MatchBool machine.focal.at_line_00 (a ≡ line_00_text machine.memory) (ShowsLine pages machine a)) (a ≡ unknown_text)
+      → MatchBool sound (MatchBool machine.focal.at_line_00 (b ≡ line_00_text machine.memory) (ShowsLine pages machine b)) (b ≡ unknown_text)
       → a ≡ b
-  same_text true machine a b p q = same_in_sound machine.focal.at_line_00 machine a b p q
-  same_text false machine a b p q = p ∙ sym q
+  same_text pages true machine a b p q = same_in_sound pages machine.focal.at_line_00 machine a b p q
+  same_text pages false machine a b p q = p ∙ sym q
 
   pub text_determined : TextIsDetermined
-  text_determined machine a b p q = same_text (is_sound machine.memory) machine a b p q
+  text_determined pages machine a b p q = same_text pages (is_sound machine.memory) machine a b p q
 
 -- SST
 module _ (once : IsReadOnce) (same_start : HasOneAnswer StartOf) where
-  same_onward : (last : Bool) (machine : Machine) (a b : Moved)
-      → MatchBool last (ShowsStart machine a) (GoesOn machine a) → MatchBool last (ShowsStart machine b) (GoesOn machine b) → a ≡ b
-  same_onward true machine a b p q = same_shown_start same_start machine a b p q
-  same_onward false machine a b p q =
-      let same = same_next once machine.memory machine.focal.position p.0 q.0 p.1 q.1 in
+  same_onward : (pages : PageMap) (last : Bool) (machine : Machine) (a b : Moved)
+      → MatchBool last (ShowsStart pages machine a) (GoesOn pages machine a) → MatchBool last (ShowsStart pages machine b) (GoesOn pages machine b) → a ≡ b
+  same_onward pages true machine a b p q = same_shown_start same_start pages machine a b p q
+  same_onward pages false machine a b p q =
+      let same = same_next once pages machine.memory machine.focal.position p.0 q.0 p.1 q.1 in
       p.2 ∙ ap (λ (next : Position). Ok (at_line next machine)) same ∙ sym q.2
 
-  same_shown_behind : (machine : Machine) (first : Result PlacedLine ProgramRefusal) (a b : Moved)
-      → ShowsBehind machine first a → ShowsBehind machine first b → a ≡ b
-  same_shown_behind machine (Ok first) a b p q = same_onward (is_last first) machine a b p q
-  same_shown_behind machine (Err refusal) a b p q = p ∙ sym q
+  same_shown_behind : (pages : PageMap) (machine : Machine) (first : Result PlacedLine ProgramRefusal) (a b : Moved)
+      → ShowsBehind pages machine first a → ShowsBehind pages machine first b → a ≡ b
+  same_shown_behind pages machine (Ok first) a b p q = same_onward pages (is_last first) machine a b p q
+  same_shown_behind pages machine (Err refusal) a b p q = p ∙ sym q
 
-  same_step : (at_line_00 : Bool) (machine : Machine) (a b : Moved)
-      → MatchBool at_line_00 (a ≡ Ok (at_line machine.focal.position machine)) (ByFirst machine (λ first. ShowsBehind machine first a))
-      → MatchBool at_line_00 (b ≡ Ok (at_line machine.focal.position machine)) (ByFirst machine (λ first. ShowsBehind machine first b))
+  same_step : (pages : PageMap) (at_line_00 : Bool) (machine : Machine) (a b : Moved)
+      → MatchBool at_line_00 (a ≡ Ok (at_line machine.focal.position machine)) (ByFirst pages machine (λ first. ShowsBehind pages machine first a))
+      → MatchBool at_line_00 (b ≡ Ok (at_line machine.focal.position machine)) (ByFirst pages machine (λ first. ShowsBehind pages machine first b))
       → a ≡ b
-  same_step true machine a b p q = p ∙ sym q
-  same_step false machine a b p q =
-      let same = once.line machine.memory machine.focal.position p.0 q.0 p.1 q.1 in
-      same_shown_behind machine q.0 a b (subst (λ (first : Result PlacedLine ProgramRefusal). ShowsBehind machine first a) same p.2) q.2
+  same_step pages true machine a b p q = p ∙ sym q
+  same_step pages false machine a b p q =
+      let same = once.line pages machine.memory machine.focal.position p.0 q.0 p.1 q.1 in
+      same_shown_behind pages machine q.0 a b (subst (λ (first : Result PlacedLine ProgramRefusal). ShowsBehind pages machine first a) same p.2) q.2
 
-  pub next_determined : MoveIsDetermined ShowsNext
-  next_determined machine a b p q = same_step machine.focal.at_line_00 machine a b p q
+  pub next_determined : (pages : PageMap) → MoveIsDetermined (ShowsNext pages)
+  next_determined pages machine a b p q = same_step pages machine.focal.at_line_00 machine a b p q
 
 -- BST
 module _
@@ -120,47 +123,47 @@ module _
     (same_ends : HasOneAnswer EndOf)
     (same_prior : HasOneAnswer LineBefore)
     (same_one : HasOneAnswer NumberAt) where
-  same_shown_end : (machine : Machine) (first : PlacedLine) (a b : Moved) → ShowsEnd machine first a → ShowsEnd machine first b → a ≡ b
-  same_shown_end machine first a b p q =
-      p.2 ∙ ap (shown_end machine) (same_ends machine.memory first.position p.0 q.0 p.1 q.1) ∙ sym q.2
+  same_shown_end : (pages : PageMap) (machine : Machine) (first : PlacedLine) (a b : Moved) → ShowsEnd pages machine first a → ShowsEnd pages machine first b → a ≡ b
+  same_shown_end pages machine first a b p q =
+      p.2 ∙ ap (shown_end machine) (same_ends pages machine.memory first.position p.0 q.0 p.1 q.1) ∙ sym q.2
 
-  same_shown_at : (machine : Machine) (before : Option Position) (a b : Moved) → ShowsAt machine before a → ShowsAt machine before b → a ≡ b
-  same_shown_at machine (Some position) a b p q = p ∙ sym q
-  same_shown_at machine None a b p q = same_shown_start same_start machine a b p q
+  same_shown_at : (pages : PageMap) (machine : Machine) (before : Option Position) (a b : Moved) → ShowsAt pages machine before a → ShowsAt pages machine before b → a ≡ b
+  same_shown_at pages machine (Some position) a b p q = p ∙ sym q
+  same_shown_at pages machine None a b p q = same_shown_start same_start pages machine a b p q
 
-  same_in_front : (machine : Machine) (first : PlacedLine) (a b : Moved) → ShowsInFront machine first a → ShowsInFront machine first b
+  same_in_front : (pages : PageMap) (machine : Machine) (first : PlacedLine) (a b : Moved) → ShowsInFront pages machine first a → ShowsInFront pages machine first b
       → a ≡ b
-  same_in_front machine first a b p q =
-      let same = same_prior machine.memory first.position p.0 q.0 p.1 q.1 in
-      same_shown_at machine q.0 a b (subst (λ (before : Option Position). ShowsAt machine before a) same p.2) q.2
+  same_in_front pages machine first a b p q =
+      let same = same_prior pages machine.memory first.position p.0 q.0 p.1 q.1 in
+      same_shown_at pages machine q.0 a b (subst (λ (before : Option Position). ShowsAt pages machine before a) same p.2) q.2
 
-  same_back : (at_line_00 : Bool) (machine : Machine) (first : PlacedLine) (a b : Moved)
-      → MatchBool at_line_00 (ShowsEnd machine first a) (ShowsInFront machine first a)
-      → MatchBool at_line_00 (ShowsEnd machine first b) (ShowsInFront machine first b) → a ≡ b
-  same_back true machine first a b p q = same_shown_end machine first a b p q
-  same_back false machine first a b p q = same_in_front machine first a b p q
+  same_back : (pages : PageMap) (at_line_00 : Bool) (machine : Machine) (first : PlacedLine) (a b : Moved)
+      → MatchBool at_line_00 (ShowsEnd pages machine first a) (ShowsInFront pages machine first a)
+      → MatchBool at_line_00 (ShowsEnd pages machine first b) (ShowsInFront pages machine first b) → a ≡ b
+  same_back pages true machine first a b p q = same_shown_end pages machine first a b p q
+  same_back pages false machine first a b p q = same_in_front pages machine first a b p q
 
-  same_before_line : (machine : Machine) (numbered : Option NumberedLine) (a b : Moved)
-      → ShowsBeforeLine machine numbered a → ShowsBeforeLine machine numbered b → a ≡ b
-  same_before_line machine (Some numbered) a b p q = same_back machine.focal.at_line_00 machine numbered.placed a b p q
-  same_before_line machine None a b p q = p ∙ sym q
+  same_before_line : (pages : PageMap) (machine : Machine) (numbered : Option NumberedLine) (a b : Moved)
+      → ShowsBeforeLine pages machine numbered a → ShowsBeforeLine pages machine numbered b → a ≡ b
+  same_before_line pages machine (Some numbered) a b p q = same_back pages machine.focal.at_line_00 machine numbered.placed a b p q
+  same_before_line pages machine None a b p q = p ∙ sym q
 
-  pub before_determined : MoveIsDetermined ShowsBefore
-  before_determined machine a b p q =
-      let same = numbered_determined once same_one machine.memory machine.focal.position p.0 q.0 p.1 q.1 in
-      same_before_line machine q.0 a b (subst (λ (numbered : Option NumberedLine). ShowsBeforeLine machine numbered a) same p.2) q.2
+  pub before_determined : (pages : PageMap) → MoveIsDetermined (ShowsBefore pages)
+  before_determined pages machine a b p q =
+      let same = numbered_determined once same_one pages machine.memory machine.focal.position p.0 q.0 p.1 q.1 in
+      same_before_line pages machine q.0 a b (subst (λ (numbered : Option NumberedLine). ShowsBeforeLine pages machine numbered a) same p.2) q.2
 
 -- GTO . .
-module _ (same_lines : ListsAreDetermined) (same_start : HasOneAnswer StartOf) where
+module _ (same_lines : ListsAreDetermined) (same_start : AnswersAreDetermined ℕ) where
   same_end : (machine : Machine) (lines : List ListedLine) (closed : Changed) (a b : Moved)
       → EndsBy machine lines closed a → EndsBy machine lines closed b → a ≡ b
   same_end machine lines (Ok closed) a b p q =
-      let same = same_start closed.0 (Memory (final_position closed.0)) p.0 q.0 p.1 q.1 in
+      let same = same_start closed.0 (start_in (final_position closed.0)) 0 p.0 q.0 p.1 q.1 in
       p.2
       ∙ ap
-      (λ (start : Position). Ok (record {
+      (λ (start : ℕ). Ok (record {
         memory = closed.0;
-        focal = record machine.focal { position = start; at_line_00 = true; returns = returns_kept (open_in lines) machine.focal.returns };
+        focal = record machine.focal { position = Memory start; at_line_00 = true; returns = returns_kept (open_in lines) machine.focal.returns };
       }))
       same
       ∙ sym q.2
@@ -189,25 +192,26 @@ module _ (same_edit : EditsAreDetermined) (same_place : PlacesAreDetermined (Opt
   same_replaced line machine (Memory at) a b p q =
       let same = same_edit machine.memory (with_replaced line) at p.0 q.0 p.1 q.1 in
       same_new machine at q.0 a b (subst (λ (changed : Changed). ShowsNew machine at changed a) same p.2) q.2
+  same_replaced line machine (Page address) a b p q = p ∙ sym q
 
   pub replacement_determined : ChangeIsDetermined Replaces
   replacement_determined line machine a b p q = same_replaced line machine machine.focal.position a b p q
 
   -- a line that is inserted
   module _ (once : IsReadOnce) (same_start : HasOneAnswer StartOf) (same_one : HasOneAnswer NumberAt) where
-    same_behind_shown : (last : Bool) (machine : Machine) (shown : PlacedLine) (a b : Position)
-        → MatchBool last (a ≡ shown.position) (NextAt machine.memory machine.focal.position (Ok a))
-        → MatchBool last (b ≡ shown.position) (NextAt machine.memory machine.focal.position (Ok b)) → a ≡ b
-    same_behind_shown true machine shown a b p q = p ∙ sym q
-    same_behind_shown false machine shown a b p q = same_next once machine.memory machine.focal.position a b p q
+    same_behind_shown : (pages : PageMap) (last : Bool) (machine : Machine) (shown : PlacedLine) (a b : Position)
+        → MatchBool last (a ≡ shown.position) (NextAt pages machine.memory machine.focal.position (Ok a))
+        → MatchBool last (b ≡ shown.position) (NextAt pages machine.memory machine.focal.position (Ok b)) → a ≡ b
+    same_behind_shown pages true machine shown a b p q = p ∙ sym q
+    same_behind_shown pages false machine shown a b p q = same_next once pages machine.memory machine.focal.position a b p q
 
-    same_point : (at_line_00 : Bool) (machine : Machine) (shown : PlacedLine) (a b : Position)
-        → MatchBool at_line_00 (StartOf machine.memory machine.focal.position a)
-        (MatchBool (is_last shown) (a ≡ shown.position) (NextAt machine.memory machine.focal.position (Ok a)))
-        → MatchBool at_line_00 (StartOf machine.memory machine.focal.position b)
-        (MatchBool (is_last shown) (b ≡ shown.position) (NextAt machine.memory machine.focal.position (Ok b))) → a ≡ b
-    same_point true machine shown a b p q = same_start machine.memory machine.focal.position a b p q
-    same_point false machine shown a b p q = same_behind_shown (is_last shown) machine shown a b p q
+    same_point : (pages : PageMap) (at_line_00 : Bool) (machine : Machine) (shown : PlacedLine) (a b : Position)
+        → MatchBool at_line_00 (StartOf pages machine.memory machine.focal.position a)
+        (MatchBool (is_last shown) (a ≡ shown.position) (NextAt pages machine.memory machine.focal.position (Ok a)))
+        → MatchBool at_line_00 (StartOf pages machine.memory machine.focal.position b)
+        (MatchBool (is_last shown) (b ≡ shown.position) (NextAt pages machine.memory machine.focal.position (Ok b))) → a ≡ b
+    same_point pages true machine shown a b p q = same_start pages machine.memory machine.focal.position a b p q
+    same_point pages false machine shown a b p q = same_behind_shown pages (is_last shown) machine shown a b p q
 
     same_insertion : (line : Line) (machine : Machine) (before : ℕ) (c d : Changed) (a b : Moved)
         → EditGives machine.memory (with_inserted line) before c → EditGives machine.memory (with_inserted line) before d
@@ -220,18 +224,19 @@ module _ (same_edit : EditsAreDetermined) (same_place : PlacesAreDetermined (Opt
         → InsertsBefore line machine before b → a ≡ b
     same_inserted_before line machine (Memory before) a b p q =
         same_insertion line machine before p.0 q.0 a b p.1 q.1 p.2 q.2
+    same_inserted_before line machine (Page address) a b p q = p ∙ sym q
 
-    same_inserted : (line : Line) (machine : Machine) (numbered : Option NumberedLine) (a b : Moved)
-        → InsertsBy line machine numbered a → InsertsBy line machine numbered b → a ≡ b
-    same_inserted line machine (Some numbered) a b p q =
-        let same = same_point machine.focal.at_line_00 machine numbered.placed p.0 q.0 p.1 q.1 in
+    same_inserted : (pages : PageMap) (line : Line) (machine : Machine) (numbered : Option NumberedLine) (a b : Moved)
+        → InsertsBy pages line machine numbered a → InsertsBy pages line machine numbered b → a ≡ b
+    same_inserted pages line machine (Some numbered) a b p q =
+        let same = same_point pages machine.focal.at_line_00 machine numbered.placed p.0 q.0 p.1 q.1 in
         same_inserted_before line machine q.0 a b (subst (λ (before : Position). InsertsBefore line machine before a) same p.2) q.2
-    same_inserted line machine None a b p q = p ∙ sym q
+    same_inserted pages line machine None a b p q = p ∙ sym q
 
-    pub insertion_determined : ChangeIsDetermined Inserts
-    insertion_determined line machine a b p q =
-        let same = numbered_determined once same_one machine.memory machine.focal.position p.0 q.0 p.1 q.1 in
-        same_inserted line machine q.0 a b (subst (λ (numbered : Option NumberedLine). InsertsBy line machine numbered a) same p.2) q.2
+    pub insertion_determined : (pages : PageMap) → ChangeIsDetermined (Inserts pages)
+    insertion_determined pages line machine a b p q =
+        let same = numbered_determined once same_one pages machine.memory machine.focal.position p.0 q.0 p.1 q.1 in
+        same_inserted pages line machine q.0 a b (subst (λ (numbered : Option NumberedLine). InsertsBy pages line machine numbered a) same p.2) q.2
 
 -- BACK
 module _ (same_edit : EditsAreDetermined) (same_front : PlacesAreDetermined InFront) (once : IsReadOnce) where
@@ -246,6 +251,7 @@ module _ (same_edit : EditsAreDetermined) (same_front : PlacesAreDetermined InFr
   same_taken machine (Memory at) a b p q =
       let same = same_edit machine.memory without_deleted at p.0 q.0 p.1 q.1 in
       same_shown_front machine at q.0 a b (subst (λ (changed : Changed). ShowsFront machine at changed a) same p.2) q.2
+  same_taken machine (Page address) a b p q = p ∙ sym q
 
   same_unless_final : (final : Bool) (machine : Machine) (a b : Moved)
       → MatchBool final (a ≡ Ok machine) (DeletesAt machine machine.focal.position a)
@@ -258,13 +264,13 @@ module _ (same_edit : EditsAreDetermined) (same_front : PlacesAreDetermined InFr
   same_deleted machine (Ok first) a b p q = same_unless_final (is_final_end first.line) machine a b p q
   same_deleted machine (Err refusal) a b p q = p ∙ sym q
 
-  same_deletion : (at_line_00 : Bool) (machine : Machine) (a b : Moved)
-      → MatchBool at_line_00 (a ≡ Ok machine) (ByFirst machine (λ first. DeletesLine machine first a))
-      → MatchBool at_line_00 (b ≡ Ok machine) (ByFirst machine (λ first. DeletesLine machine first b)) → a ≡ b
-  same_deletion true machine a b p q = p ∙ sym q
-  same_deletion false machine a b p q =
-      let same = once.line machine.memory machine.focal.position p.0 q.0 p.1 q.1 in
+  same_deletion : (pages : PageMap) (at_line_00 : Bool) (machine : Machine) (a b : Moved)
+      → MatchBool at_line_00 (a ≡ Ok machine) (ByFirst pages machine (λ first. DeletesLine machine first a))
+      → MatchBool at_line_00 (b ≡ Ok machine) (ByFirst pages machine (λ first. DeletesLine machine first b)) → a ≡ b
+  same_deletion pages true machine a b p q = p ∙ sym q
+  same_deletion pages false machine a b p q =
+      let same = once.line pages machine.memory machine.focal.position p.0 q.0 p.1 q.1 in
       same_deleted machine q.0 a b (subst (λ (first : Result PlacedLine ProgramRefusal). DeletesLine machine first a) same p.2) q.2
 
-  pub deletion_determined : MoveIsDetermined Deletes
-  deletion_determined machine a b p q = same_deletion machine.focal.at_line_00 machine a b p q
+  pub deletion_determined : (pages : PageMap) → MoveIsDetermined (Deletes pages)
+  deletion_determined pages machine a b p q = same_deletion pages machine.focal.at_line_00 machine a b p q

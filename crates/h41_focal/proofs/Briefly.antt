@@ -19,6 +19,7 @@ use Rattle.h41_focal.specs.declared.outcome.BriefOutcome.TheVariants as briefs
 use Rattle.h41_focal.specs.declared.outcome.LineOutcome.{LineOutcome}
 use Rattle.h41_focal.specs.declared.refusal.FocalRefusal.{FocalRefusal}
 use Rattle.h41_focal.specs.declared.refusal.FocalRefusal.TheVariants.{NotInProfile}
+use Rattle.h41_pages.specs.PageMap.{PageMap}
 use Rattle.h41_ram.specs.RegisterMap.{RegisterMap}
 use Rattle.h41_rows.specs.Computing.{meant_by}
 use Rattle.h41_rows.specs.Operands.{Meant, meant_of}
@@ -83,25 +84,25 @@ calls_elsewhere memory (lines.Text text) = refl
 
 -- and then nothing is changed
 pub call_keeps :
-    (origin : Origin) (line : Line) (old new : Machine) (brief : BriefOutcome)
-    → TakesBriefly origin line old new (Ok brief)
+    (pages : PageMap) (origin : Origin) (line : Line) (old new : Machine) (brief : BriefOutcome)
+    → TakesBriefly pages origin line old new (Ok brief)
     → brief ≡ briefs.Elsewhere
     → new ≡ old
-call_keeps origin line old new brief takes is =
-    elsewhere_keeps (manner_of origin) line old (briefly (called_by old.memory line) new brief) takes
+call_keeps pages origin line old new brief takes is =
+    elsewhere_keeps pages (manner_of origin) line old (briefly (called_by old.memory line) new brief) takes
     (ap (λ (of : BriefOutcome). is_elsewhere (brief_answer (called_by old.memory line) new.memory of)) is
     ∙ calls_elsewhere old.memory line)
 
 -- a line is taken, by its brief outcome
 pub outcome_taken :
-    (origin : Origin) (line : Line) (old new : Machine) (brief : BriefOutcome) (outcome : LineOutcome)
-    → TakesBriefly origin line old new (Ok brief)
+    (pages : PageMap) (origin : Origin) (line : Line) (old new : Machine) (brief : BriefOutcome) (outcome : LineOutcome)
+    → TakesBriefly pages origin line old new (Ok brief)
     → answer_of outcome ≡ brief_answer (called_by new.memory line) new.memory brief
-    → TakesAs origin line old new (Ok outcome)
-outcome_taken origin line old new brief outcome takes answers =
-    subst (λ (answer : Answer). TakesLine (manner_of origin) line old (Ok (record { machine = new; answer = answer })))
+    → TakesAs pages origin line old new (Ok outcome)
+outcome_taken pages origin line old new brief outcome takes answers =
+    subst (λ (answer : Answer). TakesLine pages (manner_of origin) line old (Ok (record { machine = new; answer = answer })))
     (same_answer (called_by old.memory line) (called_by new.memory line) new.memory brief
-    (λ is. ap (λ (of : Machine). called_by of.memory line) (sym (call_keeps origin line old new brief takes is)))
+    (λ is. ap (λ (of : Machine). called_by of.memory line) (sym (call_keeps pages origin line old new brief takes is)))
     ∙ sym answers)
     takes
 
@@ -114,38 +115,38 @@ same_left new brief outcome answers = ap (λ (answer : Answer). record { machine
 
 -- the same of a result
 pub call_changes_nothing :
-    (origin : Origin) (line : Line) (old new : Machine) (result : Result BriefOutcome FocalRefusal)
-    → TakesBriefly origin line old new result
+    (pages : PageMap) (origin : Origin) (line : Line) (old new : Machine) (result : Result BriefOutcome FocalRefusal)
+    → TakesBriefly pages origin line old new result
     → result ≡ Ok briefs.Elsewhere
     → new ≡ old
-call_changes_nothing origin line old new (Ok brief) takes is =
+call_changes_nothing pages origin line old new (Ok brief) takes is =
     let elsewhere : brief ≡ briefs.Elsewhere = cc is in
-    call_keeps origin line old new brief takes elsewhere
-call_changes_nothing origin line old new (Err refusal) takes is = absurd (cc is)
+    call_keeps pages origin line old new brief takes elsewhere
+call_changes_nothing pages origin line old new (Err refusal) takes is = absurd (cc is)
 
 -- a line that was taken is not left out
-held_by : (out : Bool) (how : Manner) (line : Line) (old : Machine) (left : Left)
-    → MatchBool out (◌≡◌ {A = Result Left FocalRefusal} (Ok left) (Err NotInProfile)) (CarriesOut how line old (Ok left))
+held_by : (pages : PageMap) (out : Bool) (how : Manner) (line : Line) (old : Machine) (left : Left)
+    → MatchBool out (◌≡◌ {A = Result Left FocalRefusal} (Ok left) (Err NotInProfile)) (CarriesOut pages how line old (Ok left))
     → out ≡ false
-held_by true how line old left takes = absurd (cc takes)
-held_by false how line old left takes = refl
+held_by pages true how line old left takes = absurd (cc takes)
+held_by pages false how line old left takes = refl
 
 pub taken_is_held :
-    (origin : Origin) (line : Line) (old new : Machine) (brief : BriefOutcome)
-    → TakesBriefly origin line old new (Ok brief)
+    (pages : PageMap) (origin : Origin) (line : Line) (old new : Machine) (brief : BriefOutcome)
+    → TakesBriefly pages origin line old new (Ok brief)
     → is_left_out line ≡ false
-taken_is_held origin line old new brief takes =
-    held_by (is_left_out line) (manner_of origin) line old (briefly (called_by old.memory line) new brief) takes
+taken_is_held pages origin line old new brief takes =
+    held_by pages (is_left_out line) (manner_of origin) line old (briefly (called_by old.memory line) new brief) takes
 
 -- GTO IND and XEQ IND, by where they go
 pub target_taken :
-    (origin : Origin) (branch : Branch) (register : ℕ) (target : BranchTarget) (old new : Machine) (brief : BriefOutcome)
+    (pages : PageMap) (origin : Origin) (branch : Branch) (register : ℕ) (target : BranchTarget) (old new : Machine) (brief : BriefOutcome)
     → is_parameter_left_out register ≡ false
     → ◌≡◌ {A = Result Meant LineFault} (Ok (meant_by target)) (meant_of old.memory (lines.BranchIndirect branch register))
-    → GoesToTarget origin branch target old new brief
-    → TakesBranch origin branch register old new (Ok brief)
-target_taken origin branch register target old new brief held meant goes =
+    → GoesToTarget pages origin branch target old new brief
+    → TakesBranch pages origin branch register old new (Ok brief)
+target_taken pages origin branch register target old new brief held meant goes =
     let P : Result Meant LineFault → Type 0 =
-    λ found. AppliesTo (manner_of origin) (lines.BranchIndirect branch register) old found
+    λ found. AppliesTo pages (manner_of origin) (lines.BranchIndirect branch register) old found
     (Ok (briefly (answers.Seeks (name_meant found)) new brief)) in
     rw held (subst P meant (goes (named_by (meant_by target))))

@@ -14,6 +14,7 @@ use Rattle.h41_focal.specs.declared.origin.Origin.{Origin}
 use Rattle.h41_focal.specs.declared.outcome.LineOutcome.{LineOutcome}
 use Rattle.h41_focal.specs.declared.refusal.FocalRefusal.{FocalRefusal}
 use Rattle.h41_focal.specs.declared.refusal.FocalRefusal.TheVariants.{NotInProfile}
+use Rattle.h41_pages.specs.PageMap.{PageMap}
 use Rattle.h41_ram.specs.RegisterMap.{RegisterMap, flag_of}
 use Rattle.h41_rows.specs.LineRows.{row_of}
 use Rattle.h41_rows.specs.Operands.{Meant, meant_of}
@@ -85,64 +86,64 @@ ends_keeps how old new answer (Seeks name) left own is elsewhere = ap (λ (of : 
 ends_keeps how old new answer HasNoLabel left own failing elsewhere = fails_in how old old Nonexistent left failing elsewhere
 ends_keeps how old new answer HasNoLine left own is elsewhere = cc
 
-applies_with : (how : Manner) (row : rows.LineRow) (named : ℕ) (machine : Machine) (result : Result (List ℕ) LineFault) (left : Left)
-    → AppliesWith how row named machine result (Ok left) → is_elsewhere left.answer ≡ true → left.machine ≡ machine
-applies_with how row named machine (Err fault) left failing elsewhere = fails_in how machine machine fault left failing elsewhere
-applies_with how row named machine (Ok result) left (to, goes, ends) elsewhere =
+applies_with : (pages : PageMap) (how : Manner) (row : rows.LineRow) (named : ℕ) (machine : Machine) (result : Result (List ℕ) LineFault) (left : Left)
+    → AppliesWith pages how row named machine result (Ok left) → is_elsewhere left.answer ≡ true → left.machine ≡ machine
+applies_with pages how row named machine (Err fault) left failing elsewhere = fails_in how machine machine fault left failing elsewhere
+applies_with pages how row named machine (Ok result) left (to, goes, ends) elsewhere =
     ends_keeps how machine _ _ to left (own_answer machine.memory named row.shows row.ends) ends elsewhere
 
-applies_to : (how : Manner) (line : Line) (machine : Machine) (meant : Result Meant LineFault) (left : Left)
-    → AppliesTo how line machine meant (Ok left) → is_elsewhere left.answer ≡ true → left.machine ≡ machine
-applies_to how line machine (Err fault) left failing elsewhere = fails_in how machine machine fault left failing elsewhere
-applies_to how line machine (Ok meant) left (result, works, applies) elsewhere =
-    applies_with how (row_of line meant) (named_by meant) machine result left applies elsewhere
+applies_to : (pages : PageMap) (how : Manner) (line : Line) (machine : Machine) (meant : Result Meant LineFault) (left : Left)
+    → AppliesTo pages how line machine meant (Ok left) → is_elsewhere left.answer ≡ true → left.machine ≡ machine
+applies_to pages how line machine (Err fault) left failing elsewhere = fails_in how machine machine fault left failing elsewhere
+applies_to pages how line machine (Ok meant) left (result, works, applies) elsewhere =
+    applies_with pages how (row_of line meant) (named_by meant) machine result left applies elsewhere
 
 -- a line
-carries_out : (how : Manner) (line : Line) (machine : Machine) (left : Left) → CarriesOut how line machine (Ok left)
+carries_out : (pages : PageMap) (how : Manner) (line : Line) (machine : Machine) (left : Left) → CarriesOut pages how line machine (Ok left)
     → is_elsewhere left.answer ≡ true → left.machine ≡ machine
-carries_out how (lines.Module number entry) machine left is elsewhere = ap (λ (of : Left). of.machine) (same_left left _ is)
-carries_out how lines.Null machine left is elsewhere =
-    applies_to how lines.Null machine (meant_of machine.memory lines.Null) left is elsewhere
-carries_out how (lines.LocalLabel a) machine left is elsewhere =
-    applies_to how (lines.LocalLabel a) machine (meant_of machine.memory (lines.LocalLabel a)) left is elsewhere
-carries_out how (lines.GlobalLabel a b c) machine left is elsewhere =
-    applies_to how (lines.GlobalLabel a b c) machine (meant_of machine.memory (lines.GlobalLabel a b c)) left is elsewhere
-carries_out how (lines.Number a) machine left is elsewhere =
-    applies_to how (lines.Number a) machine (meant_of machine.memory (lines.Number a)) left is elsewhere
-carries_out how (lines.Named a b) machine left is elsewhere =
-    applies_to how (lines.Named a b) machine (meant_of machine.memory (lines.Named a b)) left is elsewhere
-carries_out how (lines.Register a b) machine left is elsewhere =
-    applies_to how (lines.Register a b) machine (meant_of machine.memory (lines.Register a b)) left is elsewhere
-carries_out how (lines.Plain a) machine left is elsewhere =
-    applies_to how (lines.Plain a) machine (meant_of machine.memory (lines.Plain a)) left is elsewhere
-carries_out how (lines.WithOperand a b) machine left is elsewhere =
-    applies_to how (lines.WithOperand a b) machine (meant_of machine.memory (lines.WithOperand a b)) left is elsewhere
-carries_out how (lines.BranchIndirect a b) machine left is elsewhere =
-    applies_to how (lines.BranchIndirect a b) machine (meant_of machine.memory (lines.BranchIndirect a b)) left is elsewhere
-carries_out how (lines.ShortGoTo a b) machine left is elsewhere =
-    applies_to how (lines.ShortGoTo a b) machine (meant_of machine.memory (lines.ShortGoTo a b)) left is elsewhere
-carries_out how (lines.End a b) machine left is elsewhere =
-    applies_to how (lines.End a b) machine (meant_of machine.memory (lines.End a b)) left is elsewhere
-carries_out how (lines.FinalEnd a b) machine left is elsewhere =
-    applies_to how (lines.FinalEnd a b) machine (meant_of machine.memory (lines.FinalEnd a b)) left is elsewhere
-carries_out how (lines.BranchTo a b c d) machine left is elsewhere =
-    applies_to how (lines.BranchTo a b c d) machine (meant_of machine.memory (lines.BranchTo a b c d)) left is elsewhere
-carries_out how (lines.Text a) machine left is elsewhere =
-    applies_to how (lines.Text a) machine (meant_of machine.memory (lines.Text a)) left is elsewhere
+carries_out pages how (lines.Module number entry) machine left is elsewhere = ap (λ (of : Left). of.machine) (same_left left _ is)
+carries_out pages how lines.Null machine left is elsewhere =
+    applies_to pages how lines.Null machine (meant_of machine.memory lines.Null) left is elsewhere
+carries_out pages how (lines.LocalLabel a) machine left is elsewhere =
+    applies_to pages how (lines.LocalLabel a) machine (meant_of machine.memory (lines.LocalLabel a)) left is elsewhere
+carries_out pages how (lines.GlobalLabel a b c) machine left is elsewhere =
+    applies_to pages how (lines.GlobalLabel a b c) machine (meant_of machine.memory (lines.GlobalLabel a b c)) left is elsewhere
+carries_out pages how (lines.Number a) machine left is elsewhere =
+    applies_to pages how (lines.Number a) machine (meant_of machine.memory (lines.Number a)) left is elsewhere
+carries_out pages how (lines.Named a b) machine left is elsewhere =
+    applies_to pages how (lines.Named a b) machine (meant_of machine.memory (lines.Named a b)) left is elsewhere
+carries_out pages how (lines.Register a b) machine left is elsewhere =
+    applies_to pages how (lines.Register a b) machine (meant_of machine.memory (lines.Register a b)) left is elsewhere
+carries_out pages how (lines.Plain a) machine left is elsewhere =
+    applies_to pages how (lines.Plain a) machine (meant_of machine.memory (lines.Plain a)) left is elsewhere
+carries_out pages how (lines.WithOperand a b) machine left is elsewhere =
+    applies_to pages how (lines.WithOperand a b) machine (meant_of machine.memory (lines.WithOperand a b)) left is elsewhere
+carries_out pages how (lines.BranchIndirect a b) machine left is elsewhere =
+    applies_to pages how (lines.BranchIndirect a b) machine (meant_of machine.memory (lines.BranchIndirect a b)) left is elsewhere
+carries_out pages how (lines.ShortGoTo a b) machine left is elsewhere =
+    applies_to pages how (lines.ShortGoTo a b) machine (meant_of machine.memory (lines.ShortGoTo a b)) left is elsewhere
+carries_out pages how (lines.End a b) machine left is elsewhere =
+    applies_to pages how (lines.End a b) machine (meant_of machine.memory (lines.End a b)) left is elsewhere
+carries_out pages how (lines.FinalEnd a b) machine left is elsewhere =
+    applies_to pages how (lines.FinalEnd a b) machine (meant_of machine.memory (lines.FinalEnd a b)) left is elsewhere
+carries_out pages how (lines.BranchTo a b c d) machine left is elsewhere =
+    applies_to pages how (lines.BranchTo a b c d) machine (meant_of machine.memory (lines.BranchTo a b c d)) left is elsewhere
+carries_out pages how (lines.Text a) machine left is elsewhere =
+    applies_to pages how (lines.Text a) machine (meant_of machine.memory (lines.Text a)) left is elsewhere
 
-takes_by : (out : Bool) (how : Manner) (line : Line) (machine : Machine) (left : Left)
-    → MatchBool out (◌≡◌ {A = Result Left FocalRefusal} (Ok left) (Err NotInProfile)) (CarriesOut how line machine (Ok left))
+takes_by : (pages : PageMap) (out : Bool) (how : Manner) (line : Line) (machine : Machine) (left : Left)
+    → MatchBool out (◌≡◌ {A = Result Left FocalRefusal} (Ok left) (Err NotInProfile)) (CarriesOut pages how line machine (Ok left))
     → is_elsewhere left.answer ≡ true → left.machine ≡ machine
-takes_by true how line machine left is elsewhere = cc
-takes_by false how line machine left carries elsewhere = carries_out how line machine left carries elsewhere
+takes_by pages true how line machine left is elsewhere = cc
+takes_by pages false how line machine left carries elsewhere = carries_out pages how line machine left carries elsewhere
 
-pub elsewhere_keeps : (how : Manner) (line : Line) (machine : Machine) (left : Left) → TakesLine how line machine (Ok left)
+pub elsewhere_keeps : (pages : PageMap) (how : Manner) (line : Line) (machine : Machine) (left : Left) → TakesLine pages how line machine (Ok left)
     → is_elsewhere left.answer ≡ true → left.machine ≡ machine
-elsewhere_keeps how line machine left takes elsewhere = takes_by (is_left_out line) how line machine left takes elsewhere
+elsewhere_keeps pages how line machine left takes elsewhere = takes_by pages (is_left_out line) how line machine left takes elsewhere
 
 -- what a call leaves where its answer has to be looked up
-pub kept_elsewhere : (origin : Origin) (line : Line) (old new : Machine) (result : Result LineOutcome FocalRefusal)
-    → TakesAs origin line old new result → KeepsElsewhere old new result
-kept_elsewhere origin line old new (Ok outcome) takes =
-    λ elsewhere. elsewhere_keeps (manner_of origin) line old _ takes elsewhere
-kept_elsewhere origin line old new (Err refusal) takes = tt
+pub kept_elsewhere : (pages : PageMap) (origin : Origin) (line : Line) (old new : Machine) (result : Result LineOutcome FocalRefusal)
+    → TakesAs pages origin line old new result → KeepsElsewhere old new result
+kept_elsewhere pages origin line old new (Ok outcome) takes =
+    λ elsewhere. elsewhere_keeps pages (manner_of origin) line old _ takes elsewhere
+kept_elsewhere pages origin line old new (Err refusal) takes = tt

@@ -16,11 +16,12 @@ use Rattle.h41_focal.specs.declared.origin.Origin.TheVariants.{Program, Typed}
 use Rattle.h41_focal.specs.declared.outcome.BriefOutcome.{BriefOutcome}
 use Rattle.h41_focal.specs.declared.outcome.BriefOutcome.TheVariants as briefs
 use Rattle.h41_focal.specs.declared.works.FunctionWork.TheVariants as works
+use Rattle.h41_pages.specs.PageMap.{PageMap}
 use Rattle.h41_program.specs.ProgramLines.{AnswersOf}
-use Rattle.h41_program.specs.Positions.{LocalFrom, StartOf}
+use Rattle.h41_positions.specs.Positions.{LocalFrom, StartOf}
 use Rattle.h41_program.specs.Searches.{named_in, position_of}
-use Rattle.h41_program.specs.declared.position.Position.{Position}
-use Rattle.h41_program.specs.declared.position.Position.TheVariants.{Memory}
+use Rattle.h41_positions.specs.declared.position.Position.{Position}
+use Rattle.h41_positions.specs.declared.position.Position.TheVariants.{Memory}
 use Rattle.h41_ram.specs.RegisterMap.{zeros}
 
 -- at a label, by how the line came and whether it returns
@@ -29,13 +30,13 @@ at_label origin branch position machine = record machine { focal = focal_at orig
 
 -- the label stands there
 pub label_found :
-    (origin : Origin) (branch : Branch) (label named : ℕ) (machine : Machine) (position : Position) (brief : BriefOutcome)
-    → LocalFrom label machine.memory (from_of origin machine.focal.position) (Some position)
+    (pages : PageMap) (origin : Origin) (branch : Branch) (label named : ℕ) (machine : Machine) (position : Position) (brief : BriefOutcome)
+    → LocalFrom label pages machine.memory (from_of origin machine.focal.position) (Some position)
     → brief ≡ answer_at origin branch
-    → CarriesRow origin (lines.to_label branch label) named machine (at_label origin branch position machine) (Ok brief)
-label_found (Program next) GoTo label named machine position brief found answer =
+    → CarriesRow pages origin (lines.to_label branch label) named machine (at_label origin branch position machine) (Ok brief)
+label_found pages (Program next) GoTo label named machine position brief found answer =
     (Ok zeros, refl, (destinations.Arrives position machine.focal.returns, (Some position, found, refl), rw answer refl))
-label_found (Program next) Execute label named machine position brief found answer = (
+label_found pages (Program next) Execute label named machine position brief found answer = (
   Ok zeros,
   refl,
   (
@@ -44,32 +45,32 @@ label_found (Program next) Execute label named machine position brief found answ
     rw answer refl,
   ),
 )
-label_found Typed GoTo label named machine position brief found answer =
+label_found pages Typed GoTo label named machine position brief found answer =
     (Ok zeros, refl, (destinations.Arrives position machine.focal.returns, (Some position, found, refl), rw answer refl))
-label_found Typed Execute label named machine position brief found answer =
+label_found pages Typed Execute label named machine position brief found answer =
     (Ok zeros, refl, (destinations.Runs position, (Some position, found, refl), rw answer refl))
 
 -- it stands nowhere
 pub label_lost :
-    (origin : Origin) (branch : Branch) (label named : ℕ) (old new : Machine) (brief : BriefOutcome)
-    → LocalFrom label old.memory (from_of origin old.focal.position) None
+    (pages : PageMap) (origin : Origin) (branch : Branch) (label named : ℕ) (old new : Machine) (brief : BriefOutcome)
+    → LocalFrom label pages old.memory (from_of origin old.focal.position) None
     → FailsAs origin Nonexistent old new brief
-    → CarriesRow origin (lines.to_label branch label) named old new (Ok brief)
-label_lost (Program next) branch label named old new brief lost fails =
+    → CarriesRow pages origin (lines.to_label branch label) named old new (Ok brief)
+label_lost pages (Program next) branch label named old new brief lost fails =
     (Ok zeros, refl, (destinations.HasNoLabel, (None, lost, refl), fails))
-label_lost Typed branch label named old new brief lost fails =
+label_lost pages Typed branch label named old new brief lost fails =
     (Ok zeros, refl, (destinations.HasNoLabel, (None, lost, refl), fails))
 
 -- a name stands there
 pub name_found :
-    (origin : Origin) (branch : Branch) (name : List ℕ) (named : ℕ) (machine : Machine) (byte : ℕ) (brief : BriefOutcome)
+    (pages : PageMap) (origin : Origin) (branch : Branch) (name : List ℕ) (named : ℕ) (machine : Machine) (byte : ℕ) (brief : BriefOutcome)
     → AnswersOf (λ lines. position_of (named_in name lines)) machine.memory 0 (Some byte)
     → brief ≡ answer_at origin branch
-    → LeavesCalling (answers.Seeks name) origin (lines.to_name branch name) named machine
+    → LeavesCalling pages (answers.Seeks name) origin (lines.to_name branch name) named machine
     (at_label origin branch (Memory byte) machine) brief
-name_found (Program next) GoTo name named machine byte brief found answer =
+name_found pages (Program next) GoTo name named machine byte brief found answer =
     (Ok zeros, refl, (destinations.Arrives (Memory byte) machine.focal.returns, (Some byte, found, refl), rw answer refl))
-name_found (Program next) Execute name named machine byte brief found answer = (
+name_found pages (Program next) Execute name named machine byte brief found answer = (
   Ok zeros,
   refl,
   (
@@ -78,47 +79,47 @@ name_found (Program next) Execute name named machine byte brief found answer = (
     rw answer refl,
   ),
 )
-name_found Typed GoTo name named machine byte brief found answer =
+name_found pages Typed GoTo name named machine byte brief found answer =
     (Ok zeros, refl, (destinations.Arrives (Memory byte) machine.focal.returns, (Some byte, found, refl), rw answer refl))
-name_found Typed Execute name named machine byte brief found answer =
+name_found pages Typed Execute name named machine byte brief found answer =
     (Ok zeros, refl, (destinations.Runs (Memory byte), (Some byte, found, refl), rw answer refl))
 
 -- it stands nowhere: GTO fails
 pub name_lost :
-    (origin : Origin) (name : List ℕ) (named : ℕ) (old new : Machine) (brief : BriefOutcome)
+    (pages : PageMap) (origin : Origin) (name : List ℕ) (named : ℕ) (old new : Machine) (brief : BriefOutcome)
     → AnswersOf (λ lines. position_of (named_in name lines)) old.memory 0 None
     → FailsIn (manner_of origin) old Nonexistent (Ok (briefly (answers.Seeks name) new brief))
-    → LeavesCalling (answers.Seeks name) origin (lines.to_name GoTo name) named old new brief
-name_lost (Program next) name named old new brief lost fails =
+    → LeavesCalling pages (answers.Seeks name) origin (lines.to_name GoTo name) named old new brief
+name_lost pages (Program next) name named old new brief lost fails =
     (Ok zeros, refl, (destinations.HasNoLabel, (None, lost, refl), fails))
-name_lost Typed name named old new brief lost fails =
+name_lost pages Typed name named old new brief lost fails =
     (Ok zeros, refl, (destinations.HasNoLabel, (None, lost, refl), fails))
 
 -- and XEQ leaves the search to the calculator
 pub name_sought :
-    (origin : Origin) (name : List ℕ) (named : ℕ) (machine : Machine)
+    (pages : PageMap) (origin : Origin) (name : List ℕ) (named : ℕ) (machine : Machine)
     → AnswersOf (λ lines. position_of (named_in name lines)) machine.memory 0 None
-    → LeavesCalling (answers.Seeks name) origin (lines.to_name Execute name) named machine machine briefs.Elsewhere
-name_sought (Program next) name named machine lost =
+    → LeavesCalling pages (answers.Seeks name) origin (lines.to_name Execute name) named machine machine briefs.Elsewhere
+name_sought pages (Program next) name named machine lost =
     (Ok zeros, refl, (destinations.Seeks name, (None, lost, refl), refl))
-name_sought Typed name named machine lost = (Ok zeros, refl, (destinations.Seeks name, (None, lost, refl), refl))
+name_sought pages Typed name named machine lost = (Ok zeros, refl, (destinations.Seeks name, (None, lost, refl), refl))
 
 -- a line goes back
-back_from : (returns : List Position) (old new : Machine) (brief : BriefOutcome) (next : Position) (named : ℕ)
-    → GoesBackFrom returns old new brief
+back_from : (pages : PageMap) (returns : List Position) (old new : Machine) (brief : BriefOutcome) (next : Position) (named : ℕ)
+    → GoesBackFrom pages returns old new brief
     → returns ≡ reverse old.focal.returns
-    → CarriesRow (Program next) (row_of_work works.Return) named old new (Ok brief)
-back_from [] old new brief next named (start, found, is, answer) none =
+    → CarriesRow pages (Program next) (row_of_work works.Return) named old new (Ok brief)
+back_from pages [] old new brief next named (start, found, is, answer) none =
     (Ok zeros, refl, (destinations.Halts start, rw (← none) (start, found, refl), rw (is, answer) refl))
-back_from (latest ∷ others) old new brief next named (is, answer) some =
+back_from pages (latest ∷ others) old new brief next named (is, answer) some =
     (Ok zeros, refl, (destinations.Arrives latest (reverse others), rw (← some) refl, rw (is, answer) refl))
 
-pub goes_back : (old new : Machine) (brief : BriefOutcome) (next : Position) (named : ℕ)
-    → ReturnsFrom old new brief
-    → CarriesRow (Program next) (row_of_work works.Return) named old new (Ok brief)
-goes_back old new brief next named back = back_from (reverse old.focal.returns) old new brief next named back refl
+pub goes_back : (pages : PageMap) (old new : Machine) (brief : BriefOutcome) (next : Position) (named : ℕ)
+    → ReturnsFrom pages old new brief
+    → CarriesRow pages (Program next) (row_of_work works.Return) named old new (Ok brief)
+goes_back pages old new brief next named back = back_from pages (reverse old.focal.returns) old new brief next named back refl
 
-pub goes_to_line_00 : (machine : Machine) (start : Position) (named : ℕ)
-    → StartOf machine.memory machine.focal.position start
-    → CarriesRow Typed (row_of_work works.Return) named machine (at_halt start machine) (Ok briefs.Done)
-goes_to_line_00 machine start named found = (Ok zeros, refl, (destinations.Halts start, (start, found, refl), refl))
+pub goes_to_line_00 : (pages : PageMap) (machine : Machine) (start : Position) (named : ℕ)
+    → StartOf pages machine.memory machine.focal.position start
+    → CarriesRow pages Typed (row_of_work works.Return) named machine (at_halt start machine) (Ok briefs.Done)
+goes_to_line_00 pages machine start named found = (Ok zeros, refl, (destinations.Halts start, (start, found, refl), refl))

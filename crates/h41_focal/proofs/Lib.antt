@@ -4,7 +4,6 @@ mod Elsewhere
 mod LabelsMet
 mod LabelsRight
 mod LinesTaken
-mod MemoryBytes
 mod OneOutcome
 mod RowApplied
 mod RowAsked

@@ -1,4 +1,5 @@
 -- Lines are taken, by what was found of their operands and by their rows.
+use Rattle.std.specs.Prelude.{IsTrue}
 use Rattle.std.proofs.Common.{◌≡◌, ℕ, Bool, true, false, Some, None, Ok, Err, Result, refl}
 use Rattle.h41_codes.specs.declared.functions.Function.{Function}
 use Rattle.h41_codes.specs.declared.functions.ParameterFunction.{ParameterFunction}
@@ -6,7 +7,7 @@ use Rattle.h41_codes.specs.declared.functions.RegisterFunction.{RegisterFunction
 use Rattle.h41_codes.specs.declared.line.Line.{Line}
 use Rattle.h41_codes.specs.declared.line.Line.TheVariants as lines
 use Rattle.h41_codes.specs.declared.line.Operand.{Operand}
-use Rattle.h41_focal.specs.private.Carrying.{CarriesFound, CarriesRow, TakesBriefly, UsesAddress, UsesDigits, UsesFlag}
+use Rattle.h41_focal.specs.private.Carrying.{CarriesFound, CarriesRow, StandsNumber, TakesBriefly, UsesAddress, UsesDigits, UsesFlag}
 use Rattle.h41_focal.specs.LineStep.{Machine, lift_behind}
 use Rattle.h41_focal.specs.private.Works.{digits_use_row, flag_use_row, highest_of, register_use_row, row_of_work}
 use Rattle.h41_focal.specs.declared.origin.Origin.{Origin}
@@ -17,6 +18,12 @@ use Rattle.h41_focal.specs.declared.uses.DigitsUse.{DigitsUse}
 use Rattle.h41_focal.specs.declared.uses.FlagUse.{FlagUse}
 use Rattle.h41_focal.specs.declared.uses.RegisterUse.{RegisterUse}
 use Rattle.h41_focal.specs.declared.works.FunctionWork.{FunctionWork}
+use Rattle.h41_decimal.specs.declared.ten.Ten.{Ten}
+use Rattle.h41_numbers.specs.MemoryNumbers.{HasNumber}
+use Rattle.h41_pages.specs.PageMap.{PageMap}
+use Rattle.h41_positions.proofs.PageAnswers.{both_here}
+use Rattle.h41_positions.specs.declared.position.Position.TheVariants.{Memory}
+use Rattle.h41_ram.specs.RegisterMap.{is_sound}
 use Rattle.h41_rows.specs.FunctionRows.{function_row}
 use Rattle.h41_rows.specs.LineRows.{count_row, register_row, short_row}
 use Rattle.h41_rows.specs.Operands.{DigitKind, FlagKind, LabelKind, RegisterKind, data_register, kind_of}
@@ -26,75 +33,75 @@ use Rattle.h41_rows.specs.declared.fault.LineFault.{LineFault}
 
 -- a function, by its work
 pub plain_taken :
-    (origin : Origin) (function : Function) (work : FunctionWork) (old new : Machine) (result : Result BriefOutcome FocalRefusal)
+    (pages : PageMap) (origin : Origin) (function : Function) (work : FunctionWork) (old new : Machine) (result : Result BriefOutcome FocalRefusal)
     → Some (row_of_work work) ≡ function_row function
-    → CarriesRow origin (row_of_work work) 0 old new result
-    → TakesBriefly origin (lines.Plain function) old new result
-plain_taken origin function work old new result row carries = rw (← row) carries
+    → CarriesRow pages origin (row_of_work work) 0 old new result
+    → TakesBriefly pages origin (lines.Plain function) old new result
+plain_taken pages origin function work old new result row carries = rw (← row) carries
 
 -- and one without
 pub plain_left_out :
-    (origin : Origin) (function : Function) (machine : Machine)
+    (pages : PageMap) (origin : Origin) (function : Function) (machine : Machine)
     → None ≡ function_row function
-    → TakesBriefly origin (lines.Plain function) machine machine (Err NotInProfile)
-plain_left_out origin function machine none = rw (← none) refl
+    → TakesBriefly pages origin (lines.Plain function) machine machine (Err NotInProfile)
+plain_left_out pages origin function machine none = rw (← none) refl
 
 -- a function with an operand that is left out
 pub operand_left_out :
-    (origin : Origin) (function : ParameterFunction) (operand : Operand) (machine : Machine)
+    (pages : PageMap) (origin : Origin) (function : ParameterFunction) (operand : Operand) (machine : Machine)
     → is_use_left_out function operand ≡ true
-    → TakesBriefly origin (lines.WithOperand function operand) machine machine (Err NotInProfile)
-operand_left_out origin function operand machine out = rw out refl
+    → TakesBriefly pages origin (lines.WithOperand function operand) machine machine (Err NotInProfile)
+operand_left_out pages origin function operand machine out = rw out refl
 
 -- with a register
-pub register_taken : (origin : Origin) (function : ParameterFunction) (operand : Operand)
+pub register_taken : (pages : PageMap) (origin : Origin) (function : ParameterFunction) (operand : Operand)
     (taken : RegisterUse) (old new : Machine) (result : Result BriefOutcome FocalRefusal)
     → is_use_left_out function operand ≡ false → kind_of function ≡ RegisterKind → register_row function ≡ register_use_row taken
-    → UsesAddress origin taken operand old new result → TakesBriefly origin (lines.WithOperand function operand) old new result
-register_taken origin function operand taken old new result held kind row (Ok address, meant, carries) =
+    → UsesAddress pages origin taken operand old new result → TakesBriefly pages origin (lines.WithOperand function operand) old new result
+register_taken pages origin function operand taken old new result held kind row (Ok address, meant, carries) =
     rw (held, kind, ← meant, row) carries
-register_taken origin function operand taken old new result held kind row (Err fault, meant, fails) =
+register_taken pages origin function operand taken old new result held kind row (Err fault, meant, fails) =
     rw (held, kind, ← meant) fails
 
 -- with a number of digits
-pub digits_taken : (origin : Origin) (function : ParameterFunction) (operand : Operand)
+pub digits_taken : (pages : PageMap) (origin : Origin) (function : ParameterFunction) (operand : Operand)
     (taken : DigitsUse) (old new : Machine) (result : Result BriefOutcome FocalRefusal)
     → is_use_left_out function operand ≡ false → kind_of function ≡ DigitKind → ((n : ℕ) → count_row function n ≡ digits_use_row taken n)
-    → UsesDigits origin taken operand old new result → TakesBriefly origin (lines.WithOperand function operand) old new result
-digits_taken origin function operand taken old new result held kind row (Ok digits, meant, carries) =
+    → UsesDigits pages origin taken operand old new result → TakesBriefly pages origin (lines.WithOperand function operand) old new result
+digits_taken pages origin function operand taken old new result held kind row (Ok digits, meant, carries) =
     rw (held, kind, ← meant, row digits) carries
-digits_taken origin function operand taken old new result held kind row (Err fault, meant, fails) =
+digits_taken pages origin function operand taken old new result held kind row (Err fault, meant, fails) =
     rw (held, kind, ← meant) fails
 
 -- with a flag
-pub flag_taken : (origin : Origin) (function : ParameterFunction) (operand : Operand)
+pub flag_taken : (pages : PageMap) (origin : Origin) (function : ParameterFunction) (operand : Operand)
     (taken : FlagUse) (old new : Machine) (result : Result BriefOutcome FocalRefusal)
     → is_use_left_out function operand ≡ false → kind_of function ≡ FlagKind (highest_of taken)
-    → ((n : ℕ) → count_row function n ≡ flag_use_row taken n) → UsesFlag origin taken operand old new result
-    → TakesBriefly origin (lines.WithOperand function operand) old new result
-flag_taken origin function operand taken old new result held kind row (Ok flag, meant, carries) =
+    → ((n : ℕ) → count_row function n ≡ flag_use_row taken n) → UsesFlag pages origin taken operand old new result
+    → TakesBriefly pages origin (lines.WithOperand function operand) old new result
+flag_taken pages origin function operand taken old new result held kind row (Ok flag, meant, carries) =
     rw (held, kind, ← meant, row flag) carries
-flag_taken origin function operand taken old new result held kind row (Err fault, meant, fails) =
+flag_taken pages origin function operand taken old new result held kind row (Err fault, meant, fails) =
     rw (held, kind, ← meant) fails
 
 -- a label
 pub label_taken :
-    (origin : Origin) (function : ParameterFunction) (operand : Operand) (old new : Machine) (result : Result BriefOutcome FocalRefusal)
+    (pages : PageMap) (origin : Origin) (function : ParameterFunction) (operand : Operand) (old new : Machine) (result : Result BriefOutcome FocalRefusal)
     → is_use_left_out function operand ≡ false
     → kind_of function ≡ LabelKind
     → register_row function ≡ silent_row
-    → CarriesRow origin silent_row 0 old new result
-    → TakesBriefly origin (lines.WithOperand function operand) old new result
-label_taken origin function operand old new result held kind row carries = rw (held, kind, row) carries
+    → CarriesRow pages origin silent_row 0 old new result
+    → TakesBriefly pages origin (lines.WithOperand function operand) old new result
+label_taken pages origin function operand old new result held kind row carries = rw (held, kind, row) carries
 
 -- RCL and STO of the first registers
-pub short_taken : (origin : Origin) (function : RegisterFunction) (register : ℕ)
+pub short_taken : (pages : PageMap) (origin : Origin) (function : RegisterFunction) (register : ℕ)
     (found : Result ℕ LineFault) (old new : Machine) (result : Result BriefOutcome FocalRefusal)
     → found ≡ data_register old.memory register
-    → CarriesFound origin (λ address. short_row function) (λ address. address) found old new result
-    → TakesBriefly origin (lines.Register function register) old new result
-short_taken origin function register (Ok address) old new result found carries = rw (← found) carries
-short_taken origin function register (Err fault) old new result found fails = rw (← found) fails
+    → CarriesFound pages origin (λ address. short_row function) (λ address. address) found old new result
+    → TakesBriefly pages origin (lines.Register function register) old new result
+short_taken pages origin function register (Ok address) old new result found carries = rw (← found) carries
+short_taken pages origin function register (Err fault) old new result found fails = rw (← found) fails
 
 -- behind a line that is no XROM line lift stays
 pub lift_kept : (line : Line) (lift : Bool) → ((number entry : ℕ) → line ≡ lines.Module number entry → ⊥) → lift_behind line lift ≡ lift
@@ -113,3 +120,10 @@ lift_kept (lines.End link marks) lift other = refl
 lift_kept (lines.FinalEnd link marks) lift other = refl
 lift_kept (lines.BranchTo branch distance backwards label) lift other = refl
 lift_kept (lines.Text text) lift other = refl
+
+-- a number line stands there, by the answers of program memory
+pub number_stands : (pages : PageMap) (machine : Machine) (at : ℕ) (number : Ten) (next : ℕ)
+    → IsTrue (is_sound machine.memory) → machine.focal.position ≡ Memory at → HasNumber machine.memory at number next
+    → StandsNumber pages machine number (Memory next)
+number_stands pages machine at number next sound is (text, both, numbers) =
+    let stands = both_here pages machine.memory at (lines.Number text) next both in rw is (text, (sound, stands.0, stands.1), numbers)

@@ -9,21 +9,22 @@ use Rattle.h41_codes.specs.declared.line.Line.TheVariants.{Module}
 use Rattle.h41_focal.specs.Destinations.{Arrives, Asks, Destination, Goes, GoesBack, Halts, HasNoLabel, HasNoLine, Manner, Passes, Runs}
 use Rattle.h41_focal.specs.Destinations.{Seeks, Stays}
 use Rattle.h41_focal.specs.Destinations.{Stepped, StepsFrom, Tells, Typed, TypedFrom, found_at, lost_name, typed_at}
-use Rattle.h41_focal.specs.LineLaws.{FailureIsDetermined, PassingIsDetermined, StepIsDetermined, TypedIsDetermined}
+use Rattle.h41_focal.specs.LineLaws.{EnteringIsDetermined, FailureIsDetermined, PassingIsDetermined, StepIsDetermined, TypedIsDetermined}
 use Rattle.h41_focal.specs.LineLaws.{TypedFailureIsDetermined}
 use Rattle.h41_focal.specs.LineStep.{Applies, AppliesTo, AppliesWith, CarriesOut, ComputesIn, Ends, FailsIn, FailsWith, Left, Machine}
-use Rattle.h41_focal.specs.LineStep.{PassesWith, Stands, StandsAt, StepsAs, TakesLine, Works, answer_of_showing, line_as, named_by}
+use Rattle.h41_focal.specs.LineStep.{EntersWith, PassesWith, Stands, StandsAt, StepsAs, TakesLine, Works, answer_of_showing, line_as, named_by}
 use Rattle.h41_focal.specs.LineStep.{with_row}
 use Rattle.h41_focal.specs.Outcomes.{Answer}
 use Rattle.h41_focal.specs.declared.refusal.FocalRefusal.{FocalRefusal}
 use Rattle.h41_focal.specs.declared.refusal.FocalRefusal.TheVariants.{BrokenProgram, MemoryLost, NotInProfile}
-use Rattle.h41_program.specs.PositionLaws.{HasOneAnswer, HasOneAnswerEach, IsReadOnce}
-use Rattle.h41_program.specs.Positions.{LineAt, LocalFrom, NextAt, StartOf}
+use Rattle.h41_pages.specs.PageMap.{PageMap}
+use Rattle.h41_positions.specs.PositionLaws.{HasOneAnswer, HasOneAnswerEach, IsReadOnce}
+use Rattle.h41_positions.specs.Positions.{LineAt, LocalFrom, NextAt, StartOf}
 use Rattle.h41_program.specs.SearchLaws.{AnswersAreDetermined}
 use Rattle.h41_program.specs.Searches.{named_in, position_of}
-use Rattle.h41_program.specs.declared.position.PlacedLine.{PlacedLine}
-use Rattle.h41_program.specs.declared.position.Position.{Position}
-use Rattle.h41_program.specs.declared.position.Position.TheVariants.{Memory}
+use Rattle.h41_positions.specs.declared.position.PlacedLine.{PlacedLine}
+use Rattle.h41_positions.specs.declared.position.Position.{Position}
+use Rattle.h41_positions.specs.declared.position.Position.TheVariants.{Memory}
 use Rattle.h41_program.specs.declared.refusal.ProgramRefusal.{ProgramRefusal}
 use Rattle.h41_program.specs.declared.refusal.ProgramRefusal.TheVariants as refusals
 use Rattle.h41_ram.specs.RegisterMap.{RegisterMap, is_sound}
@@ -38,64 +39,64 @@ use Rattle.h41_rows.specs.Values.{Value}
 use Rattle.h41_rows.specs.declared.fault.LineFault.{LineFault}
 use Rattle.h41_rows.specs.declared.fault.LineFault.TheVariants.{AlphaData}
 
-same_next : (once : IsReadOnce) (memory : RegisterMap) (at a b : Position)
-    → NextAt memory at (Ok a) → NextAt memory at (Ok b) → a ≡ b
-same_next once memory at a b p q = let same = once.next memory at (Ok a) (Ok b) p q in cc
+same_next : (once : IsReadOnce) (pages : PageMap) (memory : RegisterMap) (at a b : Position)
+    → NextAt pages memory at (Ok a) → NextAt pages memory at (Ok b) → a ≡ b
+same_next once pages memory at a b p q = let same = once.next pages memory at (Ok a) (Ok b) p q in cc
 
-no_next : (once : IsReadOnce) (memory : RegisterMap) (at a : Position)
-    → NextAt memory at (Ok a) → NextAt memory at (Err refusals.BrokenProgram) → ⊥
-no_next once memory at a p q =
+no_next : (once : IsReadOnce) (pages : PageMap) (memory : RegisterMap) (at a : Position)
+    → NextAt pages memory at (Ok a) → NextAt pages memory at (Err refusals.BrokenProgram) → ⊥
+no_next once pages memory at a p q =
     let never : ◌≡◌ {A = Result Position ProgramRefusal} (Ok a) (Err refusals.BrokenProgram) =
-    once.next memory at (Ok a) (Err refusals.BrokenProgram) p q in
+    once.next pages memory at (Ok a) (Err refusals.BrokenProgram) p q in
     cc
 
 -- where both are refused, by whether memory is sound
-same_refusal : (sound : Bool) (memory : RegisterMap) (at : Position) (a b : FocalRefusal)
-    → MatchBool sound ((a ≡ BrokenProgram) × (why : ProgramRefusal) × LineAt memory at (Err why)) (a ≡ MemoryLost)
-    → MatchBool sound ((b ≡ BrokenProgram) × (why : ProgramRefusal) × LineAt memory at (Err why)) (b ≡ MemoryLost) → a ≡ b
-same_refusal true memory at a b p q = p.0 ∙ sym q.0
-same_refusal false memory at a b p q = p ∙ sym q
+same_refusal : (pages : PageMap) (sound : Bool) (memory : RegisterMap) (at : Position) (a b : FocalRefusal)
+    → MatchBool sound ((a ≡ BrokenProgram) × (why : ProgramRefusal) × LineAt pages memory at (Err why)) (a ≡ MemoryLost)
+    → MatchBool sound ((b ≡ BrokenProgram) × (why : ProgramRefusal) × LineAt pages memory at (Err why)) (b ≡ MemoryLost) → a ≡ b
+same_refusal pages true memory at a b p q = p.0 ∙ sym q.0
+same_refusal pages false memory at a b p q = p ∙ sym q
 
 -- what stands at a position, where each is read in one way
 module _ (once : IsReadOnce) where
-  pub same_line : (memory : RegisterMap) (at : Position) (line other : Line)
-      → (first : PlacedLine) × LineAt memory at (Ok first) × (first.line ≡ line)
-      → (first : PlacedLine) × LineAt memory at (Ok first) × (first.line ≡ other) → line ≡ other
-  same_line memory at line other (first, stands, is) (again, stands_so, is_so) =
-      let same = once.line memory at (Ok first) (Ok again) stands stands_so in
+  pub same_line : (pages : PageMap) (memory : RegisterMap) (at : Position) (line other : Line)
+      → (first : PlacedLine) × LineAt pages memory at (Ok first) × (first.line ≡ line)
+      → (first : PlacedLine) × LineAt pages memory at (Ok first) × (first.line ≡ other) → line ≡ other
+  same_line pages memory at line other (first, stands, is) (again, stands_so, is_so) =
+      let same = once.line pages memory at (Ok first) (Ok again) stands stands_so in
       let one : first ≡ again = cc same in
       sym is ∙ (ap (λ (first : PlacedLine). first.line) one ∙ is_so)
 
-  never_refused : (memory : RegisterMap) (at : Position) (first : PlacedLine) (refusal : FocalRefusal) → is_sound memory ≡ true
-      → LineAt memory at (Ok first) → StandsAt memory at (Err refusal) → ⊥
-  never_refused memory at first refusal sound stands refused =
+  never_refused : (pages : PageMap) (memory : RegisterMap) (at : Position) (first : PlacedLine) (refusal : FocalRefusal) → is_sound memory ≡ true
+      → LineAt pages memory at (Ok first) → StandsAt pages memory at (Err refusal) → ⊥
+  never_refused pages memory at first refusal sound stands refused =
       let (is, why, none) = rw sound at refused in
-      let same = once.line memory at (Ok first) (Err why) stands none in
+      let same = once.line pages memory at (Ok first) (Err why) stands none in
       cc same
 
-  same_standing : (memory : RegisterMap) (at : Position) (a b : Result (Line × Position) FocalRefusal)
-      → StandsAt memory at a → StandsAt memory at b → a ≡ b
-  same_standing memory at (Ok (line, next)) (Ok (other, behind)) (sound, stands, goes) (sound_so, stands_so, goes_so) =
-      ap (λ (line : Line). Ok (line, next)) (same_line memory at line other stands stands_so)
-      ∙ ap (λ (next : Position). Ok (other, next)) (same_next once memory at next behind goes goes_so)
-  same_standing memory at (Ok (line, next)) (Err refusal) (sound, (first, stands, is), goes) refused =
-      absurd (never_refused memory at first refusal sound stands refused)
-  same_standing memory at (Err refusal) (Ok (line, next)) refused (sound, (first, stands, is), goes) =
-      absurd (never_refused memory at first refusal sound stands refused)
-  same_standing memory at (Err refusal) (Err other) p q =
-      ap (λ (why : FocalRefusal). Err why) (same_refusal (is_sound memory) memory at refusal other p q)
+  same_standing : (pages : PageMap) (memory : RegisterMap) (at : Position) (a b : Result (Line × Position) FocalRefusal)
+      → StandsAt pages memory at a → StandsAt pages memory at b → a ≡ b
+  same_standing pages memory at (Ok (line, next)) (Ok (other, behind)) (sound, stands, goes) (sound_so, stands_so, goes_so) =
+      ap (λ (line : Line). Ok (line, next)) (same_line pages memory at line other stands stands_so)
+      ∙ ap (λ (next : Position). Ok (other, next)) (same_next once pages memory at next behind goes goes_so)
+  same_standing pages memory at (Ok (line, next)) (Err refusal) (sound, (first, stands, is), goes) refused =
+      absurd (never_refused pages memory at first refusal sound stands refused)
+  same_standing pages memory at (Err refusal) (Ok (line, next)) refused (sound, (first, stands, is), goes) =
+      absurd (never_refused pages memory at first refusal sound stands refused)
+  same_standing pages memory at (Err refusal) (Err other) p q =
+      ap (λ (why : FocalRefusal). Err why) (same_refusal pages (is_sound memory) memory at refusal other p q)
 
   -- so what is done with it is one, where that is
-  by_standing : {A : Type 0} (does : Machine → Result (Line × Position) FocalRefusal → A → Type 0)
+  by_standing : {A : Type 0} (pages : PageMap) (does : Machine → Result (Line × Position) FocalRefusal → A → Type 0)
       → ((machine : Machine) (standing : Result (Line × Position) FocalRefusal) (a b : A)
       → does machine standing a → does machine standing b → a ≡ b)
       → (machine : Machine) (a b : A)
-      → (standing : Result (Line × Position) FocalRefusal) × Stands machine standing × does machine standing a
-      → (standing : Result (Line × Position) FocalRefusal) × Stands machine standing × does machine standing b → a ≡ b
-  by_standing {A} does same machine a b (standing, stands, p) (other, stands_so, q) =
+      → (standing : Result (Line × Position) FocalRefusal) × Stands pages machine standing × does machine standing a
+      → (standing : Result (Line × Position) FocalRefusal) × Stands pages machine standing × does machine standing b → a ≡ b
+  by_standing {A} pages does same machine a b (standing, stands, p) (other, stands_so, q) =
       same machine other a b
       (subst (λ (standing : Result (Line × Position) FocalRefusal). does machine standing a)
-      (same_standing machine.memory machine.focal.position standing other stands stands_so) p) q
+      (same_standing pages machine.memory machine.focal.position standing other stands stands_so) p) q
 
   -- a line that fails from outside
   same_outside : (fault : LineFault) (machine : Machine) (standing : Result (Line × Position) FocalRefusal)
@@ -105,7 +106,7 @@ module _ (once : IsReadOnce) where
   same_outside fault machine (Err refusal) a b p q = p ∙ sym q
 
   pub failure_determined : FailureIsDetermined
-  failure_determined fault machine a b p q = by_standing (FailsWith fault) (same_outside fault) machine a b p q
+  failure_determined pages fault machine a b p q = by_standing pages (FailsWith fault) (same_outside fault) machine a b p q
 
   -- a line that is passed
   same_beyond : (machine : Machine) (standing : Result (Line × Position) FocalRefusal) (a b : Result Machine FocalRefusal)
@@ -114,7 +115,16 @@ module _ (once : IsReadOnce) where
   same_beyond machine (Err refusal) a b p q = p ∙ sym q
 
   pub passing_determined : PassingIsDetermined
-  passing_determined machine a b p q = by_standing PassesWith same_beyond machine a b p q
+  passing_determined pages machine a b p q = by_standing pages PassesWith same_beyond machine a b p q
+
+  -- a line that calls a program of a page
+  same_called : (address : ℕ) (machine : Machine) (standing : Result (Line × Position) FocalRefusal) (a b : Result Machine FocalRefusal)
+      → EntersWith address machine standing a → EntersWith address machine standing b → a ≡ b
+  same_called address machine (Ok standing) a b p q = p ∙ sym q
+  same_called address machine (Err refusal) a b p q = p ∙ sym q
+
+  pub entering_determined : EnteringIsDetermined
+  entering_determined pages address machine a b p q = by_standing pages (EntersWith address) (same_called address) machine a b p q
 
 -- a typed line that fails from outside
 same_typed_failure : (sound : Bool) (fault : LineFault) (machine : Machine) (a b : Result Left FocalRefusal)
@@ -149,69 +159,69 @@ module _
     (same_start : HasOneAnswer StartOf)
     (same_local : HasOneAnswerEach LocalFrom)
     (same_global : AnswersAreDetermined (Option ℕ)) where
-  same_pass : (memory : RegisterMap) (next : Position) (returns : List Position) (a b : Destination) → Passes memory next returns a
-      → Passes memory next returns b → a ≡ b
-  same_pass memory next returns a b p q = elim p [
+  same_pass : (pages : PageMap) (memory : RegisterMap) (next : Position) (returns : List Position) (a b : Destination) → Passes pages memory next returns a
+      → Passes pages memory next returns b → a ≡ b
+  same_pass pages memory next returns a b p q = elim p [
     | inl past ↦ elim q [
       | inl again ↦
-          past.2 ∙ ap (λ (position : Position). Arrives position returns) (same_next once memory next past.0 again.0 past.1 again.1)
+          past.2 ∙ ap (λ (position : Position). Arrives position returns) (same_next once pages memory next past.0 again.0 past.1 again.1)
           ∙ sym again.2
-      | inr none ↦ absurd (no_next once memory next past.0 past.1 none.0)
+      | inr none ↦ absurd (no_next once pages memory next past.0 past.1 none.0)
     ]
     | inr none ↦ elim q [
-      | inl past ↦ absurd (no_next once memory next past.0 past.1 none.0)
+      | inl past ↦ absurd (no_next once pages memory next past.0 past.1 none.0)
       | inr again ↦ none.1 ∙ sym again.1
     ]
   ]
 
-  same_asked : (holds : Bool) (memory : RegisterMap) (next : Position) (returns : List Position) (a b : Destination)
-      → Asks holds memory next returns a → Asks holds memory next returns b → a ≡ b
-  same_asked true memory next returns a b p q = p ∙ sym q
-  same_asked false memory next returns a b p q = same_pass memory next returns a b p q
+  same_asked : (pages : PageMap) (holds : Bool) (memory : RegisterMap) (next : Position) (returns : List Position) (a b : Destination)
+      → Asks pages holds memory next returns a → Asks pages holds memory next returns b → a ≡ b
+  same_asked pages true memory next returns a b p q = p ∙ sym q
+  same_asked pages false memory next returns a b p q = same_pass pages memory next returns a b p q
 
-  same_back : (memory : RegisterMap) (at : Position) (latest_first : List Position) (a b : Destination)
-      → GoesBack memory at latest_first a → GoesBack memory at latest_first b → a ≡ b
-  same_back memory at [] a b p q =
-      p.2 ∙ ap (λ (start : Position). Halts start) (same_start memory at p.0 q.0 p.1 q.1) ∙ sym q.2
-  same_back memory at (latest ∷ others) a b p q = p ∙ sym q
+  same_back : (pages : PageMap) (memory : RegisterMap) (at : Position) (latest_first : List Position) (a b : Destination)
+      → GoesBack pages memory at latest_first a → GoesBack pages memory at latest_first b → a ≡ b
+  same_back pages memory at [] a b p q =
+      p.2 ∙ ap (λ (start : Position). Halts start) (same_start pages memory at p.0 q.0 p.1 q.1) ∙ sym q.2
+  same_back pages memory at (latest ∷ others) a b p q = p ∙ sym q
 
-  same_from_next : (going : rows.Going) (memory : RegisterMap) (named : ℕ) (at next : Position) (returns : List Position)
+  same_from_next : (pages : PageMap) (going : rows.Going) (memory : RegisterMap) (named : ℕ) (at next : Position) (returns : List Position)
       (a b : Destination)
-      → StepsFrom going memory named at next returns a → StepsFrom going memory named at next returns b → a ≡ b
-  same_from_next rows.Next memory named at next returns a b p q = p ∙ sym q
-  same_from_next (rows.Tests condition) memory named at next returns a b p q =
-      same_asked (holds_in memory named condition) memory next returns a b p q
-  same_from_next (rows.Counts condition) memory named at next returns a b p q =
-      same_asked (holds_in memory named condition) memory next returns a b p q
-  same_from_next (rows.ToLabel branch label) memory named at next returns a b p q =
-      p.2 ∙ ap (found_at branch next returns HasNoLabel) (same_local label memory next p.0 q.0 p.1 q.1) ∙ sym q.2
-  same_from_next (rows.ToName branch name) memory named at next returns a b p q =
+      → StepsFrom pages going memory named at next returns a → StepsFrom pages going memory named at next returns b → a ≡ b
+  same_from_next pages rows.Next memory named at next returns a b p q = p ∙ sym q
+  same_from_next pages (rows.Tests condition) memory named at next returns a b p q =
+      same_asked pages (holds_in memory named condition) memory next returns a b p q
+  same_from_next pages (rows.Counts condition) memory named at next returns a b p q =
+      same_asked pages (holds_in memory named condition) memory next returns a b p q
+  same_from_next pages (rows.ToLabel branch label) memory named at next returns a b p q =
+      p.2 ∙ ap (found_at branch next returns HasNoLabel) (same_local label pages memory next p.0 q.0 p.1 q.1) ∙ sym q.2
+  same_from_next pages (rows.ToName branch name) memory named at next returns a b p q =
       p.2
       ∙ ap (λ (found : Option ℕ). found_at branch next returns (lost_name branch name) (option_map Memory found))
       (same_global memory (λ lines. position_of (named_in name lines)) 0 p.0 q.0 p.1 q.1)
       ∙ sym q.2
-  same_from_next rows.Returns memory named at next returns a b p q = same_back memory at (reverse returns) a b p q
+  same_from_next pages rows.Returns memory named at next returns a b p q = same_back pages memory at (reverse returns) a b p q
 
-  same_from_here : (going : rows.Going) (memory : RegisterMap) (named : ℕ) (at : Position) (returns : List Position) (a b : Destination)
-      → TypedFrom going memory named at returns a → TypedFrom going memory named at returns b → a ≡ b
-  same_from_here rows.Next memory named at returns a b p q = p ∙ sym q
-  same_from_here (rows.Tests condition) memory named at returns a b p q = p ∙ sym q
-  same_from_here (rows.Counts condition) memory named at returns a b p q = p ∙ sym q
-  same_from_here (rows.ToLabel branch label) memory named at returns a b p q =
-      p.2 ∙ ap (typed_at branch returns HasNoLabel) (same_local label memory at p.0 q.0 p.1 q.1) ∙ sym q.2
-  same_from_here (rows.ToName branch name) memory named at returns a b p q =
+  same_from_here : (pages : PageMap) (going : rows.Going) (memory : RegisterMap) (named : ℕ) (at : Position) (returns : List Position) (a b : Destination)
+      → TypedFrom pages going memory named at returns a → TypedFrom pages going memory named at returns b → a ≡ b
+  same_from_here pages rows.Next memory named at returns a b p q = p ∙ sym q
+  same_from_here pages (rows.Tests condition) memory named at returns a b p q = p ∙ sym q
+  same_from_here pages (rows.Counts condition) memory named at returns a b p q = p ∙ sym q
+  same_from_here pages (rows.ToLabel branch label) memory named at returns a b p q =
+      p.2 ∙ ap (typed_at branch returns HasNoLabel) (same_local label pages memory at p.0 q.0 p.1 q.1) ∙ sym q.2
+  same_from_here pages (rows.ToName branch name) memory named at returns a b p q =
       p.2
       ∙ ap (λ (found : Option ℕ). typed_at branch returns (lost_name branch name) (option_map Memory found))
       (same_global memory (λ lines. position_of (named_in name lines)) 0 p.0 q.0 p.1 q.1)
       ∙ sym q.2
-  same_from_here rows.Returns memory named at returns a b p q =
-      p.2 ∙ ap (λ (start : Position). Halts start) (same_start memory at p.0 q.0 p.1 q.1) ∙ sym q.2
+  same_from_here pages rows.Returns memory named at returns a b p q =
+      p.2 ∙ ap (λ (start : Position). Halts start) (same_start pages memory at p.0 q.0 p.1 q.1) ∙ sym q.2
 
-  same_destination : (how : Manner) (going : rows.Going) (memory : RegisterMap) (named : ℕ) (at : Position) (returns : List Position)
+  same_destination : (pages : PageMap) (how : Manner) (going : rows.Going) (memory : RegisterMap) (named : ℕ) (at : Position) (returns : List Position)
       (a b : Destination)
-      → Goes how going memory named at returns a → Goes how going memory named at returns b → a ≡ b
-  same_destination (Stepped next) going memory named at returns a b p q = same_from_next going memory named at next returns a b p q
-  same_destination Typed going memory named at returns a b p q = same_from_here going memory named at returns a b p q
+      → Goes pages how going memory named at returns a → Goes pages how going memory named at returns b → a ≡ b
+  same_destination pages (Stepped next) going memory named at returns a b p q = same_from_next pages going memory named at next returns a b p q
+  same_destination pages Typed going memory named at returns a b p q = same_from_here pages going memory named at returns a b p q
 
 -- what a destination leaves
 same_end : (how : Manner) (old new : Machine) (answer : Answer) (to : Destination) (a b : Result Left FocalRefusal)
@@ -233,61 +243,61 @@ module _
     (same_start : HasOneAnswer StartOf)
     (same_local : HasOneAnswerEach LocalFrom)
     (same_global : AnswersAreDetermined (Option ℕ)) where
-  same_with : (how : Manner) (row : rows.LineRow) (named : ℕ) (machine : Machine)
+  same_with : (pages : PageMap) (how : Manner) (row : rows.LineRow) (named : ℕ) (machine : Machine)
       (result : Result (List ℕ) LineFault) (a b : Result Left FocalRefusal)
-      → AppliesWith how row named machine result a → AppliesWith how row named machine result b → a ≡ b
-  same_with how row named machine (Err fault) a b p q = p ∙ sym q
-  same_with how row named machine (Ok result) a b p q =
+      → AppliesWith pages how row named machine result a → AppliesWith pages how row named machine result b → a ≡ b
+  same_with pages how row named machine (Err fault) a b p q = p ∙ sym q
+  same_with pages how row named machine (Ok result) a b p q =
       let new = with_row row named result machine in
       let answer = answer_of_showing machine.memory named row.shows row.ends in
       let same =
-      same_destination once same_start same_local same_global how row.goes machine.memory
+      same_destination once same_start same_local same_global pages how row.goes machine.memory
       named machine.focal.position machine.focal.returns p.0 q.0 p.1 q.1 in
       same_end how machine new answer q.0 a b (subst (λ (to : Destination). Ends how machine new answer to a) same p.2) q.2
 
-  same_row : (how : Manner) (row : rows.LineRow) (named : ℕ) (machine : Machine) (a b : Result Left FocalRefusal)
-      → Applies how row named machine a → Applies how row named machine b → a ≡ b
-  same_row how row named machine a b p q =
+  same_row : (pages : PageMap) (how : Manner) (row : rows.LineRow) (named : ℕ) (machine : Machine) (a b : Result Left FocalRefusal)
+      → Applies pages how row named machine a → Applies pages how row named machine b → a ≡ b
+  same_row pages how row named machine a b p q =
       let same = same_work same_value machine.memory named row p.0 q.0 p.1 q.1 in
-      same_with how row named machine q.0 a b
-      (subst (λ (result : Result (List ℕ) LineFault). AppliesWith how row named machine result a) same p.2) q.2
+      same_with pages how row named machine q.0 a b
+      (subst (λ (result : Result (List ℕ) LineFault). AppliesWith pages how row named machine result a) same p.2) q.2
 
-  same_meant : (how : Manner) (line : Line) (machine : Machine) (meant : Result Meant LineFault) (a b : Result Left FocalRefusal)
-      → AppliesTo how line machine meant a → AppliesTo how line machine meant b → a ≡ b
-  same_meant how line machine (Err fault) a b p q = p ∙ sym q
-  same_meant how line machine (Ok meant) a b p q = same_row how (row_of line meant) (named_by meant) machine a b p q
+  same_meant : (pages : PageMap) (how : Manner) (line : Line) (machine : Machine) (meant : Result Meant LineFault) (a b : Result Left FocalRefusal)
+      → AppliesTo pages how line machine meant a → AppliesTo pages how line machine meant b → a ≡ b
+  same_meant pages how line machine (Err fault) a b p q = p ∙ sym q
+  same_meant pages how line machine (Ok meant) a b p q = same_row pages how (row_of line meant) (named_by meant) machine a b p q
 
-  same_carried : (how : Manner) (line : Line) (machine : Machine) (a b : Result Left FocalRefusal)
-      → CarriesOut how line machine a → CarriesOut how line machine b → a ≡ b
-  same_carried how (Module number entry) machine a b p q = p ∙ sym q
-  same_carried how line machine a b p q = same_meant how line machine (meant_of machine.memory line) a b p q
+  same_carried : (pages : PageMap) (how : Manner) (line : Line) (machine : Machine) (a b : Result Left FocalRefusal)
+      → CarriesOut pages how line machine a → CarriesOut pages how line machine b → a ≡ b
+  same_carried pages how (Module number entry) machine a b p q = p ∙ sym q
+  same_carried pages how line machine a b p q = same_meant pages how line machine (meant_of machine.memory line) a b p q
 
-  same_in_profile : (left_out : Bool) (how : Manner) (line : Line) (machine : Machine) (a b : Result Left FocalRefusal)
-      → MatchBool left_out (a ≡ Err NotInProfile) (CarriesOut how line machine a)
-      → MatchBool left_out (b ≡ Err NotInProfile) (CarriesOut how line machine b) → a ≡ b
-  same_in_profile true how line machine a b p q = p ∙ sym q
-  same_in_profile false how line machine a b p q = same_carried how line machine a b p q
+  same_in_profile : (pages : PageMap) (left_out : Bool) (how : Manner) (line : Line) (machine : Machine) (a b : Result Left FocalRefusal)
+      → MatchBool left_out (a ≡ Err NotInProfile) (CarriesOut pages how line machine a)
+      → MatchBool left_out (b ≡ Err NotInProfile) (CarriesOut pages how line machine b) → a ≡ b
+  same_in_profile pages true how line machine a b p q = p ∙ sym q
+  same_in_profile pages false how line machine a b p q = same_carried pages how line machine a b p q
 
-  same_taken : (how : Manner) (line : Line) (machine : Machine) (a b : Result Left FocalRefusal)
-      → TakesLine how line machine a → TakesLine how line machine b → a ≡ b
-  same_taken how line machine a b p q = same_in_profile (is_left_out line) how line machine a b p q
+  same_taken : (pages : PageMap) (how : Manner) (line : Line) (machine : Machine) (a b : Result Left FocalRefusal)
+      → TakesLine pages how line machine a → TakesLine pages how line machine b → a ≡ b
+  same_taken pages how line machine a b p q = same_in_profile pages (is_left_out line) how line machine a b p q
 
   -- a typed line
-  same_typed : (sound : Bool) (line : Line) (machine : Machine) (a b : Result Left FocalRefusal)
-      → MatchBool sound (TakesLine Typed line machine a) (a ≡ Err MemoryLost)
-      → MatchBool sound (TakesLine Typed line machine b) (b ≡ Err MemoryLost) → a ≡ b
-  same_typed true line machine a b p q = same_taken Typed line machine a b p q
-  same_typed false line machine a b p q = p ∙ sym q
+  same_typed : (pages : PageMap) (sound : Bool) (line : Line) (machine : Machine) (a b : Result Left FocalRefusal)
+      → MatchBool sound (TakesLine pages Typed line machine a) (a ≡ Err MemoryLost)
+      → MatchBool sound (TakesLine pages Typed line machine b) (b ≡ Err MemoryLost) → a ≡ b
+  same_typed pages true line machine a b p q = same_taken pages Typed line machine a b p q
+  same_typed pages false line machine a b p q = p ∙ sym q
 
   pub typed_determined : TypedIsDetermined
-  typed_determined line machine a b p q = same_typed (is_sound machine.memory) line machine a b p q
+  typed_determined pages line machine a b p q = same_typed pages (is_sound machine.memory) line machine a b p q
 
   -- a stepped one
-  same_stepped : (function : Option Function) (machine : Machine) (standing : Result (Line × Position) FocalRefusal)
+  same_stepped : (pages : PageMap) (function : Option Function) (machine : Machine) (standing : Result (Line × Position) FocalRefusal)
       (a b : Result Left FocalRefusal)
-      → StepsAs function machine standing a → StepsAs function machine standing b → a ≡ b
-  same_stepped function machine (Ok (line, next)) a b p q = same_taken (Stepped next) (line_as function line) machine a b p q
-  same_stepped function machine (Err refusal) a b p q = p ∙ sym q
+      → StepsAs pages function machine standing a → StepsAs pages function machine standing b → a ≡ b
+  same_stepped pages function machine (Ok (line, next)) a b p q = same_taken pages (Stepped next) (line_as function line) machine a b p q
+  same_stepped pages function machine (Err refusal) a b p q = p ∙ sym q
 
   pub step_determined : StepIsDetermined
-  step_determined function machine a b p q = by_standing once (StepsAs function) (same_stepped function) machine a b p q
+  step_determined pages function machine a b p q = by_standing once pages (StepsAs pages function) (same_stepped pages function) machine a b p q

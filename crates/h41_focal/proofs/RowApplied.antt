@@ -12,6 +12,7 @@ use Rattle.h41_focal.specs.declared.origin.Origin.{Origin}
 use Rattle.h41_focal.specs.declared.origin.Origin.TheVariants.{Program, Typed}
 use Rattle.h41_focal.specs.declared.outcome.BriefOutcome.{BriefOutcome}
 use Rattle.h41_focal.specs.declared.refusal.FocalRefusal.{FocalRefusal}
+use Rattle.h41_pages.specs.PageMap.{PageMap}
 use Rattle.h41_ram.specs.RegisterMap.{RegisterMap}
 
 -- a machine with a row's changes, where its line goes on to the next one
@@ -29,20 +30,20 @@ pub row_applied :
     → brief_answer nowhere (memory_after row named register machine.focal.lift machine.memory) brief
     ≡ answer_of_showing machine.memory named row.shows row.ends
     → Leaves origin row named machine (applied_to origin row named register machine) brief
-row_applied (Program next) row named machine register brief goes works answers =
+row_applied (Program next) row named machine register brief goes works answers = λ pages.
     (Ok register, works, (destinations.Arrives next machine.focal.returns, rw goes refl, rw answers refl))
-row_applied Typed row named machine register brief goes works answers =
+row_applied Typed row named machine register brief goes works answers = λ pages.
     (Ok register, works, (destinations.Stays, rw goes refl, rw answers refl))
 
 -- it is applied to a machine whose memory and what else lines work on are looked at apart
 pub opened_row :
-    (origin : Origin) (row : LineRow) (named : ℕ) (machine : Machine) (memory : RegisterMap) (focal : FocalState)
+    (pages : PageMap) (origin : Origin) (row : LineRow) (named : ℕ) (machine : Machine) (memory : RegisterMap) (focal : FocalState)
     (carried : Result Left FocalRefusal)
     → machine_with memory focal ≡ machine
-    → Applies (manner_of origin) row named (machine_with memory focal) carried
-    → Applies (manner_of origin) row named machine carried
-opened_row origin row named machine memory focal carried opened applies =
-    subst (λ (old : Machine). Applies (manner_of origin) row named old carried) opened applies
+    → Applies pages (manner_of origin) row named (machine_with memory focal) carried
+    → Applies pages (manner_of origin) row named machine carried
+opened_row pages origin row named machine memory focal carried opened applies =
+    subst (λ (old : Machine). Applies pages (manner_of origin) row named old carried) opened applies
 
 -- it has a fault: by memory and what else lines work on
 pub row_failed :
@@ -54,4 +55,4 @@ pub row_failed :
     → Leaves origin row named machine new brief
 row_failed origin row named machine new memory focal fault brief opened works fails =
     let P : Machine → Type 0 = λ old. Works old.memory named row (Err fault) in
-    (Err fault, subst P opened works, fails)
+    λ pages. (Err fault, subst P opened works, fails)

@@ -23,105 +23,106 @@ use Rattle.h41_focal.specs.declared.origin.Origin.TheVariants.{Program, Typed}
 use Rattle.h41_focal.specs.declared.outcome.BriefOutcome.{BriefOutcome}
 use Rattle.h41_focal.specs.declared.outcome.BriefOutcome.TheVariants as briefs
 use Rattle.h41_focal.specs.declared.refusal.FocalRefusal.{FocalRefusal}
-use Rattle.h41_program.specs.Positions.{NextAt}
-use Rattle.h41_program.specs.declared.position.Position.{Position}
+use Rattle.h41_pages.specs.PageMap.{PageMap}
+use Rattle.h41_positions.specs.Positions.{NextAt}
+use Rattle.h41_positions.specs.declared.position.Position.{Position}
 use Rattle.h41_program.specs.declared.refusal.ProgramRefusal.TheVariants as program
 use Rattle.h41_ram.specs.RegisterMap.{RegisterMap, zeros}
 
 -- the course of a line that asks
 arrives :
-    (holds : Bool) (memory : RegisterMap) (next position : Position) (returns : List Position)
-    → MatchBool holds (position ≡ next) (NextAt memory next (Ok position))
-    → Asks holds memory next returns (Arrives position returns)
-arrives true memory next position returns same = ap (λ (p : Position). Arrives p returns) same
-arrives false memory next position returns behind = inl (position, behind, refl)
+    (pages : PageMap) (holds : Bool) (memory : RegisterMap) (next position : Position) (returns : List Position)
+    → MatchBool holds (position ≡ next) (NextAt pages memory next (Ok position))
+    → Asks pages holds memory next returns (Arrives position returns)
+arrives pages true memory next position returns same = ap (λ (p : Position). Arrives p returns) same
+arrives pages false memory next position returns behind = inl (position, behind, refl)
 
 has_no_line :
-    (holds : Bool) (memory : RegisterMap) (next : Position) (returns : List Position)
+    (pages : PageMap) (holds : Bool) (memory : RegisterMap) (next : Position) (returns : List Position)
     → holds ≡ false
-    → NextAt memory next (Err program.BrokenProgram)
-    → Asks holds memory next returns HasNoLine
-has_no_line holds memory next returns fails broken = rw fails (inr (broken, refl))
+    → NextAt pages memory next (Err program.BrokenProgram)
+    → Asks pages holds memory next returns HasNoLine
+has_no_line pages holds memory next returns fails broken = rw fails (inr (broken, refl))
 
 -- the program goes on from a line that asks, where its row goes by a condition
-program_leads : (next : Position) (lead : Origin) (row : LineRow) (condition : Condition) (holds : Bool)
+program_leads : (pages : PageMap) (next : Position) (lead : Origin) (row : LineRow) (condition : Condition) (holds : Bool)
     (named : ℕ) (machine : Machine) (register : List ℕ) (brief : BriefOutcome)
-    → ((to : Destination) → Asks (holds_in machine.memory named condition) machine.memory next machine.focal.returns to
-    → StepsFrom row.goes machine.memory named machine.focal.position next machine.focal.returns to)
+    → ((to : Destination) → Asks pages (holds_in machine.memory named condition) machine.memory next machine.focal.returns to
+    → StepsFrom pages row.goes machine.memory named machine.focal.position next machine.focal.returns to)
     → row.shows ≡ rows.AsBefore → row.ends ≡ rows.GoesOn → Works machine.memory named row (Ok register)
-    → holds ≡ holds_in machine.memory named condition → Leads (Program next) machine.memory holds (Ok lead)
+    → holds ≡ holds_in machine.memory named condition → Leads pages (Program next) machine.memory holds (Ok lead)
     → brief ≡ briefs.Done
-    → CarriesRow (Program next) row named machine (applied_to lead row named register machine) (Ok brief)
-program_leads next (Program position) row condition holds named machine register brief goes shows ends works is leads answers =
-    let asks : Asks (holds_in machine.memory named condition) machine.memory
+    → CarriesRow pages (Program next) row named machine (applied_to lead row named register machine) (Ok brief)
+program_leads pages next (Program position) row condition holds named machine register brief goes shows ends works is leads answers =
+    let asks : Asks pages (holds_in machine.memory named condition) machine.memory
     next machine.focal.returns (Arrives leads.0 machine.focal.returns) =
-    subst (λ (b : Bool). Asks b machine.memory next machine.focal.returns (Arrives leads.0 machine.focal.returns))
-    is (arrives holds machine.memory next leads.0 machine.focal.returns leads.2) in
+    subst (λ (b : Bool). Asks pages b machine.memory next machine.focal.returns (Arrives leads.0 machine.focal.returns))
+    is (arrives pages holds machine.memory next leads.0 machine.focal.returns leads.2) in
     let same : position ≡ leads.0 = cc leads.1 in
     (Ok register, works, (Arrives leads.0 machine.focal.returns, goes _ asks, rw (answers, shows, ends, same) refl))
-program_leads next Typed row condition holds named machine register brief goes shows ends works is leads answers =
+program_leads pages next Typed row condition holds named machine register brief goes shows ends works is leads answers =
     absurd (cc leads.1)
 
 -- a test is done
-pub test_leads : (origin lead : Origin) (row : LineRow) (condition : Condition) (holds : Bool)
+pub test_leads : (pages : PageMap) (origin lead : Origin) (row : LineRow) (condition : Condition) (holds : Bool)
     (named : ℕ) (machine : Machine) (register : List ℕ) (brief : BriefOutcome)
     → row.goes ≡ rows.Tests condition → row.shows ≡ rows.AsBefore → row.ends ≡ rows.GoesOn
     → Works machine.memory named row (Ok register) → holds ≡ holds_in machine.memory named condition
-    → Leads origin machine.memory holds (Ok lead) → brief ≡ test_answer origin holds
-    → CarriesRow origin row named machine (applied_to lead row named register machine) (Ok brief)
-test_leads (Program next) lead row condition holds named machine register brief goes shows ends works is leads answers =
-    program_leads next lead row condition holds named machine register brief
+    → Leads pages origin machine.memory holds (Ok lead) → brief ≡ test_answer origin holds
+    → CarriesRow pages origin row named machine (applied_to lead row named register machine) (Ok brief)
+test_leads pages (Program next) lead row condition holds named machine register brief goes shows ends works is leads answers =
+    program_leads pages next lead row condition holds named machine register brief
     (λ to asks. rw goes asks) shows ends works is leads answers
-test_leads Typed (Program position) row condition holds named machine register brief goes shows ends works is leads answers =
+test_leads pages Typed (Program position) row condition holds named machine register brief goes shows ends works is leads answers =
     absurd (cc leads)
-test_leads Typed Typed row condition holds named machine register brief goes shows ends works is leads answers =
+test_leads pages Typed Typed row condition holds named machine register brief goes shows ends works is leads answers =
     (Ok register, works, (Tells holds, rw goes (ap (λ (b : Bool). Tells b) is), rw answers refl))
 
 -- a loop counted
-pub loop_leads : (origin lead : Origin) (row : LineRow) (condition : Condition) (holds : Bool)
+pub loop_leads : (pages : PageMap) (origin lead : Origin) (row : LineRow) (condition : Condition) (holds : Bool)
     (named : ℕ) (machine : Machine) (register : List ℕ) (brief : BriefOutcome)
     → row.goes ≡ rows.Counts condition → row.shows ≡ rows.AsBefore → row.ends ≡ rows.GoesOn
     → Works machine.memory named row (Ok register) → holds ≡ holds_in machine.memory named condition
-    → Leads origin machine.memory holds (Ok lead) → brief ≡ briefs.Done
-    → CarriesRow origin row named machine (applied_to lead row named register machine) (Ok brief)
-loop_leads (Program next) lead row condition holds named machine register brief goes shows ends works is leads answers =
-    program_leads next lead row condition holds named machine register brief
+    → Leads pages origin machine.memory holds (Ok lead) → brief ≡ briefs.Done
+    → CarriesRow pages origin row named machine (applied_to lead row named register machine) (Ok brief)
+loop_leads pages (Program next) lead row condition holds named machine register brief goes shows ends works is leads answers =
+    program_leads pages next lead row condition holds named machine register brief
     (λ to asks. rw goes asks) shows ends works is leads answers
-loop_leads Typed (Program position) row condition holds named machine register brief goes shows ends works is leads answers =
+loop_leads pages Typed (Program position) row condition holds named machine register brief goes shows ends works is leads answers =
     absurd (cc leads)
-loop_leads Typed Typed row condition holds named machine register brief goes shows ends works is leads answers =
+loop_leads pages Typed Typed row condition holds named machine register brief goes shows ends works is leads answers =
     (Ok register, works, (Stays, rw goes refl, rw (answers, shows, ends) refl))
 
 -- the line that would be passed over is none
-program_refused : (next : Position) (row : LineRow) (condition : Condition) (holds : Bool)
+program_refused : (pages : PageMap) (next : Position) (row : LineRow) (condition : Condition) (holds : Bool)
     (named : ℕ) (old : Machine) (register : List ℕ) (refusal : FocalRefusal)
-    → ((to : Destination) → Asks (holds_in old.memory named condition) old.memory next old.focal.returns to
-    → StepsFrom row.goes old.memory named old.focal.position next old.focal.returns to)
+    → ((to : Destination) → Asks pages (holds_in old.memory named condition) old.memory next old.focal.returns to
+    → StepsFrom pages row.goes old.memory named old.focal.position next old.focal.returns to)
     → Works old.memory named row (Ok register) → holds ≡ holds_in old.memory named condition
-    → Leads (Program next) old.memory holds (Err refusal) → Applies (destinations.Stepped next) row named old (Err refusal)
-program_refused next row condition holds named old register refusal goes works is leads =
-    let asks = has_no_line (holds_in old.memory named condition) old.memory next old.focal.returns (sym is ∙ leads.1) leads.2 in
+    → Leads pages (Program next) old.memory holds (Err refusal) → Applies pages (destinations.Stepped next) row named old (Err refusal)
+program_refused pages next row condition holds named old register refusal goes works is leads =
+    let asks = has_no_line pages (holds_in old.memory named condition) old.memory next old.focal.returns (sym is ∙ leads.1) leads.2 in
     (Ok register, works, (HasNoLine, goes _ asks, rw leads.0 refl))
 
 -- a test is refused
-pub test_refused : (origin : Origin) (row : LineRow) (condition : Condition) (holds : Bool)
+pub test_refused : (pages : PageMap) (origin : Origin) (row : LineRow) (condition : Condition) (holds : Bool)
     (named : ℕ) (old : Machine) (register : List ℕ) (refusal : FocalRefusal)
     → row.goes ≡ rows.Tests condition → Works old.memory named row (Ok register)
-    → holds ≡ holds_in old.memory named condition → Leads origin old.memory holds (Err refusal)
-    → Applies (manner_of origin) row named old (Err refusal)
-test_refused (Program next) row condition holds named old register refusal goes works is leads =
-    program_refused next row condition holds named old register refusal (λ to asks. rw goes asks) works is leads
-test_refused Typed row condition holds named old register refusal goes works is leads = absurd (cc leads)
+    → holds ≡ holds_in old.memory named condition → Leads pages origin old.memory holds (Err refusal)
+    → Applies pages (manner_of origin) row named old (Err refusal)
+test_refused pages (Program next) row condition holds named old register refusal goes works is leads =
+    program_refused pages next row condition holds named old register refusal (λ to asks. rw goes asks) works is leads
+test_refused pages Typed row condition holds named old register refusal goes works is leads = absurd (cc leads)
 
 -- a loop is refused
-pub loop_refused : (origin : Origin) (row : LineRow) (condition : Condition) (holds : Bool)
+pub loop_refused : (pages : PageMap) (origin : Origin) (row : LineRow) (condition : Condition) (holds : Bool)
     (named : ℕ) (old : Machine) (register : List ℕ) (refusal : FocalRefusal)
     → row.goes ≡ rows.Counts condition → Works old.memory named row (Ok register)
-    → holds ≡ holds_in old.memory named condition → Leads origin old.memory holds (Err refusal)
-    → Applies (manner_of origin) row named old (Err refusal)
-loop_refused (Program next) row condition holds named old register refusal goes works is leads =
-    program_refused next row condition holds named old register refusal (λ to asks. rw goes asks) works is leads
-loop_refused Typed row condition holds named old register refusal goes works is leads = absurd (cc leads)
+    → holds ≡ holds_in old.memory named condition → Leads pages origin old.memory holds (Err refusal)
+    → Applies pages (manner_of origin) row named old (Err refusal)
+loop_refused pages (Program next) row condition holds named old register refusal goes works is leads =
+    program_refused pages next row condition holds named old register refusal (λ to asks. rw goes asks) works is leads
+loop_refused pages Typed row condition holds named old register refusal goes works is leads = absurd (cc leads)
 
 -- a test computes nothing, and its condition is told where its places hold numbers
 asked : (numbers holds other : Bool)

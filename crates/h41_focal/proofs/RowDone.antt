@@ -17,6 +17,7 @@ use Rattle.h41_focal.specs.declared.origin.Origin.{Origin}
 use Rattle.h41_focal.specs.declared.outcome.BriefOutcome.{BriefOutcome}
 use Rattle.h41_focal.specs.declared.outcome.BriefOutcome.TheVariants as briefs
 use Rattle.h41_focal.specs.declared.uses.RegisterUse.TheVariants as registers
+use Rattle.h41_pages.specs.PageMap.{PageMap}
 use Rattle.h41_rows.specs.declared.values.ValueOfTwo.{ValueOfTwo}
 use Rattle.h41_rows.specs.declared.values.ValueOfTwo.TheVariants as twos
 use Rattle.h41_ram.specs.RegisterMap.{RegisterMap, zeros}
@@ -32,9 +33,9 @@ pub row_done :
     → new ≡ memory_after row named register focal.lift memory
     → after ≡ on_to_next origin row.lift focal
     → Leaves origin row named machine (machine_with new after) brief
-row_done origin row named machine memory focal register brief new after opened goes works answers makes ends =
-    opened_row origin row named machine memory focal (Ok (ended (machine_with new after) brief)) opened
-    (rw (makes, ends) (row_applied origin row named (machine_with memory focal) register brief goes works (rw makes at answers)))
+row_done origin row named machine memory focal register brief new after opened goes works answers makes ends = λ pages.
+    opened_row pages origin row named machine memory focal (Ok (ended (machine_with new after) brief)) opened
+    (rw (makes, ends) (row_applied origin row named (machine_with memory focal) register brief goes works (rw makes at answers) pages))
 
 -- arithmetic in a register works on the numbers of its value alone
 pub works_in_register :

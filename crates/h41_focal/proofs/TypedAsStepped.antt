@@ -16,10 +16,11 @@ use Rattle.h41_focal.specs.LineStep.{with_row}
 use Rattle.h41_focal.specs.Outcomes.{is_elsewhere}
 use Rattle.h41_focal.specs.declared.refusal.FocalRefusal.{FocalRefusal}
 use Rattle.h41_focal.specs.declared.refusal.FocalRefusal.TheVariants.{NotInProfile}
-use Rattle.h41_program.specs.PositionLaws.{HasOneAnswer, HasOneAnswerEach, IsReadOnce}
-use Rattle.h41_program.specs.Positions.{LocalFrom, StartOf}
+use Rattle.h41_pages.specs.PageMap.{PageMap}
+use Rattle.h41_positions.specs.PositionLaws.{HasOneAnswer, HasOneAnswerEach, IsReadOnce}
+use Rattle.h41_positions.specs.Positions.{LocalFrom, StartOf}
 use Rattle.h41_program.specs.SearchLaws.{AnswersAreDetermined}
-use Rattle.h41_program.specs.declared.position.Position.{Position}
+use Rattle.h41_positions.specs.declared.position.Position.{Position}
 use Rattle.h41_ram.specs.RegisterMap.{flag_of}
 use Rattle.h41_rows.specs.LineRows.{row_of}
 use Rattle.h41_rows.specs.Operands.{Meant, meant_of}
@@ -76,21 +77,21 @@ failure_alike next machine focal fault left failing =
     )
 
 -- a row that goes on to the next line
-with_alike : (next : Position) (row : rows.LineRow) (named : ℕ) (machine : Machine) (focal : FocalState)
+with_alike : (pages : PageMap) (next : Position) (row : rows.LineRow) (named : ℕ) (machine : Machine) (focal : FocalState)
     (result : Result (List ℕ) LineFault) (left : Left)
-    → row.goes ≡ rows.Next → AppliesWith (Stepped next) row named machine result (Ok left)
-    → LeavesLike (AppliesWith Typed row named (beside machine focal) result) left
-with_alike next row named machine focal (Err fault) left goes_on applies = failure_alike next machine focal fault left applies
-with_alike next row named machine focal (Ok result) left goes_on (to, goes, ends) =
+    → row.goes ≡ rows.Next → AppliesWith pages (Stepped next) row named machine result (Ok left)
+    → LeavesLike (AppliesWith pages Typed row named (beside machine focal) result) left
+with_alike pages next row named machine focal (Err fault) left goes_on applies = failure_alike next machine focal fault left applies
+with_alike pages next row named machine focal (Ok result) left goes_on (to, goes, ends) =
     let new = with_row row named result machine in
     let other = beside machine focal in
     let answer = answer_of_showing machine.memory named row.shows row.ends in
     let arrives : to ≡ Arrives next machine.focal.returns =
-    subst (λ (going : rows.Going). StepsFrom going machine.memory named machine.focal.position next machine.focal.returns to)
+    subst (λ (going : rows.Going). StepsFrom pages going machine.memory named machine.focal.position next machine.focal.returns to)
     goes_on goes in
     let is = subst (λ (to : Destination). Ends (Stepped next) machine new answer to (Ok left)) arrives ends in
     let stays =
-    subst (λ (going : rows.Going). TypedFrom going other.memory named other.focal.position other.focal.returns Stays) (sym goes_on) refl in
+    subst (λ (going : rows.Going). TypedFrom pages going other.memory named other.focal.position other.focal.returns Stays) (sym goes_on) refl in
     let typed : Left = record { machine = with_row row named result other; answer = answer } in
     let same = same_left left _ is in (
       typed,
@@ -99,83 +100,83 @@ with_alike next row named machine focal (Ok result) left goes_on (to, goes, ends
       here left _ same (own_answer machine.memory named row.shows row.ends),
     )
 
-row_alike : (next : Position) (row : rows.LineRow) (named : ℕ) (machine : Machine) (focal : FocalState) (left : Left) → row.goes ≡ rows.Next
-    → Applies (Stepped next) row named machine (Ok left) → LeavesLike (Applies Typed row named (beside machine focal)) left
-row_alike next row named machine focal left goes_on (result, works, applies) =
-    let found = with_alike next row named machine focal result left goes_on applies in
+row_alike : (pages : PageMap) (next : Position) (row : rows.LineRow) (named : ℕ) (machine : Machine) (focal : FocalState) (left : Left) → row.goes ≡ rows.Next
+    → Applies pages (Stepped next) row named machine (Ok left) → LeavesLike (Applies pages Typed row named (beside machine focal)) left
+row_alike pages next row named machine focal left goes_on (result, works, applies) =
+    let found = with_alike pages next row named machine focal result left goes_on applies in
     (found.0, (result, works, found.1), found.2, found.3)
 
 -- a line that goes on to the next one
-meant_alike : (next : Position) (line : Line) (machine : Machine) (focal : FocalState) (meant : Result Meant LineFault) (left : Left)
-    → IfOk meant (λ meant. (row_of line meant).goes ≡ rows.Next) → AppliesTo (Stepped next) line machine meant (Ok left)
-    → LeavesLike (AppliesTo Typed line (beside machine focal) meant) left
-meant_alike next line machine focal (Err fault) left goes_on applies = failure_alike next machine focal fault left applies
-meant_alike next line machine focal (Ok meant) left goes_on applies =
-    row_alike next (row_of line meant) (named_by meant) machine focal left goes_on applies
+meant_alike : (pages : PageMap) (next : Position) (line : Line) (machine : Machine) (focal : FocalState) (meant : Result Meant LineFault) (left : Left)
+    → IfOk meant (λ meant. (row_of line meant).goes ≡ rows.Next) → AppliesTo pages (Stepped next) line machine meant (Ok left)
+    → LeavesLike (AppliesTo pages Typed line (beside machine focal) meant) left
+meant_alike pages next line machine focal (Err fault) left goes_on applies = failure_alike next machine focal fault left applies
+meant_alike pages next line machine focal (Ok meant) left goes_on applies =
+    row_alike pages next (row_of line meant) (named_by meant) machine focal left goes_on applies
 
-carried_alike : (next : Position) (line : Line) (machine : Machine) (focal : FocalState) (left : Left)
-    → GoesToNext line → CarriesOut (Stepped next) line machine (Ok left) → LeavesLike (CarriesOut Typed line (beside machine focal)) left
-carried_alike next (Module number entry) machine focal left goes_on carries = absurd goes_on
-carried_alike next line machine focal left goes_on carries =
-    meant_alike next line machine focal (meant_of machine.memory line) left (goes_on machine.memory) carries
+carried_alike : (pages : PageMap) (next : Position) (line : Line) (machine : Machine) (focal : FocalState) (left : Left)
+    → GoesToNext line → CarriesOut pages (Stepped next) line machine (Ok left) → LeavesLike (CarriesOut pages Typed line (beside machine focal)) left
+carried_alike pages next (Module number entry) machine focal left goes_on carries = absurd goes_on
+carried_alike pages next line machine focal left goes_on carries =
+    meant_alike pages next line machine focal (meant_of machine.memory line) left (goes_on machine.memory) carries
 
-profile_alike : (left_out : Bool) (next : Position) (line : Line) (machine : Machine) (focal : FocalState) (left : Left) → GoesToNext line
+profile_alike : (pages : PageMap) (left_out : Bool) (next : Position) (line : Line) (machine : Machine) (focal : FocalState) (left : Left) → GoesToNext line
     → MatchBool left_out (◌≡◌ {A = Result Left FocalRefusal} (Ok left) (Err NotInProfile))
-    (CarriesOut (Stepped next) line machine (Ok left))
-    → LeavesLike (λ carried. MatchBool left_out (carried ≡ Err NotInProfile) (CarriesOut Typed line (beside machine focal) carried)) left
-profile_alike true next line machine focal left goes_on is = absurd (no_refusal left NotInProfile is)
-profile_alike false next line machine focal left goes_on carries = carried_alike next line machine focal left goes_on carries
+    (CarriesOut pages (Stepped next) line machine (Ok left))
+    → LeavesLike (λ carried. MatchBool left_out (carried ≡ Err NotInProfile) (CarriesOut pages Typed line (beside machine focal) carried)) left
+profile_alike pages true next line machine focal left goes_on is = absurd (no_refusal left NotInProfile is)
+profile_alike pages false next line machine focal left goes_on carries = carried_alike pages next line machine focal left goes_on carries
 
-taken_alike : (next : Position) (line : Line) (machine : Machine) (focal : FocalState) (left : Left)
-    → GoesToNext line → TakesLine (Stepped next) line machine (Ok left) → LeavesLike (TakesLine Typed line (beside machine focal)) left
-taken_alike next line machine focal left goes_on takes = profile_alike (is_left_out line) next line machine focal left goes_on takes
+taken_alike : (pages : PageMap) (next : Position) (line : Line) (machine : Machine) (focal : FocalState) (left : Left)
+    → GoesToNext line → TakesLine pages (Stepped next) line machine (Ok left) → LeavesLike (TakesLine pages Typed line (beside machine focal)) left
+taken_alike pages next line machine focal left goes_on takes = profile_alike pages (is_left_out line) next line machine focal left goes_on takes
 
 -- the line at the position, where no bytes have two first lines
 module _ (once : IsReadOnce) where
-  stands_alike : (standing : Result (Line × Position) FocalRefusal) (line : Line) (machine : Machine) (focal : FocalState) (left : Left)
-      → GoesToNext line → IsAt line machine → Stands machine standing → StepsAs None machine standing (Ok left)
-      → LeavesLike (TypesLine line (beside machine focal)) left
-  stands_alike (Ok (own, next)) line machine focal left goes_on stands (sound, stands_so, behind) takes =
-      let same = same_line once machine.memory machine.focal.position own line stands_so stands in
+  stands_alike : (pages : PageMap) (standing : Result (Line × Position) FocalRefusal) (line : Line) (machine : Machine) (focal : FocalState) (left : Left)
+      → GoesToNext line → IsAt pages line machine → Stands pages machine standing → StepsAs pages None machine standing (Ok left)
+      → LeavesLike (TypesLine pages line (beside machine focal)) left
+  stands_alike pages (Ok (own, next)) line machine focal left goes_on stands (sound, stands_so, behind) takes =
+      let same = same_line once pages machine.memory machine.focal.position own line stands_so stands in
       let found =
-      taken_alike next line machine focal left goes_on (subst (λ (line : Line). TakesLine (Stepped next) line machine (Ok left)) same takes)
+      taken_alike pages next line machine focal left goes_on (subst (λ (line : Line). TakesLine pages (Stepped next) line machine (Ok left)) same takes)
       in
       (found.0, rw sound found.1, found.2, found.3)
-  stands_alike (Err refusal) line machine focal left goes_on stands refused is = absurd (no_refusal left refusal is)
+  stands_alike pages (Err refusal) line machine focal left goes_on stands refused is = absurd (no_refusal left refusal is)
 
-  line_alike : (line : Line) (machine other : Machine) (left : Left) → GoesToNext line → AreAlike machine other → IsAt line machine
-      → StepsLine None machine (Ok left) → LeavesLike (TypesLine line other) left
-  line_alike line machine other left goes_on alike stands steps =
-      subst (λ (other : Machine). LeavesLike (TypesLine line other) left) (same_beside machine other alike)
-      (stands_alike steps.0 line machine other.focal left goes_on stands steps.1 steps.2)
+  line_alike : (pages : PageMap) (line : Line) (machine other : Machine) (left : Left) → GoesToNext line → AreAlike machine other → IsAt pages line machine
+      → StepsLine pages None machine (Ok left) → LeavesLike (TypesLine pages line other) left
+  line_alike pages line machine other left goes_on alike stands steps =
+      subst (λ (other : Machine). LeavesLike (TypesLine pages line other) left) (same_beside machine other alike)
+      (stands_alike pages steps.0 line machine other.focal left goes_on stands steps.1 steps.2)
 
   pub next_is_here : NextIsHere
-  next_is_here line machine left goes_on stands steps =
-      let found : LeavesLike (TypesLine line machine) left =
-      line_alike line machine machine left goes_on (refl, refl) stands steps in
+  next_is_here pages line machine left goes_on stands steps =
+      let found : LeavesLike (TypesLine pages line machine) left =
+      line_alike pages line machine machine left goes_on (refl, refl) stands steps in
       found.3
 
   -- lines in turn
-  turn_alike : (lines : List Line) (machine other left : Machine) → All GoesToNext lines → AreAlike machine other
-      → StepsInTurn lines machine left → (typed : Machine) × TypesInTurn lines other typed × AreAlike left typed
-  turn_alike [] machine other left go_on alike is = (other, refl, subst (λ (left : Machine). AreAlike left other) (sym is) alike)
-  turn_alike (line ∷ lines) machine other left go_on alike (stands, after, steps, others) =
-      let one = line_alike line machine other after (All-head GoesToNext line lines go_on) alike stands steps in
-      let rest = turn_alike lines after.machine one.0.machine left (All-tail GoesToNext line lines go_on) one.2 others in
+  turn_alike : (pages : PageMap) (lines : List Line) (machine other left : Machine) → All GoesToNext lines → AreAlike machine other
+      → StepsInTurn pages lines machine left → (typed : Machine) × TypesInTurn pages lines other typed × AreAlike left typed
+  turn_alike pages [] machine other left go_on alike is = (other, refl, subst (λ (left : Machine). AreAlike left other) (sym is) alike)
+  turn_alike pages (line ∷ lines) machine other left go_on alike (stands, after, steps, others) =
+      let one = line_alike pages line machine other after (All-head GoesToNext line lines go_on) alike stands steps in
+      let rest = turn_alike pages lines after.machine one.0.machine left (All-tail GoesToNext line lines go_on) one.2 others in
       (rest.0, (one.0, one.1, rest.1), rest.2)
 
   pub can_be_typed : SteppedCanBeTyped
-  can_be_typed lines machine other left go_on alike steps =
-      let found = turn_alike lines machine other left go_on alike steps in
+  can_be_typed pages lines machine other left go_on alike steps =
+      let found = turn_alike pages lines machine other left go_on alike steps in
       (found.0, found.1)
 
 -- lines that are typed in turn have one outcome
-same_turn : TypedIsDetermined → (lines : List Line) (machine left other : Machine)
-    → TypesInTurn lines machine left → TypesInTurn lines machine other → left ≡ other
-same_turn determined [] machine left other p q = p ∙ sym q
-same_turn determined (line ∷ lines) machine left other p q =
-    let same = same_left p.0 q.0 (determined line machine (Ok p.0) (Ok q.0) p.1 q.1) in
-    same_turn determined lines q.0.machine left other (subst (λ (after : Left). TypesInTurn lines after.machine left) same p.2) q.2
+same_turn : TypedIsDetermined → (pages : PageMap) (lines : List Line) (machine left other : Machine)
+    → TypesInTurn pages lines machine left → TypesInTurn pages lines machine other → left ≡ other
+same_turn determined pages [] machine left other p q = p ∙ sym q
+same_turn determined pages (line ∷ lines) machine left other p q =
+    let same = same_left p.0 q.0 (determined pages line machine (Ok p.0) (Ok q.0) p.1 q.1) in
+    same_turn determined pages lines q.0.machine left other (subst (λ (after : Left). TypesInTurn pages lines after.machine left) same p.2) q.2
 
 -- so they leave what is like that which is left where they are stepped
 module _
@@ -185,8 +186,8 @@ module _
     (same_local : HasOneAnswerEach LocalFrom)
     (same_global : AnswersAreDetermined (Option ℕ)) where
   pub typed_alike : TypedAsStepped
-  typed_alike lines machine other left typed go_on alike steps types =
-      let found = turn_alike once lines machine other left go_on alike steps in
+  typed_alike pages lines machine other left typed go_on alike steps types =
+      let found = turn_alike once pages lines machine other left go_on alike steps in
       let same =
-      same_turn (typed_determined same_value once same_start same_local same_global) lines other found.0 typed found.1 types in
+      same_turn (typed_determined same_value once same_start same_local same_global) pages lines other found.0 typed found.1 types in
       subst (λ (typed : Machine). AreAlike left typed) same found.2

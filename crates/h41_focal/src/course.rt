@@ -2,7 +2,7 @@
 
 ghost use Rattle.std.specs.Prelude.{◌≡◌};
 ghost use Rattle.h41_focal.specs.LabelledMachine.{Keeps, machine_of};
-ghost use Rattle.h41_focal.specs.private.Carrying.{FailsAs, on_to_next};
+ghost use Rattle.h41_focal.specs.private.Carrying.{FailsAs, behind_line, on_to_next};
 ghost use Rattle.h41_rows.specs.Rows.{AsItWas, On};
 ghost use Rattle.h41_rows.specs.RowMarks.{LeavesMark};
 
@@ -10,6 +10,8 @@ use crate::focal::Focal;
 use crate::machine::Machine;
 use crate::origin::Origin;
 use crate::outcome::BriefOutcome;
+use h41_codes::Line;
+use h41_positions::Position;
 use h41_ram::flags::ERROR_IGNORE;
 use h41_rows::LineFault;
 
@@ -32,6 +34,17 @@ pub fn go_on_lifting(focal: &mut Focal, origin: Origin)
 {
     go_on(focal, origin);
     focal.lift = true;
+}
+
+/// On behind a line that is passed, with lift behind an XROM line.
+pub fn go_behind(focal: &mut Focal, line: &Line, next: Position)
+    ensures state { focal.new.state ≡ behind_line line.now next focal.old.state }
+    ensures labels { focal.new.labels ≡ focal.old.labels }
+{
+    match line {
+        Line::Module(_, _) => go_on_lifting(focal, Origin::Program(next)),
+        _ => go_on(focal, Origin::Program(next)),
+    }
 }
 
 /// A line cannot be done: the display shows why, and the program stops there. Flag 25 is cleared where it is set, and the

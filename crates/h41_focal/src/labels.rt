@@ -87,7 +87,7 @@ pub fn to_name<const REGS: usize>(
 
 /// The label was found. XEQ returns to the next line; typed, it has the program run, with nowhere to return to.
 #[inline(always)]
-fn arrive(focal: &mut Focal, origin: Origin, branch: Branch, position: Position) -> BriefOutcome
+pub fn arrive(focal: &mut Focal, origin: Origin, branch: Branch, position: Position) -> BriefOutcome
     ensures state { focal.new.state ≡ focal_at origin branch position focal.old.state }
     ensures labels { focal.new.labels ≡ focal.old.labels }
     ensures answer { result ≡ answer_at origin branch }
@@ -107,7 +107,7 @@ fn arrive(focal: &mut Focal, origin: Origin, branch: Branch, position: Position)
 }
 
 /// A position to return to; a seventh loses the oldest.
-pub fn push_return(returns: &mut ArrayVec<Position, RETURNS>, position: Position)
+fn push_return(returns: &mut ArrayVec<Position, RETURNS>, position: Position)
     ensures { returns.new.items ≡ with_return returns.old.items position }
 {
     match returns.as_slice() {

@@ -15,9 +15,9 @@ ghost use Rattle.h41_positions.specs.declared.position.Position.TheVariants.{Pag
 ghost use Rattle.h41_ram.specs.RamState.{KeepsMark};
 ghost use Rattle.h41_ram.specs.RegisterMap as registers;
 
-use crate::course::{fail, go_on, go_on_lifting};
+use crate::course::{fail, go_behind};
 use crate::focal::Focal;
-use crate::labels::push_return;
+use crate::labels::arrive;
 use crate::laws::kept_answers_stay_right;
 use crate::lines::{carry_briefly, carry_out, standing};
 use crate::origin::Origin;
@@ -25,7 +25,7 @@ use crate::outcome::{BriefOutcome, LineOutcome};
 use crate::refusal::FocalRefusal;
 use crate::short_lines::{carry_short, number_standing, short_standing};
 use crate::stack_lines::number_line;
-use h41_codes::{Function, Line};
+use h41_codes::{Branch, Function, Line};
 use h41_pages::Pages;
 use h41_positions::Position;
 use h41_ram::Ram;
@@ -205,10 +205,7 @@ impl<const REGS: usize> Machine<REGS> {
         ensures mark { self.new.ram.touched ≡ self.old.ram.touched }
     {
         let (line, next) = standing(self, pages)?;
-        match line {
-            Line::Module(_, _) => go_on_lifting(&mut self.focal, Origin::Program(next)),
-            _ => go_on(&mut self.focal, Origin::Program(next)),
-        }
+        go_behind(&mut self.focal, &line, next);
         Ok(())
     }
 
@@ -221,11 +218,14 @@ impl<const REGS: usize> Machine<REGS> {
         ensures mark { self.new.ram.touched ≡ self.old.ram.touched }
     {
         let (line, next) = standing(self, pages)?;
-        if let Line::Module(_, _) = line {
-            self.focal.lift = true;
-        }
-        push_return(&mut self.focal.returns, next);
-        self.focal.go_to(Position::Page(address));
+        go_behind(&mut self.focal, &line, next);
+        let start = Position::Page(address);
+        arrive(
+            &mut self.focal,
+            Origin::Program(next),
+            Branch::Execute,
+            start,
+        );
         Ok(())
     }
 
@@ -237,8 +237,8 @@ impl<const REGS: usize> Machine<REGS> {
         ensures keeps { Keeps self.old self.new }
         ensures mark { self.new.ram.touched ≡ self.old.ram.touched }
     {
-        self.focal.returns.clear();
-        self.focal.go_to(Position::Page(address));
+        let start = Position::Page(address);
+        arrive(&mut self.focal, Origin::Typed, Branch::Execute, start);
     }
 
     /// A typed line is carried out: 15 where memory is not sound, 13 where the line is left out.

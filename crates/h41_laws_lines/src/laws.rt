@@ -1,6 +1,7 @@
 //! The laws: each is the contract of a function with nothing to do but to call the laws that it rests on.
 
-ghost use Rattle.h41_laws_lines.specs.LineOutcomes.{FailureHasOneOutcome, PassingHasOneOutcome};
+ghost use Rattle.h41_laws_lines.specs.LineOutcomes.{EnteringHasOneOutcome, FailureHasOneOutcome};
+ghost use Rattle.h41_laws_lines.specs.LineOutcomes.{PassingHasOneOutcome};
 ghost use Rattle.h41_laws_lines.specs.LineOutcomes.{StepHasOneOutcome, TypedFailureHasOneOutcome};
 ghost use Rattle.h41_laws_lines.specs.LineOutcomes.{TypedHasOneOutcome};
 
@@ -8,16 +9,17 @@ use h41_codes::laws::{byte_round_trip, line_or_none};
 use h41_focal::laws::line_is_determined;
 use h41_laws_programs::laws::{positions_have_one_answer, searches_have_one_answer};
 use h41_laws_values::laws::value_has_one_register;
-use h41_program::laws::positions_are_read;
+use h41_positions::laws::positions_are_read;
 
-/// A line has one outcome, whatever the machine holds: what it leaves and its answer, or its refusal. So it is stepped, typed,
-/// failed from outside, stepped or typed, and passed.
+/// A line has one outcome, whatever the machine and pages hold: what it leaves and its answer, or its refusal. So it is stepped, typed,
+/// failed from outside, stepped or typed, passed, and entered.
 pub fn line_has_one_outcome()
     ensures step { StepHasOneOutcome }
     ensures typed { TypedHasOneOutcome }
     ensures failure { FailureHasOneOutcome }
     ensures typed_failure { TypedFailureHasOneOutcome }
     ensures passing { PassingHasOneOutcome }
+    ensures entering { EnteringHasOneOutcome }
 {
     byte_round_trip();
     line_or_none();

@@ -17,7 +17,7 @@ use Rattle.h41_focal.specs.Destinations as destinations
 use Rattle.h41_focal.specs.BriefOutcomes.{briefly, briefly_as}
 use Rattle.h41_focal.specs.MachineCalls.{carried_as}
 use Rattle.h41_focal.specs.LineStep.{Applies, FailsIn, FocalState, Left, Machine, Stands}
-use Rattle.h41_focal.specs.LineStep.{TakesLine, at_position}
+use Rattle.h41_focal.specs.LineStep.{TakesLine, at_position, lift_behind}
 use Rattle.h41_rows.specs.Operands.{Address, Count, DigitKind, FlagKind, Meant, Name, NoOperand}
 use Rattle.h41_rows.specs.Operands.{RegisterKind, meant_as, meant_of}
 use Rattle.h41_focal.specs.Outcomes.{Answer}
@@ -60,6 +60,11 @@ abbrev pub on_to_next : Origin → Lift → FocalState → FocalState
 on_to_next (Program next) lift focal =
     record (at_position next focal) { lift = lift_after lift focal.lift }
 on_to_next Typed lift focal = record focal { lift = lift_after lift focal.lift }
+
+-- on behind a line that is passed
+abbrev pub behind_line : Line → Position → FocalState → FocalState
+behind_line line next focal =
+    record (at_position next focal) { lift = lift_behind line focal.lift }
 
 -- what a line calls that memory does not have: a function of a module, or a name. Lines that call
 -- nothing have no use for it.

@@ -6,7 +6,7 @@ use Rattle.h41_editor.proofs.changes.place_for_line.Goals as goal
 
 pub returns-else-is_last-clause-place : goal.returns-else-is_last-clause-place
 returns-else-is_last-clause-place g c =
-    place_behind _ (machine_of c.args.machine.now) c.args.shown.now c.next.result
+    place_behind c.args.pages.now _ (machine_of c.args.machine.now) c.args.shown.now c.next.result
     (read_of _ _ _ _ _ (λ i. (c.machine-inside.view_is i).ram.registers) (λ i. (c.machine-inside.view_is i).focal.state)
     (ap machine_of c.machine.view_is))
     c.if-machine.false c.if-is_last.ensures c.next.ensures

@@ -1,8 +1,7 @@
 use Rattle.std.proofs.Common.{subst, ap, ◌∙◌}
 use Rattle.std.proofs.lemmas.Result.{err_from_is_err_and}
 use Rattle.h41_focal.specs.LabelledMachine.{Keeps, LabelledMachine, labelled_with, machine_of}
-use Rattle.h41_editor.proofs.Edited.{line_replaced, replace_refused}
-use Rattle.h41_editor.proofs.MemoryBytes.{byte_is}
+use Rattle.h41_editor.proofs.Edited.{line_replaced, replace_in_page, replace_refused}
 use Rattle.h41_editor.proofs.Opened.{read_of}
 use Rattle.h41_editor.proofs.changes.replace_line.Goals as goal
 
@@ -13,14 +12,21 @@ returns-in_err-byte-clause-line g c =
     (replace_refused c.args.line _ (machine_of c.args.machine.now) c.replace.new.ram.registers _ c.in_err-byte.field-0.0
     (read_of _ _ _ _ _ (λ i. (c.machine-inside.view_is i).ram.registers) (λ i. (c.machine-inside.view_is i).focal.state)
     (ap machine_of c.machine.view_is))
-    (byte_is _) c.in_err-byte.ensures.lines)
+    c.in-Memory.is c.in_err-byte.ensures.lines)
 
 pub returns-clause-line : goal.returns-clause-line
 returns-clause-line g c =
     line_replaced c.args.line _ (machine_of c.args.machine.now) c.replace.new.ram.registers c.show_line.new.focal.state _ c.in_ok-byte.byte
     (read_of _ _ _ _ _ (λ i. (c.machine-inside.view_is i).ram.registers) (λ i. (c.machine-inside.view_is i).focal.state)
     (ap machine_of c.machine.view_is))
-    (byte_is _) c.in_ok-byte.ensures.lines c.in_ok-byte.ensures.answer c.show_line.ensures.state
+    c.in-Memory.is c.in_ok-byte.ensures.lines c.in_ok-byte.ensures.answer c.show_line.ensures.state
+
+pub returns-in-Page-clause-line : goal.returns-in-Page-clause-line
+returns-in-Page-clause-line g c =
+    replace_in_page c.args.line _ (machine_of c.args.machine.now) _
+    (read_of _ _ _ _ _ (λ i. (c.machine-inside.view_is i).ram.registers) (λ i. (c.machine-inside.view_is i).focal.state)
+    (ap machine_of c.machine.view_is))
+    c.in-Page.is
 
 pub returns-clause-keeps : goal.returns-clause-keeps
 returns-clause-keeps g c =

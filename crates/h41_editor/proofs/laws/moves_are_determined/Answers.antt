@@ -13,4 +13,4 @@ returns-clause-before c =
     c.positions_are_read.ensures.before c.positions_are_read.ensures.number
 
 pub returns-clause-end : goal.returns-clause-end
-returns-clause-end c = end_determined c.lists_are_determined.ensures.lines c.positions_are_read.ensures.start
+returns-clause-end c = end_determined c.lists_are_determined.ensures.lines c.searches_are_determined.ensures.start

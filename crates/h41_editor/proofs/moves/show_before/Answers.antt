@@ -7,14 +7,14 @@ use Rattle.h41_editor.proofs.moves.show_before.Goals as goal
 
 pub returns-then-machine-clause-line : goal.returns-then-machine-clause-line
 returns-then-machine-clause-line g c =
-    end_shown _ (machine_of c.args.machine.now) _ c.in-Some.shown
+    end_shown c.args.pages.now _ (machine_of c.args.machine.now) _ c.in-Some.shown
     (read_of _ _ _ _ _ (λ i. (c.machine-inside.view_is i).ram.registers) (λ i. (c.machine-inside.view_is i).focal.state)
     (ap machine_of c.machine.view_is))
     c.if-machine.true c.in-Some.ensures c.show_end.ensures.line
 
 pub returns-in-Some-line_before-clause-line : goal.returns-in-Some-line_before-clause-line
 returns-in-Some-line_before-clause-line g c =
-    before_shown _ (machine_of c.args.machine.now) _ c.in-Some.shown c.in-Some-line_before.before
+    before_shown c.args.pages.now _ (machine_of c.args.machine.now) _ c.in-Some.shown c.in-Some-line_before.before
     (read_of _ _ _ _ _ (λ i. (c.machine-inside.view_is i).ram.registers) (λ i. (c.machine-inside.view_is i).focal.state)
     (ap machine_of c.machine.view_is))
     c.if-machine.false c.in-Some.ensures c.in-Some-line_before.ensures

@@ -9,12 +9,12 @@ pub returns-clause-line : goal.returns-clause-line
 returns-clause-line g c =
     let line = c.step_as-result.ensures.line in
     subst
-    (λ (machine : Machine). Steps (Some c.args.function)
+    (λ (machine : Machine). Steps c.args.pages.now (Some c.args.function)
     (machine_with c.args.ram.now.registers c.args.focal.now.state) machine c.step_as-result.result)
     (sym (ap machine_of c.part.ensures)) (rw (c.take.ensures.taken, c.replace.ensures.value) at line)
 
 pub returns-clause-kept : goal.returns-clause-kept
 returns-clause-kept g c =
     let kept = c.step_as-result.ensures.kept in
-    subst (λ (machine : LabelledMachine). StepKeeps (Some c.args.function) (labelled_with c.args.ram.now c.args.focal.now) machine)
+    subst (λ (machine : LabelledMachine). StepKeeps c.args.pages.now (Some c.args.function) (labelled_with c.args.ram.now c.args.focal.now) machine)
     (sym c.part.ensures) (rw (c.take.ensures.taken, c.replace.ensures.value) at kept)

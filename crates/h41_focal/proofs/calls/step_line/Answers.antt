@@ -9,11 +9,11 @@ pub returns-clause-line : goal.returns-clause-line
 returns-clause-line g c =
     let line = c.step-result.ensures.line in
     subst
-    (λ (machine : Machine). Steps None (machine_with c.args.ram.now.registers c.args.focal.now.state) machine c.step-result.result)
+    (λ (machine : Machine). Steps c.args.pages.now None (machine_with c.args.ram.now.registers c.args.focal.now.state) machine c.step-result.result)
     (sym (ap machine_of c.part.ensures)) (rw (c.take.ensures.taken, c.replace.ensures.value) at line)
 
 pub returns-clause-kept : goal.returns-clause-kept
 returns-clause-kept g c =
     let kept = c.step-result.ensures.kept in
-    subst (λ (machine : LabelledMachine). StepKeeps None (labelled_with c.args.ram.now c.args.focal.now) machine)
+    subst (λ (machine : LabelledMachine). StepKeeps c.args.pages.now None (labelled_with c.args.ram.now c.args.focal.now) machine)
     (sym c.part.ensures) (rw (c.take.ensures.taken, c.replace.ensures.value) at kept)

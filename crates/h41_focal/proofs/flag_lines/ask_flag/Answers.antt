@@ -13,15 +13,15 @@ pub returns-in_err-lead-clause-carried : goal.returns-in_err-lead-clause-carried
 returns-in_err-lead-clause-carried g c = λ named.
     let refused = err_from_is_err_and c.from_residual.result c.from_residual.ensures.1 in
     rw (refused.1, refused.2)
-    (opened_row _ (flag_use_row (flags.Ask c.args.on) c.args.flag) named _ _ _ _ (ap machine_of c.machine.view_is)
-    (test_refused _ (flag_use_row (flags.Ask c.args.on) c.args.flag)
+    (opened_row c.args.pages.now _ (flag_use_row (flags.Ask c.args.on) c.args.flag) named _ _ _ _ (ap machine_of c.machine.view_is)
+    (test_refused c.args.pages.now _ (flag_use_row (flags.Ask c.args.on) c.args.flag)
     (Flag c.args.flag c.args.on) c.agrees_with-holds.result named _ zeros
     c.in_err-lead.field-0.0 refl refl c.agrees_with-holds.ensures c.in_err-lead.ensures))
 
 pub returns-clause-carried : goal.returns-clause-carried
 returns-clause-carried g c = λ named.
     rw c.go_on_lifting.ensures.state
-    (opened_row _ (flag_use_row (flags.Ask c.args.on) c.args.flag) named _ _ _ _ (ap machine_of c.machine.view_is)
-    (test_leads _ c.in_ok-lead.lead (flag_use_row (flags.Ask c.args.on) c.args.flag) (Flag c.args.flag c.args.on)
+    (opened_row c.args.pages.now _ (flag_use_row (flags.Ask c.args.on) c.args.flag) named _ _ _ _ (ap machine_of c.machine.view_is)
+    (test_leads c.args.pages.now _ c.in_ok-lead.lead (flag_use_row (flags.Ask c.args.on) c.args.flag) (Flag c.args.flag c.args.on)
     c.agrees_with-holds.result named _ zeros c.answer.result refl refl refl refl c.agrees_with-holds.ensures c.in_ok-lead.ensures
     c.answer.ensures))

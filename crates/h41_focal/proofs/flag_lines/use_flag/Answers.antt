@@ -13,7 +13,7 @@ returns-in-Change-clause-carried g c = λ named.
     rw c.in-Change.is
     (row_done _ (flag_use_row (flags.Change c.in-Change.on) c.args.flag) named _ _ _
     zeros briefs.Done _ _ (ap machine_of c.machine.view_is) refl refl
-    refl (rw ((ap (λ (ram : RamState). ram.registers) c.set_flag.ensures.written), c.from.ensures) refl) c.go_on_lifting.ensures.state)
+    refl (rw ((ap (λ (ram : RamState). ram.registers) c.set_flag.ensures.written), c.from.ensures) refl) c.go_on_lifting.ensures.state c.args.pages.now)
 
 pub returns-in-Ask-clause-carried : goal.returns-in-Ask-clause-carried
 returns-in-Ask-clause-carried g c = λ named. rw c.in-Ask.is (c.ask_flag.ensures.carried named)

@@ -6,7 +6,7 @@ use Rattle.h41_focal.specs.private.Arrivals.{from_of}
 use Rattle.h41_focal.specs.private.Carrying.{FailsAs}
 use Rattle.h41_focal.specs.LineStep.{Machine, machine_with}
 use Rattle.h41_labels.specs.KeptAnswers.{KeepsSearch}
-use Rattle.h41_program.specs.Positions.{LocalFrom}
+use Rattle.h41_positions.specs.Positions.{LocalFrom}
 use Rattle.h41_rows.specs.LineRows.{to_label}
 use Rattle.h41_rows.specs.declared.fault.LineFault.TheVariants.{Nonexistent}
 use Rattle.h41_focal.proofs.LabelsMet.{label_found, label_lost}
@@ -15,8 +15,8 @@ use Rattle.h41_focal.proofs.labels.to_label.Goals as goal
 pub returns-in-Some-clause-done : goal.returns-in-Some-clause-done
 returns-in-Some-clause-done g c = λ named.
     rw (c.arrive.ensures.state, c.local.ensures.state)
-    (opened_row _ (to_label c.args.branch c.args.label) named _ _ _ _ (ap machine_of c.machine.view_is)
-    (label_found c.args.origin c.args.branch c.args.label named
+    (opened_row c.args.pages.now _ (to_label c.args.branch c.args.label) named _ _ _ _ (ap machine_of c.machine.view_is)
+    (label_found c.args.pages.now c.args.origin c.args.branch c.args.label named
     (machine_with c.machine.inside.ram.registers c.machine.inside.focal.state) c.in-Some.position c.arrive.result
     (let found = c.local.ensures.found in rw (c.in-Some.is, c.searched_from-from.ensures) at found) c.arrive.ensures.answer))
 
@@ -25,7 +25,7 @@ returns-in-Some-clause-kept g c =
     let kept = c.local.ensures.kept in
     subst
     (λ (machine : LabelledMachine). KeepsSearch machine.ram.registers
-    (Some (local_search (from_of c.args.origin machine.focal.state.position) c.args.label)) machine.focal.labels c.arrive.new.focal.labels)
+    (local_search (from_of c.args.origin machine.focal.state.position) c.args.label) machine.focal.labels c.arrive.new.focal.labels)
     c.machine.view_is (rw c.arrive.ensures.labels (rw c.searched_from-from.ensures at kept))
 
 pub returns-in-None-clause-done : goal.returns-in-None-clause-done
@@ -34,8 +34,8 @@ returns-in-None-clause-done g c = λ named.
     let lost = rw (c.in-None.is, c.searched_from-from.ensures) at found in
     let same : machine_with c.machine.inside.ram.registers c.local.new.self.state ≡ machine_of c.args.machine.now =
     ap (machine_with c.machine.inside.ram.registers) c.local.ensures.state ∙ ap machine_of c.machine.view_is in
-    label_lost c.args.origin c.args.branch c.args.label named _ _ _
-    (subst (λ (machine : Machine). LocalFrom c.args.label machine.memory (from_of c.args.origin machine.focal.position) None)
+    label_lost c.args.pages.now c.args.origin c.args.branch c.args.label named _ _ _
+    (subst (λ (machine : Machine). LocalFrom c.args.label c.args.pages.now machine.memory (from_of c.args.origin machine.focal.position) None)
     (ap machine_of c.machine.view_is) lost)
     (subst (λ (machine : Machine). FailsAs c.args.origin Nonexistent machine (machine_of c.fail.new.machine) c.fail.result) same
     c.fail.ensures.done)
@@ -45,6 +45,6 @@ returns-in-None-clause-kept g c =
     let kept = c.local.ensures.kept in
     subst
     (λ (machine : LabelledMachine). KeepsSearch machine.ram.registers
-    (Some (local_search (from_of c.args.origin machine.focal.state.position) c.args.label)) machine.focal.labels
+    (local_search (from_of c.args.origin machine.focal.state.position) c.args.label) machine.focal.labels
     c.fail.new.machine.focal.labels)
     c.machine.view_is (rw c.fail.ensures.keeps.labels (rw c.searched_from-from.ensures at kept))

@@ -17,10 +17,10 @@ use Rattle.h41_focal.proofs.LabelsMet.{name_found, name_lost, name_sought}
 use Rattle.h41_focal.proofs.labels.to_name.Goals as goal
 
 pub returns-in-Some-default-clause-done : goal.returns-in-Some-default-clause-done
-returns-in-Some-default-clause-done g c = λ named.
+returns-in-Some-default-clause-done g c = λ pages named.
     rw (c.arrive.ensures.state, c.global.ensures.state)
-    (opened_row _ (to_name c.args.branch c.args.name) named _ _ _ _ (ap machine_of c.machine.view_is)
-    (name_found c.args.origin c.args.branch c.args.name named
+    (opened_row pages _ (to_name c.args.branch c.args.name) named _ _ _ _ (ap machine_of c.machine.view_is)
+    (name_found pages c.args.origin c.args.branch c.args.name named
     (machine_with c.machine.inside.ram.registers c.machine.inside.focal.state) c.in-Some-default.byte c.arrive.result
     (let found = c.global.ensures.found in rw c.in-Some-default.is-0 at found) c.arrive.ensures.answer))
 
@@ -32,13 +32,13 @@ returns-in-Some-default-clause-kept g c =
     c.machine.view_is (rw c.arrive.ensures.labels c.global.ensures.kept)
 
 pub returns-in-None-GoTo-clause-done : goal.returns-in-None-GoTo-clause-done
-returns-in-None-GoTo-clause-done g c = λ named.
+returns-in-None-GoTo-clause-done g c = λ pages named.
     let found = c.global.ensures.found in
     let lost = rw c.in-None-GoTo.is-0 at found in
     let same : machine_with c.machine.inside.ram.registers c.global.new.self.state ≡ machine_of c.args.machine.now =
     ap (machine_with c.machine.inside.ram.registers) c.global.ensures.state ∙ ap machine_of c.machine.view_is in
     rw c.in-None-GoTo.is-1
-    (name_lost c.args.origin c.args.name named _ _ _
+    (name_lost pages c.args.origin c.args.name named _ _ _
     (subst (λ (machine : Machine). AnswersOf (λ lines. position_of (named_in c.args.name lines)) machine.memory 0 None)
     (ap machine_of c.machine.view_is) lost)
     (failure_calling (Seeks c.args.name) c.args.origin Nonexistent (machine_of c.args.machine.now)
@@ -54,15 +54,15 @@ returns-in-None-GoTo-clause-kept g c =
     c.machine.view_is (rw c.fail.ensures.keeps.labels c.global.ensures.kept)
 
 pub returns-in-None-Execute-clause-done : goal.returns-in-None-Execute-clause-done
-returns-in-None-Execute-clause-done g c = λ named.
+returns-in-None-Execute-clause-done g c = λ pages named.
     let found = c.global.ensures.found in
     let lost = rw c.in-None-Execute.is-0 at found in
     rw (c.in-None-Execute.is-1, c.global.ensures.state)
     (subst
-    (λ (machine : Machine). LeavesCalling (Seeks c.args.name) c.args.origin (to_name Execute c.args.name) named
+    (λ (machine : Machine). LeavesCalling pages (Seeks c.args.name) c.args.origin (to_name Execute c.args.name) named
     (machine_of c.args.machine.now) machine briefs.Elsewhere)
     (sym (ap machine_of c.machine.view_is))
-    (name_sought c.args.origin c.args.name named (machine_of c.args.machine.now)
+    (name_sought pages c.args.origin c.args.name named (machine_of c.args.machine.now)
     (subst (λ (machine : Machine). AnswersOf (λ lines. position_of (named_in c.args.name lines)) machine.memory 0 None)
     (ap machine_of c.machine.view_is) lost)))
 

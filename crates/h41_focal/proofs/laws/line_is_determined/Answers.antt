@@ -1,4 +1,4 @@
-use Rattle.h41_focal.proofs.OneOutcome.{failure_determined, passing_determined, step_determined, typed_determined}
+use Rattle.h41_focal.proofs.OneOutcome.{entering_determined, failure_determined, passing_determined, step_determined, typed_determined}
 use Rattle.h41_focal.proofs.OneOutcome.{typed_failure_determined}
 use Rattle.h41_focal.proofs.laws.line_is_determined.Goals as goal
 
@@ -20,6 +20,10 @@ returns-clause-failure c = failure_determined
 
 pub returns-clause-typed_failure : goal.returns-clause-typed_failure
 returns-clause-typed_failure c = typed_failure_determined
+
+pub returns-clause-entering : goal.returns-clause-entering
+returns-clause-entering c = entering_determined
+    c.positions_are_read.ensures.read
 
 pub returns-clause-passing : goal.returns-clause-passing
 returns-clause-passing c = passing_determined

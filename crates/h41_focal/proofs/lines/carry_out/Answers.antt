@@ -15,13 +15,13 @@ returns-in_err-brief-clause-taken g c =
 pub outcome_of-requires : goal.outcome_of-requires
 outcome_of-requires g c = (
   search rules,
-  taken_is_held c.args.origin c.args.line.now (machine_of c.args.machine.now) (machine_of c.carry_briefly.new.machine) c.in_ok-brief.brief
+  taken_is_held c.args.pages.now c.args.origin c.args.line.now (machine_of c.args.machine.now) (machine_of c.carry_briefly.new.machine) c.in_ok-brief.brief
       c.in_ok-brief.ensures.taken,
 )
 
 pub returns-clause-taken : goal.returns-clause-taken
 returns-clause-taken g c =
-    outcome_taken c.args.origin c.args.line.now (machine_of c.args.machine.now)
+    outcome_taken c.args.pages.now c.args.origin c.args.line.now (machine_of c.args.machine.now)
     (machine_of c.carry_briefly.new.machine) c.in_ok-brief.brief c.outcome_of.result
     c.in_ok-brief.ensures.taken
     (c.outcome_of.ensures

@@ -13,7 +13,7 @@ pub returns-in-Ok-clause-taken : goal.returns-in-Ok-clause-taken
 returns-in-Ok-clause-taken g c =
     let held : is_parameter_left_out c.args.register ≡ false = search rules in
     let found = c.branch_target.ensures in
-    target_taken c.args.origin c.args.branch c.args.register c.in-Ok.target (machine_of c.args.machine.now)
+    target_taken c.args.pages.now c.args.origin c.args.branch c.args.register c.in-Ok.target (machine_of c.args.machine.now)
     (machine_of c.to_target.new.machine)
     c.to_target.result held
     (subst

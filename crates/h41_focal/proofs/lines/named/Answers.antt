@@ -1,7 +1,7 @@
 use Rattle.h41_focal.proofs.lines.named.Goals as goal
 
 pub returns-in-GoToName-clause-taken : goal.returns-in-GoToName-clause-taken
-returns-in-GoToName-clause-taken g c = rw c.in-GoToName.is (c.to_name.ensures.done 0)
+returns-in-GoToName-clause-taken g c = λ pages. rw c.in-GoToName.is (c.to_name.ensures.done pages 0)
 
 pub returns-in-ExecuteName-clause-taken : goal.returns-in-ExecuteName-clause-taken
-returns-in-ExecuteName-clause-taken g c = rw c.in-ExecuteName.is (c.to_name-in-ExecuteName.ensures.done 0)
+returns-in-ExecuteName-clause-taken g c = λ pages. rw c.in-ExecuteName.is (c.to_name-in-ExecuteName.ensures.done pages 0)

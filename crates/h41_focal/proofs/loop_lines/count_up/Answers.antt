@@ -16,8 +16,8 @@ returns-in_err-lead-in-Ok-clause-carried g c =
     let works = loop_works Up _ c.args.address _ (c.loop_up.ensures.register c.args.address Named refl) in
     let refused = err_from_is_err_and c.from_residual.result c.from_residual.ensures.1 in
     rw (refused.1, refused.2)
-    (opened_row _ (loop Up) c.args.address _ _ _ _ (ap machine_of c.machine.view_is)
-    (loop_refused _ (loop Up) (Loops Up Named) c.in-Ok.counted.goes_on c.args.address _
+    (opened_row c.args.pages.now _ (loop Up) c.args.address _ _ _ _ (ap machine_of c.machine.view_is)
+    (loop_refused c.args.pages.now _ (loop Up) (Loops Up Named) c.in-Ok.counted.goes_on c.args.address _
     c.in-Ok.counted.register c.in_err-lead-in-Ok.field-0.0
     refl (rw c.in-Ok.is at works) c.in-Ok.ensures.course c.in_err-lead-in-Ok.ensures))
 
@@ -25,8 +25,8 @@ pub returns-in_ok-lead-in-Ok-clause-carried : goal.returns-in_ok-lead-in-Ok-clau
 returns-in_ok-lead-in-Ok-clause-carried g c =
     let works = loop_works Up _ c.args.address _ (c.loop_up.ensures.register c.args.address Named refl) in
     rw (c.go_on_lifting.ensures.state, (ap (λ (ram : RamState). ram.registers) c.write.ensures.written))
-    (opened_row _ (loop Up) c.args.address _ _ _ _ (ap machine_of c.machine.view_is)
-    (loop_leads _ c.in_ok-lead-in-Ok.lead (loop Up) (Loops Up Named) c.in-Ok.counted.goes_on c.args.address _
+    (opened_row c.args.pages.now _ (loop Up) c.args.address _ _ _ _ (ap machine_of c.machine.view_is)
+    (loop_leads c.args.pages.now _ c.in_ok-lead-in-Ok.lead (loop Up) (Loops Up Named) c.in-Ok.counted.goes_on c.args.address _
     c.in-Ok.counted.register briefs.Done
     refl refl refl (rw c.in-Ok.is at works) c.in-Ok.ensures.course c.in_ok-lead-in-Ok.ensures refl))
 
@@ -34,4 +34,4 @@ pub returns-in-Err-clause-carried : goal.returns-in-Err-clause-carried
 returns-in-Err-clause-carried g c =
     let works = loop_works Up _ c.args.address _ (c.loop_up.ensures.register c.args.address Named refl) in
     row_failed _ (loop Up) c.args.address _ _ _ _ c.in-Err.fault c.fail.result (ap machine_of c.machine.view_is)
-    (rw c.in-Err.is at works) c.fail.ensures.done
+    (rw c.in-Err.is at works) c.fail.ensures.done c.args.pages.now

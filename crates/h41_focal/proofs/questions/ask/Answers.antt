@@ -14,8 +14,8 @@ returns-in_err-lead-in-Ok-clause-carried g c = λ named.
     let asked = test_asked _ named condition _ c.in-Ok.holds c.asks.ensures c.in-Ok.is in
     let refused = err_from_is_err_and c.from_residual.result c.from_residual.ensures.1 in
     rw (refused.1, refused.2)
-    (opened_row _ (test condition) named _ _ _ _ (ap machine_of c.machine.view_is)
-    (test_refused _ (test condition) condition c.in-Ok.holds named _ zeros c.in_err-lead-in-Ok.field-0.0 refl asked.0
+    (opened_row c.args.pages.now _ (test condition) named _ _ _ _ (ap machine_of c.machine.view_is)
+    (test_refused c.args.pages.now _ (test condition) condition c.in-Ok.holds named _ zeros c.in_err-lead-in-Ok.field-0.0 refl asked.0
     asked.1 c.in_err-lead-in-Ok.ensures))
 
 pub returns-in_ok-lead-in-Ok-clause-carried : goal.returns-in_ok-lead-in-Ok-clause-carried
@@ -23,11 +23,11 @@ returns-in_ok-lead-in-Ok-clause-carried g c = λ named.
     let condition = condition_of c.args.test in
     let asked = test_asked _ named condition _ c.in-Ok.holds c.asks.ensures c.in-Ok.is in
     rw c.go_on_lifting.ensures.state
-    (opened_row _ (test condition) named _ _ _ _ (ap machine_of c.machine.view_is)
-    (test_leads _ c.in_ok-lead-in-Ok.lead (test condition) condition c.in-Ok.holds named _ zeros c.answer.result refl refl
+    (opened_row c.args.pages.now _ (test condition) named _ _ _ _ (ap machine_of c.machine.view_is)
+    (test_leads c.args.pages.now _ c.in_ok-lead-in-Ok.lead (test condition) condition c.in-Ok.holds named _ zeros c.answer.result refl refl
     refl asked.0 asked.1 c.in_ok-lead-in-Ok.ensures c.answer.ensures))
 
 pub returns-in-Err-clause-carried : goal.returns-in-Err-clause-carried
 returns-in-Err-clause-carried g c = λ named.
     row_failed _ (test (condition_of c.args.test)) named _ _ _ _ c.in-Err.fault c.fail.result (ap machine_of c.machine.view_is)
-    (test_faulted _ named (condition_of c.args.test) _ c.in-Err.fault c.asks.ensures c.in-Err.is) c.fail.ensures.done
+    (test_faulted _ named (condition_of c.args.test) _ c.in-Err.fault c.asks.ensures c.in-Err.is) c.fail.ensures.done c.args.pages.now

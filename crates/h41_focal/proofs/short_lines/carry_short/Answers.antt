@@ -1,7 +1,7 @@
 use Rattle.h41_focal.proofs.short_lines.carry_short.Goals as goal
 
 pub returns-in-LocalLabel-clause-taken : goal.returns-in-LocalLabel-clause-taken
-returns-in-LocalLabel-clause-taken g c = rw c.in-LocalLabel.is (c.be_silent.ensures.done 0)
+returns-in-LocalLabel-clause-taken g c = rw c.in-LocalLabel.is (c.be_silent.ensures.done 0 c.args.pages.now)
 
 pub returns-in-Plain-clause-taken : goal.returns-in-Plain-clause-taken
 returns-in-Plain-clause-taken g c = rw c.in-Plain.is c.plain_at_once.ensures.taken
@@ -13,3 +13,6 @@ returns-in-ShortGoTo-clause-taken g c =
 
 pub returns-in-BranchTo-clause-taken : goal.returns-in-BranchTo-clause-taken
 returns-in-BranchTo-clause-taken g c = rw c.in-BranchTo.is (c.to_label-in-BranchTo.ensures.done 0)
+
+pub returns-in-Register-clause-taken : goal.returns-in-Register-clause-taken
+returns-in-Register-clause-taken g c = rw c.in-Register.is (c.short.ensures.taken c.args.pages.now)

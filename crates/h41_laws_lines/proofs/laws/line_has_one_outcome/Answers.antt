@@ -1,5 +1,5 @@
 use Rattle.h41_laws_programs.proofs.Placed.{next_or_none}
-use Rattle.h41_laws_lines.proofs.Carried.{one_failure, one_passing, one_step, one_typed, one_typed_failure}
+use Rattle.h41_laws_lines.proofs.Carried.{one_entering, one_failure, one_passing, one_step, one_typed, one_typed_failure}
 use Rattle.h41_laws_lines.proofs.laws.line_has_one_outcome.Goals as goal
 
 pub returns-clause-step : goal.returns-clause-step
@@ -31,3 +31,9 @@ returns-clause-passing c =
     one_passing c.value_has_one_register.ensures.computed (next_or_none c.byte_round_trip.ensures.one c.line_or_none.ensures)
     c.positions_are_read.ensures.onward c.positions_have_one_answer.ensures.line c.positions_have_one_answer.ensures.start
     c.positions_have_one_answer.ensures.local c.searches_have_one_answer.ensures.global c.line_is_determined.ensures.passing
+
+pub returns-clause-entering : goal.returns-clause-entering
+returns-clause-entering c =
+    one_entering c.value_has_one_register.ensures.computed (next_or_none c.byte_round_trip.ensures.one c.line_or_none.ensures)
+    c.positions_are_read.ensures.onward c.positions_have_one_answer.ensures.line c.positions_have_one_answer.ensures.start
+    c.positions_have_one_answer.ensures.local c.searches_have_one_answer.ensures.global c.line_is_determined.ensures.entering

@@ -10,7 +10,7 @@ pub returns-clause-elsewhere : goal.returns-clause-elsewhere
 returns-clause-elsewhere g c =
     subst (λ (machine : Machine). KeepsElsewhere machine (machine_of c.carry_out.new.machine) c.carry_out.result)
     (ap machine_of c.begin.ensures.begun)
-    (kept_elsewhere Typed c.args.line.now _ _ _ c.carry_out.ensures.taken)
+    (kept_elsewhere c.args.pages.now Typed c.args.line.now _ _ _ c.carry_out.ensures.taken)
 
 pub returns-clause-right : goal.returns-clause-right
 returns-clause-right g c =

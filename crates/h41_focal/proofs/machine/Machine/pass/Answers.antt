@@ -2,7 +2,6 @@ use Rattle.std.proofs.Common.{◌≡◌, Ok, Err, ap, refl, subst}
 use Rattle.std.proofs.lemmas.Result.{err_from_is_err_and}
 use Rattle.h41_focal.specs.LabelledMachine.{machine_of}
 use Rattle.h41_focal.specs.LineStep.{Machine, machine_with, with_line_passed}
-use Rattle.h41_focal.proofs.LinesTaken.{lift_kept}
 use Rattle.h41_focal.proofs.machine.Machine.pass.Goals as goal
 
 pub returns-in_err-line-clause-line : goal.returns-in_err-line-clause-line
@@ -10,25 +9,13 @@ returns-in_err-line-clause-line g c =
     let refused = err_from_is_err_and c.from_residual.result c.from_residual.ensures.1 in
     rw (refused.1, refused.2) (Err c.in_err-line.field-0.0, c.in_err-line.ensures, refl)
 
-pub returns-in-Module-clause-line : goal.returns-in-Module-clause-line
-returns-in-Module-clause-line g c = (
+pub returns-clause-line : goal.returns-clause-line
+returns-clause-line g c = (
   Ok (c.in_ok-line.line, c.in_ok-line.next),
   c.in_ok-line.ensures,
   ap (λ (after : Machine). Ok after)
       (subst
-      (λ (machine : Machine). machine_with c.self.inside.ram.registers c.go_on_lifting.new.focal.state
+      (λ (machine : Machine). machine_with c.self.inside.ram.registers c.go_behind.new.focal.state
       ≡ with_line_passed c.in_ok-line.line c.in_ok-line.next machine)
-      (ap machine_of c.self.view_is) (rw (c.go_on_lifting.ensures.state, c.in-Module.is) refl)),
-)
-
-pub returns-in_default-clause-line : goal.returns-in_default-clause-line
-returns-in_default-clause-line g c = (
-  Ok (c.in_ok-line.line, c.in_ok-line.next),
-  c.in_ok-line.ensures,
-  ap (λ (after : Machine). Ok after)
-      (subst
-      (λ (machine : Machine). machine_with c.self.inside.ram.registers c.go_on.new.focal.state
-      ≡ with_line_passed c.in_ok-line.line c.in_ok-line.next machine)
-      (ap machine_of c.self.view_is)
-      (rw (c.go_on.ensures.state, lift_kept c.in_ok-line.line c.self.inside.focal.state.lift c.in_default.not-Module) refl)),
+      (ap machine_of c.self.view_is) (rw c.go_behind.ensures.state refl)),
 )

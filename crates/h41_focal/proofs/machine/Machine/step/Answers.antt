@@ -11,7 +11,7 @@ pub returns-in_err-line-clause-line : goal.returns-in_err-line-clause-line
 returns-in_err-line-clause-line g c =
     let refused = err_from_is_err_and c.from_residual.result c.from_residual.ensures.1 in
     rw (refused.1, refused.2)
-    (subst (λ (machine : Machine). StepsLine None machine (Err c.in_err-line.field-0.0)) (ap machine_of c.begin.ensures.begun)
+    (subst (λ (machine : Machine). StepsLine c.args.pages.now None machine (Err c.in_err-line.field-0.0)) (ap machine_of c.begin.ensures.begun)
     (Err c.in_err-line.field-0.0, c.in_err-line.ensures, refl))
 
 pub returns-in_err-line-clause-right : goal.returns-in_err-line-clause-right
@@ -19,7 +19,7 @@ returns-in_err-line-clause-right g c = λ clear. c.begin.ensures.right
 
 pub returns-clause-line : goal.returns-clause-line
 returns-clause-line g c =
-    subst (λ (machine : Machine). Steps None machine (machine_of c.carry_out.new.machine) c.carry_out.result)
+    subst (λ (machine : Machine). Steps c.args.pages.now None machine (machine_of c.carry_out.new.machine) c.carry_out.result)
     (ap machine_of c.begin.ensures.begun)
     (Ok (c.in_ok-line.line, c.in_ok-line.next), c.in_ok-line.ensures, c.carry_out.ensures.taken)
 
@@ -27,7 +27,7 @@ pub returns-clause-elsewhere : goal.returns-clause-elsewhere
 returns-clause-elsewhere g c =
     subst (λ (machine : Machine). KeepsElsewhere machine (machine_of c.carry_out.new.machine) c.carry_out.result)
     (ap machine_of c.begin.ensures.begun)
-    (kept_elsewhere (Program c.in_ok-line.next) c.in_ok-line.line _ _ _ c.carry_out.ensures.taken)
+    (kept_elsewhere c.args.pages.now (Program c.in_ok-line.next) c.in_ok-line.line _ _ _ c.carry_out.ensures.taken)
 
 pub returns-clause-right : goal.returns-clause-right
 returns-clause-right g c =

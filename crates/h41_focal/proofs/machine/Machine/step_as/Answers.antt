@@ -9,7 +9,7 @@ pub returns-in_err-next-clause-line : goal.returns-in_err-next-clause-line
 returns-in_err-next-clause-line g c =
     let refused = err_from_is_err_and c.from_residual.result c.from_residual.ensures.1 in
     rw (refused.1, refused.2)
-    (subst (λ (machine : Machine). StepsLine (Some c.args.function) machine (Err c.in_err-next.field-0.0))
+    (subst (λ (machine : Machine). StepsLine c.args.pages.now (Some c.args.function) machine (Err c.in_err-next.field-0.0))
     (ap machine_of c.begin.ensures.begun)
     (Err c.in_err-next.field-0.0, c.in_err-next.ensures, refl))
 
@@ -18,7 +18,7 @@ returns-in_err-next-clause-right g c = λ clear. c.begin.ensures.right
 
 pub returns-clause-line : goal.returns-clause-line
 returns-clause-line g c =
-    subst (λ (machine : Machine). Steps (Some c.args.function) machine (machine_of c.carry_out.new.machine) c.carry_out.result)
+    subst (λ (machine : Machine). Steps c.args.pages.now (Some c.args.function) machine (machine_of c.carry_out.new.machine) c.carry_out.result)
     (ap machine_of c.begin.ensures.begun)
     (Ok (c.in_ok-next.field-0-0, c.in_ok-next.next), c.in_ok-next.ensures, c.carry_out.ensures.taken)
 

@@ -12,13 +12,13 @@ use Rattle.h41_focal.specs.declared.origin.Origin.TheVariants.{Program}
 
 pub returns-in-Some-clause-line : goal.returns-in-Some-clause-line
 returns-in-Some-clause-line g c =
-    subst (λ (machine : Machine). StepsBriefly machine (machine_of c.carry_short.new.machine) c.carry_short.result)
+    subst (λ (machine : Machine). StepsBriefly c.args.pages.now machine (machine_of c.carry_short.new.machine) c.carry_short.result)
     (ap machine_of c.begin.ensures.begun) (
       called_by c.begin.new.self.ram.registers (line_of c.in-Some.line),
       calls_elsewhere c.begin.new.self.ram.registers (line_of c.in-Some.line),
       (
         Ok (line_of c.in-Some.line, c.in-Some.next),
-        subst (λ (machine : Machine). Stands machine (Ok (line_of c.in-Some.line, c.in-Some.next)))
+        subst (λ (machine : Machine). Stands c.args.pages.now machine (Ok (line_of c.in-Some.line, c.in-Some.next)))
             (sym (ap machine_of c.begin.ensures.begun)) c.in-Some.ensures,
         c.carry_short.ensures.taken,
       ),
@@ -27,7 +27,7 @@ returns-in-Some-clause-line g c =
 pub returns-in-Some-clause-elsewhere : goal.returns-in-Some-clause-elsewhere
 returns-in-Some-clause-elsewhere g c = λ elsewhere.
     subst (λ (machine : Machine). machine_of c.carry_short.new.machine ≡ machine) (ap machine_of c.begin.ensures.begun)
-    (call_changes_nothing (Program c.in-Some.next) (line_of c.in-Some.line) (machine_of c.begin.new.self)
+    (call_changes_nothing c.args.pages.now (Program c.in-Some.next) (line_of c.in-Some.line) (machine_of c.begin.new.self)
     (machine_of c.carry_short.new.machine) c.carry_short.result c.carry_short.ensures.taken elsewhere)
 
 pub returns-in-Some-clause-right : goal.returns-in-Some-clause-right

@@ -10,19 +10,19 @@ use Rattle.h41_focal.specs.declared.origin.Origin.TheVariants.{Program}
 
 pub returns-in-Some : goal.returns-in-Some
 returns-in-Some g c =
-    let found = c.in-Some.ensures in
+    let found = c.in-Some.ensures c.args.pages.now in
     let begun = c.begin in
     let keeps = c.number_line.ensures.keeps in
-    let done = c.number_line.ensures.done found.0 (c.number_register-register.ensures found.0 found.2) 0 in
+    let done = c.number_line.ensures.done found.0 (c.number_register-register.ensures found.0 found.2) 0 c.args.pages.now in
     record {
       line =
-          subst (λ (machine : Machine). StepsBriefly machine (machine_of c.number_line.new.machine) (Ok c.number_line.result))
+          subst (λ (machine : Machine). StepsBriefly c.args.pages.now machine (machine_of c.number_line.new.machine) (Ok c.number_line.result))
           (ap machine_of begun.ensures.begun) (
             called_by begun.new.self.ram.registers (Number found.0),
             calls_elsewhere begun.new.self.ram.registers (Number found.0),
             (
               Ok (Number found.0, c.in-Some.next),
-              subst (λ (machine : Machine). Stands machine (Ok (Number found.0, c.in-Some.next)))
+              subst (λ (machine : Machine). Stands c.args.pages.now machine (Ok (Number found.0, c.in-Some.next)))
                   (sym (ap machine_of begun.ensures.begun)) found.1,
               done,
             ),
@@ -30,7 +30,7 @@ returns-in-Some g c =
       unchanged = tt;
       elsewhere = λ elsewhere.
           subst (λ (machine : Machine). machine_of c.number_line.new.machine ≡ machine) (ap machine_of begun.ensures.begun)
-          (call_changes_nothing (Program c.in-Some.next) (Number found.0) (machine_of begun.new.self)
+          (call_changes_nothing c.args.pages.now (Program c.in-Some.next) (Number found.0) (machine_of begun.new.self)
           (machine_of c.number_line.new.machine) (Ok c.number_line.result) done elsewhere);
       kept = (
         Ok (Number found.0, c.in-Some.next),

@@ -16,7 +16,7 @@ returns-in_err-line g c =
       line = (
         nowhere,
         refl,
-        subst (λ (machine : Machine). StepsLine None machine (Err c.in_err-line.field-0.0)) (ap machine_of c.begin.ensures.begun)
+        subst (λ (machine : Machine). StepsLine c.args.pages.now None machine (Err c.in_err-line.field-0.0)) (ap machine_of c.begin.ensures.begun)
             (Err c.in_err-line.field-0.0, c.in_err-line.ensures, refl),
       );
       unchanged = search rules;
@@ -30,7 +30,7 @@ returns-in_err-line g c =
 pub returns : goal.returns
 returns g c = record {
   line =
-      subst (λ (machine : Machine). StepsBriefly machine (machine_of c.carry_briefly.new.machine) c.carry_briefly.result)
+      subst (λ (machine : Machine). StepsBriefly c.args.pages.now machine (machine_of c.carry_briefly.new.machine) c.carry_briefly.result)
       (ap machine_of c.begin.ensures.begun) (
         called_by c.begin.new.self.ram.registers c.in_ok-line.line,
         calls_elsewhere c.begin.new.self.ram.registers c.in_ok-line.line,
@@ -39,7 +39,7 @@ returns g c = record {
   unchanged = search rules;
   elsewhere = λ elsewhere.
       subst (λ (machine : Machine). machine_of c.carry_briefly.new.machine ≡ machine) (ap machine_of c.begin.ensures.begun)
-      (call_changes_nothing (Program c.in_ok-line.next) c.in_ok-line.line (machine_of c.begin.new.self)
+      (call_changes_nothing c.args.pages.now (Program c.in_ok-line.next) c.in_ok-line.line (machine_of c.begin.new.self)
       (machine_of c.carry_briefly.new.machine) c.carry_briefly.result c.carry_briefly.ensures.taken elsewhere);
   kept = search rules;
   mark = search rules;

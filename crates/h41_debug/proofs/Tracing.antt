@@ -4,11 +4,12 @@ use Rattle.std.proofs.Common.{subst, ◌∙◌}
 use Rattle.std.specs.Prelude.{MatchBool, MatchOption, codes}
 use Rattle.h41_breakpoints.specs.declared.location.Location.{Location}
 use Rattle.h41_breakpoints.specs.declared.location.Location.TheVariants.{Line, Word}
-use Rattle.h41_program.specs.declared.position.PlacedLine.{PlacedLine}
-use Rattle.h41_program.specs.declared.position.Position.{Position}
+use Rattle.h41_positions.specs.declared.position.PlacedLine.{PlacedLine}
+use Rattle.h41_positions.specs.declared.position.Position.{Position}
 use Rattle.h41_program.specs.declared.refusal.ProgramRefusal.{ProgramRefusal}
-use Rattle.h41_program.specs.PositionLaws.{EachIsRead, IsReadOnce}
-use Rattle.h41_program.specs.Positions.{LineAt}
+use Rattle.h41_positions.specs.PositionLaws.{EachIsRead, IsReadOnce}
+use Rattle.h41_positions.specs.Positions.{LineAt}
+use Rattle.h41_pages.specs.PageMap.{PageMap}
 use Rattle.h41_ram.specs.RegisterMap.{RegisterMap, is_sound}
 use Rattle.h41_xrom.specs.Calculator.{CalculatorState}
 use Rattle.h41_xrom.specs.CalculatorLaws.{StepIsDetermined, StepRefusalIsDetermined}
@@ -36,18 +37,18 @@ traces_make (suc count) s t lines refusal p = (p.4, p.5, made_after count (trace
 
 -- THE NEXT LINE CAN BE TOLD, since each position is read
 module _ (each : EachIsRead) where
-  line_told : (memory : RegisterMap) (at : Position) → (text : List ℕ) × TellsLine memory at text
-  line_told memory at =
+  line_told : (pages : PageMap) (memory : RegisterMap) (at : Position) → (text : List ℕ) × TellsLine pages memory at text
+  line_told pages memory at =
       elim (is_sound memory) as (λ sound. is_sound memory ≡ sound → (text : List ℕ)
-      × MatchBool sound ((answer : Result PlacedLine ProgramRefusal) × LineAt memory at answer × (text ≡ line_or_unknown answer))
+      × MatchBool sound ((answer : Result PlacedLine ProgramRefusal) × LineAt pages memory at answer × (text ≡ line_or_unknown answer))
       (text ≡ unknown_text)) [
-        | true ↦ λ sound. let found = each memory at sound in (line_or_unknown found.0, (found.0, found.1, refl))
+        | true ↦ λ sound. let found = each pages memory at sound in (line_or_unknown found.0, (found.0, found.1, refl))
         | false ↦ λ _. (unknown_text, refl)
       ] refl
 
   told_at : (at : Location) (s : CalculatorState) → (text : List ℕ) × TellsAt at s text
   told_at (Word address) s = (instruction_at s.nut.pages address, refl)
-  told_at (Line position) s = line_told s.nut.ram position
+  told_at (Line position) s = line_told s.nut.pages s.nut.ram position
 
   pub step_told : StatesAreTold
   step_told s =
@@ -86,18 +87,18 @@ module _ (each : EachIsRead) where
 
 -- WHAT COMES NEXT IS TOLD IN ONE WAY
 module _ (once : IsReadOnce) where
-  same_told : (memory : RegisterMap) (at : Position) (sound : Bool) (text other : List ℕ)
-      → MatchBool sound ((answer : Result PlacedLine ProgramRefusal) × LineAt memory at answer × (text ≡ line_or_unknown answer))
+  same_told : (pages : PageMap) (memory : RegisterMap) (at : Position) (sound : Bool) (text other : List ℕ)
+      → MatchBool sound ((answer : Result PlacedLine ProgramRefusal) × LineAt pages memory at answer × (text ≡ line_or_unknown answer))
       (text ≡ unknown_text)
-      → MatchBool sound ((answer : Result PlacedLine ProgramRefusal) × LineAt memory at answer × (other ≡ line_or_unknown answer))
+      → MatchBool sound ((answer : Result PlacedLine ProgramRefusal) × LineAt pages memory at answer × (other ≡ line_or_unknown answer))
       (other ≡ unknown_text)
       → text ≡ other
-  same_told memory at true text other p q = p.2 ∙ ap line_or_unknown (once.line memory at p.0 q.0 p.1 q.1) ∙ sym q.2
-  same_told memory at false text other p q = p ∙ sym q
+  same_told pages memory at true text other p q = p.2 ∙ ap line_or_unknown (once.line pages memory at p.0 q.0 p.1 q.1) ∙ sym q.2
+  same_told pages memory at false text other p q = p ∙ sym q
 
   same_at : (at : Location) (s : CalculatorState) (text other : List ℕ) → TellsAt at s text → TellsAt at s other → text ≡ other
   same_at (Word address) s text other p q = p ∙ sym q
-  same_at (Line position) s text other p q = same_told s.nut.ram position (is_sound s.nut.ram) text other p q
+  same_at (Line position) s text other p q = same_told s.nut.pages s.nut.ram position (is_sound s.nut.ram) text other p q
 
   same_step_told : (s : BenchState) (text other : List ℕ) → TellsStep s text → TellsStep s other → text ≡ other
   same_step_told s text other p q =

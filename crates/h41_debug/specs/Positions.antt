@@ -5,7 +5,7 @@ use Rattle.h41_breakpoints.specs.declared.location.Location.TheVariants.{Line, W
 use Rattle.h41_digits.specs.Register.{hexadecimal_text}
 use Rattle.h41_lines.specs.Characters.{two_digits}
 use Rattle.h41_debug.specs.Bench.{BenchState}
-use Rattle.h41_positions.specs.declared.position.Position.TheVariants.{Memory}
+use Rattle.h41_positions.specs.declared.position.Position.TheVariants.{Memory, Page}
 use Rattle.h41_xrom.specs.Calculator.{CalculatorState}
 use Rattle.h41_xrom.specs.declared.calculator.Mode.{Mode}
 use Rattle.h41_xrom.specs.declared.calculator.Mode.TheVariants as modes
@@ -24,10 +24,11 @@ location_of s = location_in s s.mode
 abbrev pub byte_digits : ℕ → List ℕ
 byte_digits byte = two_digits (byte / 100 % 100) ++ two_digits (byte % 100)
 
--- a location by four digits
+-- a location by four digits, and that of a page's line by a letter before them
 abbrev pub location_digits : Location → List ℕ
 location_digits (Word address) = hexadecimal_text 4 address
 location_digits (Line (Memory byte)) = byte_digits byte
+location_digits (Line (Page address)) = codes "P" ++ hexadecimal_text 4 address
 
 abbrev pub mode_name : Mode → List ℕ
 mode_name modes.Idle = codes "Idle"

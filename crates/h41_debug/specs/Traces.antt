@@ -10,8 +10,8 @@ use Rattle.h41_pages.specs.PageMap.{PageMap, fetched}
 use Rattle.h41_pages.specs.declared.refusal.FetchRefusal.{FetchRefusal}
 use Rattle.h41_positions.specs.declared.position.PlacedLine.{PlacedLine}
 use Rattle.h41_positions.specs.declared.position.Position.{Position}
-use Rattle.h41_program.specs.declared.refusal.ProgramRefusal.{ProgramRefusal}
 use Rattle.h41_positions.specs.Positions.{LineAt}
+use Rattle.h41_program.specs.declared.refusal.ProgramRefusal.{ProgramRefusal}
 use Rattle.h41_ram.specs.RegisterMap.{RegisterMap, is_sound}
 use Rattle.h41_text.specs.LineText.{line_text}
 use Rattle.h41_words.specs.WordTable.{length_of}
@@ -44,19 +44,19 @@ abbrev pub line_or_unknown : Result PlacedLine ProgramRefusal → List ℕ
 line_or_unknown (Ok placed) = line_text placed.line
 line_or_unknown (Err refusal) = unknown_text
 
--- the text of the line at a position; memory that is not sound has none
-abbrev pub TellsLine : RegisterMap → Position → List ℕ → Type 0
-TellsLine memory at text =
+-- the text of the line at a position, in a page too; where memory is not sound none has one
+abbrev pub TellsLine : PageMap → RegisterMap → Position → List ℕ → Type 0
+TellsLine pages memory at text =
     MatchBool (is_sound memory)
     ((answer : Result PlacedLine ProgramRefusal)
-    × LineAt memory at answer
+    × LineAt pages memory at answer
     × (text ≡ line_or_unknown answer))
     (text ≡ unknown_text)
 
 -- the text of what stands at a location: of an instruction, or a line
 abbrev pub TellsAt : Location → CalculatorState → List ℕ → Type 0
 TellsAt (Word address) s text = text ≡ instruction_at s.nut.pages address
-TellsAt (Line position) s text = TellsLine s.nut.ram position text
+TellsAt (Line position) s text = TellsLine s.nut.pages s.nut.ram position text
 
 -- the mode and where the calculator is, and behind a blank what stands there
 abbrev pub TellsStep : BenchState → List ℕ → Type 0

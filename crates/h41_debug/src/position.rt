@@ -10,11 +10,12 @@ use h41_lines::characters::{address_digits, two_digits};
 use h41_positions::Position;
 use h41_xrom::Mode;
 
-/// The most bytes of a position's text: `Micro`, a blank, and four digits.
+/// The most bytes of a mode, a blank, and `P` with four digits.
 const CAPACITY: usize = 11;
 
 impl<const REGS: usize> Bench<REGS> {
-    /// `Micro` and the address of the next word while a function runs, else `Run` or `Idle` and the position in program memory.
+    /// `Micro` and the address of the next word while a function runs, else `Run` or `Idle` and the position in program memory, or `P`
+    /// and the address of the next line in a page. Addresses are hexadecimal. The form is this project's choice.
     pub fn position(&self) -> ArrayString<CAPACITY>
         ensures { result.bytes ≡ spec.position_text self.now }
     {
@@ -38,28 +39,22 @@ fn mode_name(mode: Mode) -> &'static str
     }
 }
 
-/// The four digits of a location: those of an address, or the last four of a byte of program memory.
+/// The digits of a location: those of an address, for a line of a page behind `P`, or the last four of a byte of program memory.
 fn location_digits(location: Location) -> ArrayString<5>
     ensures { result.bytes ≡ spec.location_digits location }
 {
+    let mut digits = ArrayString::new();
     match location {
-        Location::Word(address) => {
-            let mut text = ArrayString::new();
-            text.push_str(address_digits(address).as_str());
-            text
-        }
-        Location::Line(Position::Memory(byte)) => {
-            let mut text = ArrayString::new();
-            text.push_str(byte_digits(byte).as_str());
-            text
-        }
-        Location::Line(Position::Page(address)) => {
-            let mut text = ArrayString::new();
-            text.push_str("P");
-            text.push_str(address_digits(address).as_str());
-            text
-        }
+        Location::Word(address) => digits.push_str(address_digits(address).as_str()),
+        Location::Line(position) => match position {
+            Position::Memory(byte) => digits.push_str(byte_digits(byte).as_str()),
+            Position::Page(address) => {
+                digits.push('P');
+                digits.push_str(address_digits(address).as_str());
+            }
+        },
     }
+    digits
 }
 
 /// The last four decimal digits of the index of a byte of program memory.

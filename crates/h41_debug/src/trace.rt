@@ -52,8 +52,12 @@ fn text_at<const REGS: usize>(
 }
 
 /// The text of the line at a position.
-fn line_text<const REGS: usize>(ram: &Ram<REGS>, pages: &Pages, position: Position) -> ArrayString<NEXT>
-    ensures { TellsLine ram.now.registers position result.bytes }
+fn line_text<const REGS: usize>(
+    ram: &Ram<REGS>,
+    pages: &Pages,
+    position: Position,
+) -> ArrayString<NEXT>
+    ensures { TellsLine pages.now ram.now.registers position result.bytes }
 {
     let mut text = ArrayString::new();
     if !ram.is_sound() {

@@ -139,10 +139,10 @@ Reply (Run limit) values s t answer =
 Reply (Trace count) values s t answer =
     (lines : List ℕ) × (refusal : Option CalculatorRefusal) × Traces count s t lines refusal
     × (answer ≡ says_and_ends lines (option_map Calculator refusal))
--- break w hhhh, break l n: the breakpoint is set, or 19
+-- break w hhhh, break l n, break p hhhh: the breakpoint is set, or 19
 Reply (Break location) values s t answer =
     ChangesUnless (set_refusal s location) (with_set location s) s t answer
--- unbreak w hhhh, unbreak l n: it is taken away, or 20
+-- unbreak w hhhh, unbreak l n, unbreak p hhhh: it is taken away, or 20
 Reply (Unbreak location) values s t answer =
     ChangesUnless (unset_refusal s location) (without_set location s) s t answer
 -- list hhhh n: the words' listing, or 8, 9 or 4, and nothing changes

@@ -1,8 +1,8 @@
 -- A program of a page begins somewhere.
-use Rattle.std.proofs.Common.{◌≡◌, ◌⊎◌, ℕ, zero, suc, ◌<◌, ◌≤◌, Bool, true, false, List, length, arith, inl, inr, refl, sym, ap, subst, ◌∙◌}
+use Rattle.std.proofs.Common.{◌≡◌, ◌⊎◌, ℕ, zero, suc, ◌<◌, ◌≤◌, true, List, length, arith, inl, inr, refl, sym, ap, subst, ◌∙◌}
 use Rattle.std.specs.Prelude.{is_some, slice_index}
 use Rattle.std.proofs.lemmas.Bool.{cases_Bool, cases_lt, true≢false}
-use Rattle.h41_positions.specs.PageLines.{IsAmong, Reaches, StartsAt, is_page_end}
+use Rattle.h41_positions.specs.PageLines.{Reaches, StartsAt, is_page_end}
 use Rattle.h41_program.specs.Numbering.{number_in}
 use Rattle.h41_program.specs.ProgramLaws.{EachHasFirst, EachIsListed, FirstIsDetermined, ReadIsDetermined}
 use Rattle.h41_program.specs.declared.listed_line.ListedLine.{ListedLine}
@@ -53,46 +53,70 @@ module _ (firsts : EachHasFirst) (each : EachIsListed) (determined : FirstIsDete
 
   least : (n : ℕ) → ((start : ℕ) × IsLeastOf n start) ⊎ NoneOf n
   least zero = inr (λ k low again. absurd (omega (arith, low)))
-  least (suc n) = elim (least n) [
-    | inl found ↦ elim (reaches (slice_index begins n)) [
-      | inl here ↦ elim (cases_lt (slice_index begins n) found.0) [
-        | inl lower ↦ inl (slice_index begins n, (n, omega arith, refl), here, λ k low again. elim (cases_lt k n) [
-          | inl sooner ↦ let more = found.3 k sooner again in omega (arith, more, lower)
-          | inr last ↦ let same = same_place k n low (λ sooner. omega (arith, sooner, last)) in omega (arith, same)
-        ])
-        | inr higher ↦ inl (found.0, (found.1.0, omega (arith, found.1.1), found.1.2), found.2, λ k low again. elim (cases_lt k n) [
-          | inl sooner ↦ found.3 k sooner again
-          | inr last ↦ let same = same_place k n low (λ sooner. omega (arith, sooner, last)) in omega (arith, same, higher)
-        ])
+  least (suc n) = by_next (least n) (reaches (slice_index begins n))
+    where
+      here_last : (k : ℕ) → k < suc n → (k < n → ⊥) → slice_index begins k ≡ slice_index begins n
+      here_last k low late = same_place k n low late
+
+      taken : Reaches code at (slice_index begins n)
+          → ((k : ℕ) → k < n → Reaches code at (slice_index begins k) → slice_index begins n ≤ slice_index begins k)
+          → (start : ℕ) × IsLeastOf (suc n) start
+      taken here lower = (
+        slice_index begins n,
+        (
+          (n, omega arith, refl),
+          here,
+          λ k low again. elim (cases_lt k n) [
+            | inl sooner ↦ lower k sooner again
+            | inr last ↦ let same = here_last k low (λ sooner. omega (arith, sooner, last)) in omega (arith, same)
+          ],
+        ),
+      )
+
+      kept : (start : ℕ) → IsLeastOf n start → (Reaches code at (slice_index begins n) → start ≤ slice_index begins n)
+          → (found : ℕ) × IsLeastOf (suc n) found
+      kept start is high = (
+        start,
+        (
+          (is.0.0, omega (arith, is.0.1), is.0.2),
+          is.1,
+          λ k low again. elim (cases_lt k n) [
+            | inl sooner ↦ is.2 k sooner again
+            | inr last ↦
+                let same = here_last k low (λ sooner. omega (arith, sooner, last)) in
+                let more = high (subst (λ (m : ℕ). Reaches code at m) same again) in
+                omega (arith, same, more)
+          ],
+        ),
+      )
+
+      by_next : ((start : ℕ) × IsLeastOf n start) ⊎ NoneOf n
+          → Reaches code at (slice_index begins n) ⊎ (Reaches code at (slice_index begins n) → ⊥)
+          → ((start : ℕ) × IsLeastOf (suc n) start) ⊎ NoneOf (suc n)
+      by_next (inl found) (inl here) = elim (cases_lt (slice_index begins n) found.0) [
+        | inl lower ↦ inl (taken here (λ k sooner again. let more = found.1.2 k sooner again in omega (arith, more, lower)))
+        | inr higher ↦ inl (kept found.0 found.1 (λ again. omega (arith, higher)))
       ]
-      | inr lost ↦ inl (found.0, (found.1.0, omega (arith, found.1.1), found.1.2), found.2, λ k low again. elim (cases_lt k n) [
-        | inl sooner ↦ found.3 k sooner again
-        | inr last ↦
-            let same = same_place k n low (λ sooner. omega (arith, sooner, last)) in
-            absurd (lost (subst (λ (m : ℕ). Reaches code at m) same again))
-      ])
-    ]
-    | inr none ↦ elim (reaches (slice_index begins n)) [
-      | inl here ↦ inl (slice_index begins n, (n, omega arith, refl), here, λ k low again. elim (cases_lt k n) [
-        | inl sooner ↦ absurd (none k sooner again)
-        | inr last ↦ let same = same_place k n low (λ sooner. omega (arith, sooner, last)) in omega (arith, same)
-      ])
-      | inr lost ↦ inr (λ k low again. elim (cases_lt k n) [
+      by_next (inl found) (inr lost) = inl (kept found.0 found.1 (λ again. absurd (lost again)))
+      by_next (inr none) (inl here) = inl (taken here (λ k sooner again. absurd (none k sooner again)))
+      by_next (inr none) (inr lost) = inr (λ k low again. elim (cases_lt k n) [
         | inl sooner ↦ none k sooner again
         | inr last ↦
-            let same = same_place k n low (λ sooner. omega (arith, sooner, last)) in
+            let same = here_last k low (λ sooner. omega (arith, sooner, last)) in
             lost (subst (λ (m : ℕ). Reaches code at m) same again)
       ])
-    ]
-  ]
 
   pub start_some : (start : ℕ) × StartsAt code begins at start
   start_some = elim (least (length begins)) [
     | inl found ↦ (
       found.0,
-      inl (found.1, found.2, λ begin among again.
-      subst (λ (m : ℕ). found.0 ≤ m) among.2
-      (found.3 among.0 among.1 (subst (λ (m : ℕ). Reaches code at m) (sym among.2) again))),
+      inl (
+        found.1.0,
+        found.1.1,
+        λ begin among again.
+            subst (λ (m : ℕ). found.0 ≤ m) among.2
+            (found.1.2 among.0 among.1 (subst (λ (m : ℕ). Reaches code at m) (sym among.2) again)),
+      ),
     )
     | inr none ↦ (
       at,

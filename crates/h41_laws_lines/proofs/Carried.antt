@@ -1,20 +1,22 @@
 -- What lines leave.
-use Rattle.std.proofs.Common.{◌≡◌, ◌⊎◌, ℕ, Bool, true, false, List, Option, Some, None, Result, Ok, Err, MatchBool, inl, inr, refl}
+use Rattle.std.proofs.Common.{◌≡◌, ℕ, Bool, true, false, List, Option, Some, None, Result, Ok, Err, MatchBool, inl, inr, refl}
 use Rattle.h41_codes.specs.declared.functions.Function.{Function}
 use Rattle.h41_codes.specs.declared.line.Line.{Line}
 use Rattle.h41_codes.specs.declared.line.Line.TheVariants.{Module}
-use Rattle.h41_focal.specs.Destinations.{Destination, Arrives, Goes, Halts, HasNoLabel, HasNoLine, Manner, Runs, Seeks, Stays, Stepped}
+use Rattle.h41_focal.specs.Destinations.{Destination, Arrives, Halts, HasNoLabel, HasNoLine, Manner, Runs, Seeks, Stays, Stepped}
 use Rattle.h41_focal.specs.Destinations.{Tells, Typed}
-use Rattle.h41_focal.specs.LineLaws.{EnteringIsDetermined, FailureIsDetermined, PassingIsDetermined, StepIsDetermined, TypedFailureIsDetermined}
-use Rattle.h41_focal.specs.LineLaws.{TypedIsDetermined}
-use Rattle.h41_focal.specs.LineStep.{Applies, AppliesTo, AppliesWith, CarriesOut, ComputesIn, Ends, FailsIn, FailsLine, FailsTyped}
-use Rattle.h41_focal.specs.LineStep.{EntersLine, EntersWith, FailsWith, Machine, PassesLine, PassesWith, Stands, StandsAt, StepsAs, StepsLine, TakesLine}
-use Rattle.h41_focal.specs.LineStep.{TypesLine, Works, answer_of_showing, left_by_fault, line_as, named_by, with_line_passed, with_program_called, with_row}
+use Rattle.h41_focal.specs.LineLaws.{EnteringIsDetermined, FailureIsDetermined, PassingIsDetermined, StepIsDetermined}
+use Rattle.h41_focal.specs.LineLaws.{TypedFailureIsDetermined, TypedIsDetermined}
+use Rattle.h41_focal.specs.LineStep.{Applies, AppliesTo, AppliesWith, CarriesOut, ComputesIn, Ends, EntersLine, EntersWith, FailsIn}
+use Rattle.h41_focal.specs.LineStep.{FailsLine, FailsTyped, FailsWith, Machine, PassesLine, PassesWith, Stands, StandsAt, StepsAs}
+use Rattle.h41_focal.specs.LineStep.{StepsLine, TakesLine, TypesLine, Works, answer_of_showing, left_by_fault, line_as, named_by}
+use Rattle.h41_focal.specs.LineStep.{with_line_passed, with_program_called, with_row}
 use Rattle.h41_focal.specs.Outcomes.{Answer}
 use Rattle.h41_focal.specs.declared.refusal.FocalRefusal.{FocalRefusal}
 use Rattle.h41_focal.specs.declared.refusal.FocalRefusal.TheVariants.{BrokenProgram, MemoryLost, NotInProfile}
+use Rattle.h41_pages.specs.PageMap.{PageMap}
 use Rattle.h41_positions.specs.PositionLaws.{LinesHaveNext}
-use Rattle.h41_positions.specs.Positions.{LineAt, LocalFrom, NextAt, StartOf}
+use Rattle.h41_positions.specs.Positions.{LineAt, LocalFrom, StartOf}
 use Rattle.h41_positions.specs.declared.position.PlacedLine.{PlacedLine}
 use Rattle.h41_positions.specs.declared.position.Position.{Position}
 use Rattle.h41_positions.specs.declared.position.Position.TheVariants.{Page}
@@ -29,14 +31,12 @@ use Rattle.h41_rows.specs.Rows as rows
 use Rattle.h41_rows.specs.Values.{Value}
 use Rattle.h41_rows.specs.declared.fault.LineFault.{LineFault}
 use Rattle.h41_rows.specs.declared.fault.LineFault.TheVariants.{AlphaData, Nonexistent}
-use Rattle.h41_laws_numbers.specs.HasOne.{HasOne}
 use Rattle.h41_laws_numbers.proofs.Answering.{Has}
 use Rattle.h41_laws_programs.specs.ProgramAnswers.{MemoryHasOneAnswer, PositionHasOne, PositionHasOneEach}
 use Rattle.h41_laws_values.specs.LineValues.{ValueHasOneRegister}
-use Rattle.h41_laws_lines.specs.LineOutcomes.{EnteringHasOneOutcome, FailureHasOneOutcome, PassingHasOneOutcome, StepHasOneOutcome, TypedFailureHasOneOutcome}
-use Rattle.h41_laws_lines.specs.LineOutcomes.{TypedHasOneOutcome}
+use Rattle.h41_laws_lines.specs.LineOutcomes.{EnteringHasOneOutcome, FailureHasOneOutcome, PassingHasOneOutcome, StepHasOneOutcome}
+use Rattle.h41_laws_lines.specs.LineOutcomes.{TypedFailureHasOneOutcome, TypedHasOneOutcome}
 use Rattle.h41_laws_lines.proofs.Leads.{NextOrNone, goes}
-use Rattle.h41_pages.specs.PageMap.{PageMap}
 
 -- either of two answers, by a test
 either : {A : Type 0} (t : Bool) (Then Else : A → Type 0) → Has Then → Has Else → Has (λ answer. MatchBool t (Then answer) (Else answer))
@@ -72,8 +72,8 @@ module _ (values : ValueHasOneRegister) (next_or_none : NextOrNone) (onward : Li
       where_true (are_numbers memory named (rows.numbers_of row)) (ComputesIn memory named row.value) (Err AlphaData)
       (computes memory named row.value)
 
-  applies_with : (pages : PageMap) (how : Manner) (row : rows.LineRow) (named : ℕ) (machine : Machine) (result : Result (List ℕ) LineFault)
-      → Has (AppliesWith pages how row named machine result)
+  applies_with : (pages : PageMap) (how : Manner) (row : rows.LineRow) (named : ℕ) (machine : Machine)
+      (result : Result (List ℕ) LineFault) → Has (AppliesWith pages how row named machine result)
   applies_with pages how row named machine (Err fault) = alone (Ok (left_by_fault how machine fault))
   applies_with pages how row named machine (Ok result) =
       let to = goes next_or_none starts locals names pages how row.goes machine.memory named machine.focal.position machine.focal.returns in
@@ -81,7 +81,8 @@ module _ (values : ValueHasOneRegister) (next_or_none : NextOrNone) (onward : Li
       ends how machine (with_row row named result machine) (answer_of_showing machine.memory named row.shows row.ends) to.answer in
       record { answer = left.answer; right = (to.answer, to.right, left.right) }
 
-  applies : (pages : PageMap) (how : Manner) (row : rows.LineRow) (named : ℕ) (machine : Machine) → Has (Applies pages how row named machine)
+  applies : (pages : PageMap) (how : Manner) (row : rows.LineRow) (named : ℕ) (machine : Machine)
+      → Has (Applies pages how row named machine)
   applies pages how row named machine =
       let result = works machine.memory named row in
       let left = applies_with pages how row named machine result.answer in
@@ -105,15 +106,16 @@ module _ (values : ValueHasOneRegister) (next_or_none : NextOrNone) (onward : Li
   types pages line machine =
       where_true (is_sound machine.memory) (TakesLine pages Typed line machine) (Err MemoryLost) (takes pages Typed line machine)
 
-  stands_in : (pages : PageMap) (memory : RegisterMap) (at : Position) (first : Result PlacedLine ProgramRefusal) → is_sound memory ≡ true
-      → LineAt pages memory at first → Has (StandsAt pages memory at)
+  stands_in : (pages : PageMap) (memory : RegisterMap) (at : Position) (first : Result PlacedLine ProgramRefusal)
+      → is_sound memory ≡ true → LineAt pages memory at first → Has (StandsAt pages memory at)
   stands_in pages memory at (Ok first) sound stands = elim (next_or_none pages memory at) [
     | inl found ↦ record { answer = Ok (first.line, found.0); right = (sound, (first, stands, refl), found.1) }
     | inr none ↦ absurd (onward pages memory at first refusals.BrokenProgram stands none)
   ]
   stands_in pages memory at (Err why) sound none = record { answer = Err BrokenProgram; right = rw sound (refl, why, none) }
 
-  stands_at : (pages : PageMap) (sound : Bool) (memory : RegisterMap) (at : Position) → is_sound memory ≡ sound → Has (StandsAt pages memory at)
+  stands_at : (pages : PageMap) (sound : Bool) (memory : RegisterMap) (at : Position) → is_sound memory ≡ sound
+      → Has (StandsAt pages memory at)
   stands_at pages true memory at is = let first = lines pages memory at in stands_in pages memory at first.answer is first.right
   stands_at pages false memory at is = record { answer = Err MemoryLost; right = rw is refl }
 

@@ -1,11 +1,11 @@
 -- Where lines lead.
-use Rattle.std.proofs.Common.{◌≡◌, ◌⊎◌, ℕ, Bool, true, false, List, [], ◌∷◌, Option, Ok, Err, MatchBool, inl, inr, refl}
+use Rattle.std.proofs.Common.{◌⊎◌, ℕ, Bool, true, false, List, [], ◌∷◌, Option, Ok, Err, inl, inr, refl}
 use Rattle.std.specs.Prelude.{reverse}
 use Rattle.std.specs.Option.{option_map}
-use Rattle.h41_focal.specs.Destinations.{Destination, Arrives, Asks, Goes, GoesBack, Halts, HasNoLabel, HasNoLine, Manner, Passes, Stays}
+use Rattle.h41_focal.specs.Destinations.{Arrives, Asks, Goes, GoesBack, Halts, HasNoLabel, HasNoLine, Manner, Passes, Stays}
 use Rattle.h41_focal.specs.Destinations.{Stepped, StepsFrom, Tells, Typed, TypedFrom, found_at, lost_name, typed_at}
+use Rattle.h41_pages.specs.PageMap.{PageMap}
 use Rattle.h41_positions.specs.Positions.{LocalFrom, NextAt, StartOf}
-use Rattle.h41_program.specs.ProgramLines.{AnswersOf}
 use Rattle.h41_program.specs.Searches.{named_in, position_of}
 use Rattle.h41_positions.specs.declared.position.Position.{Position}
 use Rattle.h41_positions.specs.declared.position.Position.TheVariants.{Memory}
@@ -15,7 +15,6 @@ use Rattle.h41_rows.specs.RowEffects.{holds_in}
 use Rattle.h41_rows.specs.Rows as rows
 use Rattle.h41_laws_numbers.proofs.Answering.{Has}
 use Rattle.h41_laws_programs.specs.ProgramAnswers.{MemoryHasOneAnswer, PositionHasOne, PositionHasOneEach}
-use Rattle.h41_pages.specs.PageMap.{PageMap}
 
 -- there is a next position, or none
 abbrev pub NextOrNone : Type 0
@@ -31,7 +30,8 @@ module _ (next_or_none : NextOrNone) (starts : PositionHasOne StartOf) (locals :
     | inr none ↦ record { answer = HasNoLine; right = inr (none, refl) }
   ]
 
-  asks : (pages : PageMap) (holds : Bool) (memory : RegisterMap) (next : Position) (returns : List Position) → Has (Asks pages holds memory next returns)
+  asks : (pages : PageMap) (holds : Bool) (memory : RegisterMap) (next : Position) (returns : List Position)
+      → Has (Asks pages holds memory next returns)
   asks pages true memory next returns = record { answer = Arrives next returns; right = refl }
   asks pages false memory next returns = passes pages memory next returns
 
@@ -60,7 +60,8 @@ module _ (next_or_none : NextOrNone) (starts : PositionHasOne StartOf) (locals :
   typed_from : (pages : PageMap) (going : rows.Going) (memory : RegisterMap) (named : ℕ) (at : Position) (returns : List Position)
       → Has (TypedFrom pages going memory named at returns)
   typed_from pages rows.Next memory named at returns = record { answer = Stays; right = refl }
-  typed_from pages (rows.Tests condition) memory named at returns = record { answer = Tells (holds_in memory named condition); right = refl }
+  typed_from pages (rows.Tests condition) memory named at returns =
+      record { answer = Tells (holds_in memory named condition); right = refl }
   typed_from pages (rows.Counts condition) memory named at returns = record { answer = Stays; right = refl }
   typed_from pages (rows.ToLabel branch label) memory named at returns =
       let found = locals label pages memory at in
@@ -75,7 +76,7 @@ module _ (next_or_none : NextOrNone) (starts : PositionHasOne StartOf) (locals :
       let start = starts pages memory at in
       record { answer = Halts start.answer; right = (start.answer, start.right, refl) }
 
-  pub goes : (pages : PageMap) (how : Manner) (going : rows.Going) (memory : RegisterMap) (named : ℕ) (at : Position) (returns : List Position)
-      → Has (Goes pages how going memory named at returns)
+  pub goes : (pages : PageMap) (how : Manner) (going : rows.Going) (memory : RegisterMap) (named : ℕ) (at : Position)
+      (returns : List Position) → Has (Goes pages how going memory named at returns)
   goes pages (Stepped next) going memory named at returns = steps_from pages going memory named at next returns
   goes pages Typed going memory named at returns = typed_from pages going memory named at returns

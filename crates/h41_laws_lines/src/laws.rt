@@ -5,14 +5,14 @@ ghost use Rattle.h41_laws_lines.specs.LineOutcomes.{PassingHasOneOutcome};
 ghost use Rattle.h41_laws_lines.specs.LineOutcomes.{StepHasOneOutcome, TypedFailureHasOneOutcome};
 ghost use Rattle.h41_laws_lines.specs.LineOutcomes.{TypedHasOneOutcome};
 
-use h41_codes::laws::{byte_round_trip, line_or_none};
 use h41_focal::laws::line_is_determined;
 use h41_laws_programs::laws::{positions_have_one_answer, searches_have_one_answer};
 use h41_laws_values::laws::value_has_one_register;
 use h41_positions::laws::positions_are_read;
+use h41_program::laws::each_is_listed;
 
-/// A line has one outcome, whatever the machine and pages hold: what it leaves and its answer, or its refusal. So it is stepped, typed,
-/// failed from outside, stepped or typed, passed, and entered.
+/// A line has one outcome, whatever the machine and the pages hold: what it leaves and its answer, or its refusal. So it is stepped,
+/// typed, failed from outside, stepped or typed, and passed, and so it enters a program of a page.
 pub fn line_has_one_outcome()
     ensures step { StepHasOneOutcome }
     ensures typed { TypedHasOneOutcome }
@@ -21,8 +21,7 @@ pub fn line_has_one_outcome()
     ensures passing { PassingHasOneOutcome }
     ensures entering { EnteringHasOneOutcome }
 {
-    byte_round_trip();
-    line_or_none();
+    each_is_listed();
     value_has_one_register();
     positions_are_read();
     positions_have_one_answer();

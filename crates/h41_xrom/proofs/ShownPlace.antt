@@ -1,16 +1,21 @@
 -- Where the shown line stands, as the keyboard needs to know it.
-use Rattle.std.proofs.Common.{◌≡◌, ℕ, Bool, false, List, [], Ok, Err, refl, subst}
+use Rattle.std.proofs.Common.{◌≡◌, ℕ, Bool, true, false, ◌||◌, List, [], Ok, Err, refl, sym, ap, subst, ◌∙◌}
+use Rattle.h41_focal.specs.LineStep.{Machine}
+use Rattle.h41_keys.specs.declared.input.Place.TheVariants as places
 use Rattle.h41_pages.specs.Addresses.{offset_of, page_of}
 use Rattle.h41_pages.specs.FunctionTables.{code_of}
 use Rattle.h41_pages.specs.PageMap.{PageMap}
 use Rattle.h41_positions.specs.PageLines.{IsFirstLine}
 use Rattle.h41_positions.specs.Positions.{placed_in}
+use Rattle.h41_positions.specs.declared.position.Position.{Position}
+use Rattle.h41_positions.specs.declared.position.Position.TheVariants.{Page}
 use Rattle.h41_program.specs.GivenLines.{BytesHaveFirst, BytesHaveNone}
 use Rattle.h41_program.specs.Lines.{is_final_end}
 use Rattle.h41_program.specs.declared.given.Taken.{Taken}
 use Rattle.h41_program.specs.declared.listed_line.ListedLine.{ListedLine}
 use Rattle.h41_program.specs.declared.refusal.ProgramRefusal.TheVariants.{BrokenProgram}
 use Rattle.h41_ram.specs.RegisterMap.{RegisterMap, is_sound}
+use Rattle.h41_xrom.specs.KeyActions.{IsPlace}
 use Rattle.h41_xrom.specs.private.PrivateCalls.{IsFinalAt, PutsEnd}
 
 -- a line stands at an address of a page
@@ -27,6 +32,26 @@ pub none_there : (pages : PageMap) (address : ℕ) (code : List ℕ) (final : Bo
 none_there pages address code final own has is memory =
     let there = subst (λ (of : List ℕ). BytesHaveNone of (offset_of address)) own has in
     (Err BrokenProgram, (Err BrokenProgram, (refl, there), refl), is)
+
+-- so the shown line stands in a page
+pub place_there : (pages : PageMap) (from machine : Machine) (address : ℕ) (final kept puts : Bool) → from ≡ machine
+    → from.focal.position ≡ Page address → IsFinalAt pages address final → kept ≡ (from.focal.at_line_00 || final)
+    → PutsEnd from.memory puts → IsPlace pages machine machine.focal.position (places.Page kept puts)
+place_there pages from machine address final kept puts same is finals keeps ends =
+    let (first, stands, final_is) = finals from.memory in
+    let (last, answers, puts_is) = ends in
+    let kept_is = keeps ∙ ap (λ (of : Bool). from.focal.at_line_00 || of) final_is in
+    let there : IsPlace pages from from.focal.position (places.Page kept puts) =
+    subst (λ (at : Position). IsPlace pages from at (places.Page kept puts)) (sym is)
+    (first, last, stands, answers, (λ i. places.Page (kept_is i) (puts_is i))) in
+    subst (λ (of : Machine). IsPlace pages of of.focal.position (places.Page kept puts)) same there
+
+-- BACK changes nothing, at line 00 or else by the line
+pub kept_at : (at_line_00 final kept : Bool) → kept ≡ at_line_00 → at_line_00 ≡ true → kept ≡ (at_line_00 || final)
+kept_at at_line_00 final kept is on = is ∙ on ∙ ap (λ (of : Bool). of || final) (sym on)
+
+pub kept_by : (at_line_00 final kept : Bool) → kept ≡ final → at_line_00 ≡ false → kept ≡ (at_line_00 || final)
+kept_by at_line_00 final kept is off = is ∙ ap (λ (of : Bool). of || final) (sym off)
 
 -- memory that is not sound has no last program
 pub lost_puts_none : (memory : RegisterMap) → is_sound memory ≡ false → PutsEnd memory false

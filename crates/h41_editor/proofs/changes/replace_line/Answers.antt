@@ -5,21 +5,21 @@ use Rattle.h41_editor.proofs.Edited.{line_replaced, replace_in_page, replace_ref
 use Rattle.h41_editor.proofs.Opened.{read_of}
 use Rattle.h41_editor.proofs.changes.replace_line.Goals as goal
 
-pub returns-in_err-byte-clause-line : goal.returns-in_err-byte-clause-line
-returns-in_err-byte-clause-line g c =
+pub returns-in_err-byte-in-Memory-clause-line : goal.returns-in_err-byte-in-Memory-clause-line
+returns-in_err-byte-in-Memory-clause-line g c =
     let refused = err_from_is_err_and c.from_residual.result c.from_residual.ensures.1 in
     rw (refused.1, refused.2)
-    (replace_refused c.args.line _ (machine_of c.args.machine.now) c.replace.new.ram.registers _ c.in_err-byte.field-0.0
+    (replace_refused c.args.line _ (machine_of c.args.machine.now) c.replace.new.ram.registers _ c.in_err-byte-in-Memory.field-0.0
     (read_of _ _ _ _ _ (λ i. (c.machine-inside.view_is i).ram.registers) (λ i. (c.machine-inside.view_is i).focal.state)
     (ap machine_of c.machine.view_is))
-    c.in-Memory.is c.in_err-byte.ensures.lines)
+    c.in-Memory.is c.in_err-byte-in-Memory.ensures.lines)
 
-pub returns-clause-line : goal.returns-clause-line
-returns-clause-line g c =
-    line_replaced c.args.line _ (machine_of c.args.machine.now) c.replace.new.ram.registers c.show_line.new.focal.state _ c.in_ok-byte.byte
+pub returns-in_ok-byte-in-Memory-clause-line : goal.returns-in_ok-byte-in-Memory-clause-line
+returns-in_ok-byte-in-Memory-clause-line g c =
+    line_replaced c.args.line _ (machine_of c.args.machine.now) c.replace.new.ram.registers c.show_line.new.focal.state _ c.in_ok-byte-in-Memory.byte
     (read_of _ _ _ _ _ (λ i. (c.machine-inside.view_is i).ram.registers) (λ i. (c.machine-inside.view_is i).focal.state)
     (ap machine_of c.machine.view_is))
-    c.in-Memory.is c.in_ok-byte.ensures.lines c.in_ok-byte.ensures.answer c.show_line.ensures.state
+    c.in-Memory.is c.in_ok-byte-in-Memory.ensures.lines c.in_ok-byte-in-Memory.ensures.answer c.show_line.ensures.state
 
 pub returns-in-Page-clause-line : goal.returns-in-Page-clause-line
 returns-in-Page-clause-line g c =
@@ -28,9 +28,9 @@ returns-in-Page-clause-line g c =
     (ap machine_of c.machine.view_is))
     c.in-Page.is
 
-pub returns-clause-keeps : goal.returns-clause-keeps
-returns-clause-keeps g c =
+pub returns-in_ok-byte-in-Memory-clause-keeps : goal.returns-in_ok-byte-in-Memory-clause-keeps
+returns-in_ok-byte-in-Memory-clause-keeps g c =
     subst
     (λ (machine : LabelledMachine). Keeps machine (labelled_with c.replace.new.ram c.show_line.new.focal))
     ((λ i. labelled_with (c.machine-inside.view_is i).ram (c.machine-inside.view_is i).focal) ∙ c.machine.view_is)
-    (record { mark = c.in_ok-byte.ensures.mark; labels = c.show_line.ensures.labels })
+    (record { mark = c.in_ok-byte-in-Memory.ensures.mark; labels = c.show_line.ensures.labels })

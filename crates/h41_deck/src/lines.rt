@@ -14,6 +14,7 @@ ghost use Rattle.h41_commands.specs.declared.line.LineKind.TheVariants.{Named};
 ghost use Rattle.h41_lines.specs.Words.{words_of};
 ghost use Rattle.h41_deck.specs.AnsweredItems.{AnswersItem, AnswersLine, AnswersPlain};
 ghost use Rattle.h41_deck.specs.AnsweredItems.{AnswersShort, AnswersWritten, plain_takes_memory};
+ghost use Rattle.h41_deck.specs.AnsweredItems.{writes_refusal_alone};
 ghost use Rattle.h41_deck.specs.Answers.{ending_line};
 ghost use Rattle.h41_deck.specs.Replies.{item_takes_memory};
 ghost use Rattle.h41_deck.specs.Writing.{EndsAs};
@@ -62,7 +63,7 @@ pub fn answer_line<W: Sink, const REGS: usize>(
     match kind {
         LineKind::Named(FirstWord::Plain(kind)) => answer_plain(alloc, bench, kind, line, writer),
         LineKind::Named(FirstWord::Unknown) => Ok(refuse_unknown(writer)?),
-        LineKind::Long => Ok(refuse(LineRefusal::LineTooLong, writer)?),
+        LineKind::Long => Ok(end(Some(Refusal::Line(LineRefusal::LineTooLong)), writer)?),
         LineKind::Named(FirstWord::Opening(_)) => unreachable!(),
     }
 }
@@ -86,11 +87,11 @@ fn answer_plain<W: Sink, const REGS: usize>(
 {
     let words = operands(line);
     match kind {
-        PlainKind::Unplug => Ok(end(unplug_named(bench, words), writer)?),
-        PlainKind::Reset => Ok(end(reset_alone(bench, words), writer)?),
-        PlainKind::Step => Ok(end(step_counted(bench, words), writer)?),
-        PlainKind::Break => Ok(end(break_placed(bench, words), writer)?),
-        PlainKind::Unbreak => Ok(end(unbreak_placed(bench, words), writer)?),
+        PlainKind::Unplug
+        | PlainKind::Reset
+        | PlainKind::Step
+        | PlainKind::Break
+        | PlainKind::Unbreak => Ok(end(answer_short(bench, kind, words), writer)?),
         PlainKind::Run => Ok(run_counted(bench, words, writer)?),
         PlainKind::Show => show_named(alloc, bench, words, writer),
         PlainKind::Size | PlainKind::Call | PlainKind::Trace | PlainKind::List | PlainKind::Key => {
@@ -152,90 +153,38 @@ fn refuse_unknown<W: Sink>(writer: &mut W) -> Result<Outcome, WriteFault>
     Ok(Outcome::Refused)
 }
 
-/// Tells why a line is refused.
-fn refuse<W: Sink>(refusal: LineRefusal, writer: &mut W) -> Result<Outcome, WriteFault>
-    requires { W.failed writer.old ≡ false }
-    ensures outcome { IfOk result (EndsAs (Some (refusals.Line refusal))) }
-    ensures written { Writes result W.contents writer.old writer.new
-        (ending_line (Some (refusals.Line refusal))) }
-    ensures clear { OnOk result (W.failed writer.new ≡ false) }
-    ensures mark { OnErr result (W.failed writer.new ≡ true) }
-{
-    end(Some(Refusal::Line(refusal)), writer)
-}
-
-/// Takes out the page that the words behind `unplug` name, or tells why not.
+/// Answers a command that writes nothing but its refusal, by the words behind its name.
 #[inline(never)]
-fn unplug_named<const REGS: usize>(
+fn answer_short<const REGS: usize>(
     bench: &mut Bench<REGS>,
+    kind: PlainKind,
     operands: LineWords<'_>,
 ) -> Option<Refusal>
-    ensures { AnswersShort plain.Unplug (words_of operands.entry.rest.now)
-        bench.old bench.new result }
+    requires { writes_refusal_alone kind ≡ true }
+    ensures { AnswersShort kind (words_of operands.entry.rest.now) bench.old bench.new result }
 {
-    match unplugged_page(operands) {
-        Ok(page) => unplug(bench, page),
-        Err(refusal) => Some(Refusal::Line(refusal)),
-    }
-}
-
-/// Begins anew where no word stands behind `reset`, or tells why not.
-#[inline(never)]
-fn reset_alone<const REGS: usize>(
-    bench: &mut Bench<REGS>,
-    operands: LineWords<'_>,
-) -> Option<Refusal>
-    ensures { AnswersShort plain.Reset (words_of operands.entry.rest.now)
-        bench.old bench.new result }
-{
-    match no_operand(operands) {
-        Ok(()) => reset(bench),
-        Err(refusal) => Some(Refusal::Line(refusal)),
-    }
-}
-
-/// Makes the steps that the words behind `step` count, or tells why not.
-#[inline(never)]
-fn step_counted<const REGS: usize>(
-    bench: &mut Bench<REGS>,
-    operands: LineWords<'_>,
-) -> Option<Refusal>
-    ensures { AnswersShort plain.Step (words_of operands.entry.rest.now)
-        bench.old bench.new result }
-{
-    match step_count(operands) {
-        Ok(count) => step(bench, count),
-        Err(refusal) => Some(Refusal::Line(refusal)),
-    }
-}
-
-/// Sets the breakpoint that the words behind `break` place, or tells why not.
-#[inline(never)]
-fn break_placed<const REGS: usize>(
-    bench: &mut Bench<REGS>,
-    operands: LineWords<'_>,
-) -> Option<Refusal>
-    ensures { AnswersShort plain.Break (words_of operands.entry.rest.now)
-        bench.old bench.new result }
-{
-    match break_location(operands) {
-        Ok(location) => set_break(bench, location),
-        Err(refusal) => Some(Refusal::Line(refusal)),
-    }
-}
-
-/// Takes the breakpoint away that the words behind `unbreak` place, or tells why not.
-#[inline(never)]
-fn unbreak_placed<const REGS: usize>(
-    bench: &mut Bench<REGS>,
-    operands: LineWords<'_>,
-) -> Option<Refusal>
-    ensures { AnswersShort plain.Unbreak (words_of operands.entry.rest.now)
-        bench.old bench.new result }
-{
-    match break_location(operands) {
-        Ok(location) => unbreak(bench, location),
-        Err(refusal) => Some(Refusal::Line(refusal)),
+    match kind {
+        PlainKind::Unplug => match unplugged_page(operands) {
+            Ok(page) => unplug(bench, page),
+            Err(refusal) => Some(Refusal::Line(refusal)),
+        },
+        PlainKind::Reset => match no_operand(operands) {
+            Ok(()) => reset(bench),
+            Err(refusal) => Some(Refusal::Line(refusal)),
+        },
+        PlainKind::Step => match step_count(operands) {
+            Ok(count) => step(bench, count),
+            Err(refusal) => Some(Refusal::Line(refusal)),
+        },
+        PlainKind::Break => match break_location(operands) {
+            Ok(location) => set_break(bench, location),
+            Err(refusal) => Some(Refusal::Line(refusal)),
+        },
+        PlainKind::Unbreak => match break_location(operands) {
+            Ok(location) => unbreak(bench, location),
+            Err(refusal) => Some(Refusal::Line(refusal)),
+        },
+        _ => unreachable!(),
     }
 }
 
@@ -257,7 +206,7 @@ fn run_counted<W: Sink, const REGS: usize>(
             let refusal = run(bench, limit, writer)?;
             end(refusal, writer)
         }
-        Err(refusal) => refuse(refusal, writer),
+        Err(refusal) => end(Some(Refusal::Line(refusal)), writer),
     }
 }
 
@@ -282,6 +231,6 @@ fn show_named<W: Sink, const REGS: usize>(
             let refusal = show(alloc, bench, view, writer)?;
             Ok(end(refusal, writer)?)
         }
-        Err(refusal) => Ok(refuse(refusal, writer)?),
+        Err(refusal) => Ok(end(Some(Refusal::Line(refusal)), writer)?),
     }
 }

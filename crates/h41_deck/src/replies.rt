@@ -30,7 +30,6 @@ use std::alloc::{AllocError, Global};
 /// The most bytes of a line that is put together before it is written.
 const SHORT_LINE: usize = 23;
 
-mod digits;
 mod functions;
 mod image;
 mod listing;

@@ -1,11 +1,10 @@
 //! The functions of modules, as `show functions` prints them.
 
 ghost use Rattle.std.specs.Prelude.{◌≡◌, ◌<◌, ◌++◌, IfOk, OnOk};
-ghost use Rattle.h41_lines.specs.Characters.{characters_text};
+ghost use Rattle.h41_lines.specs.Characters.{characters_text, two_digits};
 ghost use Rattle.h41_pages.specs.FunctionTables.{functions};
 ghost use Rattle.h41_deck.specs.PageViews as spec;
 
-use crate::replies::digits::push_number;
 use h41_lines::characters::character_text;
 use h41_pages::{ModuleFunction, Name, Pages};
 use std::alloc::{AllocError, Global};
@@ -34,6 +33,13 @@ fn push_function(text: &mut Vec<u8>, function: &ModuleFunction) -> Result<(), Al
     text.extend_from_slice(b" ")?;
     push_name(text, &function.name)?;
     text.extend_from_slice(b"\n")
+}
+
+/// Appends the two decimal digits of a number below 100.
+fn push_number(text: &mut Vec<u8>, number: u8) -> Result<(), AllocError>
+    ensures { OnOk result (text.new.items ≡ text.old.items ++ two_digits number) }
+{
+    text.extend_from_slice(&[b'0' + number / 10, b'0' + number % 10])
 }
 
 /// Appends a name, and `-` where there is none.

@@ -6,7 +6,7 @@ ghost use Rattle.h41_deck.specs.PageViews as spec;
 ghost use Rattle.h41_deck.specs.Writing.{IsImageShown};
 
 use crate::refusal::Refusal;
-use crate::replies::digits::push_hexadecimal;
+use h41_lines::characters::byte_digits;
 use h41_pages::{ImageRefusal, Pages};
 use std::alloc::{AllocError, Global};
 
@@ -52,7 +52,7 @@ fn push_line(text: &mut Vec<u8>, bytes: &[u8]) -> Result<(), AllocError>
     ensures { OnOk result (text.new.items ≡ text.old.items ++ spec.bytes_line bytes.now) }
 {
     for byte in bytes {
-        push_hexadecimal(text, *byte)?;
+        text.extend_from_slice(byte_digits(*byte).as_str().as_bytes())?;
     }
     text.extend_from_slice(b"\n")
 }

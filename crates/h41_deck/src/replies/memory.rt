@@ -3,7 +3,7 @@
 ghost use Rattle.std.specs.Prelude.{◌≡◌, ◌+◌, ◌*◌, ◌<◌, ◌≤◌, ◌++◌, Some};
 ghost use Rattle.std.specs.Fmt.{WritesOnOk};
 ghost use Rattle.arrayvec.specs.ArrayString.{array_string_len};
-ghost use Rattle.h41_deck.specs.Views.{address_line, flags_below, level_line, levels_text};
+ghost use Rattle.h41_deck.specs.Views.{flags_below, level_line};
 ghost use Rattle.h41_lines.specs.Characters.{two_digits};
 ghost use Rattle.h41_ram.specs.RegisterMap.{register_at};
 
@@ -19,7 +19,7 @@ const FLAGS: usize = 56;
 /// The most bytes of their numbers: two digits and a blank each.
 const FLAGS_TEXT: usize = 168;
 
-/// A register with its address.
+/// A register with its address, of three hexadecimal digits.
 #[derive(Clone, Copy)]
 pub struct RegisterLine {
     pub address: u16,
@@ -32,8 +32,10 @@ impl fmt::Display for RegisterLine {
 
     ghost output = { λ line. Some (address_line line.address line.register) };
 
+    #[tactic(auto, unfolding(crate::specs::Views::address_line))]
     fn fmt<W: fmt::Write>(&self, f: &mut fmt::Formatter<W>) -> fmt::Result {
-        write_register(f, self.address, self.register)
+        let name = Digits::<3>::holding(u64::from(self.address % 0x1000));
+        writeln!(f, "{name}={}", self.register)
     }
 }
 
@@ -72,35 +74,14 @@ impl fmt::Display for StackLines {
 
     ghost output = { λ lines. Some (levels_text lines.t lines.z lines.y lines.x lines.l) };
 
+    #[tactic(auto, unfolding(crate::specs::Views::levels_text))]
     fn fmt<W: fmt::Write>(&self, f: &mut fmt::Formatter<W>) -> fmt::Result {
-        write_stack(f, *self)
+        write_level(f, "T", self.t)?;
+        write_level(f, "Z", self.z)?;
+        write_level(f, "Y", self.y)?;
+        write_level(f, "X", self.x)?;
+        write_level(f, "L", self.l)
     }
-}
-
-/// A register with its address, of three hexadecimal digits.
-#[tactic(auto, unfolding(crate::specs::Views::address_line))]
-fn write_register<W: fmt::Write>(
-    f: &mut fmt::Formatter<W>,
-    address: u16,
-    register: Reg,
-) -> fmt::Result
-    ensures { WritesOnOk W.write_str_gives f.old result (address_line address register) f.new }
-{
-    let name = Digits::<3>::holding(u64::from(address % 0x1000));
-    writeln!(f, "{name}={register}")
-}
-
-/// The stack from T down, and L.
-#[tactic(auto, unfolding(crate::specs::Views::levels_text))]
-fn write_stack<W: fmt::Write>(f: &mut fmt::Formatter<W>, stack: StackLines) -> fmt::Result
-    ensures { WritesOnOk W.write_str_gives f.old result
-        (levels_text stack.t stack.z stack.y stack.x stack.l) f.new }
-{
-    write_level(f, "T", stack.t)?;
-    write_level(f, "Z", stack.z)?;
-    write_level(f, "Y", stack.y)?;
-    write_level(f, "X", stack.x)?;
-    write_level(f, "L", stack.l)
 }
 
 /// A level of the stack, or L, by its name.

@@ -1,7 +1,7 @@
 //! What `show` prints.
 
 ghost use Rattle.std.specs.Prelude.{◌≡◌, ◌++◌, IfOk, IfSome};
-ghost use Rattle.h41_deck.specs.Views.{flags_line, line_of, register_line, stack_text};
+ghost use Rattle.h41_deck.specs.Views.{flags_line, line_of};
 ghost use Rattle.h41_deck.specs.Writing.{IsShown};
 
 use crate::refusal::Refusal;
@@ -36,8 +36,11 @@ pub fn shown<const REGS: usize>(
                 keys: calculator.keys(),
             },
         )?,
-        View::Register(address) => register_shown(alloc, ram, address)?,
-        View::Stack => stack_shown(alloc, ram)?,
+        View::Register(address) => {
+            let register = ram.read(address);
+            text_of(alloc, RegisterLine { address, register })?
+        },
+        View::Stack => text_of(alloc, StackLines::of(ram))?,
         View::Flags => flags_shown(alloc, ram)?,
         View::Alpha => line_of(alloc, alpha_text(ram).as_str())?,
         View::Display => line_of(alloc, calculator.display().as_str())?,
@@ -47,25 +50,6 @@ pub fn shown<const REGS: usize>(
         View::Functions => functions_text(alloc, calculator.pages())?,
     };
     Ok(Ok(text))
-}
-
-/// A register with its address. 21 where memory is refused.
-fn register_shown<const REGS: usize>(
-    alloc: Global,
-    ram: &Ram<REGS>,
-    address: u16,
-) -> Result<Vec<u8>, AllocError>
-    ensures { IfOk result (λ text. text.items ≡ register_line ram.now.registers address) }
-{
-    let register = ram.read(address);
-    text_of(alloc, RegisterLine { address, register })
-}
-
-/// The stack from T down, and L. 21 where memory is refused.
-fn stack_shown<const REGS: usize>(alloc: Global, ram: &Ram<REGS>) -> Result<Vec<u8>, AllocError>
-    ensures { IfOk result (λ text. text.items ≡ stack_text ram.now.registers) }
-{
-    text_of(alloc, StackLines::of(ram))
 }
 
 /// The numbers of the flags that are set. 21 where memory is refused.

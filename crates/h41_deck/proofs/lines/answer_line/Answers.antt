@@ -27,16 +27,16 @@ returns-in_err-refuse_unknown-in-Named-Unknown-clause-reply g c =
     c.args.bench.now _ _
     c.in_err-refuse_unknown-in-Named-Unknown.ensures.written)
 
-pub returns-in_ok-refuse-in-Long-clause-reply : goal.returns-in_ok-refuse-in-Long-clause-reply
-returns-in_ok-refuse-in-Long-clause-reply g c =
+pub returns-in_ok-end-in-Long-clause-reply : goal.returns-in_ok-end-in-Long-clause-reply
+returns-in_ok-end-in-Long-clause-reply g c =
     line_refused c.args.line.now LineTooLong
     (long_spelled c.args.line.now (c.requires.kind ∙ ap (λ (kind : LineKind). Some kind) c.in-Long.is)) c.args.bench.now _ _
-    c.in_ok-refuse-in-Long.field-0 c.in_ok-refuse-in-Long.ensures.outcome c.in_ok-refuse-in-Long.ensures.written
+    c.in_ok-end-in-Long.field-0 c.in_ok-end-in-Long.ensures.outcome c.in_ok-end-in-Long.ensures.written
 
-pub returns-in_err-refuse-in-Long-clause-reply : goal.returns-in_err-refuse-in-Long-clause-reply
-returns-in_err-refuse-in-Long-clause-reply g c =
-    let failed = err_from_is_err_and c.from_residual-in_err-refuse-in-Long.result c.from_residual-in_err-refuse-in-Long.ensures.1 in
+pub returns-in_err-end-in-Long-clause-reply : goal.returns-in_err-end-in-Long-clause-reply
+returns-in_err-end-in-Long-clause-reply g c =
+    let failed = err_from_is_err_and c.from_residual-in_err-end-in-Long.result c.from_residual-in_err-end-in-Long.ensures.1 in
     rw (failed.1, failed.2)
     (line_refused_part c.args.line.now LineTooLong
     (long_spelled c.args.line.now (c.requires.kind ∙ ap (λ (kind : LineKind). Some kind) c.in-Long.is)) c.args.bench.now _ _
-    c.in_err-refuse-in-Long.ensures.written)
+    c.in_err-end-in-Long.ensures.written)

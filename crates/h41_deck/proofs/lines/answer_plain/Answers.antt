@@ -12,78 +12,18 @@ use Rattle.h41_deck.proofs.lines.answer_plain.Goals as goal
 
 pub returns-in_ok-end-in-Unplug-clause-reply : goal.returns-in_ok-end-in-Unplug-clause-reply
 returns-in_ok-end-in-Unplug-clause-reply g c =
-    short_reply c.args.line.now plain.Unplug (c.requires.kind ∙ ap (λ (kind : PlainKind). Some (Named (Plain kind))) c.in-Unplug.is)
-    c.args.bench.now c.unplug_named.new.bench _ _ c.unplug_named.result c.in_ok-end-in-Unplug.field-0
-    (rw c.operands-words.ensures at c.unplug_named.ensures)
+    short_reply c.args.line.now c.args.kind c.requires.kind
+    c.args.bench.now c.answer_short.new.bench _ _ c.answer_short.result c.in_ok-end-in-Unplug.field-0
+    (rw c.operands-words.ensures at c.answer_short.ensures)
     c.in_ok-end-in-Unplug.ensures.outcome c.in_ok-end-in-Unplug.ensures.written
 
 pub returns-in_err-end-in-Unplug-clause-reply : goal.returns-in_err-end-in-Unplug-clause-reply
 returns-in_err-end-in-Unplug-clause-reply g c =
     let failed = err_from_is_err_and c.from_residual.result c.from_residual.ensures.1 in
     rw (failed.1, failed.2)
-    (short_part c.args.line.now plain.Unplug (c.requires.kind ∙ ap (λ (kind : PlainKind). Some (Named (Plain kind))) c.in-Unplug.is)
-    c.args.bench.now c.unplug_named.new.bench _ _ c.unplug_named.result (rw c.operands-words.ensures at c.unplug_named.ensures)
+    (short_part c.args.line.now c.args.kind c.requires.kind
+    c.args.bench.now c.answer_short.new.bench _ _ c.answer_short.result (rw c.operands-words.ensures at c.answer_short.ensures)
     c.in_err-end-in-Unplug.ensures.written)
-
-pub returns-in_ok-end-in-Reset-clause-reply : goal.returns-in_ok-end-in-Reset-clause-reply
-returns-in_ok-end-in-Reset-clause-reply g c =
-    short_reply c.args.line.now plain.Reset (c.requires.kind ∙ ap (λ (kind : PlainKind). Some (Named (Plain kind))) c.in-Reset.is)
-    c.args.bench.now c.reset_alone.new.bench _ _ c.reset_alone.result c.in_ok-end-in-Reset.field-0
-    (rw c.operands-words.ensures at c.reset_alone.ensures)
-    c.in_ok-end-in-Reset.ensures.outcome c.in_ok-end-in-Reset.ensures.written
-
-pub returns-in_err-end-in-Reset-clause-reply : goal.returns-in_err-end-in-Reset-clause-reply
-returns-in_err-end-in-Reset-clause-reply g c =
-    let failed = err_from_is_err_and c.from_residual-in_err-end-in-Reset.result c.from_residual-in_err-end-in-Reset.ensures.1 in
-    rw (failed.1, failed.2)
-    (short_part c.args.line.now plain.Reset (c.requires.kind ∙ ap (λ (kind : PlainKind). Some (Named (Plain kind))) c.in-Reset.is)
-    c.args.bench.now c.reset_alone.new.bench _ _ c.reset_alone.result (rw c.operands-words.ensures at c.reset_alone.ensures)
-    c.in_err-end-in-Reset.ensures.written)
-
-pub returns-in_ok-end-in-Step-clause-reply : goal.returns-in_ok-end-in-Step-clause-reply
-returns-in_ok-end-in-Step-clause-reply g c =
-    short_reply c.args.line.now plain.Step (c.requires.kind ∙ ap (λ (kind : PlainKind). Some (Named (Plain kind))) c.in-Step.is)
-    c.args.bench.now c.step_counted.new.bench _ _ c.step_counted.result c.in_ok-end-in-Step.field-0
-    (rw c.operands-words.ensures at c.step_counted.ensures)
-    c.in_ok-end-in-Step.ensures.outcome c.in_ok-end-in-Step.ensures.written
-
-pub returns-in_err-end-in-Step-clause-reply : goal.returns-in_err-end-in-Step-clause-reply
-returns-in_err-end-in-Step-clause-reply g c =
-    let failed = err_from_is_err_and c.from_residual-in_err-end-in-Step.result c.from_residual-in_err-end-in-Step.ensures.1 in
-    rw (failed.1, failed.2)
-    (short_part c.args.line.now plain.Step (c.requires.kind ∙ ap (λ (kind : PlainKind). Some (Named (Plain kind))) c.in-Step.is)
-    c.args.bench.now c.step_counted.new.bench _ _ c.step_counted.result (rw c.operands-words.ensures at c.step_counted.ensures)
-    c.in_err-end-in-Step.ensures.written)
-
-pub returns-in_ok-end-in-Break-clause-reply : goal.returns-in_ok-end-in-Break-clause-reply
-returns-in_ok-end-in-Break-clause-reply g c =
-    short_reply c.args.line.now plain.Break (c.requires.kind ∙ ap (λ (kind : PlainKind). Some (Named (Plain kind))) c.in-Break.is)
-    c.args.bench.now c.break_placed.new.bench _ _ c.break_placed.result c.in_ok-end-in-Break.field-0
-    (rw c.operands-words.ensures at c.break_placed.ensures)
-    c.in_ok-end-in-Break.ensures.outcome c.in_ok-end-in-Break.ensures.written
-
-pub returns-in_err-end-in-Break-clause-reply : goal.returns-in_err-end-in-Break-clause-reply
-returns-in_err-end-in-Break-clause-reply g c =
-    let failed = err_from_is_err_and c.from_residual-in_err-end-in-Break.result c.from_residual-in_err-end-in-Break.ensures.1 in
-    rw (failed.1, failed.2)
-    (short_part c.args.line.now plain.Break (c.requires.kind ∙ ap (λ (kind : PlainKind). Some (Named (Plain kind))) c.in-Break.is)
-    c.args.bench.now c.break_placed.new.bench _ _ c.break_placed.result (rw c.operands-words.ensures at c.break_placed.ensures)
-    c.in_err-end-in-Break.ensures.written)
-
-pub returns-in_ok-end-in-Unbreak-clause-reply : goal.returns-in_ok-end-in-Unbreak-clause-reply
-returns-in_ok-end-in-Unbreak-clause-reply g c =
-    short_reply c.args.line.now plain.Unbreak (c.requires.kind ∙ ap (λ (kind : PlainKind). Some (Named (Plain kind))) c.in-Unbreak.is)
-    c.args.bench.now c.unbreak_placed.new.bench _ _ c.unbreak_placed.result c.in_ok-end-in-Unbreak.field-0
-    (rw c.operands-words.ensures at c.unbreak_placed.ensures)
-    c.in_ok-end-in-Unbreak.ensures.outcome c.in_ok-end-in-Unbreak.ensures.written
-
-pub returns-in_err-end-in-Unbreak-clause-reply : goal.returns-in_err-end-in-Unbreak-clause-reply
-returns-in_err-end-in-Unbreak-clause-reply g c =
-    let failed = err_from_is_err_and c.from_residual-in_err-end-in-Unbreak.result c.from_residual-in_err-end-in-Unbreak.ensures.1 in
-    rw (failed.1, failed.2)
-    (short_part c.args.line.now plain.Unbreak (c.requires.kind ∙ ap (λ (kind : PlainKind). Some (Named (Plain kind))) c.in-Unbreak.is)
-    c.args.bench.now c.unbreak_placed.new.bench _ _ c.unbreak_placed.result (rw c.operands-words.ensures at c.unbreak_placed.ensures)
-    c.in_err-end-in-Unbreak.ensures.written)
 
 pub returns-in_ok-run_counted-in-Run-clause-reply : goal.returns-in_ok-run_counted-in-Run-clause-reply
 returns-in_ok-run_counted-in-Run-clause-reply g c =

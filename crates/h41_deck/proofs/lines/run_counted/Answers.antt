@@ -24,6 +24,6 @@ returns-in-Err-clause-reply g c =
     let is : plain_spelled plain.Run (words_of c.args.operands.rest.now) ≡ Err c.in-Err.refusal =
     ap spelled_alone (c.most_steps.ensures commands.Run
     ∙ ap (λ (read : Result ℕ LineRefusal). and_then read (λ count. Ok (commands.Run count))) c.in-Err.is) in
-    ends_written c.refuse.result plain.Run _ (Err c.in-Err.refusal) is c.args.bench.now c.args.bench.now g.W.Sink.contents
-    c.args.writer.now c.args.writer.now c.refuse.new.writer (Some (Line c.in-Err.refusal))
-    (refused_said c.in-Err.refusal c.args.bench.now _) c.refuse.ensures.outcome c.refuse.ensures.written
+    ends_written c.end-in-Err.result plain.Run _ (Err c.in-Err.refusal) is c.args.bench.now c.args.bench.now g.W.Sink.contents
+    c.args.writer.now c.args.writer.now c.end-in-Err.new.writer (Some (Line c.in-Err.refusal))
+    (refused_said c.in-Err.refusal c.args.bench.now _) c.end-in-Err.ensures.outcome c.end-in-Err.ensures.written

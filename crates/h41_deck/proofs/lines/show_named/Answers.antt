@@ -37,24 +37,24 @@ returns-in_err-end-in-Ok-clause-reply g c =
     (ends_part _ c.args.bench.now c.show.new.bench _ _ _ c.in_ok-refusal-in-Ok.refusal
     (c.in_ok-refusal-in-Ok.ensures.text []) c.in_err-end-in-Ok.ensures.written))
 
-pub returns-in_ok-refuse-in-Err-clause-reply : goal.returns-in_ok-refuse-in-Err-clause-reply
-returns-in_ok-refuse-in-Err-clause-reply g c =
+pub returns-in_ok-end-in-Err-clause-reply : goal.returns-in_ok-end-in-Err-clause-reply
+returns-in_ok-end-in-Err-clause-reply g c =
     let is : plain_spelled plain.Show (words_of c.args.operands.rest.now) ≡ Err c.in-Err.refusal =
     ap (λ (read : Result View LineRefusal). spelled_alone (and_then read (λ view. Ok (commands.Show view))))
     (sym c.view.ensures ∙ c.in-Err.is) in
     subst (λ (item : Spelled). Replies item c.args.bench.now c.args.bench.now (g.W.Sink.contents c.args.writer.now)
-    (g.W.Sink.contents c.refuse.new.writer) c.in_ok-refuse-in-Err.field-0) (sym is)
-    (ends_reply _ c.args.bench.now c.args.bench.now _ _ _ (Some (Line c.in-Err.refusal)) c.in_ok-refuse-in-Err.field-0
-    (refused_said c.in-Err.refusal c.args.bench.now _) c.in_ok-refuse-in-Err.ensures.outcome c.in_ok-refuse-in-Err.ensures.written)
+    (g.W.Sink.contents c.end-in-Err.new.writer) c.in_ok-end-in-Err.field-0) (sym is)
+    (ends_reply _ c.args.bench.now c.args.bench.now _ _ _ (Some (Line c.in-Err.refusal)) c.in_ok-end-in-Err.field-0
+    (refused_said c.in-Err.refusal c.args.bench.now _) c.in_ok-end-in-Err.ensures.outcome c.in_ok-end-in-Err.ensures.written)
 
-pub returns-in_err-refuse-in-Err-clause-reply : goal.returns-in_err-refuse-in-Err-clause-reply
-returns-in_err-refuse-in-Err-clause-reply g c =
+pub returns-in_err-end-in-Err-clause-reply : goal.returns-in_err-end-in-Err-clause-reply
+returns-in_err-end-in-Err-clause-reply g c =
     let is : plain_spelled plain.Show (words_of c.args.operands.rest.now) ≡ Err c.in-Err.refusal =
     ap (λ (read : Result View LineRefusal). spelled_alone (and_then read (λ view. Ok (commands.Show view))))
     (sym c.view.ensures ∙ c.in-Err.is) in
-    let failed = err_from_is_err_and c.from_residual-in_err-refuse-in-Err.result c.from_residual-in_err-refuse-in-Err.ensures.1 in
+    let failed = err_from_is_err_and c.from_residual-in_err-end-in-Err.result c.from_residual-in_err-end-in-Err.ensures.1 in
     rw (failed.1, failed.2)
     (subst (λ (item : Spelled). RepliesInPart item c.args.bench.now c.args.bench.now (g.W.Sink.contents c.args.writer.now)
-    (g.W.Sink.contents c.refuse.new.writer)) (sym is)
+    (g.W.Sink.contents c.end-in-Err.new.writer)) (sym is)
     (ends_part _ c.args.bench.now c.args.bench.now _ _ _ (Some (Line c.in-Err.refusal))
-    (refused_said c.in-Err.refusal c.args.bench.now _) c.in_err-refuse-in-Err.ensures.written))
+    (refused_said c.in-Err.refusal c.args.bench.now _) c.in_err-end-in-Err.ensures.written))

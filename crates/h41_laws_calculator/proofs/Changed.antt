@@ -8,19 +8,20 @@ use Rattle.h41_editor.specs.Moves.{is_last}
 use Rattle.h41_editor.specs.NumberedLines.{HasNumbered, Numbers}
 use Rattle.h41_editor.specs.declared.numbered.NumberedLine.{NumberedLine}
 use Rattle.h41_focal.specs.LineStep.{Machine}
+use Rattle.h41_pages.specs.PageMap.{PageMap}
+use Rattle.h41_positions.specs.PositionLaws.{LinesHaveNext}
+use Rattle.h41_positions.specs.Positions.{LineAt, NextAt, NumberAt, StartOf}
+use Rattle.h41_positions.specs.declared.position.PlacedLine.{PlacedLine}
+use Rattle.h41_positions.specs.declared.position.Position.{Position}
+use Rattle.h41_positions.specs.declared.position.Position.TheVariants.{Memory, Page}
 use Rattle.h41_program.proofs.EditAnswers.{PutsAt, leaves_new, stands_new}
 use Rattle.h41_program.proofs.Inner.{inserted_inner, replaced_inner}
 use Rattle.h41_program.proofs.NewLines.{inserted_begins, inserted_keeps, replaced_begins, replaced_keeps}
 use Rattle.h41_program.specs.Edits.{EditGives, Edits, count_before, with_inserted, with_replaced}
-use Rattle.h41_program.specs.PositionLaws.{LinesHaveNext}
-use Rattle.h41_program.specs.Positions.{LineAt, NextAt, NumberAt, StartOf}
 use Rattle.h41_program.specs.ProgramBytes.{final_position, program_bytes}
 use Rattle.h41_program.specs.ProgramLaws.{IsInner, OneList}
 use Rattle.h41_program.specs.ProgramLines.{FirstFrom}
 use Rattle.h41_program.specs.declared.listed_line.ListedLine.{ListedLine}
-use Rattle.h41_program.specs.declared.position.PlacedLine.{PlacedLine}
-use Rattle.h41_program.specs.declared.position.Position.{Position}
-use Rattle.h41_program.specs.declared.position.Position.TheVariants.{Memory}
 use Rattle.h41_program.specs.declared.refusal.ProgramRefusal.{ProgramRefusal}
 use Rattle.h41_program.specs.declared.refusal.ProgramRefusal.TheVariants.{BrokenProgram}
 use Rattle.h41_program.specs.private.EditSteps.{Counts}
@@ -90,6 +91,7 @@ module _ (again : ByteRoundTrip) (one : OneLine) (lists : OneList) (edits : Edit
       let shown =
       shows_new line (with_replaced line) (put_instead line inner) machine at changed.answer sound changed.right in
       record { answer = shown.answer; right = (changed.answer, changed.right, shown.right) }
+  replaces_at line machine (Page address) inner sound = alone (Err BrokenProgram)
 
   pub replaces : (line : Line) (machine : Machine) → IsInner line → is_sound machine.memory ≡ true → Has (Replaces line machine)
   replaces line machine inner sound = replaces_at line machine machine.focal.position inner sound
@@ -101,39 +103,46 @@ module _ (again : ByteRoundTrip) (one : OneLine) (lists : OneList) (edits : Edit
       let shown =
       shows_new line (with_inserted line) (put_before line inner) machine before changed.answer sound changed.right in
       record { answer = shown.answer; right = (changed.answer, changed.right, shown.right) }
+  inserts_before line machine (Page address) inner sound = alone (Err BrokenProgram)
 
   module _ (lines : PositionHasOne LineAt) (numbers : PositionHasOne NumberAt) (starts : PositionHasOne StartOf)
       (nexts : PositionHasOne NextAt) (onward : LinesHaveNext) where
-    abbrev Line_at : Machine → Type 0
-    Line_at machine = (first : PlacedLine) × LineAt machine.memory machine.focal.position (Ok first)
+    abbrev Line_at : PageMap → Machine → Type 0
+    Line_at pages machine = (first : PlacedLine) × LineAt pages machine.memory machine.focal.position (Ok first)
 
-    line_numbered : (machine : Machine) (of : NumberedLine) (first : Result PlacedLine ProgramRefusal)
-        → LineAt machine.memory machine.focal.position first → Numbers machine.memory first (Some of) → Line_at machine
-    line_numbered machine of (Ok first) stands numbered = (first, stands)
-    line_numbered machine of (Err refusal) stands none =
+    line_numbered : (pages : PageMap) (machine : Machine) (of : NumberedLine) (first : Result PlacedLine ProgramRefusal)
+        → LineAt pages machine.memory machine.focal.position first → Numbers pages machine.memory first (Some of)
+        → Line_at pages machine
+    line_numbered pages machine of (Ok first) stands numbered = (first, stands)
+    line_numbered pages machine of (Err refusal) stands none =
         absurd (let never : ◌≡◌ {A = Option NumberedLine} (Some of) None = none in cc)
 
-    inserts_at : (machine : Machine) (shown : PlacedLine) → Line_at machine → Has (InsertsAt machine shown)
-    inserts_at machine shown line =
-        let start = starts machine.memory machine.focal.position in
-        let next = nexts machine.memory machine.focal.position in
-        let behind = next_in lines numbers starts nexts onward machine line.0 next.answer line.1 next.right in
-        either machine.focal.at_line_00 (StartOf machine.memory machine.focal.position)
-        (λ before. MatchBool (is_last shown) (before ≡ shown.position) (NextAt machine.memory machine.focal.position (Ok before)))
+    inserts_at : (pages : PageMap) (machine : Machine) (shown : PlacedLine) → Line_at pages machine → Has (InsertsAt pages machine shown)
+    inserts_at pages machine shown line =
+        let start = starts pages machine.memory machine.focal.position in
+        let next = nexts pages machine.memory machine.focal.position in
+        let behind = next_in lines numbers starts nexts onward pages machine line.0 next.answer line.1 next.right in
+        either machine.focal.at_line_00 (StartOf pages machine.memory machine.focal.position)
+        (λ before.
+        MatchBool (is_last shown) (before ≡ shown.position)
+        (NextAt pages machine.memory machine.focal.position (Ok before)))
         (record { answer = start.answer; right = start.right })
-        (either (is_last shown) (λ before. before ≡ shown.position) (λ before. NextAt machine.memory machine.focal.position (Ok before))
+        (either (is_last shown) (λ before. before ≡ shown.position)
+        (λ before. NextAt pages machine.memory machine.focal.position (Ok before))
         (alone shown.position) (record { answer = behind.0; right = behind.1 }))
 
-    inserts_by : (line : Line) (machine : Machine) (of : Option NumberedLine) → IsInner line → is_sound machine.memory ≡ true
-        → HasNumbered machine.memory machine.focal.position of → Has (InsertsBy line machine of)
-    inserts_by line machine (Some of) inner sound has =
-        let before = inserts_at machine of.placed (line_numbered machine of has.0 has.1 has.2) in
+    inserts_by : (pages : PageMap) (line : Line) (machine : Machine) (of : Option NumberedLine) → IsInner line
+        → is_sound machine.memory ≡ true → HasNumbered pages machine.memory machine.focal.position of
+        → Has (InsertsBy pages line machine of)
+    inserts_by pages line machine (Some of) inner sound has =
+        let before = inserts_at pages machine of.placed (line_numbered pages machine of has.0 has.1 has.2) in
         let made = inserts_before line machine before.answer inner sound in
         record { answer = made.answer; right = (before.answer, before.right, made.right) }
-    inserts_by line machine None inner sound has = alone (Err BrokenProgram)
+    inserts_by pages line machine None inner sound has = alone (Err BrokenProgram)
 
-    pub inserts : (line : Line) (machine : Machine) → IsInner line → is_sound machine.memory ≡ true → Has (Inserts line machine)
-    inserts line machine inner sound =
-        let found = numbered lines numbers machine.memory machine.focal.position in
-        let made = inserts_by line machine found.answer inner sound found.right in
+    pub inserts : (pages : PageMap) (line : Line) (machine : Machine) → IsInner line → is_sound machine.memory ≡ true
+        → Has (Inserts pages line machine)
+    inserts pages line machine inner sound =
+        let found = numbered lines numbers pages machine.memory machine.focal.position in
+        let made = inserts_by pages line machine found.answer inner sound found.right in
         record { answer = made.answer; right = (found.answer, found.right, made.right) }

@@ -1,6 +1,6 @@
 -- What a key makes.
 use Rattle.std.proofs.Common.{◌≡◌, ℕ, Bool, true, false, List, Option, Some, None, Result, Ok, Err, MatchOption, refl}
-use Rattle.std.specs.Prelude.{◌&&◌, not, IfSome, IsOkAnd}
+use Rattle.std.specs.Prelude.{◌&&◌, ◌||◌, not, IfSome, IsOkAnd}
 use Rattle.std.specs.Bool.{then_some}
 use Rattle.h41_codes.specs.declared.characters.Character.{Character}
 use Rattle.h41_codes.specs.declared.functions.Function.{Function}
@@ -18,7 +18,9 @@ use Rattle.h41_keys.specs.Keyboard.{row_of}
 use Rattle.h41_keys.specs.KeyPress.{presses, while_in_microcode, while_running}
 use Rattle.h41_keys.specs.declared.action.Action.{Action}
 use Rattle.h41_keys.specs.declared.action.Action.TheVariants as actions
+use Rattle.h41_keys.specs.declared.input.Flags.{Flags}
 use Rattle.h41_keys.specs.declared.input.Input.{Input}
+use Rattle.h41_keys.specs.declared.input.Place.TheVariants as places
 use Rattle.h41_keys.specs.declared.input.Pressed.{Pressed}
 use Rattle.h41_keys.specs.declared.key.Key.{Key}
 use Rattle.h41_keys.specs.declared.meaning.Meaning.{Meaning}
@@ -26,6 +28,10 @@ use Rattle.h41_keys.specs.declared.meaning.Meaning.TheVariants as meanings
 use Rattle.h41_numbers.specs.NumberLines.{IsNumberOf}
 use Rattle.h41_pages.specs.FunctionTables.{AreNumbers, function_of_name}
 use Rattle.h41_pages.specs.PageMap.{PageMap}
+use Rattle.h41_positions.specs.Positions.{LineAt}
+use Rattle.h41_positions.specs.declared.position.Position.{Position}
+use Rattle.h41_positions.specs.declared.position.Position.TheVariants.{Memory, Page}
+use Rattle.h41_program.specs.LastProgram.{open_in}
 use Rattle.h41_program.specs.ProgramLaws.{IsInner}
 use Rattle.h41_program.specs.Searches.{named_in, position_of}
 use Rattle.h41_program.specs.declared.refusal.ProgramRefusal.{ProgramRefusal}
@@ -35,13 +41,10 @@ use Rattle.h41_rows.specs.Values.{Computes, Kept, Written, sign_of_value}
 use Rattle.h41_rows.specs.declared.fault.LineFault.{LineFault}
 use Rattle.h41_xrom.specs.Calculator.{CalculatorState, is_idle, machine_of}
 use Rattle.h41_xrom.specs.CalculatorLaws.{KeyIsDetermined}
-use Rattle.h41_xrom.specs.KeyActions.{Acts, BeginsNumber, Carries, ChangesNumber, Edits, IsStoredAs}
-use Rattle.h41_xrom.specs.KeyActions.{KeyMakes, KeyOutcome}
-use Rattle.h41_xrom.specs.KeyActions.{Leaves, StoredElsewhere}
-use Rattle.h41_xrom.specs.KeyActions.{StoredFunction, StoredName, StoresLine, activity_of}
-use Rattle.h41_xrom.specs.KeyActions.{after_outcome, edit_effect, flags_of, line_effect, press_of}
-use Rattle.h41_xrom.specs.KeyActions.{Presses}
-use Rattle.h41_xrom.specs.KeyActions.{with_key_told, with_line_begun, with_line_changed}
+use Rattle.h41_xrom.specs.KeyActions.{Acts, BeginsNumber, Carries, ChangesNumber, Edits, HasFlags, IsPlace, IsStoredAs}
+use Rattle.h41_xrom.specs.KeyActions.{KeyMakes, KeyOutcome, Leaves, Presses, StoredElsewhere, StoredFunction, StoredName}
+use Rattle.h41_xrom.specs.KeyActions.{StoresLine, activity_of, after_outcome, edit_effect, flags_at, is_final, line_effect}
+use Rattle.h41_xrom.specs.KeyActions.{press_of, puts_end, with_key_told, with_line_begun, with_line_changed}
 use Rattle.h41_xrom.specs.declared.calculator.Caller.{Caller}
 use Rattle.h41_xrom.specs.declared.calculator.Mode.{Mode}
 use Rattle.h41_xrom.specs.declared.calculator.Mode.TheVariants as modes
@@ -51,7 +54,7 @@ use Rattle.h41_xrom.specs.declared.refusal.CalculatorRefusal.{CalculatorRefusal}
 use Rattle.h41_xrom.specs.declared.refusal.CalculatorRefusal.TheVariants.{KeyNotHeld, MemoryLost}
 use Rattle.h41_laws_numbers.specs.HasOne.{HasOne}
 use Rattle.h41_laws_numbers.proofs.Answering.{Has}
-use Rattle.h41_laws_programs.specs.ProgramAnswers.{MemoryHasOneAnswer}
+use Rattle.h41_laws_programs.specs.ProgramAnswers.{MemoryHasOneAnswer, PositionHasOne}
 use Rattle.h41_laws_values.specs.LineValues.{ValueHasOneRegister}
 use Rattle.h41_laws_calculator.specs.Keys.{KeyHasOneOutcome, KeyLeaves, PressStoresInner, StoresInner}
 use Rattle.h41_laws_calculator.specs.LineEnds.{LineHasOneEnd, NameHasOneFunction}
@@ -84,8 +87,9 @@ register_of text memory (Err fault) computes =
     computes.nearest computes.kept)
 
 module _ (ends : LineHasOneEnd) (names : NameHasOneFunction) (labels : MemoryHasOneAnswer (Option ℕ)) (values : ValueHasOneRegister)
-    (next : MoveHasOneOutcome ShowsNext) (before : MoveHasOneOutcome ShowsBefore) (end : MoveHasOneOutcome GoesToEnd)
-    (deletion : MoveHasOneOutcome Deletes) (insertion : ChangeHasOneOutcome Inserts) (replacement : ChangeHasOneOutcome Replaces) where
+    (next : (pages : PageMap) → MoveHasOneOutcome (ShowsNext pages)) (before : (pages : PageMap) → MoveHasOneOutcome (ShowsBefore pages))
+    (end : MoveHasOneOutcome GoesToEnd) (deletion : (pages : PageMap) → MoveHasOneOutcome (Deletes pages))
+    (insertion : (pages : PageMap) → ChangeHasOneOutcome (Inserts pages)) (replacement : ChangeHasOneOutcome Replaces) where
   carries : (source : LineSource) (pages : PageMap) (machine : Machine) → Has (Carries source pages machine)
   carries source pages machine =
       let ended = ends source pages machine in
@@ -137,7 +141,7 @@ module _ (ends : LineHasOneEnd) (names : NameHasOneFunction) (labels : MemoryHas
       → Has (StoresLine pages line machine)
   stores pages line machine inner sound =
       let stored = stored_as pages machine.memory line inner in
-      let made = edits (Inserts stored.0) machine (one_there (insertion stored.0 machine stored.2 sound)) in
+      let made = edits (Inserts pages stored.0) machine (one_there (insertion pages stored.0 machine stored.2 sound)) in
       record { answer = made.answer; right = (stored.0, stored.1, made.right) }
 
   -- each action
@@ -147,15 +151,16 @@ module _ (ends : LineHasOneEnd) (names : NameHasOneFunction) (labels : MemoryHas
   acts pages program_mode actions.Stop machine inner sound = alone _
   acts pages program_mode actions.Run machine inner sound = alone _
   acts pages program_mode actions.Step machine inner sound =
-      either program_mode (Edits ShowsNext machine) (Carries sources.Program pages machine)
-      (edits ShowsNext machine (one_there (next machine))) (carries sources.Program pages machine)
-  acts pages program_mode actions.StepBack machine inner sound = edits ShowsBefore machine (one_there (before machine))
+      either program_mode (Edits (ShowsNext pages) machine) (Carries sources.Program pages machine)
+      (edits (ShowsNext pages) machine (one_there (next pages machine))) (carries sources.Program pages machine)
+  acts pages program_mode actions.StepBack machine inner sound =
+      edits (ShowsBefore pages) machine (one_there (before pages machine))
   acts pages program_mode actions.GoToEnd machine inner sound = edits GoesToEnd machine (one_there (end machine))
   acts pages program_mode (actions.CarryOut line) machine inner sound = carries (sources.Keys line) pages machine
   acts pages program_mode (actions.Insert line) machine inner sound = stores pages line machine inner sound
   acts pages program_mode (actions.Replace line) machine inner sound =
       edits (Replaces line) machine (one_there (replacement line machine inner sound))
-  acts pages program_mode actions.Delete machine inner sound = edits Deletes machine (one_there (deletion machine))
+  acts pages program_mode actions.Delete machine inner sound = edits (Deletes pages) machine (one_there (deletion pages machine))
   acts pages program_mode (actions.BeginNumber text) machine inner sound = begins text machine
   acts pages program_mode (actions.ChangeNumber text) machine inner sound = changes text machine
   acts pages program_mode actions.EndNumber machine inner sound = carries (sources.Keys (lines.Plain ClearX)) pages machine
@@ -207,28 +212,49 @@ module _ (ends : LineHasOneEnd) (names : NameHasOneFunction) (labels : MemoryHas
   in_micro s key caller None made = record { answer = made.answer; right = made.right }
   in_micro s key caller (Some press) made = record { answer = made.answer; right = made.right }
 
-  in_mode : (mode : Mode) (s : CalculatorState) (key : Key) → PressStoresInner (presses s.input key (activity_of mode) (flags_of s))
-      → Has (MakesIn mode s key (presses s.input key (activity_of mode) (flags_of s)))
-  in_mode modes.Idle s key inner = in_idle s key _ inner
-  in_mode modes.Run s key inner = while_run s key (row_of key).plain
-  in_mode (modes.Micro caller) s key inner =
+  in_mode : (mode : Mode) (s : CalculatorState) (key : Key) (flags : Flags)
+      → PressStoresInner (presses s.input key (activity_of mode) flags)
+      → Has (MakesIn mode s key (presses s.input key (activity_of mode) flags))
+  in_mode modes.Idle s key flags inner = in_idle s key _ inner
+  in_mode modes.Run s key flags inner = while_run s key (row_of key).plain
+  in_mode (modes.Micro caller) s key flags inner =
       in_micro s key caller (while_in_microcode s.input (row_of key).plain) (while_micro s key (row_of key).plain)
 
   key_makes : (s : CalculatorState) (key : Key) (of : Option Pressed) → Has (MakesIn s.mode s key of) → Has (KeyMakes s key of)
   key_makes s key None made = record { answer = made.answer; right = made.right }
   key_makes s key (Some press) made = record { answer = made.answer; right = made.right }
 
-  pub one_key : KeyIsDetermined → KeyHasOneOutcome
-  one_key determined key s inner =
-      let made = key_makes s key (press_of s key) (in_mode s.mode s key inner) in
-      let right : KeyLeaves key s (becomes made.answer s) = (made.answer, made.right, becomes-right made.answer s) in
-      record {
-        answer = becomes made.answer s;
-        right = right;
-        only = λ other again.
-            let same = determined key s other.0 (becomes made.answer s).0 other.1 (becomes made.answer s).1 again right in
-            same_left other (becomes made.answer s) same.0 same.1;
-      }
+  -- where the shown line stands
+  module _ (positions : PositionHasOne LineAt) (last : MemoryHasOneAnswer (Result Bool ProgramRefusal)) where
+    placed : (pages : PageMap) (machine : Machine) (at : Position) → Has (IsPlace pages machine at)
+    placed pages machine (Memory byte) = alone places.Memory
+    placed pages machine (Page address) =
+        let first = positions pages machine.memory (Page address) in
+        let open_there = last open_in machine.memory 0 in
+        record {
+          answer = places.Page (machine.focal.at_line_00 || is_final first.answer) (puts_end open_there.answer);
+          right = (first.answer, open_there.answer, first.right, open_there.right, refl);
+        }
+
+    flagged : (s : CalculatorState) → Has (HasFlags s)
+    flagged s =
+        let place = placed s.nut.pages (machine_of s) s.focal.position in
+        record { answer = flags_at place.answer s; right = (place.answer, place.right, refl) }
+
+    pub one_key : KeyIsDetermined → KeyHasOneOutcome
+    one_key determined key s inner =
+        let flags = flagged s in
+        let made =
+        key_makes s key (press_of s key flags.answer) (in_mode s.mode s key flags.answer (inner flags.answer flags.right)) in
+        let right : KeyLeaves key s (becomes made.answer s) =
+        (flags.answer, flags.right, made.answer, made.right, becomes-right made.answer s) in
+        record {
+          answer = becomes made.answer s;
+          right = right;
+          only = λ other again.
+              let same = determined key s other.0 (becomes made.answer s).0 other.1 (becomes made.answer s).1 again right in
+              same_left other (becomes made.answer s) same.0 same.1;
+        }
 
 -- a key that was pressed
 pub one_pressed : KeyIsDetermined → (key : Key) (s t : CalculatorState) (refusal : Option CalculatorRefusal) → Presses key s t refusal

@@ -7,6 +7,7 @@ use Rattle.h41_editor.specs.ProgramText.{ShowsProgram}
 use Rattle.h41_focal.specs.LineStep.{Machine}
 use Rattle.h41_keys.specs.declared.input.TypedEntry.{TypedEntry}
 use Rattle.h41_keys.specs.declared.prompt.Prompt.{Prompt}
+use Rattle.h41_pages.specs.PageMap.{PageMap}
 use Rattle.h41_program.specs.Edits.{LoadGives}
 use Rattle.h41_program.specs.declared.refusal.ProgramRefusal.{ProgramRefusal}
 use Rattle.h41_ram.specs.RegisterMap.{RegisterMap}
@@ -81,16 +82,17 @@ module _ (loads : LoadHasOneOutcome) where
       }
 
 -- the display
-module _ (programs : (machine : Machine) → Has (ShowsProgram machine)) where
-  shown_line : (machine : Machine) (entry : TypedEntry) → Has (ShowsShownLine machine entry)
-  shown_line machine entry =
-      let shown = programs machine in
+module _ (programs : (pages : PageMap) (machine : Machine) → Has (ShowsProgram pages machine)) where
+  shown_line : (pages : PageMap) (machine : Machine) (entry : TypedEntry) → Has (ShowsShownLine pages machine entry)
+  shown_line pages machine entry =
+      let shown = programs pages machine in
       record { answer = shown.answer ++ cursor_of entry; right = (shown.answer, shown.right, refl) }
 
   shown_entry : (s : CalculatorState) → Has (ShowsEntry s)
   shown_entry s =
-      either s.input.program_mode (ShowsShownLine (machine_of s) s.input.entry) (λ text. text ≡ entry_text s.nut.ram s.input.entry)
-      (shown_line (machine_of s) s.input.entry) (alone (entry_text s.nut.ram s.input.entry))
+      either s.input.program_mode (ShowsShownLine s.nut.pages (machine_of s) s.input.entry)
+      (λ text. text ≡ entry_text s.nut.ram s.input.entry)
+      (shown_line s.nut.pages (machine_of s) s.input.entry) (alone (entry_text s.nut.ram s.input.entry))
 
   shows_prompt : (s : CalculatorState) (prompt : Option Prompt) → Has (ShowsPrompt s prompt)
   shows_prompt s (Some prompt) = alone (shown_prompt prompt)

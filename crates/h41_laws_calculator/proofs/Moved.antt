@@ -9,17 +9,19 @@ use Rattle.h41_editor.specs.NumberedLines.{HasNumbered, Numbers, with_number}
 use Rattle.h41_editor.specs.ProgramText.{ShowsLine, ShowsProgram, line_00_text, text_of, unknown_text}
 use Rattle.h41_editor.specs.declared.numbered.NumberedLine.{NumberedLine}
 use Rattle.h41_focal.specs.LineStep.{Machine, at_line}
+use Rattle.h41_pages.specs.PageMap.{PageMap}
+use Rattle.h41_positions.specs.PositionLaws.{LinesHaveNext}
+use Rattle.h41_positions.specs.Positions.{EndOf, LineAt, LineBefore, NextAt, NumberAt, StartOf}
+use Rattle.h41_positions.specs.declared.position.PlacedLine.{PlacedLine}
+use Rattle.h41_positions.specs.declared.position.Position.{Position}
+use Rattle.h41_positions.specs.declared.position.Position.TheVariants.{Memory, Page}
 use Rattle.h41_program.specs.Edits.{EditGives, before_end, close_behind, position_in_front, without_deleted}
 use Rattle.h41_program.specs.Lines.{is_final_end}
-use Rattle.h41_program.specs.PositionLaws.{LinesHaveNext}
-use Rattle.h41_program.specs.Positions.{EndOf, LineAt, LineBefore, NextAt, NumberAt, StartOf}
 use Rattle.h41_program.specs.ProgramBytes.{final_position}
 use Rattle.h41_program.specs.ProgramLaws.{OneList}
+use Rattle.h41_program.specs.Searches.{start_in}
 use Rattle.h41_program.specs.declared.editing.InFront.{InFront}
 use Rattle.h41_program.specs.declared.listed_line.ListedLine.{ListedLine}
-use Rattle.h41_program.specs.declared.position.PlacedLine.{PlacedLine}
-use Rattle.h41_program.specs.declared.position.Position.{Position}
-use Rattle.h41_program.specs.declared.position.Position.TheVariants.{Memory}
 use Rattle.h41_program.specs.declared.refusal.ProgramRefusal.{ProgramRefusal}
 use Rattle.h41_program.specs.declared.refusal.ProgramRefusal.TheVariants.{BrokenProgram}
 use Rattle.h41_ram.specs.RegisterMap.{RegisterMap, is_sound}
@@ -40,118 +42,122 @@ one_move Moves determined some machine =
     record { answer = found.answer; right = found.right; only = λ other again. determined machine other found.answer again found.right }
 
 module _ (lines : PositionHasOne LineAt) (numbers : PositionHasOne NumberAt) where
-  numbered_in : (memory : RegisterMap) (first : Result PlacedLine ProgramRefusal) → Has (Numbers memory first)
-  numbered_in memory (Ok first) =
-      let number = numbers memory first.position in
+  numbered_in : (pages : PageMap) (memory : RegisterMap) (first : Result PlacedLine ProgramRefusal) → Has (Numbers pages memory first)
+  numbered_in pages memory (Ok first) =
+      let number = numbers pages memory first.position in
       record { answer = option_map (with_number first) number.answer; right = (number.answer, number.right, refl) }
-  numbered_in memory (Err refusal) = alone None
+  numbered_in pages memory (Err refusal) = alone None
 
-  pub numbered : (memory : RegisterMap) (at : Position) → Has (HasNumbered memory at)
-  numbered memory at =
-      let first = lines memory at in
-      let found = numbered_in memory first.answer in
+  pub numbered : (pages : PageMap) (memory : RegisterMap) (at : Position) → Has (HasNumbered pages memory at)
+  numbered pages memory at =
+      let first = lines pages memory at in
+      let found = numbered_in pages memory first.answer in
       record { answer = found.answer; right = (first.answer, first.right, found.right) }
 
   -- the text of the program
-  shows_line : (machine : Machine) → Has (ShowsLine machine)
-  shows_line machine =
-      let found = numbered machine.memory machine.focal.position in
+  shows_line : (pages : PageMap) (machine : Machine) → Has (ShowsLine pages machine)
+  shows_line pages machine =
+      let found = numbered pages machine.memory machine.focal.position in
       record { answer = text_of found.answer; right = (found.answer, found.right, refl) }
 
-  pub shows_program : (machine : Machine) → Has (ShowsProgram machine)
-  shows_program machine =
+  pub shows_program : (pages : PageMap) (machine : Machine) → Has (ShowsProgram pages machine)
+  shows_program pages machine =
       either (is_sound machine.memory)
-      (λ text. MatchBool machine.focal.at_line_00 (text ≡ line_00_text machine.memory) (ShowsLine machine text))
+      (λ text. MatchBool machine.focal.at_line_00 (text ≡ line_00_text machine.memory) (ShowsLine pages machine text))
       (λ text. text ≡ unknown_text)
-      (either machine.focal.at_line_00 (λ text. text ≡ line_00_text machine.memory) (ShowsLine machine)
-      (alone (line_00_text machine.memory)) (shows_line machine))
+      (either machine.focal.at_line_00 (λ text. text ≡ line_00_text machine.memory) (ShowsLine pages machine)
+      (alone (line_00_text machine.memory)) (shows_line pages machine))
       (alone unknown_text)
 
   module _ (starts : PositionHasOne StartOf) where
-    shows_start : (machine : Machine) → Has (ShowsStart machine)
-    shows_start machine =
-        let start = starts machine.memory machine.focal.position in
+    shows_start : (pages : PageMap) (machine : Machine) → Has (ShowsStart pages machine)
+    shows_start pages machine =
+        let start = starts pages machine.memory machine.focal.position in
         record { answer = _; right = (start.answer, start.right, refl) }
 
     -- SST
     module _ (nexts : PositionHasOne NextAt) (onward : LinesHaveNext) where
-      abbrev Next : Machine → Type 0
-      Next machine = (next : Position) × NextAt machine.memory machine.focal.position (Ok next)
+      abbrev Next : PageMap → Machine → Type 0
+      Next pages machine = (next : Position) × NextAt pages machine.memory machine.focal.position (Ok next)
 
-      pub next_in : (machine : Machine) (first : PlacedLine) (next : Result Position ProgramRefusal)
-          → LineAt machine.memory machine.focal.position (Ok first) → NextAt machine.memory machine.focal.position next → Next machine
-      next_in machine first (Ok next) stands is = (next, is)
-      next_in machine first (Err refusal) stands is = absurd (onward machine.memory machine.focal.position first refusal stands is)
+      pub next_in : (pages : PageMap) (machine : Machine) (first : PlacedLine) (next : Result Position ProgramRefusal)
+          → LineAt pages machine.memory machine.focal.position (Ok first) → NextAt pages machine.memory machine.focal.position next
+          → Next pages machine
+      next_in pages machine first (Ok next) stands is = (next, is)
+      next_in pages machine first (Err refusal) stands is =
+          absurd (onward pages machine.memory machine.focal.position first refusal stands is)
 
-      abbrev ShowsOn : Machine → Moved → Type 0
-      ShowsOn machine moved =
+      abbrev ShowsOn : PageMap → Machine → Moved → Type 0
+      ShowsOn pages machine moved =
           (next : Position)
-          × NextAt machine.memory machine.focal.position (Ok next)
+          × NextAt pages machine.memory machine.focal.position (Ok next)
           × (moved ≡ Ok (at_line next machine))
 
-      shows_on : (machine : Machine) → Next machine → Has (ShowsOn machine)
-      shows_on machine next = record { answer = Ok (at_line next.0 machine); right = (next.0, next.1, refl) }
+      shows_on : (pages : PageMap) (machine : Machine) → Next pages machine → Has (ShowsOn pages machine)
+      shows_on pages machine next = record { answer = Ok (at_line next.0 machine); right = (next.0, next.1, refl) }
 
-      shows_behind : (machine : Machine) (first : Result PlacedLine ProgramRefusal)
-          → LineAt machine.memory machine.focal.position first → Has (ShowsBehind machine first)
-      shows_behind machine (Ok first) stands =
-          let next = nexts machine.memory machine.focal.position in
-          either (is_last first) (ShowsStart machine) (ShowsOn machine) (shows_start machine)
-          (shows_on machine (next_in machine first next.answer stands next.right))
-      shows_behind machine (Err refusal) stands = alone (Err BrokenProgram)
+      shows_behind : (pages : PageMap) (machine : Machine) (first : Result PlacedLine ProgramRefusal)
+          → LineAt pages machine.memory machine.focal.position first → Has (ShowsBehind pages machine first)
+      shows_behind pages machine (Ok first) stands =
+          let next = nexts pages machine.memory machine.focal.position in
+          either (is_last first) (ShowsStart pages machine) (ShowsOn pages machine) (shows_start pages machine)
+          (shows_on pages machine (next_in pages machine first next.answer stands next.right))
+      shows_behind pages machine (Err refusal) stands = alone (Err BrokenProgram)
 
-      abbrev ShowsFrom : Machine → Moved → Type 0
-      ShowsFrom machine moved =
+      abbrev ShowsFrom : PageMap → Machine → Moved → Type 0
+      ShowsFrom pages machine moved =
           (first : Result PlacedLine ProgramRefusal)
-          × LineAt machine.memory machine.focal.position first
-          × ShowsBehind machine first moved
+          × LineAt pages machine.memory machine.focal.position first
+          × ShowsBehind pages machine first moved
 
-      shows_from : (machine : Machine) → Has (ShowsFrom machine)
-      shows_from machine =
-          let first = lines machine.memory machine.focal.position in
-          let moved = shows_behind machine first.answer first.right in
+      shows_from : (pages : PageMap) (machine : Machine) → Has (ShowsFrom pages machine)
+      shows_from pages machine =
+          let first = lines pages machine.memory machine.focal.position in
+          let moved = shows_behind pages machine first.answer first.right in
           record { answer = moved.answer; right = (first.answer, first.right, moved.right) }
 
-      pub shows_next : (machine : Machine) → Has (ShowsNext machine)
-      shows_next machine =
-          either machine.focal.at_line_00 (λ moved. moved ≡ Ok (at_line machine.focal.position machine)) (ShowsFrom machine)
-          (alone (Ok (at_line machine.focal.position machine))) (shows_from machine)
+      pub shows_next : (pages : PageMap) (machine : Machine) → Has (ShowsNext pages machine)
+      shows_next pages machine =
+          either machine.focal.at_line_00 (λ moved. moved ≡ Ok (at_line machine.focal.position machine)) (ShowsFrom pages machine)
+          (alone (Ok (at_line machine.focal.position machine))) (shows_from pages machine)
 
     -- BST
     module _ (ends : PositionHasOne EndOf) (befores : PositionHasOne LineBefore) where
-      shows_end : (machine : Machine) (first : PlacedLine) → Has (ShowsEnd machine first)
-      shows_end machine first =
-          let end = ends machine.memory first.position in
+      shows_end : (pages : PageMap) (machine : Machine) (first : PlacedLine) → Has (ShowsEnd pages machine first)
+      shows_end pages machine first =
+          let end = ends pages machine.memory first.position in
           record { answer = shown_end machine end.answer; right = (end.answer, end.right, refl) }
 
-      shows_at : (machine : Machine) (before : Option Position) → Has (ShowsAt machine before)
-      shows_at machine (Some position) = alone (Ok (at_line position machine))
-      shows_at machine None = shows_start machine
+      shows_at : (pages : PageMap) (machine : Machine) (before : Option Position) → Has (ShowsAt pages machine before)
+      shows_at pages machine (Some position) = alone (Ok (at_line position machine))
+      shows_at pages machine None = shows_start pages machine
 
-      shows_in_front : (machine : Machine) (first : PlacedLine) → Has (ShowsInFront machine first)
-      shows_in_front machine first =
-          let before = befores machine.memory first.position in
-          let moved = shows_at machine before.answer in
+      shows_in_front : (pages : PageMap) (machine : Machine) (first : PlacedLine) → Has (ShowsInFront pages machine first)
+      shows_in_front pages machine first =
+          let before = befores pages machine.memory first.position in
+          let moved = shows_at pages machine before.answer in
           record { answer = moved.answer; right = (before.answer, before.right, moved.right) }
 
-      shows_before_line : (machine : Machine) (numbered : Option NumberedLine) → Has (ShowsBeforeLine machine numbered)
-      shows_before_line machine (Some numbered) =
-          either machine.focal.at_line_00 (ShowsEnd machine numbered.placed) (ShowsInFront machine numbered.placed)
-          (shows_end machine numbered.placed) (shows_in_front machine numbered.placed)
-      shows_before_line machine None = alone (Err BrokenProgram)
+      shows_before_line : (pages : PageMap) (machine : Machine) (numbered : Option NumberedLine)
+          → Has (ShowsBeforeLine pages machine numbered)
+      shows_before_line pages machine (Some numbered) =
+          either machine.focal.at_line_00 (ShowsEnd pages machine numbered.placed) (ShowsInFront pages machine numbered.placed)
+          (shows_end pages machine numbered.placed) (shows_in_front pages machine numbered.placed)
+      shows_before_line pages machine None = alone (Err BrokenProgram)
 
-      pub shows_before : (machine : Machine) → Has (ShowsBefore machine)
-      shows_before machine =
-          let found = numbered machine.memory machine.focal.position in
-          let moved = shows_before_line machine found.answer in
+      pub shows_before : (pages : PageMap) (machine : Machine) → Has (ShowsBefore pages machine)
+      shows_before pages machine =
+          let found = numbered pages machine.memory machine.focal.position in
+          let moved = shows_before_line pages machine found.answer in
           record { answer = moved.answer; right = (found.answer, found.right, moved.right) }
 
 -- GTO . .
-module _ (lists : OneList) (starts : PositionHasOne StartOf) where
+module _ (lists : OneList) where
   ends_by : (machine : Machine) (lines : List ListedLine) (closed : Changed) → Has (EndsBy machine lines closed)
   ends_by machine lines (Ok closed) =
-      let start = starts closed.0 (Memory (final_position closed.0)) in
-      record { answer = _; right = (start.answer, start.right, refl) }
+      let all = lists closed.0 0 in
+      let start = start_in (final_position closed.0) all.lines in
+      record { answer = _; right = (start, (all.lines, all.from, refl), refl) }
   ends_by machine lines (Err refusal) = alone (Err refusal)
 
   pub goes_to_end : (machine : Machine) → Has (GoesToEnd machine)
@@ -177,6 +183,7 @@ module _ (lines : PositionHasOne LineAt) (edits : EditHasOneOutcome) (fronts : C
       let changed = edits machine.memory without_deleted at in
       let shown = shows_front machine at changed.answer changed.right in
       record { answer = shown.answer; right = (changed.answer, changed.right, shown.right) }
+  deletes_at machine (Page address) = alone (Err BrokenProgram)
 
   deletes_line : (machine : Machine) (first : Result PlacedLine ProgramRefusal) → Has (DeletesLine machine first)
   deletes_line machine (Ok first) =
@@ -184,18 +191,19 @@ module _ (lines : PositionHasOne LineAt) (edits : EditHasOneOutcome) (fronts : C
       (deletes_at machine machine.focal.position)
   deletes_line machine (Err refusal) = alone (Err BrokenProgram)
 
-  abbrev DeletesShown : Machine → Moved → Type 0
-  DeletesShown machine made =
+  abbrev DeletesShown : PageMap → Machine → Moved → Type 0
+  DeletesShown pages machine made =
       (first : Result PlacedLine ProgramRefusal)
-      × LineAt machine.memory machine.focal.position first
+      × LineAt pages machine.memory machine.focal.position first
       × DeletesLine machine first made
 
-  deletes_shown : (machine : Machine) → Has (DeletesShown machine)
-  deletes_shown machine =
-      let first = lines machine.memory machine.focal.position in
+  deletes_shown : (pages : PageMap) (machine : Machine) → Has (DeletesShown pages machine)
+  deletes_shown pages machine =
+      let first = lines pages machine.memory machine.focal.position in
       let made = deletes_line machine first.answer in
       record { answer = made.answer; right = (first.answer, first.right, made.right) }
 
-  pub deletes : (machine : Machine) → Has (Deletes machine)
-  deletes machine =
-      either machine.focal.at_line_00 (λ made. made ≡ Ok machine) (DeletesShown machine) (alone (Ok machine)) (deletes_shown machine)
+  pub deletes : (pages : PageMap) (machine : Machine) → Has (Deletes pages machine)
+  deletes pages machine =
+      either machine.focal.at_line_00 (λ made. made ≡ Ok machine) (DeletesShown pages machine) (alone (Ok machine))
+      (deletes_shown pages machine)

@@ -2,11 +2,12 @@
 use Rattle.std.specs.Prelude.{Option, Some, None}
 use Rattle.h41_keys.specs.declared.action.Action.{Action}
 use Rattle.h41_keys.specs.declared.action.Action.TheVariants.{Insert, Replace}
+use Rattle.h41_keys.specs.declared.input.Flags.{Flags}
 use Rattle.h41_keys.specs.declared.input.Pressed.{Pressed}
 use Rattle.h41_keys.specs.declared.key.Key.{Key}
 use Rattle.h41_program.specs.ProgramLaws.{IsInner}
 use Rattle.h41_xrom.specs.Calculator.{CalculatorState}
-use Rattle.h41_xrom.specs.KeyActions.{Presses, press_of}
+use Rattle.h41_xrom.specs.KeyActions.{HasFlags, Presses, press_of}
 use Rattle.h41_xrom.specs.declared.refusal.CalculatorRefusal.{CalculatorRefusal}
 use Rattle.h41_laws_numbers.specs.HasOne.{HasOne}
 
@@ -28,4 +29,6 @@ KeyLeaves key s left = Presses key s left.0 left.1
 -- each key has one outcome from each state: a change, or a refusal
 abbrev pub KeyHasOneOutcome : Type 0
 KeyHasOneOutcome =
-    (key : Key) (s : CalculatorState) → PressStoresInner (press_of s key) → HasOne (KeyLeaves key s)
+    (key : Key) (s : CalculatorState)
+    → ((flags : Flags) → HasFlags s flags → PressStoresInner (press_of s key flags))
+    → HasOne (KeyLeaves key s)

@@ -12,6 +12,7 @@ ghost use Rattle.h41_laws_calculator.specs.CalculatorAnswers.{StepHasOneRefusal}
 ghost use Rattle.h41_laws_calculator.specs.Keys.{KeyHasOneOutcome, KeyLeaves};
 ghost use Rattle.h41_laws_calculator.specs.LineEnds.{LineHasOneEnd, NameHasOneFunction};
 ghost use Rattle.h41_laws_calculator.specs.ProgramMode.{ChangeHasOneOutcome, MoveHasOneOutcome};
+ghost use Rattle.h41_pages.specs.PageMap.{PageMap};
 
 use h41_codes::laws::byte_round_trip;
 use h41_editor::laws::{changes_are_determined, moves_are_determined};
@@ -23,7 +24,8 @@ use h41_laws_programs::laws::{
 };
 use h41_laws_values::laws::value_has_one_register;
 use h41_laws_words::laws::word_has_one_answer;
-use h41_program::laws::{one_list, positions_are_read};
+use h41_positions::laws::positions_are_read;
+use h41_program::laws::one_list;
 use h41_text::laws::line_text_round_trip;
 use h41_xrom::Calculator;
 use h41_xrom::laws::{
@@ -39,7 +41,7 @@ pub fn names_have_one_function()
 }
 
 /// A line that stands at the position or was typed has one end, whatever is plugged: it answers, or a module's function begins, or
-/// it is refused.
+/// it is refused. A line that enters a module's program answers.
 pub fn line_has_one_end()
     ensures { LineHasOneEnd }
 {
@@ -49,14 +51,14 @@ pub fn line_has_one_end()
     line_text_round_trip();
 }
 
-/// SST, BST, `GTO . .` and BACK have one outcome each in program mode, from any machine; so have a line that is inserted and one
-/// that comes in the place of another, where memory is sound.
+/// SST, BST, `GTO . .` and BACK have one outcome each in program mode, from any machine, in memory and in any pages; so have a line
+/// that is inserted and one that comes in the place of another, where memory is sound.
 pub fn program_mode_has_one_outcome()
-    ensures next { MoveHasOneOutcome ShowsNext }
-    ensures before { MoveHasOneOutcome ShowsBefore }
+    ensures next { (pages : PageMap) → MoveHasOneOutcome (ShowsNext pages) }
+    ensures before { (pages : PageMap) → MoveHasOneOutcome (ShowsBefore pages) }
     ensures end { MoveHasOneOutcome GoesToEnd }
-    ensures deletion { MoveHasOneOutcome Deletes }
-    ensures insertion { ChangeHasOneOutcome Inserts }
+    ensures deletion { (pages : PageMap) → MoveHasOneOutcome (Deletes pages) }
+    ensures insertion { (pages : PageMap) → ChangeHasOneOutcome (Inserts pages) }
     ensures replacement { ChangeHasOneOutcome Replaces }
 {
     byte_round_trip();
@@ -104,6 +106,7 @@ pub fn key_has_one_outcome()
     line_has_one_end();
     names_have_one_function();
     searches_have_one_answer();
+    positions_have_one_answer();
     value_has_one_register();
     program_mode_has_one_outcome();
     key_is_determined();

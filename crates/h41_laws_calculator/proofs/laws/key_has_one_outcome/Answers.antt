@@ -8,4 +8,5 @@ returns c =
     c.program_mode_has_one_outcome.ensures.next c.program_mode_has_one_outcome.ensures.before
     c.program_mode_has_one_outcome.ensures.end c.program_mode_has_one_outcome.ensures.deletion
     c.program_mode_has_one_outcome.ensures.insertion c.program_mode_has_one_outcome.ensures.replacement
+    c.positions_have_one_answer.ensures.line c.searches_have_one_answer.ensures.last
     c.key_is_determined.ensures

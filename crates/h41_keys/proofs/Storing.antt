@@ -273,7 +273,8 @@ while_in_microcode input other = tt
 
 -- a key that is left stores what it did
 held_in_page : (kept puts_end : Bool) (pressed : Option Pressed) → IfPressed pressed → IfPressed (press.held_in_page kept puts_end pressed)
-held_in_page kept puts_end (Some pressed) stores = chosen IfPressed (press.is_held kept puts_end pressed.action) (Some pressed) None stores tt
+held_in_page kept puts_end (Some pressed) stores =
+    chosen IfPressed (press.is_held kept puts_end pressed.action) (Some pressed) None stores tt
 held_in_page kept puts_end None stores = tt
 
 held_at : (place : Place) (program_mode : Bool) (pressed : Option Pressed) → IfPressed pressed

@@ -125,7 +125,8 @@ impl Cpu {
 
     /// `RTN`: goes to the newest return address, which is taken off. Tells whether a function ends there.
     pub(crate) fn return_to_newest(&mut self) -> Result<bool, WordRefusal>
-        ensures change { GoesTo spec.newest_return spec.with_return_popped self.old self.new result }
+        ensures change { GoesTo spec.newest_return spec.with_return_popped self.old self.new
+            result }
         ensures end { TellsEnd result self.new }
     {
         let address = self.returns[0];

@@ -8,7 +8,9 @@ use h41_digits::Reg;
 use h41_focal::laws::kept_answers_stay_right;
 use h41_focal::{Focal, Machine};
 use h41_labels::LabelCache;
-use h41_program::{Position, load};
+use h41_pages::Pages;
+use h41_positions::Position;
+use h41_program::load;
 use h41_ram::{Ram, StatusRegister};
 use std::marker::Model;
 use std::test::Fail;
@@ -52,14 +54,14 @@ impl Kept {
     }
 
     /// Does something.
-    fn does(&mut self, act: &Act) -> bool {
+    fn does(&mut self, pages: &Pages, act: &Act) -> bool {
         match act {
-            Act::Step => self.machine.step().is_ok(),
-            Act::Type(bytes) => self.machine.key(&line(bytes)).is_ok(),
+            Act::Step => self.machine.step(pages).is_ok(),
+            Act::Type(bytes) => self.machine.key(pages, &line(bytes)).is_ok(),
             Act::Write(address, digits) => match Reg::from_u64(*digits) {
                 Some(register) => {
                     self.writes(*address, register);
-                    self.passes()
+                    self.passes(pages)
                 }
                 None => false,
             },
@@ -79,14 +81,14 @@ impl Kept {
     }
 
     /// The line at the position is passed.
-    fn passes(&mut self) -> bool {
+    fn passes(&mut self, pages: &Pages) -> bool {
         kept_answers_stay_right();
-        self.machine.pass().is_ok()
+        self.machine.pass(pages).is_ok()
     }
 
-    /// Where the next line stands.
-    fn position(&self) -> u16 {
-        byte_of(self.machine.focal.position)
+    /// Whether the next line stands at a byte of memory.
+    fn is_at(&self, byte: u16) -> bool {
+        self.machine.focal.position == Position::Memory(byte)
     }
 
     /// The kept answer for a local label from a byte on.
@@ -105,13 +107,6 @@ fn line(bytes: &[u8]) -> Line {
     match decode(bytes) {
         Ok((line, _)) => line,
         Err(_) => Line::Plain(Function::Stop),
-    }
-}
-
-/// The byte of a position.
-fn byte_of(position: Position) -> u16 {
-    match position {
-        Position::Memory(byte) => byte,
     }
 }
 
@@ -188,15 +183,16 @@ static ROWS: [(&str, &[u8], &[(Act, u16)]); 3] = [
 
 #[test]
 fn forgotten_before_each_step(rt: HostRuntime) -> Result<(), Fail> {
+    let pages = Pages::new(rt.alloc())?;
     for (name, bytes, acts) in &ROWS {
         let mut kept = Kept::with(bytes).ok_or("the row's program")?;
         let mut other = Kept::with(bytes).ok_or("the row's program")?;
         for (act, position) in *acts {
             // Register c sets the mark, so that the next line forgets.
             other.writes_again(StatusRegister::C.address());
-            let is_done = kept.does(act);
-            assert!(rt; is_done == other.does(act), "{name}");
-            wants(&rt, name, kept.position() == *position);
+            let is_done = kept.does(&pages, act);
+            assert!(rt; is_done == other.does(&pages, act), "{name}");
+            wants(&rt, name, kept.is_at(*position));
             wants(&rt, name, agree(&kept, &other));
         }
     }
@@ -205,22 +201,23 @@ fn forgotten_before_each_step(rt: HostRuntime) -> Result<(), Fail> {
 
 #[test]
 fn what_has_a_search_forgotten(rt: HostRuntime) -> Result<(), Fail> {
+    let pages = Pages::new(rt.alloc())?;
     // LBL 02, STO 00, GTO 02
     let mut kept = Kept::with(&[0x03, 0x30, 0xB3, 0x00]).ok_or("a program")?;
     let steps = [(1, None), (2, None), (0, Some(Some(0))), (1, Some(Some(0)))];
     for (position, answer) in steps {
-        wants(&rt, "a step", kept.does(&Act::Step));
-        wants(&rt, "its position", kept.position() == position);
+        wants(&rt, "a step", kept.does(&pages, &Act::Step));
+        wants(&rt, "its position", kept.is_at(position));
         wants(&rt, "what is kept", kept.kept(4, 2) == answer);
     }
     // STO 00 stores zero in R00.
-    wants(&rt, "a store", kept.does(&Act::Step));
+    wants(&rt, "a store", kept.does(&pages, &Act::Step));
     wants(&rt, "the label behind it", kept.kept(4, 2) == Some(Some(0)));
-    wants(&rt, "a jump", kept.does(&Act::Step));
-    wants(&rt, "to the same label", kept.position() == 0);
+    wants(&rt, "a jump", kept.does(&pages, &Act::Step));
+    wants(&rt, "to the same label", kept.is_at(0));
     // A register of the program is written.
     kept.writes_again(0x19B);
-    wants(&rt, "a line", kept.does(&Act::Step));
+    wants(&rt, "a line", kept.does(&pages, &Act::Step));
     wants(&rt, "none is kept", kept.kept(4, 2) == None);
     Ok(())
 }

@@ -1,5 +1,5 @@
 -- Lines that are typed in program mode: inserted behind the shown line, put in its place, and taken
--- away; in memory alone, since in a page each is 14. Each change shows the new line, or the one
+-- away; in memory alone, in a page 14. Each change shows the new line, or the one
 -- before, and leaves nothing to return to. Where lines come, and what BACK does at line 00 and
 -- .END., is this project's choice but for what the Owner's Handbook shows.
 use Rattle.std.specs.Prelude.{◌≡◌, ℕ, [], MatchBool, Option, Some, None, Result, Ok, Err}
@@ -110,7 +110,7 @@ DeletesAt machine (Memory at) made =
     × ShowsFront machine at changed made
 DeletesAt machine (Page address) made = made ≡ Err BrokenProgram
 
--- BACK: the shown line goes; line 00 and .END. stay, whatever else stands in memory
+-- BACK: the shown line goes; line 00 and .END. stay, whatever else stands in memory or the page
 abbrev pub DeletesLine : Machine → Result PlacedLine ProgramRefusal → Result Machine ProgramRefusal
     → Type 0
 DeletesLine machine (Ok first) made =

@@ -39,8 +39,8 @@ abbrev pub is_last : PlacedLine → Bool
 is_last at_line = is_end at_line.line || is_final_end at_line.line
 
 -- SST: from line 00 to the line that the position stands for; from the last line of a program to
--- its line 00 (this project's choice), from others to the next line, or to the byte behind where no
--- line follows; 14 where the shown line cannot be read
+-- its line 00 (this project's choice), from others to the next line, or to the byte or word behind
+-- where no line follows; 14 where the shown line cannot be read
 abbrev pub ShowsBehind : PageMap → Machine → Result PlacedLine ProgramRefusal
     → Result Machine ProgramRefusal
     → Type 0

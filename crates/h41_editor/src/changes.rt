@@ -94,7 +94,7 @@ pub fn replace_line<const REGS: usize>(
 
 /// The shown line goes, and the one before it is shown, or line 00 where it was its program's first; nothing is left to return to.
 /// At line 00 and at `.END.` nothing is changed. 14 where no line can be read at the position, where the list of lines has none there
-/// or does not reach `.END.`, 16 where there is no room; nothing is changed then. In a page any other line is 14.
+/// or does not reach `.END.`, 16 where there is no room; nothing is changed then. In a page each other line is 14.
 pub fn delete_line<const REGS: usize>(
     machine: &mut Machine<REGS>,
     pages: &Pages,

@@ -43,8 +43,8 @@ pub data Destination : Type 0 where
 abbrev pub with_return : List Position → Position → List Position
 with_return returns position = drop (length returns - 5) returns ++ position ∷ []
 
--- past the line at a position: .END. is behind itself. Where no line stands there, that is a
--- refusal (this project's choice).
+-- past the line at a position: memory's .END. is behind itself. Where no line stands there, that is
+-- a refusal (this project's choice).
 abbrev pub Passes : PageMap → RegisterMap → Position → List Position → Destination → Type 0
 Passes pages memory next returns to =
     ((position : Position) × NextAt pages memory next (Ok position)

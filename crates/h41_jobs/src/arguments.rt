@@ -123,8 +123,10 @@ A deck is a text file of commands, one a line. Such as:
   trace n       the same as step, and tells each before it is made
   break w hhhh  sets a breakpoint at a word of a function
   break l n     sets one at a line of a program, by its position
+  break p hhhh  sets one at a line of a program in a page
   unbreak w hhhh  takes the breakpoint at a word away
   unbreak l n   takes the one at a line away
+  unbreak p hhhh  takes the one at a line in a page away
   list hhhh n   prints n words from an address on, as instructions
   show cpu      prints the processor
   show ram hhh  prints the register at an address in memory

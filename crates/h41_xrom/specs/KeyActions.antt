@@ -288,7 +288,7 @@ ActionMakes s key action input made =
 abbrev pub KeyMakes : CalculatorState → Key → Option Pressed
     → Result CalculatorState CalculatorRefusal → Type 0
 KeyMakes s key None made = made ≡ Err KeyNotHeld
-KeyMakes s key (Some press_of) made = ActionMakes s key press_of.action press_of.input made
+KeyMakes s key (Some pressed) made = ActionMakes s key pressed.action pressed.input made
 
 -- a key is accepted, or refused and nothing changes
 abbrev pub Presses : Key → CalculatorState → CalculatorState → Option CalculatorRefusal → Type 0

@@ -346,7 +346,7 @@ impl<const REGS: usize> Calculator<REGS> {
     }
 
     /// Presses a key. Refused, in this order, as 18 where it has no meaning in the state that the keyboard is in, or in program mode
-    /// would change a page, and while nothing runs as 15 where memory is not sound, as 14 where bytes are no line or a program has no line at the position, as 13 where
+    /// would change lines at a page, and while nothing runs as 15 where memory is not sound, as 14 where bytes are no line or a program has no line at the position, as 13 where
     /// a line is not carried out, as 16 where there is no room; nothing is changed then. Every key that is accepted tells its code,
     /// sets the key flag and turns the display on, and while nothing runs it takes a message away.
     pub fn key(&mut self, key: Key) -> Result<(), CalculatorRefusal>

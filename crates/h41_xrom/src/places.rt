@@ -29,7 +29,7 @@ pub fn shown_place<const REGS: usize>(machine: &Machine<REGS>, pages: &Pages) ->
     }
 }
 
-/// Whether the line at an address of a page is `.END.`.
+/// Whether the line that an address of a page stands for is `.END.`.
 fn is_final_at(pages: &Pages, address: u16) -> bool
     ensures { IsFinalAt pages.now address result }
 {

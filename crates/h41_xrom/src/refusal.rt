@@ -23,7 +23,7 @@ pub enum CalculatorRefusal {
     /// 15: memory is not sound.
     #[error("memory is lost")]
     MemoryLost,
-    /// 18: the key has no meaning in the state that the keyboard is in, or would change a page.
+    /// 18: the key has no meaning in the state that the keyboard is in, or would change lines at a page.
     #[error("the key has no meaning here")]
     KeyNotHeld,
     /// 24: a program or a function is running.

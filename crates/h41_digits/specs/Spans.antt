@@ -12,3 +12,7 @@ pub record IsFilled (number lo hi : ℕ) : Type 0 where
   pub ordered : lo ≤ hi
   pub in_register : hi < 14
   pub weights : number + 16 ^ lo ≡ 16 ^ (hi + 1)
+
+-- a number that has an F at each place of no such places
+abbrev pub IsNotFilled : ℕ → Type 0
+IsNotFilled number = (lo hi : ℕ) → IsFilled number lo hi → ⊥

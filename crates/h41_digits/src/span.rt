@@ -1,7 +1,7 @@
 //! Places in a row.
 
 ghost use Rattle.std.specs.Prelude.{◌≡◌, ℕ, ◌<◌, ◌≤◌, ◌+◌, ◌*◌, ◌^◌};
-ghost use Rattle.h41_digits.specs.Spans.{IsFilled};
+ghost use Rattle.h41_digits.specs.Spans.{IsFilled, IsNotFilled};
 
 use crate::PLACES;
 
@@ -42,8 +42,7 @@ impl Span {
     #[cold]
     pub fn from_mask(mask: u64) -> Self
         ensures places { (lo hi : ℕ) → IsFilled mask lo hi → (result.lo ≡ lo) × (result.hi ≡ hi) }
-        ensures none { ((lo hi : ℕ) → IsFilled mask lo hi → ⊥)
-            → (result.lo ≡ 0) × (result.hi ≡ 13) }
+        ensures none { IsNotFilled mask → (result.lo ≡ 0) × (result.hi ≡ 13) }
     {
         let first = mask & mask.wrapping_neg();
         let lo = place_of(first);

@@ -1,6 +1,6 @@
-//! h41_fields: the places of each field.
+//! h41_fields: the places of each field, and those that a mask has.
 
-use h41_fields::{Field, Pointer, span};
+use h41_fields::{Field, Pointer, Span, span};
 
 #[test]
 fn fields_at_pointers(rt: HostRuntime) {
@@ -22,5 +22,24 @@ fn fields_at_pointers(rt: HostRuntime) {
         let places = span(field, p, q, active);
         let holds = places.lo == lo && places.hi == hi;
         assert!(rt; holds, "{field:?} at P={p}, Q={q}");
+    }
+}
+
+#[test]
+fn places_of_a_mask(rt: HostRuntime) {
+    let rows: [(u64, (usize, usize)); 8] = [
+        (0xF, (0, 0)),
+        (0xFF0, (1, 2)),
+        (0xF0_0000_0000_0000, (13, 13)),
+        (0xFF_FFFF_FFFF_FFFF, (0, 13)),
+        (0, (0, 13)),
+        (0xF0F, (0, 13)),
+        (0x7, (0, 13)),
+        (0xF00_0000_0000_0000, (0, 13)),
+    ];
+    for (mask, (lo, hi)) in rows {
+        let places = Span::from_mask(mask);
+        let holds = places.lo == lo && places.hi == hi;
+        assert!(rt; holds, "{mask:X}");
     }
 }

@@ -1,5 +1,5 @@
 -- The number of a text of digits and radix marks, by its codes.
-use Rattle.std.proofs.Common.{◌≡◌, ℕ, zero, suc, ◌+◌, ◌-◌, ◌*◌, ◌<◌, ◌≤◌, Bool, true, false, List, [], ◌∷◌, length, take, map, not, cond}
+use Rattle.std.proofs.Common.{◌≡◌, ℕ, zero, suc, ◌+◌, ◌-◌, ◌<◌, ◌≤◌, Bool, true, false, List, [], ◌∷◌, length, take, map, not, cond}
 use Rattle.std.proofs.Common.{filter, ◌++◌, ◌||◌, IsTrue, Some}
 use Rattle.std.proofs.Common.{if◌then◌else◌, refl, sym, ◌∙◌, ap, arith}
 use Rattle.std.specs.Prelude.{◌==◌, ◌%◌, nat_lt}
@@ -18,7 +18,7 @@ use Rattle.h41_decimal.specs.declared.ten.Ten.{Ten}
 use Rattle.h41_numbers.specs.MemoryNumbers.{is_plain}
 use Rattle.h41_numbers.specs.NumberLines.{IsNumberOf, digit_of, digits_in, mantissa_digits, number_from, sign_in, whole_digits}
 use Rattle.h41_numbers.specs.declared.plain.PlainDigits.{PlainDigits}
-use Rattle.h41_numbers.specs.private.PlainReading.{IsTypedPlain, no_digits, with_code, with_codes}
+use Rattle.h41_numbers.specs.private.PlainReading.{IsTypedPlain, no_digits, with_code, with_codes, with_digit}
 use Rattle.h41_numbers.proofs.NumberParts.{mantissa_alone, number_is}
 use Rattle.h41_numbers.proofs.NumberReading.{digits_behind}
 
@@ -52,15 +52,7 @@ more_places true places count few = omega arith
 more_places false places count few = omega arith
 
 abbrev with_low : Bool → PlainDigits → ℕ → PlainDigits
-with_low low digits code =
-    if low
-    then record {
-      number = 10 * digits.number + (code - 0x10);
-      count = digits.count + 1;
-      places = if digits.marked then digits.places + 1 else digits.places;
-      marked = digits.marked;
-    }
-    else record digits { marked = true }
+with_low low digits code = if low then with_digit digits (code - 0x10) else record digits { marked = true }
 
 count_grows : (low : Bool) (digits : PlainDigits) (code : ℕ) → digits.count ≤ (with_low low digits code).count
 count_grows true digits code = omega arith
@@ -133,13 +125,7 @@ pub record AreRead (text : List Character) (digits : PlainDigits) : Type 0 where
 pub record IsDigit (character : Character) (digit : ℕ) (digits : PlainDigits) : Type 0 where
   pub own : digit_of character ≡ Some digit
   pub no_point : is_point character ≡ false
-  pub reads : with_code digits (character_code character)
-      ≡ record {
-        number = 10 * digits.number + digit;
-        count = digits.count + 1;
-        places = if digits.marked then digits.places + 1 else digits.places;
-        marked = digits.marked;
-      }
+  pub reads : with_code digits (character_code character) ≡ with_digit digits digit
 
 -- a digit in front of a text
 module _ (character : Character) (digit : ℕ) (text : List Character) (digits : PlainDigits) (is : IsDigit character digit digits)

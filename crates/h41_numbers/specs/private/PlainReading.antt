@@ -16,17 +16,19 @@ use Rattle.h41_numbers.specs.declared.plain.PlainDigits.{PlainDigits}
 abbrev pub no_digits : PlainDigits
 no_digits = record { number = 0; count = 0; places = 0; marked = false }
 
+-- behind one more digit
+abbrev pub with_digit : PlainDigits → ℕ → PlainDigits
+with_digit digits digit = record {
+  number = 10 * digits.number + digit;
+  count = digits.count + 1;
+  places = if digits.marked then digits.places + 1 else digits.places;
+  marked = digits.marked;
+}
+
 -- behind one more code: of a digit, 10 to 19, or of the radix mark
 abbrev pub with_code : PlainDigits → ℕ → PlainDigits
 with_code digits code =
-    if nat_lt code 0x1A
-    then record {
-      number = 10 * digits.number + (code - 0x10);
-      count = digits.count + 1;
-      places = if digits.marked then digits.places + 1 else digits.places;
-      marked = digits.marked;
-    }
-    else record digits { marked = true }
+    if nat_lt code 0x1A then with_digit digits (code - 0x10) else record digits { marked = true }
 
 -- behind more of them
 abbrev pub with_codes : PlainDigits → List ℕ → PlainDigits

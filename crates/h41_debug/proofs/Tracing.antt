@@ -39,12 +39,13 @@ traces_make (suc count) s t lines refusal p = (p.4, p.5, made_after count (trace
 module _ (each : EachIsRead) where
   line_told : (pages : PageMap) (memory : RegisterMap) (at : Position) → (text : List ℕ) × TellsLine pages memory at text
   line_told pages memory at =
-      elim (is_sound memory) as (λ sound. is_sound memory ≡ sound → (text : List ℕ)
+      let found = each pages memory at in
+      elim (is_sound memory) as (λ sound. (text : List ℕ)
       × MatchBool sound ((answer : Result PlacedLine ProgramRefusal) × LineAt pages memory at answer × (text ≡ line_or_unknown answer))
       (text ≡ unknown_text)) [
-        | true ↦ λ sound. let found = each pages memory at sound in (line_or_unknown found.0, (found.0, found.1, refl))
-        | false ↦ λ _. (unknown_text, refl)
-      ] refl
+        | true ↦ (line_or_unknown found.0, (found.0, found.1, refl))
+        | false ↦ (unknown_text, refl)
+      ]
 
   told_at : (at : Location) (s : CalculatorState) → (text : List ℕ) × TellsAt at s text
   told_at (Word address) s = (instruction_at s.nut.pages address, refl)

@@ -1,14 +1,16 @@
 -- Lines are taken, by what was found of their operands and by their rows.
 use Rattle.std.specs.Prelude.{IsTrue}
-use Rattle.std.proofs.Common.{◌≡◌, ℕ, Bool, true, false, Some, None, Ok, Err, Result, refl}
+use Rattle.std.proofs.Common.{◌≡◌, ℕ, Bool, true, false, IfSome, Option, Some, None, Ok, Err, Result, refl}
 use Rattle.h41_codes.specs.declared.functions.Function.{Function}
 use Rattle.h41_codes.specs.declared.functions.ParameterFunction.{ParameterFunction}
 use Rattle.h41_codes.specs.declared.functions.RegisterFunction.{RegisterFunction}
 use Rattle.h41_codes.specs.declared.line.Line.{Line}
 use Rattle.h41_codes.specs.declared.line.Line.TheVariants as lines
 use Rattle.h41_codes.specs.declared.line.Operand.{Operand}
+use Rattle.h41_codes.specs.declared.short_lines.ShortLine.{ShortLine}
+use Rattle.h41_codes.specs.ShortLines.{line_of}
 use Rattle.h41_focal.specs.private.Carrying.{CarriesFound, CarriesRow, StandsNumber, TakesBriefly, UsesAddress, UsesDigits, UsesFlag}
-use Rattle.h41_focal.specs.LineStep.{Machine, lift_behind}
+use Rattle.h41_focal.specs.LineStep.{Machine, StandsAt, lift_behind}
 use Rattle.h41_focal.specs.private.Works.{digits_use_row, flag_use_row, highest_of, register_use_row, row_of_work}
 use Rattle.h41_focal.specs.declared.origin.Origin.{Origin}
 use Rattle.h41_focal.specs.declared.outcome.BriefOutcome.{BriefOutcome}
@@ -22,8 +24,13 @@ use Rattle.h41_decimal.specs.declared.ten.Ten.{Ten}
 use Rattle.h41_numbers.specs.MemoryNumbers.{HasNumber}
 use Rattle.h41_pages.specs.PageMap.{PageMap}
 use Rattle.h41_positions.proofs.PageAnswers.{both_here}
-use Rattle.h41_positions.specs.declared.position.Position.TheVariants.{Memory}
-use Rattle.h41_ram.specs.RegisterMap.{is_sound}
+use Rattle.h41_positions.specs.Positions.{ShortLineAt}
+use Rattle.h41_positions.specs.declared.position.Position.{Position}
+use Rattle.h41_positions.specs.declared.position.Position.TheVariants.{Memory, Page}
+use Rattle.h41_program.proofs.PositionsRead.{both_found}
+use Rattle.h41_program.proofs.ShortReads.{short_found}
+use Rattle.h41_program.specs.declared.reading.Found.{Found}
+use Rattle.h41_ram.specs.RegisterMap.{RegisterMap, is_sound}
 use Rattle.h41_rows.specs.FunctionRows.{function_row}
 use Rattle.h41_rows.specs.LineRows.{count_row, register_row, short_row}
 use Rattle.h41_rows.specs.Operands.{DigitKind, FlagKind, LabelKind, RegisterKind, data_register, kind_of}
@@ -123,9 +130,20 @@ lift_kept (lines.FinalEnd link marks) lift other = refl
 lift_kept (lines.BranchTo branch distance backwards label) lift other = refl
 lift_kept (lines.Text text) lift other = refl
 
--- a number line stands there, by the answers of program memory
+-- a number line stands there, or a short one, by the answers of program memory
 pub number_stands : (pages : PageMap) (machine : Machine) (at : ℕ) (number : Ten) (next : ℕ)
     → IsTrue (is_sound machine.memory) → machine.focal.position ≡ Memory at → HasNumber machine.memory at number next
     → StandsNumber pages machine number (Memory next)
-number_stands pages machine at number next sound is (text, both, numbers) =
+number_stands pages machine at number next sound is (text, behind, plain, follows, numbers) =
+    let found : Found = record { listed = record { position = at; line = lines.Number text }; behind = behind } in
+    let both = both_found machine.memory at found next plain.first follows in
     let stands = both_here pages machine.memory at (lines.Number text) next both in rw is (text, (sound, stands.0, stands.1), numbers)
+
+pub short_stands : (pages : PageMap) (memory : RegisterMap) (at : Position) (result : Option (ShortLine × Position))
+    → IsTrue (is_sound memory) → ShortLineAt pages memory at result
+    → IfSome result (λ found. StandsAt pages memory at (Ok (line_of found.0, found.1)))
+short_stands pages memory at None sound none = tt
+short_stands pages memory (Memory at) (Some found) sound (next, has, is) =
+    let stands = both_here pages memory at (line_of found.0) next (short_found memory at found.0 next has) in
+    rw is (sound, stands.0, stands.1)
+short_stands pages memory (Page address) (Some found) sound never = absurd never

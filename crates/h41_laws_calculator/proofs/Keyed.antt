@@ -44,7 +44,7 @@ use Rattle.h41_xrom.specs.CalculatorLaws.{KeyIsDetermined}
 use Rattle.h41_xrom.specs.KeyActions.{Acts, BeginsNumber, Carries, ChangesNumber, Edits, HasFlags, IsPlace, IsStoredAs}
 use Rattle.h41_xrom.specs.KeyActions.{KeyMakes, KeyOutcome, Leaves, Presses, StoredElsewhere, StoredFunction, StoredName}
 use Rattle.h41_xrom.specs.KeyActions.{StoresLine, activity_of, after_outcome, edit_effect, flags_at, is_final, line_effect}
-use Rattle.h41_xrom.specs.KeyActions.{press_of, puts_end, with_key_told, with_line_begun, with_line_changed}
+use Rattle.h41_xrom.specs.KeyActions.{press_of, puts_end, with_key_told, with_number_begun, with_number_changed}
 use Rattle.h41_xrom.specs.declared.calculator.Caller.{Caller}
 use Rattle.h41_xrom.specs.declared.calculator.Mode.{Mode}
 use Rattle.h41_xrom.specs.declared.calculator.Mode.TheVariants as modes
@@ -99,13 +99,13 @@ module _ (ends : LineHasOneEnd) (names : NameHasOneFunction) (labels : MemoryHas
   begins text machine =
       let found = values (Written text) machine.memory 0 in
       let of = register_of text machine.memory found.answer found.right in
-      record { answer = Ok (Leaves (with_line_begun machine of.0)); right = (of.0, of.1, refl) }
+      record { answer = Ok (Leaves (with_number_begun machine of.0)); right = (of.0, of.1, refl) }
 
   changes : (text : List Character) (machine : Machine) → Has (ChangesNumber text machine)
   changes text machine =
       let found = values (Written text) machine.memory 0 in
       let of = register_of text machine.memory found.answer found.right in
-      record { answer = Ok (Leaves (with_line_changed machine of.0)); right = (of.0, of.1, refl) }
+      record { answer = Ok (Leaves (with_number_changed machine of.0)); right = (of.0, of.1, refl) }
 
   -- the line that is stored, which is one that programs have too
   abbrev Stored : (Line → Type 0) → Type 0

@@ -6,7 +6,7 @@ use Rattle.h41_numbers.specs.NumberLines.{digit_of, digits_in, number_from}
 use Rattle.h41_numbers.specs.private.NumberReading.{read_count, read_number}
 
 -- the digits of a text whose first character has this digit, or none
-digits_behind : (found : Option ℕ) (character : Character) (rest : List Character) → found ≡ digit_of character
+pub digits_behind : (found : Option ℕ) (character : Character) (rest : List Character) → found ≡ digit_of character
     → digits_in (character ∷ rest) ≡ option_map_or (λ digit. digit ∷ digits_in rest) found (digits_in rest)
 digits_behind found character rest is = ap (λ (o : Option ℕ). option_map_or (λ digit. digit ∷ digits_in rest) o (digits_in rest)) (sym is)
 

@@ -1,32 +1,44 @@
 -- The number of a text of digits and radix marks, by its codes.
 use Rattle.std.proofs.Common.{◌≡◌, ℕ, zero, suc, ◌+◌, ◌-◌, ◌<◌, ◌≤◌, Bool, true, false, List, [], ◌∷◌, length, take, map, not, cond}
-use Rattle.std.proofs.Common.{filter, ◌++◌}
+use Rattle.std.proofs.Common.{filter, ◌++◌, ◌||◌, IsTrue, Some}
 use Rattle.std.proofs.Common.{if◌then◌else◌, refl, sym, ◌∙◌, ap, arith}
-use Rattle.std.specs.Prelude.{◌==◌, ◌%◌}
-use Rattle.std.specs.List.{list_any, position_or_len, range_with_len, take_while}
+use Rattle.std.specs.Prelude.{◌==◌, ◌%◌, nat_lt}
+use Rattle.std.specs.List.{list_all, list_any, position_or_len, take_while}
+use Rattle.std.proofs.lemmas.Bool.Decides.{nat_tests}
 use Rattle.std.proofs.lemmas.List.Sums.{take_while-cons}
 use Rattle.std.proofs.Math.ListN.{drop_of_length-le}
 use Rattle.std.proofs.lemmas.List.{take_all}
 use Rattle.h41_codes.specs.Codes.{character_code}
+use Rattle.h41_codes.specs.Heads.{IsIn}
 use Rattle.h41_codes.specs.NumberCharacters.{exponent_part, is_exponent, is_minus, is_point}
 use Rattle.h41_codes.specs.declared.characters.Character.{Character}
 use Rattle.h41_codes.specs.declared.characters.Character.TheVariants as characters
 use Rattle.h41_decimal.specs.declared.sign.Sign.TheVariants.{Plus, Minus}
 use Rattle.h41_decimal.specs.declared.ten.Ten.{Ten}
-use Rattle.h41_numbers.specs.NumberLines.{IsNumberOf, digits_in, mantissa_digits, number_from, sign_in, whole_digits}
+use Rattle.h41_numbers.specs.MemoryNumbers.{is_plain}
+use Rattle.h41_numbers.specs.NumberLines.{IsNumberOf, digit_of, digits_in, mantissa_digits, number_from, sign_in, whole_digits}
 use Rattle.h41_numbers.specs.declared.plain.PlainDigits.{PlainDigits}
-use Rattle.h41_numbers.specs.private.PlainReading.{IsTypedPlain, no_digits, with_code, with_codes}
+use Rattle.h41_numbers.specs.private.PlainReading.{IsTypedPlain, no_digits, with_code, with_codes, with_digit}
 use Rattle.h41_numbers.proofs.NumberParts.{mantissa_alone, number_is}
+use Rattle.h41_numbers.proofs.NumberReading.{digits_behind}
 
--- codes of digits and radix marks
-abbrev pub ArePlain : List ℕ → Type 0
-ArePlain [] = Unit {0}
-ArePlain (code ∷ codes) = (code < 0x1B) × ArePlain codes
-
-pub plain_range : (f : ℕ → ℕ) (at n : ℕ) → ((k : ℕ) → at ≤ k → k < at + n → f k < 0x1B) → ArePlain (map f (range_with_len at n))
-plain_range f at zero each = tt
-plain_range f at (suc n) each =
-    (each at (omega arith) (omega arith), plain_range f (at + 1) n (λ k from below. each k (omega (arith, from)) (omega (arith, below))))
+-- what is said of digits and radix marks is said of their codes
+pub plain_code : (character : Character)
+    → (IsTrue (is_plain character) → IsIn 0x10 0x1B (character_code character))
+    × (character_code character < 0x1B → IsTrue (is_plain character))
+plain_code characters.Zero = (λ is. (omega arith, omega arith), λ low. refl)
+plain_code characters.One = (λ is. (omega arith, omega arith), λ low. refl)
+plain_code characters.Two = (λ is. (omega arith, omega arith), λ low. refl)
+plain_code characters.Three = (λ is. (omega arith, omega arith), λ low. refl)
+plain_code characters.Four = (λ is. (omega arith, omega arith), λ low. refl)
+plain_code characters.Five = (λ is. (omega arith, omega arith), λ low. refl)
+plain_code characters.Six = (λ is. (omega arith, omega arith), λ low. refl)
+plain_code characters.Seven = (λ is. (omega arith, omega arith), λ low. refl)
+plain_code characters.Eight = (λ is. (omega arith, omega arith), λ low. refl)
+plain_code characters.Nine = (λ is. (omega arith, omega arith), λ low. refl)
+plain_code characters.Point = (λ is. (omega arith, omega arith), λ low. refl)
+plain_code characters.Exponent = (λ is. cc, λ low. absurd (omega arith))
+plain_code characters.Minus = (λ is. cc, λ low. absurd (omega arith))
 
 -- one more code
 pub codes_more : (digits : PlainDigits) (codes : List ℕ) (code : ℕ)
@@ -34,43 +46,42 @@ pub codes_more : (digits : PlainDigits) (codes : List ℕ) (code : ℕ)
 codes_more digits [] code = refl
 codes_more digits (first ∷ codes) code = codes_more (with_code digits first) codes code
 
--- the number of the digits, and how many they are
-number_read : (text : List Character) (digits : PlainDigits) → ArePlain (map character_code text)
-    → (with_codes digits (map character_code text)).number ≡ number_from digits.number (digits_in text)
-number_read [] digits plain = refl
-number_read (characters.Zero ∷ text) digits plain = number_read text (with_code digits 0x10) plain.1
-number_read (characters.One ∷ text) digits plain = number_read text (with_code digits 0x11) plain.1
-number_read (characters.Two ∷ text) digits plain = number_read text (with_code digits 0x12) plain.1
-number_read (characters.Three ∷ text) digits plain = number_read text (with_code digits 0x13) plain.1
-number_read (characters.Four ∷ text) digits plain = number_read text (with_code digits 0x14) plain.1
-number_read (characters.Five ∷ text) digits plain = number_read text (with_code digits 0x15) plain.1
-number_read (characters.Six ∷ text) digits plain = number_read text (with_code digits 0x16) plain.1
-number_read (characters.Seven ∷ text) digits plain = number_read text (with_code digits 0x17) plain.1
-number_read (characters.Eight ∷ text) digits plain = number_read text (with_code digits 0x18) plain.1
-number_read (characters.Nine ∷ text) digits plain = number_read text (with_code digits 0x19) plain.1
-number_read (characters.Point ∷ text) digits plain = number_read text (with_code digits 0x1A) plain.1
-number_read (characters.Exponent ∷ text) digits plain = absurd (omega (arith, plain.0))
-number_read (characters.Minus ∷ text) digits plain = absurd (omega (arith, plain.0))
+-- more codes are no fewer digits, and no more of them stand behind the mark than there are
+more_places : (marked : Bool) (places count : ℕ) → places ≤ count → (if marked then places + 1 else places) ≤ count + 1
+more_places true places count few = omega arith
+more_places false places count few = omega arith
 
-one_more : (count next more size : ℕ) → next ≡ count + 1 → more ≡ next + size → more ≡ count + suc size
-one_more count next more size is same = omega arith
+abbrev with_low : Bool → PlainDigits → ℕ → PlainDigits
+with_low low digits code = if low then with_digit digits (code - 0x10) else record digits { marked = true }
 
-count_read : (text : List Character) (digits : PlainDigits) → ArePlain (map character_code text)
-    → (with_codes digits (map character_code text)).count ≡ digits.count + length (digits_in text)
-count_read [] digits plain = omega arith
-count_read (characters.Zero ∷ text) digits plain = one_more digits.count _ _ _ refl (count_read text (with_code digits 0x10) plain.1)
-count_read (characters.One ∷ text) digits plain = one_more digits.count _ _ _ refl (count_read text (with_code digits 0x11) plain.1)
-count_read (characters.Two ∷ text) digits plain = one_more digits.count _ _ _ refl (count_read text (with_code digits 0x12) plain.1)
-count_read (characters.Three ∷ text) digits plain = one_more digits.count _ _ _ refl (count_read text (with_code digits 0x13) plain.1)
-count_read (characters.Four ∷ text) digits plain = one_more digits.count _ _ _ refl (count_read text (with_code digits 0x14) plain.1)
-count_read (characters.Five ∷ text) digits plain = one_more digits.count _ _ _ refl (count_read text (with_code digits 0x15) plain.1)
-count_read (characters.Six ∷ text) digits plain = one_more digits.count _ _ _ refl (count_read text (with_code digits 0x16) plain.1)
-count_read (characters.Seven ∷ text) digits plain = one_more digits.count _ _ _ refl (count_read text (with_code digits 0x17) plain.1)
-count_read (characters.Eight ∷ text) digits plain = one_more digits.count _ _ _ refl (count_read text (with_code digits 0x18) plain.1)
-count_read (characters.Nine ∷ text) digits plain = one_more digits.count _ _ _ refl (count_read text (with_code digits 0x19) plain.1)
-count_read (characters.Point ∷ text) digits plain = count_read text (with_code digits 0x1A) plain.1
-count_read (characters.Exponent ∷ text) digits plain = absurd (omega (arith, plain.0))
-count_read (characters.Minus ∷ text) digits plain = absurd (omega (arith, plain.0))
+count_grows : (low : Bool) (digits : PlainDigits) (code : ℕ) → digits.count ≤ (with_low low digits code).count
+count_grows true digits code = omega arith
+count_grows false digits code = omega arith
+
+places_kept : (low : Bool) (digits : PlainDigits) (code : ℕ) → digits.places ≤ digits.count
+    → (with_low low digits code).places ≤ (with_low low digits code).count
+places_kept true digits code few = more_places digits.marked digits.places digits.count few
+places_kept false digits code few = few
+
+pub digit_more : (digits : PlainDigits) (code : ℕ) → code < 0x1A → (with_code digits code).count ≡ digits.count + 1
+digit_more digits code low =
+    let test : nat_lt code 0x1A ≡ true = grind (arith, nat_tests) in
+    rw test refl
+
+count_least : (digits : PlainDigits) (codes : List ℕ) → digits.count ≤ (with_codes digits codes).count
+count_least digits [] = omega arith
+count_least digits (code ∷ codes) = omega (arith, count_grows (nat_lt code 0x1A) digits code, count_least (with_code digits code) codes)
+
+pub count_taken : (digits : PlainDigits) (n : ℕ) (codes : List ℕ)
+    → (with_codes digits (take n codes)).count ≤ (with_codes digits codes).count
+count_taken digits zero codes = count_least digits codes
+count_taken digits (suc n) [] = omega arith
+count_taken digits (suc n) (code ∷ codes) = count_taken (with_code digits code) n codes
+
+pub places_most : (digits : PlainDigits) (codes : List ℕ) → digits.places ≤ digits.count
+    → (with_codes digits codes).places ≤ (with_codes digits codes).count
+places_most digits [] few = few
+places_most digits (code ∷ codes) few = places_most (with_code digits code) codes (places_kept (nat_lt code 0x1A) digits code few)
 
 -- how many digits of so many stand behind a radix mark, where so many stand in front of the first in the text: all where one was before
 abbrev behind_mark : (marked any : Bool) (size whole : ℕ) → ℕ
@@ -98,99 +109,94 @@ whole_more : (character : Character) (text : List Character)
 whole_more character text =
     ap (λ (front : List Character). length (digits_in front)) (take_while-cons (λ other. not (is_point other)) character text)
 
-digit_places : (text : List Character) (digits : PlainDigits) (code whole : ℕ) → whole ≡ suc (whole_digits text)
-    → (with_codes (with_code digits code) (map character_code text)).places
-    ≡ (if digits.marked then digits.places + 1 else digits.places) + after digits.marked text
-    → (with_codes (with_code digits code) (map character_code text)).places
-    ≡ digits.places + behind_mark digits.marked (list_any is_point text) (suc (length (digits_in text))) whole
-digit_places text digits code whole front same =
-    same ∙ digit_after digits.marked (list_any is_point text) digits.places (length (digits_in text)) (whole_digits text)
-    ∙ ap (λ (n : ℕ). digits.places + behind_mark digits.marked (list_any is_point text) (suc (length (digits_in text))) n) (sym front)
-
-mark_places : (text : List Character) (digits : PlainDigits) (whole : ℕ) → whole ≡ 0
-    → digits.places + length (digits_in text) ≡ digits.places + behind_mark digits.marked true (length (digits_in text)) whole
-mark_places text digits whole none =
-    mark_after digits.marked digits.places (length (digits_in text))
-    ∙ ap (λ (n : ℕ). digits.places + behind_mark digits.marked true (length (digits_in text)) n) (sym none)
-
 none_after : (marked : Bool) (places : ℕ) → places ≡ places + behind_mark marked false 0 0
 none_after true places = omega arith
 none_after false places = omega arith
 
-places_read : (text : List Character) (digits : PlainDigits) → ArePlain (map character_code text)
-    → (with_codes digits (map character_code text)).places ≡ digits.places + after digits.marked text
-places_read [] digits plain = none_after digits.marked digits.places
-places_read (characters.Zero ∷ text) digits plain =
-    digit_places text digits 0x10 (whole_digits (characters.Zero ∷ text)) (whole_more characters.Zero text)
-    (places_read text (with_code digits 0x10) plain.1)
-places_read (characters.One ∷ text) digits plain =
-    digit_places text digits 0x11 (whole_digits (characters.One ∷ text)) (whole_more characters.One text)
-    (places_read text (with_code digits 0x11) plain.1)
-places_read (characters.Two ∷ text) digits plain =
-    digit_places text digits 0x12 (whole_digits (characters.Two ∷ text)) (whole_more characters.Two text)
-    (places_read text (with_code digits 0x12) plain.1)
-places_read (characters.Three ∷ text) digits plain =
-    digit_places text digits 0x13 (whole_digits (characters.Three ∷ text)) (whole_more characters.Three text)
-    (places_read text (with_code digits 0x13) plain.1)
-places_read (characters.Four ∷ text) digits plain =
-    digit_places text digits 0x14 (whole_digits (characters.Four ∷ text)) (whole_more characters.Four text)
-    (places_read text (with_code digits 0x14) plain.1)
-places_read (characters.Five ∷ text) digits plain =
-    digit_places text digits 0x15 (whole_digits (characters.Five ∷ text)) (whole_more characters.Five text)
-    (places_read text (with_code digits 0x15) plain.1)
-places_read (characters.Six ∷ text) digits plain =
-    digit_places text digits 0x16 (whole_digits (characters.Six ∷ text)) (whole_more characters.Six text)
-    (places_read text (with_code digits 0x16) plain.1)
-places_read (characters.Seven ∷ text) digits plain =
-    digit_places text digits 0x17 (whole_digits (characters.Seven ∷ text)) (whole_more characters.Seven text)
-    (places_read text (with_code digits 0x17) plain.1)
-places_read (characters.Eight ∷ text) digits plain =
-    digit_places text digits 0x18 (whole_digits (characters.Eight ∷ text)) (whole_more characters.Eight text)
-    (places_read text (with_code digits 0x18) plain.1)
-places_read (characters.Nine ∷ text) digits plain =
-    digit_places text digits 0x19 (whole_digits (characters.Nine ∷ text)) (whole_more characters.Nine text)
-    (places_read text (with_code digits 0x19) plain.1)
-places_read (characters.Point ∷ text) digits plain =
-    places_read text (with_code digits 0x1A) plain.1
-    ∙ mark_places text digits (whole_digits (characters.Point ∷ text)) (whole_more characters.Point text)
-places_read (characters.Exponent ∷ text) digits plain = absurd (omega (arith, plain.0))
-places_read (characters.Minus ∷ text) digits plain = absurd (omega (arith, plain.0))
+-- what the characters of a text are read as, behind digits
+pub record AreRead (text : List Character) (digits : PlainDigits) : Type 0 where
+  pub number : (with_codes digits (map character_code text)).number ≡ number_from digits.number (digits_in text)
+  pub count : (with_codes digits (map character_code text)).count ≡ digits.count + length (digits_in text)
+  pub places : (with_codes digits (map character_code text)).places ≡ digits.places + after digits.marked text
+  pub no_minus : filter is_minus text ≡ []
+  pub no_exponent : position_or_len is_exponent text ≡ length text
 
--- no sign and no exponent
-no_minus : (text : List Character) → ArePlain (map character_code text) → filter is_minus text ≡ []
-no_minus [] plain = refl
-no_minus (characters.Exponent ∷ text) plain = absurd (omega (arith, plain.0))
-no_minus (characters.Minus ∷ text) plain = absurd (omega (arith, plain.0))
-no_minus (characters.Zero ∷ text) plain = no_minus text plain.1
-no_minus (characters.One ∷ text) plain = no_minus text plain.1
-no_minus (characters.Two ∷ text) plain = no_minus text plain.1
-no_minus (characters.Three ∷ text) plain = no_minus text plain.1
-no_minus (characters.Four ∷ text) plain = no_minus text plain.1
-no_minus (characters.Five ∷ text) plain = no_minus text plain.1
-no_minus (characters.Six ∷ text) plain = no_minus text plain.1
-no_minus (characters.Seven ∷ text) plain = no_minus text plain.1
-no_minus (characters.Eight ∷ text) plain = no_minus text plain.1
-no_minus (characters.Nine ∷ text) plain = no_minus text plain.1
-no_minus (characters.Point ∷ text) plain = no_minus text plain.1
+-- a character is this digit, and its code is read as that
+pub record IsDigit (character : Character) (digit : ℕ) (digits : PlainDigits) : Type 0 where
+  pub own : digit_of character ≡ Some digit
+  pub no_point : is_point character ≡ false
+  pub reads : with_code digits (character_code character) ≡ with_digit digits digit
 
-place_more : (place size : ℕ) → place ≡ size → 1 + place ≡ suc size
-place_more place size same = omega arith
+-- a digit in front of a text
+module _ (character : Character) (digit : ℕ) (text : List Character) (digits : PlainDigits) (is : IsDigit character digit digits)
+    (rest : AreRead text (with_code digits (character_code character))) where
+  more : digits_in (character ∷ text) ≡ digit ∷ digits_in text
+  more = digits_behind (Some digit) character text (sym is.own)
 
-no_exponent : (text : List Character) → ArePlain (map character_code text) → position_or_len is_exponent text ≡ length text
-no_exponent [] plain = refl
-no_exponent (characters.Exponent ∷ text) plain = absurd (omega (arith, plain.0))
-no_exponent (characters.Minus ∷ text) plain = absurd (omega (arith, plain.0))
-no_exponent (characters.Zero ∷ text) plain = place_more _ _ (no_exponent text plain.1)
-no_exponent (characters.One ∷ text) plain = place_more _ _ (no_exponent text plain.1)
-no_exponent (characters.Two ∷ text) plain = place_more _ _ (no_exponent text plain.1)
-no_exponent (characters.Three ∷ text) plain = place_more _ _ (no_exponent text plain.1)
-no_exponent (characters.Four ∷ text) plain = place_more _ _ (no_exponent text plain.1)
-no_exponent (characters.Five ∷ text) plain = place_more _ _ (no_exponent text plain.1)
-no_exponent (characters.Six ∷ text) plain = place_more _ _ (no_exponent text plain.1)
-no_exponent (characters.Seven ∷ text) plain = place_more _ _ (no_exponent text plain.1)
-no_exponent (characters.Eight ∷ text) plain = place_more _ _ (no_exponent text plain.1)
-no_exponent (characters.Nine ∷ text) plain = place_more _ _ (no_exponent text plain.1)
-no_exponent (characters.Point ∷ text) plain = place_more _ _ (no_exponent text plain.1)
+  whole : whole_digits (character ∷ text) ≡ suc (whole_digits text)
+  whole =
+      let front = take_while (λ (other : Character). not (is_point other)) text in
+      whole_more character text
+      ∙ ap (λ (point : Bool). length (digits_in (cond (not point) (character ∷ front) []))) is.no_point
+      ∙ ap length (digits_behind (Some digit) character front (sym is.own))
+
+  pub digit_read : filter is_minus (character ∷ text) ≡ filter is_minus text
+      → position_or_len is_exponent (character ∷ text) ≡ 1 + position_or_len is_exponent text
+      → AreRead (character ∷ text) digits
+  digit_read minus exponent = record {
+    number =
+        rest.number ∙ ap (λ (d : PlainDigits). number_from d.number (digits_in text)) is.reads
+        ∙ sym (ap (number_from digits.number) more);
+    count = omega (arith, rest.count, ap (λ (d : PlainDigits). d.count) is.reads, ap length more);
+    places =
+        rest.places ∙ ap (λ (d : PlainDigits). d.places + after d.marked text) is.reads
+        ∙ digit_after digits.marked (list_any is_point text) digits.places (length (digits_in text)) (whole_digits text)
+        ∙ sym (λ i. digits.places + behind_mark digits.marked (is.no_point i || list_any is_point text) (length (more i)) (whole i));
+    no_minus = minus ∙ rest.no_minus;
+    no_exponent = omega (arith, exponent, rest.no_exponent);
+  }
+
+pub text_read : (text : List Character) (digits : PlainDigits) → IsTrue (list_all is_plain text) → AreRead text digits
+text_read [] digits plain = record {
+  number = refl;
+  count = omega arith;
+  places = none_after digits.marked digits.places;
+  no_minus = refl;
+  no_exponent = refl;
+}
+text_read (characters.Point ∷ text) digits plain =
+    let rest = text_read text (with_code digits 0x1A) plain in record {
+      number = rest.number;
+      count = rest.count;
+      places =
+          let whole : whole_digits (characters.Point ∷ text) ≡ 0 = whole_more characters.Point text in
+          rest.places ∙ mark_after digits.marked digits.places (length (digits_in text))
+          ∙ sym (ap (λ (n : ℕ). digits.places + behind_mark digits.marked true (length (digits_in text)) n) whole);
+      no_minus = rest.no_minus;
+      no_exponent = omega (arith, rest.no_exponent);
+    }
+text_read (characters.Exponent ∷ text) digits plain = absurd (cc plain)
+text_read (characters.Minus ∷ text) digits plain = absurd (cc plain)
+text_read (characters.Zero ∷ text) digits plain =
+    digit_read characters.Zero 0 text digits (record { own = refl; no_point = refl; reads = refl }) (text_read text _ plain) refl refl
+text_read (characters.One ∷ text) digits plain =
+    digit_read characters.One 1 text digits (record { own = refl; no_point = refl; reads = refl }) (text_read text _ plain) refl refl
+text_read (characters.Two ∷ text) digits plain =
+    digit_read characters.Two 2 text digits (record { own = refl; no_point = refl; reads = refl }) (text_read text _ plain) refl refl
+text_read (characters.Three ∷ text) digits plain =
+    digit_read characters.Three 3 text digits (record { own = refl; no_point = refl; reads = refl }) (text_read text _ plain) refl refl
+text_read (characters.Four ∷ text) digits plain =
+    digit_read characters.Four 4 text digits (record { own = refl; no_point = refl; reads = refl }) (text_read text _ plain) refl refl
+text_read (characters.Five ∷ text) digits plain =
+    digit_read characters.Five 5 text digits (record { own = refl; no_point = refl; reads = refl }) (text_read text _ plain) refl refl
+text_read (characters.Six ∷ text) digits plain =
+    digit_read characters.Six 6 text digits (record { own = refl; no_point = refl; reads = refl }) (text_read text _ plain) refl refl
+text_read (characters.Seven ∷ text) digits plain =
+    digit_read characters.Seven 7 text digits (record { own = refl; no_point = refl; reads = refl }) (text_read text _ plain) refl refl
+text_read (characters.Eight ∷ text) digits plain =
+    digit_read characters.Eight 8 text digits (record { own = refl; no_point = refl; reads = refl }) (text_read text _ plain) refl refl
+text_read (characters.Nine ∷ text) digits plain =
+    digit_read characters.Nine 9 text digits (record { own = refl; no_point = refl; reads = refl }) (text_read text _ plain) refl refl
 
 after_is : (any : Bool) (size whole count : ℕ) → count ≡ size → behind_mark false any size whole ≡ (if any then count - whole else 0)
 after_is true size whole count same = omega arith
@@ -199,27 +205,33 @@ after_is false size whole count same = refl
 none_before : {a b : ℕ} → a ≡ 0 + b → a ≡ b
 none_before same = omega arith
 
+-- they are counted
+pub digits_counted : (text : List Character) (digits : PlainDigits) → IsTrue (list_all is_plain text)
+    → digits ≡ with_codes no_digits (map character_code text) → digits.count ≡ length (digits_in text)
+digits_counted text digits plain reads =
+    let read = text_read text no_digits plain in omega (arith, ap (λ (d : PlainDigits). d.count) reads, read.count)
+
 -- the number of the digits is that of the text
-pub plain_number_is : (text : List Character) (digits : PlainDigits) (number : Ten) → ArePlain (map character_code text)
+pub plain_number_is : (text : List Character) (digits : PlainDigits) (number : Ten) → IsTrue (list_all is_plain text)
     → digits ≡ with_codes no_digits (map character_code text)
     → digits.count ≤ 10
     → IsTypedPlain digits.number digits.places number
     → IsNumberOf text number
 plain_number_is text digits number plain reads few (exponent, biased, typed) =
-    let place : length text ≡ position_or_len is_exponent text = sym (no_exponent text plain) in
+    let read = text_read text no_digits plain in
+    let place : length text ≡ position_or_len is_exponent text = sym read.no_exponent in
     let all : take (length text) text ≡ text = take_all (length text) text (omega arith) in
-    let counts = ap (λ (d : PlainDigits). d.count) reads ∙ count_read text no_digits plain in
-    let size : digits.count ≡ length (digits_in text) = omega (arith, counts) in
+    let size = digits_counted text digits plain reads in
     let whole : take 10 (digits_in text) ≡ digits_in text = take_all 10 (digits_in text) (omega (arith, size, few)) in
     let counted : mantissa_digits text ≡ digits_in text =
     mantissa_alone text (length text) place (omega arith) ∙ ap (λ (part : List Character). take 10 (digits_in part)) all ∙ whole in
     let signs : Plus ≡ sign_in (take (length text) text) =
-    sym (ap sign_in all ∙ ap (λ (minus : List Character). if length minus % 2 == 0 then Plus else Minus) (no_minus text plain)) in
+    sym (ap sign_in all ∙ ap (λ (minus : List Character). if length minus % 2 == 0 then Plus else Minus) read.no_minus) in
     let worth : digits.number ≡ number_from 0 (mantissa_digits text) =
-    ap (λ (d : PlainDigits). d.number) reads ∙ number_read text no_digits plain ∙ sym (ap (number_from 0) counted) in
+    ap (λ (d : PlainDigits). d.number) reads ∙ read.number ∙ sym (ap (number_from 0) counted) in
     let many : digits.count ≡ length (mantissa_digits text) = size ∙ sym (ap length counted) in
     let behind : digits.places ≡ (if list_any is_point text then digits.count - whole_digits text else 0) =
-    none_before (ap (λ (d : PlainDigits). d.places) reads ∙ places_read text no_digits plain)
+    none_before (ap (λ (d : PlainDigits). d.places) reads ∙ read.places)
     ∙ after_is (list_any is_point text) (length (digits_in text)) (whole_digits text) digits.count size in
     let part : [] ≡ exponent_part text =
     sym (drop_of_length-le text (omega (arith, place))) in

@@ -1,25 +1,23 @@
 //! Number lines of program memory that are digits and a radix mark alone, read in one pass.
 
-ghost use Rattle.std.specs.Prelude.{◌≡◌, ◌<◌, ◌≤◌, ◌+◌, ◌-◌, ◌/◌, ◌^◌, IfSome, IsTrue};
+ghost use Rattle.std.specs.Prelude.{◌≡◌, ◌<◌, ◌≤◌, ◌+◌, ◌^◌, IfNone, IfSome, IsTrue};
 ghost use Rattle.h41_codes.specs.Heads.{IsIn};
-ghost use Rattle.h41_numbers.specs.MemoryNumbers.{HasNumber};
-ghost use Rattle.h41_numbers.specs.private.PlainReading.{EndsPlain, IsTypedPlain, StandsPlain};
+ghost use Rattle.h41_numbers.specs.MemoryNumbers.{HasNoNumber, HasNumber};
+ghost use Rattle.h41_numbers.specs.private.PlainReading.{EndsNowhere, EndsPlain, IsTypedPlain};
 ghost use Rattle.h41_numbers.specs.private.PlainReading.{with_code};
-ghost use Rattle.h41_program.specs.ProgramBytes.{byte_count, program_byte};
-ghost use Rattle.h41_program.specs.ProgramLines.{PositionFrom};
-ghost use Rattle.h41_ram.specs.RegisterMap.{curtain_of, is_sound, register_at};
+ghost use Rattle.h41_program.specs.ProgramBytes.{byte_count};
+ghost use Rattle.h41_ram.specs.RegisterMap.{is_sound};
 
-use h41_codes::laws::{byte_round_trip, first_bytes, line_or_none};
+use h41_codes::laws::{byte_round_trip, first_bytes};
 use h41_decimal::{Exponent, Sign, Ten};
-use h41_digits::Reg;
-use h41_program::{final_position, line_at};
+use h41_program::{ByteReader, final_position, position_by};
 use h41_ram::Ram;
 
 /// How many digits count.
 const MANTISSA_DIGITS: u8 = 10;
 
-/// How many bytes a register has.
-const REGISTER_BYTES: u16 = 7;
+/// The byte of the radix mark; those of the digits stand before it.
+const RADIX_MARK: u8 = 0x1A;
 
 /// The most bytes of a number, and the one behind them.
 const NUMBER_AND_NEXT: u16 = 17;
@@ -45,15 +43,17 @@ impl PlainDigits {
     #[inline(always)]
     fn read(self, code: u8) -> Self
         requires code { IsIn 0x10 0x1B code }
-        requires room { self.count < 10 }
+        requires room { code < 0x1A → self.count < 10 }
+        requires few { self.count ≤ 10 }
         requires below { self.number < 10 ^ self.count }
         requires places { self.places ≤ self.count }
         ensures digits { result ≡ with_code self code }
         ensures more { result.count ≤ self.count + 1 }
+        ensures few { result.count ≤ 10 }
         ensures below { result.number < 10 ^ result.count }
         ensures places { result.places ≤ result.count }
     {
-        if code < 0x1A {
+        if code < RADIX_MARK {
             PlainDigits {
                 number: 10 * self.number + u64::from(code - 0x10),
                 count: self.count + 1,
@@ -87,24 +87,14 @@ impl PlainDigits {
     }
 }
 
-/// The number of the number line that a position stands for, and the position of the next line. `None` where another line stands
-/// there or none, and where the number is to be read otherwise: one with a sign, an exponent or more than ten digits.
+/// The number of the number line that stands at a position itself, and the position of the next line, or of the byte behind it where
+/// no line follows: digits and radix marks alone, one to ten digits, and behind them a byte in front of the last ones that goes on
+/// in no number. `None` just where no such line stands there.
 #[inline(never)]
 pub fn plain_number<const REGS: usize>(ram: &Ram<REGS>, at: u16) -> Option<(Ten, u16)>
     requires { IsTrue (is_sound ram.now.registers) }
-    ensures { IfSome result (λ found. HasNumber ram.now.registers at found.0 found.1) }
-{
-    match plain_number_at(ram, at) {
-        Some((number, next)) => Some((number, next)),
-        None => None,
-    }
-}
-
-/// The same, by the bytes that were read.
-#[inline(always)]
-fn plain_number_at<const REGS: usize>(ram: &Ram<REGS>, at: u16) -> Option<(Ten, u16)>
-    requires { IsTrue (is_sound ram.now.registers) }
-    ensures { IfSome result (λ found. StandsPlain ram.now.registers at found.0 found.1) }
+    ensures some { IfSome result (λ found. HasNumber ram.now.registers at found.0 found.1) }
+    ensures none { IfNone result (HasNoNumber ram.now.registers at) }
 {
     byte_round_trip();
     first_bytes();
@@ -115,7 +105,7 @@ fn plain_number_at<const REGS: usize>(ram: &Ram<REGS>, at: u16) -> Option<(Ten, 
     match plain_digits(ram, at, last) {
         Some((digits, behind, byte)) => {
             let number = digits.ten();
-            Some((number, next_line(ram, behind, byte)))
+            Some((number, position_by(ram, behind, byte)))
         }
         None => None,
     }
@@ -131,8 +121,10 @@ fn plain_digits<const REGS: usize>(
     requires from { at < last }
     requires last { last < byte_count ram.now.registers }
     requires bound { last < 65000 }
-    ensures { IfSome result
+    requires sound { IsTrue (is_sound ram.now.registers) }
+    ensures some { IfSome result
         (λ found. EndsPlain ram.now.registers at last found.0 found.1 found.2) }
+    ensures none { IfNone result (EndsNowhere ram.now.registers at last) }
 {
     let mut digits = PlainDigits {
         number: 0,
@@ -140,64 +132,22 @@ fn plain_digits<const REGS: usize>(
         places: 0,
         marked: false,
     };
-    let mut register = register_of(ram, at);
-    let mut left = REGISTER_BYTES - at % REGISTER_BYTES;
+    let mut reader = ByteReader::at(ram, at);
     for position in at..last.min(at + NUMBER_AND_NEXT) {
-        if left == 0 {
-            register = register_of(ram, position);
-            left = REGISTER_BYTES;
-        }
-        left -= 1;
-        let byte = register.byte(usize::from(left));
+        let byte = reader.read(ram, position);
         if byte < 0x10 || byte > 0x1C {
             if digits.count == 0 {
                 return None;
             }
             return Some((digits, position, byte));
         }
-        if byte > 0x1A || digits.count == MANTISSA_DIGITS {
+        if byte > RADIX_MARK {
+            return None;
+        }
+        if digits.count == MANTISSA_DIGITS && byte < RADIX_MARK {
             return None;
         }
         digits = digits.read(byte);
     }
     None
-}
-
-/// The position of the first line from a position on, or that position where no line follows, by the byte there. Nulls alone stand
-/// before a line.
-#[inline(always)]
-fn next_line<const REGS: usize>(ram: &Ram<REGS>, at: u16, byte: u8) -> u16
-    requires sound { IsTrue (is_sound ram.now.registers) }
-    requires inside { at < byte_count ram.now.registers }
-    requires byte { byte ≡ program_byte ram.now.registers at }
-    ensures { PositionFrom ram.now.registers at result }
-{
-    byte_round_trip();
-    line_or_none();
-    if byte != 0x00 {
-        return at;
-    }
-    past_nulls(ram, at)
-}
-
-/// The same where nulls are passed over.
-#[inline(never)]
-fn past_nulls<const REGS: usize>(ram: &Ram<REGS>, at: u16) -> u16
-    requires { IsTrue (is_sound ram.now.registers) }
-    ensures { PositionFrom ram.now.registers at result }
-{
-    match line_at(ram, at) {
-        Ok(first) => first.position,
-        Err(_) => at,
-    }
-}
-
-/// The register that has the byte at a position of program memory.
-#[inline(always)]
-fn register_of<const REGS: usize>(ram: &Ram<REGS>, position: u16) -> Reg
-    requires { position < byte_count ram.now.registers }
-    ensures { result
-        ≡ register_at ram.now.registers (curtain_of ram.now.registers - 1 - position / 7) }
-{
-    ram.read(ram.curtain() - 1 - position / REGISTER_BYTES)
 }

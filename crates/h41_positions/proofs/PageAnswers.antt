@@ -1,5 +1,5 @@
 -- What is found in the code of a page is what an address of it has.
-use Rattle.std.proofs.Common.{◌≡◌, ℕ, List, Option, Ok, Err, refl, sym, subst}
+use Rattle.std.proofs.Common.{◌≡◌, ℕ, List, Option, Ok, Err, ap, refl, sym, subst, ◌∙◌}
 use Rattle.h41_codes.specs.declared.line.Line.{Line}
 use Rattle.h41_pages.specs.Addresses.{offset_of, page_of}
 use Rattle.h41_pages.specs.FunctionTables.{code_of, keystroke_offsets}
@@ -23,42 +23,47 @@ pub none_here : (pages : PageMap) (memory : RegisterMap) (at : ℕ) (refusal : P
     → memories.AnswersBoth memory at (Err refusal) → LineAndNext pages memory (Memory at) (Err refusal)
 none_here pages memory at refusal both = (both.0, (Err BrokenProgram, (refl, both.1), refl))
 
-module _ (pages : PageMap) (memory : RegisterMap) (address page offset : ℕ) (here : page ≡ page_of address)
-    (there : offset ≡ offset_of address) where
+module _ (pages : PageMap) (memory : RegisterMap) (address page offset : ℕ) (code : List ℕ) (here : page ≡ page_of address)
+    (there : offset ≡ offset_of address) (own : code ≡ code_of pages page) where
   -- in the code of the address's page, at its offset
-  moved : (P : ℕ → ℕ → Type 0) → P page offset → P (page_of address) (offset_of address)
-  moved P is = subst (λ (n : ℕ). P (page_of address) n) there (subst (λ (n : ℕ). P n offset) here is)
+  moved : (P : List ℕ → ℕ → Type 0) → P code offset → P (code_of pages (page_of address)) (offset_of address)
+  moved P is =
+      subst (λ (n : ℕ). P (code_of pages (page_of address)) n) there
+      (subst (λ (l : List ℕ). P l offset) (own ∙ ap (code_of pages) here) is)
 
-  pub both_there : (line : Line) (behind : ℕ) → AnswersBoth (code_of pages page) offset (Ok (line, behind))
+  pub both_there : (line : Line) (behind : ℕ) → AnswersBoth code offset (Ok (line, behind))
       → LineAndNext pages memory (Page address) (Ok (line, in_page page behind))
   both_there line behind both =
-      let is = moved (λ p o. AnswersBoth (code_of pages p) o (Ok (line, behind))) both in
+      let is = moved (λ l o. AnswersBoth l o (Ok (line, behind))) both in
       subst (λ (p : ℕ). LineAndNext pages memory (Page address) (Ok (line, in_page p behind))) (sym here) (
         (placed_in (page_of address) is.0.0, (Ok is.0.0, is.0.1, refl), is.0.2),
         (Ok behind, is.1, refl),
       )
 
-  pub none_there : (refusal : ProgramRefusal) → AnswersBoth (code_of pages page) offset (Err refusal)
+  pub none_there : (refusal : ProgramRefusal) → AnswersBoth code offset (Err refusal)
       → LineAndNext pages memory (Page address) (Err refusal)
   none_there refusal both =
-      let is = moved (λ p o. AnswersBoth (code_of pages p) o (Err refusal)) both in
+      let is = moved (λ l o. AnswersBoth l o (Err refusal)) both in
       (is.0, (Err BrokenProgram, (refl, is.1), refl))
 
-  pub next_there : (behind : ℕ) → AnswersOffset (code_of pages page) offset (Ok behind)
+  pub next_there : (behind : ℕ) → AnswersOffset code offset (Ok behind)
       → NextAt pages memory (Page address) (Ok (in_page page behind))
   next_there behind follows =
-      let is = moved (λ p o. AnswersOffset (code_of pages p) o (Ok behind)) follows in
+      let is = moved (λ l o. AnswersOffset l o (Ok behind)) follows in
       subst (λ (p : ℕ). NextAt pages memory (Page address) (Ok (in_page p behind))) (sym here) (Ok behind, is, refl)
 
-  pub start_there : (begins : List ℕ) (start : ℕ) → begins ≡ keystroke_offsets pages page
-      → StartsAt (code_of pages page) begins offset start → StartOf pages memory (Page address) (in_page page start)
-  start_there begins start are starts =
-      let own = subst (λ (l : List ℕ). StartsAt (code_of pages page) l offset start) are starts in
-      let is = moved (λ p o. StartsAt (code_of pages p) (keystroke_offsets pages p) o start) own in
-      subst (λ (p : ℕ). StartOf pages memory (Page address) (in_page p start)) (sym here) (start, is, refl)
+  module _ (begins : List ℕ) (are : begins ≡ keystroke_offsets pages page) where
+    begins_there : begins ≡ keystroke_offsets pages (page_of address)
+    begins_there = are ∙ ap (keystroke_offsets pages) here
 
-  pub number_there : (begins : List ℕ) (number : Option ℕ) → begins ≡ keystroke_offsets pages page
-      → AnswersOwn (number_in offset) (code_of pages page) begins offset number → NumberAt pages memory (Page address) number
-  number_there begins number are answers =
-      let own = subst (λ (l : List ℕ). AnswersOwn (number_in offset) (code_of pages page) l offset number) are answers in
-      moved (λ p o. AnswersOwn (number_in o) (code_of pages p) (keystroke_offsets pages p) o number) own
+    pub start_there : (start : ℕ) → StartsAt code begins offset start → StartOf pages memory (Page address) (in_page page start)
+    start_there start starts =
+        let is = subst (λ (l : List ℕ). StartsAt (code_of pages (page_of address)) l (offset_of address) start) begins_there
+        (moved (λ l o. StartsAt l begins o start) starts) in
+        subst (λ (p : ℕ). StartOf pages memory (Page address) (in_page p start)) (sym here) (start, is, refl)
+
+    pub number_there : (number : Option ℕ) → AnswersOwn (number_in offset) code begins offset number
+        → NumberAt pages memory (Page address) number
+    number_there number answers =
+        subst (λ (l : List ℕ). AnswersOwn (number_in (offset_of address)) (code_of pages (page_of address)) l (offset_of address) number)
+        begins_there (moved (λ l o. AnswersOwn (number_in o) l begins o number) answers)

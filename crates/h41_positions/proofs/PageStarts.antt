@@ -126,9 +126,11 @@ none_or (Some listed) second found none is = cc
 
 -- a label
 module _ (code begins : List ℕ) (at n start : ℕ) (lists : EachIsListed) (starts : StartsAt code begins at start) where
-  pub label_onward : (found : ℕ) → AnswersAll (λ (lines : List ListedLine). position_of (label_in n lines)) code at (Some found)
-      → AnswersLabel code begins at n (Some found)
-  label_onward found asked =
+  labelled : (found : Option ℕ)
+      → ((onward own : List ListedLine) → LinesIn code at onward → LinesIn code start own
+      → found ≡ position_of (option_or (label_in n onward) (label_in n own)))
+      → AnswersLabel code begins at n found
+  labelled found is =
       let onward = lists is_page_end code (length code) at in
       let own = lists is_page_end code (length code) start in
       record {
@@ -138,21 +140,16 @@ module _ (code begins : List ℕ) (at n start : ℕ) (lists : EachIsListed) (sta
         starts = starts;
         from = onward.1;
         program = own.1;
-        is = some_or (label_in n onward.0) (label_in n own.0) found (sym (asked onward.0 onward.1));
+        is = is onward.0 own.0 onward.1 own.1;
       }
+
+  pub label_onward : (found : ℕ) → AnswersAll (λ (lines : List ListedLine). position_of (label_in n lines)) code at (Some found)
+      → AnswersLabel code begins at n (Some found)
+  label_onward found asked = labelled (Some found) (λ onward own from program.
+      some_or (label_in n onward) (label_in n own) found (sym (asked onward from)))
 
   pub label_own : (found : Option ℕ) → AnswersAll (λ (lines : List ListedLine). position_of (label_in n lines)) code at None
       → AnswersAll (λ (lines : List ListedLine). position_of (label_in n lines)) code start found
       → AnswersLabel code begins at n found
-  label_own found none asked =
-      let onward = lists is_page_end code (length code) at in
-      let own = lists is_page_end code (length code) start in
-      record {
-        start = start;
-        onward = onward.0;
-        own = own.0;
-        starts = starts;
-        from = onward.1;
-        program = own.1;
-        is = none_or (label_in n onward.0) (label_in n own.0) found (sym (none onward.0 onward.1)) (asked own.0 own.1);
-      }
+  label_own found none asked = labelled found (λ onward own from program.
+      none_or (label_in n onward) (label_in n own) found (sym (none onward from)) (asked own program))

@@ -1,9 +1,8 @@
 -- Each position is read, and what is found from it is determined; a line has a next one.
-use Rattle.std.proofs.Common.{◌≡◌, ℕ, Bool, true, false, List, [], ◌∷◌, length, Option, Result, Ok, Err, MatchBool}
+use Rattle.std.proofs.Common.{◌≡◌, ℕ, Bool, true, false, List, length, Option, Result, Ok, Err, MatchBool}
 use Rattle.std.proofs.Common.{arith, inl, inr, refl, sym, ap, subst, ◌∙◌}
 use Rattle.std.specs.Option.{option_map, option_or}
 use Rattle.h41_pages.specs.Addresses.{offset_of, page_of}
-use Rattle.h41_pages.specs.PageMap.{PageMap}
 use Rattle.h41_positions.specs.PageLines.{AnswersLabel, AnswersLine, AnswersOffset, AnswersOwn, LinesIn, OffsetBehind, OffsetFrom}
 use Rattle.h41_positions.specs.PageLines.{StartsAt, is_page_end}
 use Rattle.h41_positions.specs.PositionLaws.{EachIsRead, HasOneAnswer, HasOneAnswerEach, LinesHaveNext}
@@ -14,8 +13,8 @@ use Rattle.h41_positions.specs.declared.position.Position.{Position}
 use Rattle.h41_positions.specs.declared.position.Position.TheVariants.{Memory, Page}
 use Rattle.h41_program.specs.Numbering.{before_in, number_in}
 use Rattle.h41_program.specs.ProgramBytes.{final_position, program_bytes}
-use Rattle.h41_program.specs.ProgramLaws.{EachHasFirst, FirstIsDetermined, OneList, ReadIsDetermined}
-use Rattle.h41_program.specs.ProgramLines.{AnswersFirst, AnswersNext, Reads, behind}
+use Rattle.h41_program.specs.ProgramLaws.{EachHasFirst, FirstIsDetermined, ReadIsDetermined}
+use Rattle.h41_program.specs.ProgramLines.{AnswersFirst, AnswersNext, behind}
 use Rattle.h41_program.specs.SearchLaws.{AnswersAreDetermined, LineIsDetermined, LocalIsDetermined, NextIsDetermined, ProgramIsDetermined}
 use Rattle.h41_program.specs.Searches.{end_in, label_in, position_of, start_in}
 use Rattle.h41_program.specs.declared.listed_line.ListedLine.{ListedLine}
@@ -146,18 +145,12 @@ module _ (first : FirstIsDetermined) (read : ReadIsDetermined) where
       same_own first (code_at pages address) read (begins_at pages address) (offset_of address) (number_in (offset_of address)) result
       other p q
 
--- a list of lines tells its first, or that there is none
-first_told :
-    (pages : PageMap) (memory : RegisterMap) (at : ℕ) (lines : List ListedLine)
-    → Reads (program_bytes memory) (final_position memory) at lines
-    → (answer : Result PlacedLine ProgramRefusal) × LineAt pages memory (Memory at) answer
-first_told pages memory at [] reads = (Err BrokenProgram, (Err BrokenProgram, (refl, reads), refl))
-first_told pages memory at (first ∷ rest) reads = (Ok (in_memory first), (Ok first, reads.0, refl))
-
-pub each : OneList → EachHasFirst → EachIsRead
-each one firsts pages memory (Memory at) sound =
-    let all = one memory at in first_told pages memory at all.lines (all.from.sound sound)
-each one firsts pages memory (Page address) sound =
+pub each : EachHasFirst → EachIsRead
+each firsts pages memory (Memory at) = elim (firsts (program_bytes memory) (final_position memory) at) [
+  | inl found ↦ (Ok (in_memory found.0), (Ok found.0, found.1, refl))
+  | inr none ↦ (Err BrokenProgram, (Err BrokenProgram, (refl, none), refl))
+]
+each firsts pages memory (Page address) =
     let code = code_at pages address in
     elim (firsts code (length code) (offset_of address)) [
       | inl found ↦ (Ok (placed_in (page_of address) found.0), (Ok found.0, found.1, refl))

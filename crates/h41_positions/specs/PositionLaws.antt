@@ -1,11 +1,11 @@
 -- Laws of positions, whatever kinds there are: what is found from one is determined.
-use Rattle.std.specs.Prelude.{◌≡◌, ℕ, IsTrue, Result, Ok, Err}
+use Rattle.std.specs.Prelude.{◌≡◌, ℕ, Result, Ok, Err}
 use Rattle.h41_pages.specs.PageMap.{PageMap}
 use Rattle.h41_positions.specs.Positions.{LineAt, NextAt}
 use Rattle.h41_positions.specs.declared.position.PlacedLine.{PlacedLine}
 use Rattle.h41_positions.specs.declared.position.Position.{Position}
 use Rattle.h41_program.specs.declared.refusal.ProgramRefusal.{ProgramRefusal}
-use Rattle.h41_ram.specs.RegisterMap.{RegisterMap, is_sound}
+use Rattle.h41_ram.specs.RegisterMap.{RegisterMap}
 
 -- what is found from a position, in pages and memory
 abbrev pub Finding : Type 0 → Type 1
@@ -26,10 +26,10 @@ pub record IsReadOnce : Type 0 where
   pub line : HasOneAnswer LineAt
   pub next : HasOneAnswer NextAt
 
--- over sound memory each position stands for a line, or none is there
+-- each position stands for a line, or none is there
 abbrev pub EachIsRead : Type 0
 EachIsRead =
-    (pages : PageMap) (memory : RegisterMap) (at : Position) → IsTrue (is_sound memory)
+    (pages : PageMap) (memory : RegisterMap) (at : Position)
     → (answer : Result PlacedLine ProgramRefusal) × LineAt pages memory at answer
 
 -- where a line stands there is a next position

@@ -2,7 +2,6 @@
 use Rattle.std.specs.Prelude.{◌≡◌, ℕ, List, Option, Some, None, Result, Ok, Err, ⊤}
 use Rattle.std.specs.Option.{option_map}
 use Rattle.std.specs.Result.{result_map_both}
-use Rattle.h41_codes.specs.ShortLines.{line_of}
 use Rattle.h41_codes.specs.declared.line.Line.{Line}
 use Rattle.h41_codes.specs.declared.short_lines.ShortLine.{ShortLine}
 use Rattle.h41_pages.specs.Addresses.{offset_of, page_of}
@@ -16,7 +15,7 @@ use Rattle.h41_positions.specs.declared.position.Position.TheVariants.{Memory, P
 use Rattle.h41_program.specs.Numbering.{before_in, number_in}
 use Rattle.h41_program.specs.ProgramLines.{AnswersFirst, AnswersNext, AnswersOf}
 use Rattle.h41_program.specs.Searches.{AnswersLocal, AnswersProgram, end_in, start_in}
-use Rattle.h41_program.specs.ShortLines.{HasNoShort}
+use Rattle.h41_program.specs.ShortLines.{HasNoShort, HasShort}
 use Rattle.h41_program.specs.declared.listed_line.ListedLine.{ListedLine}
 use Rattle.h41_program.specs.declared.refusal.ProgramRefusal.{ProgramRefusal}
 use Rattle.h41_program.specs.declared.refusal.ProgramRefusal.TheVariants.{BrokenProgram}
@@ -43,16 +42,20 @@ code_at pages address = code_of pages (page_of address)
 abbrev pub begins_at : PageMap → ℕ → List ℕ
 begins_at pages address = keystroke_offsets pages (page_of address)
 
+-- the line that an address of a page stands for
+abbrev pub LineInPage : PageMap → ℕ → Result PlacedLine ProgramRefusal → Type 0
+LineInPage pages address answer =
+    (first : Result ListedLine ProgramRefusal)
+    × AnswersLine (code_at pages address) (offset_of address) first
+    × (answer ≡ found_as (placed_in (page_of address)) first)
+
 -- the line that a position stands for
 abbrev pub LineAt : PageMap → RegisterMap → Position → Result PlacedLine ProgramRefusal → Type 0
 LineAt pages memory (Memory at) answer =
     (first : Result ListedLine ProgramRefusal)
     × AnswersFirst memory at first
     × (answer ≡ found_as in_memory first)
-LineAt pages memory (Page address) answer =
-    (first : Result ListedLine ProgramRefusal)
-    × AnswersLine (code_at pages address) (offset_of address) first
-    × (answer ≡ found_as (placed_in (page_of address)) first)
+LineAt pages memory (Page address) answer = LineInPage pages address answer
 
 -- the position of the line behind that one, or of the byte or word behind it where no line follows
 -- or it ends a page's program
@@ -79,7 +82,7 @@ LineAndNext pages memory at (Err refusal) =
 -- where other lines stand there, nulls, or bytes that are no line. Those of pages are not told so.
 abbrev pub ShortLineAt : PageMap → RegisterMap → Position → Option (ShortLine × Position) → Type 0
 ShortLineAt pages memory (Memory at) (Some found) =
-    LineAndNext pages memory (Memory at) (Ok (line_of found.0, found.1))
+    (next : ℕ) × HasShort memory at found.0 next × (found.1 ≡ Memory next)
 ShortLineAt pages memory (Memory at) None = HasNoShort memory at
 ShortLineAt pages memory (Page address) (Some found) = ⊥
 ShortLineAt pages memory (Page address) None = ⊤

@@ -4,7 +4,7 @@ ghost use Rattle.h41_positions.specs.PositionLaws.{EachIsRead, HasOneAnswer, Has
 ghost use Rattle.h41_positions.specs.PositionLaws.{IsReadOnce, LinesHaveNext};
 ghost use Rattle.h41_positions.specs.Positions.{EndOf, LineBefore, LocalFrom, NumberAt, StartOf};
 
-use h41_program::laws::{each_is_listed, lists_are_determined, one_list, searches_are_determined};
+use h41_program::laws::{each_is_listed, lists_are_determined, searches_are_determined};
 
 /// Each position is read, and what is found from it is determined, over any memory and pages: its line and the next position, which
 /// there is for each line, where its program begins and ends, where labels and the line before stand, and its line's number.
@@ -18,7 +18,6 @@ pub fn positions_are_read()
     ensures before { HasOneAnswer LineBefore }
     ensures number { HasOneAnswer NumberAt }
 {
-    one_list();
     each_is_listed();
     lists_are_determined();
     searches_are_determined();

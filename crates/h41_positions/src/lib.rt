@@ -9,5 +9,6 @@ mod positions;
 
 pub use position::{PlacedLine, Position};
 pub use positions::{
-    end_of, line_and_next, line_at, line_before, line_number, local, next, short_line, start_of,
+    end_of, line_and_next, line_at, line_before, line_in_page, line_number, local, next,
+    short_line, start_of,
 };

@@ -2,7 +2,7 @@
 
 ghost use Rattle.std.specs.Prelude.{◌≡◌, ◌<◌, IsTrue};
 ghost use Rattle.h41_pages.specs.Addresses as addresses;
-ghost use Rattle.h41_positions.specs.Positions.{EndOf, LineAndNext, LineAt, LineBefore};
+ghost use Rattle.h41_positions.specs.Positions.{EndOf, LineAndNext, LineAt, LineBefore, LineInPage};
 ghost use Rattle.h41_positions.specs.Positions.{LocalFrom, NextAt, NumberAt, ShortLineAt, StartOf};
 ghost use Rattle.h41_positions.specs.Positions as spec;
 ghost use Rattle.h41_positions.specs.private.PagePlaces.{InPageAndNext};
@@ -56,16 +56,21 @@ pub fn line_at<const REGS: usize>(
             }),
             Err(refusal) => Err(refusal),
         },
-        Position::Page(address) => {
-            let (page, offset) = place_of(address);
-            match page_lines::line_at(pages.code(page), offset) {
-                Ok(listed) => Ok(PlacedLine {
-                    position: in_page(page, listed.position),
-                    line: listed.line,
-                }),
-                Err(refusal) => Err(refusal),
-            }
-        }
+        Position::Page(address) => line_in_page(pages, address),
+    }
+}
+
+/// The line that an address of a page stands for, as of `line_at`.
+pub fn line_in_page(pages: &Pages, address: u16) -> Result<PlacedLine, ProgramRefusal>
+    ensures { LineInPage pages.now address result }
+{
+    let (page, offset) = place_of(address);
+    match page_lines::line_at(pages.code(page), offset) {
+        Ok(listed) => Ok(PlacedLine {
+            position: in_page(page, listed.position),
+            line: listed.line,
+        }),
+        Err(refusal) => Err(refusal),
     }
 }
 

@@ -1,3 +1,4 @@
+pub mod ByteReading
 pub mod Dependence
 pub mod Edits
 pub mod GivenLines

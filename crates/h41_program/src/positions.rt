@@ -4,16 +4,15 @@ ghost use Rattle.std.specs.Prelude.{IsTrue};
 ghost use Rattle.h41_program.specs.Numbering.{number_in};
 ghost use Rattle.h41_program.specs.ProgramLines.{AnswersBoth, AnswersNext};
 ghost use Rattle.h41_program.specs.Searches.{AnswersProgram, end_in};
-ghost use Rattle.h41_program.specs.ShortLines.{AnswersShort};
 ghost use Rattle.h41_ram.specs.RegisterMap.{is_sound};
 
 use crate::laws::one_list;
 use crate::numbering::number_from;
-use crate::reading::{Found, first_from, position_behind, short_line_at};
+use crate::reading::{Found, first_from, position_behind};
 use crate::refusal::ProgramRefusal;
 use crate::searches::{end_from, start_of};
+use h41_codes::Line;
 use h41_codes::laws::byte_round_trip;
-use h41_codes::{Line, ShortLine};
 use h41_ram::Ram;
 
 /// The position of the line behind the one that a position stands for, or the byte behind that one where no line follows; of `.END.`
@@ -45,19 +44,6 @@ pub fn line_and_next<const REGS: usize>(
             Ok((line, next))
         }
         None => Err(ProgramRefusal::BrokenProgram),
-    }
-}
-
-/// The short line that stands at a position itself, in front of `.END.`, and the position of `next`, in numbers alone. `None` where
-/// another line stands there, a null, or no line.
-#[inline(always)]
-pub fn short_line<const REGS: usize>(ram: &Ram<REGS>, at: u16) -> Option<(ShortLine, u16)>
-    requires { IsTrue (is_sound ram.now.registers) }
-    ensures { AnswersShort ram.now.registers at result }
-{
-    match short_line_at(ram, at) {
-        Some((line, next)) => Some((line, next)),
-        None => None,
     }
 }
 

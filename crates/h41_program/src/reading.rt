@@ -4,6 +4,7 @@ ghost use Rattle.std.specs.Prelude.{IsTrue, IfSome, IfNone};
 ghost use Rattle.std.specs.List.{range_with_len};
 ghost use Rattle.h41_digits.specs.Register.{byte_at as register_byte};
 ghost use Rattle.h41_ram.specs.RegisterMap.{is_sound};
+ghost use Rattle.h41_program.specs.ByteReading.{ReadsAt};
 ghost use Rattle.h41_program.specs.ProgramBytes.{byte_count, final_position, program_byte};
 ghost use Rattle.h41_program.specs.ProgramBytes as spec;
 ghost use Rattle.h41_program.specs.ProgramLines.{AnswersFirst, HasFirst, HasNoLine};
@@ -18,7 +19,9 @@ use crate::listed_line::ListedLine;
 use crate::refusal::ProgramRefusal;
 use arrayvec::ArrayVec;
 use h41_codes::laws::{byte_round_trip, first_bytes, line_or_none};
-use h41_codes::{Line, ShortLine, decode, is_one_byte, one_byte_line, short_line, two_byte_line};
+use h41_codes::{
+    Line, ShortLine, decode, is_one_byte, one_byte_line, short_line as short_line_of, two_byte_line,
+};
 use h41_digits::Reg;
 use h41_ram::Ram;
 
@@ -60,6 +63,15 @@ pub struct LinePlace {
     pub ends_memory: bool,
 }
 
+/// Reads the bytes of program memory one behind the other, each register once.
+#[derive(Clone, Copy, Debug, PartialEq, Eq)]
+pub struct ByteReader {
+    /// The register of the next byte, unless that is its first.
+    pub register: Reg,
+    /// How many bytes of the register follow.
+    pub left: u16,
+}
+
 /// Where `.END.` begins, in the last three bytes of program memory: so many bytes stand before it. The list of lines ends there,
 /// if not before, at another `.END.` or at bytes that are no line.
 #[inline(always)]
@@ -80,6 +92,38 @@ fn register_holding<const REGS: usize>(ram: &Ram<REGS>, position: u16) -> Reg
     ensures { result ≡ register_holding ram.now.registers position }
 {
     ram.read(ram.curtain() - 1 - position / REGISTER_BYTES)
+}
+
+impl ByteReader {
+    /// Before the byte at a position, which is at most the end of program memory.
+    #[inline(always)]
+    pub fn at<const REGS: usize>(ram: &Ram<REGS>, position: u16) -> Self
+        requires count { position ≤ byte_count ram.now.registers }
+        requires sound { IsTrue (is_sound ram.now.registers) }
+        ensures { ReadsAt ram.now.registers position result }
+    {
+        ByteReader {
+            register: register_holding(ram, position),
+            left: REGISTER_BYTES - position % REGISTER_BYTES,
+        }
+    }
+
+    /// The byte at the position before which it stands; then it stands behind it.
+    #[inline(always)]
+    pub fn read<const REGS: usize>(&mut self, ram: &Ram<REGS>, position: u16) -> u8
+        requires count { position < byte_count ram.now.registers }
+        requires sound { IsTrue (is_sound ram.now.registers) }
+        requires stands { ReadsAt ram.now.registers position self.old }
+        ensures byte { result ≡ program_byte ram.now.registers position }
+        ensures onward { ReadsAt ram.now.registers (position + 1) self.new }
+    {
+        if self.left == 0 {
+            self.register = register_holding(ram, position);
+            self.left = REGISTER_BYTES;
+        }
+        self.left -= 1;
+        self.register.byte(usize::from(self.left))
+    }
 }
 
 /// The byte at a position of program memory.
@@ -122,15 +166,9 @@ fn window<const REGS: usize>(ram: &Ram<REGS>, at: u16, limit: u16) -> Window
     ensures { result.items ≡ bytes_seen ram.now.registers at limit }
 {
     let mut window = Window::new();
-    let mut register = register_holding(ram, at);
-    let mut left = REGISTER_BYTES - at % REGISTER_BYTES;
+    let mut reader = ByteReader::at(ram, at);
     for position in at..limit.min(at + LINE_MOST) {
-        if left == 0 {
-            register = register_holding(ram, position);
-            left = REGISTER_BYTES;
-        }
-        left -= 1;
-        window.push(register.byte(usize::from(left)));
+        window.push(reader.read(ram, position));
     }
     window
 }
@@ -388,9 +426,10 @@ fn position_from<const REGS: usize>(ram: &Ram<REGS>, at: u16) -> u16
     position_by(ram, at, byte_at(ram, at))
 }
 
-/// The same by the byte of that position. Nulls alone stand before a line, so where it is none the line need not be looked for.
+/// The position of the first line from a position on, or that position where no line follows, by the byte there: nulls alone stand
+/// before a line, so where it is none the line need not be looked for.
 #[inline(always)]
-fn position_by<const REGS: usize>(ram: &Ram<REGS>, at: u16, byte: u8) -> u16
+pub fn position_by<const REGS: usize>(ram: &Ram<REGS>, at: u16, byte: u8) -> u16
     requires sound { IsTrue (is_sound ram.now.registers) }
     requires inside { at < byte_count ram.now.registers }
     requires byte { byte ≡ program_byte ram.now.registers at }
@@ -419,7 +458,7 @@ fn position_past_nulls<const REGS: usize>(ram: &Ram<REGS>, at: u16) -> u16
 /// The short line that stands at a position itself, in front of `.END.`, and the position of the line behind it, or the byte behind
 /// it where no line follows. `None` where other lines stand there, nulls, or bytes that are no line.
 #[inline(always)]
-pub fn short_line_at<const REGS: usize>(ram: &Ram<REGS>, at: u16) -> Option<(ShortLine, u16)>
+pub fn short_line<const REGS: usize>(ram: &Ram<REGS>, at: u16) -> Option<(ShortLine, u16)>
     requires { IsTrue (is_sound ram.now.registers) }
     ensures some { IfSome result (λ found. HasShort ram.now.registers at found.0 found.1) }
     ensures none { IfNone result (HasNoShort ram.now.registers at) }
@@ -431,7 +470,7 @@ pub fn short_line_at<const REGS: usize>(ram: &Ram<REGS>, at: u16) -> Option<(Sho
         return None;
     }
     let (first, second, third, fourth) = four_bytes(ram, at);
-    match short_line(first, second, third) {
+    match short_line_of(first, second, third) {
         Some((line, size)) => {
             let behind = at + size;
             if behind > last {

@@ -43,7 +43,7 @@ use Rattle.h41_xrom.specs.CalculatorLaws.{KeyIsDetermined}
 use Rattle.h41_xrom.specs.KeyActions.{Acts, BeginsNumber, Carries, ChangesNumber, Edits, HasFlags, IsPlace, IsStoredAs, KeyMakes}
 use Rattle.h41_xrom.specs.KeyActions.{KeyOutcome, Leaves, StoredElsewhere, StoredFunction, StoredName, StoresLine, after_outcome}
 use Rattle.h41_xrom.specs.KeyActions.{edit_effect, flags_at, is_final, key_refusal, line_effect, press_of, puts_end, with_key_told}
-use Rattle.h41_xrom.specs.KeyActions.{with_line_begun, with_line_changed}
+use Rattle.h41_xrom.specs.KeyActions.{with_number_begun, with_number_changed}
 use Rattle.h41_xrom.specs.declared.lines.LineSource.{LineSource}
 use Rattle.h41_xrom.specs.declared.lines.LineSource.TheVariants as sources
 use Rattle.h41_xrom.specs.declared.refusal.CalculatorRefusal.{CalculatorRefusal}
@@ -70,13 +70,13 @@ module _ (same_value : ValuesAreDetermined) where
   same_beginning : (text : List Character) (machine : Machine) (a b : Made) → BeginsNumber text machine a → BeginsNumber text machine b
       → a ≡ b
   same_beginning text machine a b (p, p_computes, p_is) (q, q_computes, q_is) =
-      p_is ∙ ap (λ (of : List ℕ). Ok (Leaves (with_line_begun machine of))) (same_written text machine.memory p q p_computes q_computes)
+      p_is ∙ ap (λ (of : List ℕ). Ok (Leaves (with_number_begun machine of))) (same_written text machine.memory p q p_computes q_computes)
       ∙ sym q_is
 
   same_change : (text : List Character) (machine : Machine) (a b : Made) → ChangesNumber text machine a → ChangesNumber text machine b
       → a ≡ b
   same_change text machine a b (p, p_computes, p_is) (q, q_computes, q_is) =
-      p_is ∙ ap (λ (of : List ℕ). Ok (Leaves (with_line_changed machine of))) (same_written text machine.memory p q p_computes q_computes)
+      p_is ∙ ap (λ (of : List ℕ). Ok (Leaves (with_number_changed machine of))) (same_written text machine.memory p q p_computes q_computes)
       ∙ sym q_is
 
 -- where the shown line stands

@@ -1,44 +1,21 @@
 -- Where the shown line stands, as the keyboard needs to know it.
-use Rattle.std.proofs.Common.{◌≡◌, ℕ, Bool, true, false, ◌||◌, List, [], Ok, Err, refl, sym, ap, subst, ◌∙◌}
+use Rattle.std.proofs.Common.{◌≡◌, ℕ, Bool, true, false, ◌||◌, [], Err, refl, sym, ap, subst, ◌∙◌}
 use Rattle.h41_focal.specs.LineStep.{Machine}
 use Rattle.h41_keys.specs.declared.input.Place.TheVariants as places
-use Rattle.h41_pages.specs.Addresses.{offset_of, page_of}
-use Rattle.h41_pages.specs.FunctionTables.{code_of}
 use Rattle.h41_pages.specs.PageMap.{PageMap}
-use Rattle.h41_positions.specs.PageLines.{IsFirstLine}
-use Rattle.h41_positions.specs.Positions.{placed_in}
 use Rattle.h41_positions.specs.declared.position.Position.{Position}
 use Rattle.h41_positions.specs.declared.position.Position.TheVariants.{Page}
-use Rattle.h41_program.specs.GivenLines.{BytesHaveFirst, BytesHaveNone}
-use Rattle.h41_program.specs.Lines.{is_final_end}
-use Rattle.h41_program.specs.declared.given.Taken.{Taken}
-use Rattle.h41_program.specs.declared.listed_line.ListedLine.{ListedLine}
 use Rattle.h41_program.specs.declared.refusal.ProgramRefusal.TheVariants.{BrokenProgram}
 use Rattle.h41_ram.specs.RegisterMap.{RegisterMap, is_sound}
 use Rattle.h41_xrom.specs.KeyActions.{IsPlace}
 use Rattle.h41_xrom.specs.private.PrivateCalls.{IsFinalAt, PutsEnd}
 
--- a line stands at an address of a page
-pub final_there : (pages : PageMap) (address : ℕ) (code : List ℕ) (taken : Taken) (final : Bool) → code ≡ code_of pages (page_of address)
-    → BytesHaveFirst code (offset_of address) taken → final ≡ is_final_end taken.line → IsFinalAt pages address final
-final_there pages address code taken final own has is memory =
-    let first : ListedLine = record { position = taken.position; line = taken.line } in
-    let there = subst (λ (of : List ℕ). IsFirstLine of (offset_of address) first) own has.first in
-    (Ok (placed_in (page_of address) first), (Ok first, there, refl), is)
-
--- and none does
-pub none_there : (pages : PageMap) (address : ℕ) (code : List ℕ) (final : Bool) → code ≡ code_of pages (page_of address)
-    → BytesHaveNone code (offset_of address) → final ≡ false → IsFinalAt pages address final
-none_there pages address code final own has is memory =
-    let there = subst (λ (of : List ℕ). BytesHaveNone of (offset_of address)) own has in
-    (Err BrokenProgram, (Err BrokenProgram, (refl, there), refl), is)
-
--- so the shown line stands in a page
+-- the shown line stands in a page
 pub place_there : (pages : PageMap) (from machine : Machine) (address : ℕ) (final kept puts : Bool) → from ≡ machine
     → from.focal.position ≡ Page address → IsFinalAt pages address final → kept ≡ (from.focal.at_line_00 || final)
     → PutsEnd from.memory puts → IsPlace pages machine machine.focal.position (places.Page kept puts)
 place_there pages from machine address final kept puts same is finals keeps ends =
-    let (first, stands, final_is) = finals from.memory in
+    let (first, stands, final_is) = finals in
     let (last, answers, puts_is) = ends in
     let kept_is = keeps ∙ ap (λ (of : Bool). from.focal.at_line_00 || of) final_is in
     let there : IsPlace pages from from.focal.position (places.Page kept puts) =

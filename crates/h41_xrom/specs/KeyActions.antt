@@ -136,8 +136,8 @@ abbrev pub taken_in : RegisterMap → Bool → List ℕ → RegisterMap
 taken_in memory lift register =
     with_taken memory 0 register (takes_of (coming_in (compute X)) lift) memory
 
-abbrev pub with_line_begun : Machine → List ℕ → Machine
-with_line_begun machine register =
+abbrev pub with_number_begun : Machine → List ℕ → Machine
+with_number_begun machine register =
     with_lift true (with_memory
     (with_flag (taken_in machine.memory machine.focal.lift register) number_entry true) machine)
 
@@ -145,16 +145,16 @@ abbrev pub BeginsNumber : List Character → Machine → Result KeyOutcome Calcu
 BeginsNumber text machine effect =
     (register : List ℕ)
     × Computes (Written text) machine.memory 0 (Ok register)
-    × (effect ≡ Ok (Leaves (with_line_begun machine register)))
+    × (effect ≡ Ok (Leaves (with_number_begun machine register)))
 
-abbrev pub with_line_changed : Machine → List ℕ → Machine
-with_line_changed machine register = with_memory (taken_in machine.memory false register) machine
+abbrev pub with_number_changed : Machine → List ℕ → Machine
+with_number_changed machine register = with_memory (taken_in machine.memory false register) machine
 
 abbrev pub ChangesNumber : List Character → Machine → Result KeyOutcome CalculatorRefusal → Type 0
 ChangesNumber text machine effect =
     (register : List ℕ)
     × Computes (Written text) machine.memory 0 (Ok register)
-    × (effect ≡ Ok (Leaves (with_line_changed machine register)))
+    × (effect ≡ Ok (Leaves (with_number_changed machine register)))
 
 -- ALPHA: its 24 bytes end with what it holds, behind nulls
 abbrev pub with_text : RegisterMap → List ℕ → RegisterMap

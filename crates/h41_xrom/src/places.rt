@@ -7,9 +7,9 @@ ghost use Rattle.h41_xrom.specs.private.PrivateCalls.{IsFinalAt, PutsEnd};
 
 use h41_focal::Machine;
 use h41_keys::Place;
-use h41_pages::{PAGE_WORDS, Pages};
-use h41_positions::Position;
-use h41_program::{is_final_end, is_last_open, line_in};
+use h41_pages::Pages;
+use h41_positions::{Position, line_in_page};
+use h41_program::{is_final_end, is_last_open};
 use h41_ram::Ram;
 
 /// Where the shown line stands: in memory, or in a page, with what keys would do there.
@@ -33,11 +33,10 @@ pub fn shown_place<const REGS: usize>(machine: &Machine<REGS>, pages: &Pages) ->
 fn is_final_at(pages: &Pages, address: u16) -> bool
     ensures { IsFinalAt pages.now address result }
 {
-    let at = usize::from(address);
-    match line_in(pages.code(at / PAGE_WORDS), at % PAGE_WORDS) {
-        Some(taken) => is_final_end(taken.line),
-        None => false,
-    }
+    let Ok(first) = line_in_page(pages, address) else {
+        return false;
+    };
+    is_final_end(first.line)
 }
 
 /// Whether `GTO . .` puts an END into memory: the last program has lines and no END of its own. It puts none where memory is not

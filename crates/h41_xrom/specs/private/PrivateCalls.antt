@@ -17,9 +17,8 @@ use Rattle.h41_keys.specs.declared.action.Action.TheVariants as actions
 use Rattle.h41_keys.specs.declared.input.Input.{Input}
 use Rattle.h41_keys.specs.declared.key.Key.{Key}
 use Rattle.h41_pages.specs.PageMap.{PageMap}
-use Rattle.h41_positions.specs.Positions.{LineAt}
+use Rattle.h41_positions.specs.Positions.{LineInPage}
 use Rattle.h41_positions.specs.declared.position.PlacedLine.{PlacedLine}
-use Rattle.h41_positions.specs.declared.position.Position.TheVariants.{Page}
 use Rattle.h41_program.specs.LastProgram.{open_in}
 use Rattle.h41_program.specs.Lines.{is_inner}
 use Rattle.h41_program.specs.ProgramLines.{AnswersOf}
@@ -120,9 +119,8 @@ Accepts key input action s t refusal =
 -- whether the line at an address of a page is .END., whatever memory holds
 abbrev pub IsFinalAt : PageMap → ℕ → Bool → Type 0
 IsFinalAt pages address final =
-    (memory : RegisterMap)
-    → (first : Result PlacedLine ProgramRefusal)
-    × LineAt pages memory (Page address) first
+    (first : Result PlacedLine ProgramRefusal)
+    × LineInPage pages address first
     × (final ≡ spec.is_final first)
 
 -- whether GTO . . puts an END into memory

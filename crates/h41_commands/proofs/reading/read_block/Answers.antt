@@ -1,4 +1,4 @@
-use Rattle.std.proofs.Common.{◌≡◌, ℕ, Bool, false, List, Ok, Some, ap, refl, rules, subst, sym, ◌∙◌}
+use Rattle.std.proofs.Common.{◌≡◌, ℕ, Bool, Err, false, List, Ok, Some, ap, refl, rules, subst, sym, ◌∙◌}
 use Rattle.std.specs.Result.{result_ok}
 use Rattle.h41_ends.specs.InputLines.{MayFollow}
 use Rattle.h41_commands.specs.Commands.{command_of, kind_of}
@@ -6,6 +6,8 @@ use Rattle.h41_commands.proofs.ItemLines.{block_given, block_open, block_refused
 use Rattle.h41_commands.specs.BlockReading.{SpellBlock}
 use Rattle.h41_lines.specs.Words.{words_of}
 use Rattle.h41_commands.specs.declared.fault.ItemFault.{ItemFault}
+use Rattle.h41_commands.specs.declared.item.Item.TheVariants.{Refused}
+use Rattle.h41_commands.specs.declared.refusal.LineRefusal.{LineRefusal}
 use Rattle.h41_commands.specs.ItemReading.{is_unended}
 use Rattle.h41_commands.proofs.ParsedCommands.{never_unended}
 use Rattle.h41_commands.proofs.reading.read_block.Goals as goal
@@ -29,6 +31,10 @@ pub returns-clause-item : goal.returns-clause-item
 returns-clause-item g c =
     let is = sym (c.parse-command.ensures ∙ ap (λ (line : List ℕ). command_of (words_of line)) c.line.ensures) in
     let taken = rw c.in-Some.is at c.in_ok-block.ensures.block in
+    let refused : (why : LineRefusal) → c.match-command.result ≡ Refused why → c.parse-command.result ≡ Err why
+    → SpellBlock {E = ItemFault} c.parse-command.result (Ok c.match-command.result) c.read_lines.new.input.at_end taken.lines =
+    λ why refuses parsed.
+    rw refuses (λ more may. block_refused _ taken.lines c.in-Some.block c.parse-command.result why more taken.taken parsed) in
     let spelled : SpellBlock {E = ItemFault} c.parse-command.result (Ok c.match-command.result) c.read_lines.new.input.at_end taken.lines =
     elim c.match-command.branch [
       | in-Ok w ↦
@@ -38,24 +44,12 @@ returns-clause-item g c =
           (λ more may.
           block_given _ taken.lines c.in-Some.block c.parse-command.result w.in-Ok.command more taken.taken w.in-Ok.is
           (c.of_kind-block.ensures.kind_is ∙ kind))
-      | in-Err+in-Words-1 w ↦
-          rw w.result-is
-          (λ more may. block_refused _ taken.lines c.in-Some.block c.parse-command.result w.in-Err.refusal more taken.taken w.in-Err.is)
-      | in-Err+in-Image-1 w ↦
-          rw w.result-is
-          (λ more may. block_refused _ taken.lines c.in-Some.block c.parse-command.result w.in-Err.refusal more taken.taken w.in-Err.is)
-      | in-Err+in-Source-1 w ↦
-          rw w.result-is
-          (λ more may. block_refused _ taken.lines c.in-Some.block c.parse-command.result w.in-Err.refusal more taken.taken w.in-Err.is)
-      | in-Err+in-Bytes-1 w ↦
-          rw w.result-is
-          (λ more may. block_refused _ taken.lines c.in-Some.block c.parse-command.result w.in-Err.refusal more taken.taken w.in-Err.is)
-      | in-Err+in-Text-1 w ↦
-          rw w.result-is
-          (λ more may. block_refused _ taken.lines c.in-Some.block c.parse-command.result w.in-Err.refusal more taken.taken w.in-Err.is)
-      | in-Err+in-Nothing-1 w ↦
-          rw w.result-is
-          (λ more may. block_refused _ taken.lines c.in-Some.block c.parse-command.result w.in-Err.refusal more taken.taken w.in-Err.is)
+      | in-Err+in-Words-1 w ↦ refused w.in-Err.refusal w.result-is w.in-Err.is
+      | in-Err+in-Image-1 w ↦ refused w.in-Err.refusal w.result-is w.in-Err.is
+      | in-Err+in-Source-1 w ↦ refused w.in-Err.refusal w.result-is w.in-Err.is
+      | in-Err+in-Bytes-1 w ↦ refused w.in-Err.refusal w.result-is w.in-Err.is
+      | in-Err+in-Text-1 w ↦ refused w.in-Err.refusal w.result-is w.in-Err.is
+      | in-Err+in-Nothing-1 w ↦ refused w.in-Err.refusal w.result-is w.in-Err.is
     ] in
     rw is (record { lines = taken.lines; reads = taken.reads; spelled = spelled })
 

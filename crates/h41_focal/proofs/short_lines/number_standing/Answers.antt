@@ -10,4 +10,4 @@ pub returns-in-Some : goal.returns-in-Some
 returns-in-Some g c = λ pages.
     subst (λ (machine : Machine). StandsNumber pages machine c.in-Some.number (Memory c.in-Some.next)) (ap machine_of c.machine.view_is)
     (number_stands pages (machine_with c.machine.inside.ram.registers c.machine.inside.focal.state) c.in-Memory.at c.in-Some.number
-    c.in-Some.next (search rules) (search rules) c.in-Some.ensures)
+    c.in-Some.next (search rules) (search rules) c.in-Some.ensures.some)

@@ -1,7 +1,7 @@
-use Rattle.std.proofs.Common.{◌≡◌, ◌+◌, ◌-◌, ◌%◌, ◌/◌, ◌<◌, ◌≤◌, ◌^◌, ℕ}
+use Rattle.std.proofs.Common.{◌≡◌, ◌-◌, ◌<◌, ◌≤◌, ◌^◌, ℕ}
 use Rattle.h41_codes.specs.Heads.{IsIn}
+use Rattle.h41_program.specs.ByteReading.{ReadsAt}
 use Rattle.h41_program.specs.ProgramBytes.{program_byte}
-use Rattle.h41_ram.specs.RegisterMap.{curtain_of, register_at}
 use Rattle.h41_numbers.specs.private.PlainReading.{bytes_from, no_digits, with_codes}
 use Rattle.h41_numbers.proofs.plain.plain_digits.Given as goal
 
@@ -14,9 +14,5 @@ invariant-loop-position g l = record {
   size : l.digits.count ≤ l.position - l.at;
   below : l.digits.number < 10 ^ l.digits.count;
   places : l.digits.places ≤ l.digits.count;
-  -- how many bytes of the register follow
-  few : l.left ≤ 7;
-  ends : (l.position + l.left) % 7 ≡ 0;
-  -- the register of the next byte, where that is not its first
-  held : (l.left ≡ 0 → ⊥) → l.register ≡ register_at l.ram.registers (curtain_of l.ram.registers - 1 - l.position / 7);
+  reader : ReadsAt l.ram.registers l.position l.reader;
 }

@@ -1,6 +1,5 @@
-use Rattle.std.proofs.Common.{List, ℕ, Ok, Result, sym, subst}
+use Rattle.std.proofs.Common.{ℕ, Ok, Result, sym, subst}
 use Rattle.h41_codes.specs.declared.line.Line.{Line}
-use Rattle.h41_pages.specs.FunctionTables.{code_of}
 use Rattle.h41_positions.specs.Positions.{LineAndNext}
 use Rattle.h41_positions.specs.declared.position.Position.{Position}
 use Rattle.h41_positions.specs.declared.position.Position.TheVariants.{Page}
@@ -14,17 +13,18 @@ returns-in-Ok c memory =
     let pages = c.args.pages.now in
     let page = c.place_of-page.result.0 in
     let offset = c.place_of-page.result.1 in
-    let both = subst (λ (code : List ℕ). AnswersBoth code offset c.line_and_next.result) c.code.ensures.code c.line_and_next.ensures in
-    let is = subst (λ (r : Result (Line × ℕ) ProgramRefusal). AnswersBoth (code_of pages page) offset r) c.in-Ok.is both in
+    let code = c.code.result.now in
+    let is = subst (λ (r : Result (Line × ℕ) ProgramRefusal). AnswersBoth code offset r) c.in-Ok.is c.line_and_next.ensures in
     subst (λ (p : Position). LineAndNext pages memory (Page c.args.address) (Ok (c.in-Ok.line, p))) (sym c.in_page.ensures)
-    (both_there pages memory c.args.address page offset c.place_of-page.ensures.page c.place_of-page.ensures.offset c.in-Ok.line
-    c.in-Ok.behind is)
+    (both_there pages memory c.args.address page offset code c.place_of-page.ensures.page c.place_of-page.ensures.offset
+    c.code.ensures.code c.in-Ok.line c.in-Ok.behind is)
 
 pub returns-in-Err : goal.returns-in-Err
 returns-in-Err c memory =
     let pages = c.args.pages.now in
     let page = c.place_of-page.result.0 in
     let offset = c.place_of-page.result.1 in
-    let both = subst (λ (code : List ℕ). AnswersBoth code offset c.line_and_next.result) c.code.ensures.code c.line_and_next.ensures in
-    let is = subst (λ (r : Result (Line × ℕ) ProgramRefusal). AnswersBoth (code_of pages page) offset r) c.in-Err.is both in
-    none_there pages memory c.args.address page offset c.place_of-page.ensures.page c.place_of-page.ensures.offset c.in-Err.refusal is
+    let code = c.code.result.now in
+    let is = subst (λ (r : Result (Line × ℕ) ProgramRefusal). AnswersBoth code offset r) c.in-Err.is c.line_and_next.ensures in
+    none_there pages memory c.args.address page offset code c.place_of-page.ensures.page c.place_of-page.ensures.offset
+    c.code.ensures.code c.in-Err.refusal is

@@ -1,7 +1,7 @@
-use Rattle.std.proofs.Common.{◌≡◌, ◌+◌, ◌-◌, ◌%◌, ◌≤◌, map, length}
+use Rattle.std.proofs.Common.{◌≡◌, ◌-◌, map, length}
 use Rattle.std.specs.List.{range_with_len}
+use Rattle.h41_program.specs.ByteReading.{ReadsAt}
 use Rattle.h41_program.specs.ProgramBytes.{program_byte}
-use Rattle.h41_program.specs.private.Reading.{register_holding}
 use Rattle.h41_program.proofs.reading.window.Given as goal
 
 -- the bytes so far
@@ -9,9 +9,5 @@ abbrev pub invariant-loop-position : goal.invariant-loop-position
 invariant-loop-position g l = record {
   items : l.window.items ≡ map (program_byte l.ram.registers) (range_with_len l.at (l.position - l.at));
   count : length l.window.items ≡ l.position - l.at;
-  -- how many bytes of the register follow
-  few : l.left ≤ 7;
-  ends : (l.position + l.left) % 7 ≡ 0;
-  -- the register of the next byte, where that is not its first
-  held : (l.left ≡ 0 → ⊥) → l.register ≡ register_holding l.ram.registers l.position;
+  reader : ReadsAt l.ram.registers l.position l.reader;
 }

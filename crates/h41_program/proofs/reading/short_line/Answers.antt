@@ -1,8 +1,8 @@
 use Rattle.std.proofs.Common.{rules, arith, ℕ, ◌+◌, ◌≡◌, ◌∷◌, [], ◌∙◌, ap}
 use Rattle.h41_program.specs.ProgramBytes.{program_byte}
 use Rattle.h41_program.proofs.ShortReads.{no_room, no_short, short_first, size_most}
-use Rattle.h41_program.proofs.reading.short_line_at.Goals as goal
-use Rattle.h41_program.proofs.reading.short_line_at.Goals.{in-1, in-2, in_default}
+use Rattle.h41_program.proofs.reading.short_line.Goals as goal
+use Rattle.h41_program.proofs.reading.short_line.Goals.{in-1, in-2, in_default}
 
 pub returns-then-behind-last-clause-none : goal.returns-then-behind-last-clause-none
 returns-then-behind-last-clause-none g c =

@@ -213,13 +213,6 @@ pub none_found : (memory : RegisterMap) (at last : ℕ) → last ≡ final_posit
 none_found memory at last last_is count none text behind stands =
     none _ behind _ (plain_ends memory at last text behind last_is count stands)
 
--- none stands at the final bytes or behind them
-pub none_at_end : (memory : RegisterMap) (at : ℕ) → final_position memory ≤ at → HasNoNumber memory at
-none_at_end memory at end text behind stands =
-    let onward = stands.first.onward in
-    let inside = stands.inside in
-    omega (arith, end, onward, inside)
-
 -- where so far all bytes are those of digits and radix marks, and these digits, no such number ends
 module _ (memory : RegisterMap) (at last position : ℕ) (so_far : PlainDigits) (from : at ≤ position)
     (each : (k : ℕ) → at ≤ k → k < position → IsIn 0x10 0x1B (program_byte memory k))

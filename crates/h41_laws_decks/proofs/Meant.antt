@@ -1,5 +1,6 @@
 -- What the lines of a program's block mean.
-use Rattle.std.proofs.Common.{◌≡◌, ◌≢◌, ◌⊎◌, ℕ, zero, suc, ◌<◌, ◌≤◌, List, [], ◌∷◌, ◌++◌, Option, Some, None, Result, Ok, Err, length, slice_index}
+use Rattle.std.proofs.Common.{◌≡◌, ◌≢◌, ◌⊎◌, ℕ, zero, suc, ◌<◌, ◌≤◌, List, [], ◌∷◌, ◌++◌, Option, Some, None, Result, Ok, Err, length}
+use Rattle.std.proofs.Common.{slice_index}
 use Rattle.std.proofs.Common.{inl, inr, refl, sym, ap, ◌∙◌, subst, drop, arith}
 use Rattle.std.specs.Option.{option_map}
 use Rattle.std.proofs.lemmas.Bool.{cases_eq, cases_lt}
@@ -13,8 +14,7 @@ use Rattle.h41_codes.specs.declared.line.Line.TheVariants.{BranchIndirect, Short
 use Rattle.h41_codes.specs.declared.line.Operand.{Operand}
 use Rattle.h41_codes.specs.declared.line.Operand.TheVariants.{Direct, Indirect}
 use Rattle.h41_commands.specs.Commands.{and_then}
-use Rattle.h41_commands.specs.ProgramBlocks.{IsBadText, Means, SayLines, SaysLine, TextSpells, texts_of, with_more}
-use Rattle.h41_commands.specs.declared.commands.ProgramKind.{ProgramKind}
+use Rattle.h41_commands.specs.ProgramBlocks.{IsBadText, SayLines, SaysLine, TextSpells, texts_of, with_more}
 use Rattle.h41_commands.specs.declared.commands.ProgramKind.TheVariants as kinds
 use Rattle.h41_commands.specs.declared.refusal.LineRefusal.{LineRefusal}
 use Rattle.h41_commands.specs.declared.refusal.LineRefusal.TheVariants.{BadText}
@@ -25,6 +25,7 @@ use Rattle.h41_text.specs.LineText.{line_text}
 use Rattle.h41_text.specs.TextLaws.{OneLineOfText}
 use Rattle.h41_text.specs.private.TextParts.{candidate_line}
 use Rattle.h41_laws_numbers.specs.HasOne.{HasOne}
+use Rattle.h41_laws_decks.specs.DeckAnswers.{ProgramBlockMeansOne}
 use Rattle.h41_laws_decks.proofs.Said.{given}
 
 -- a fact that holds or does not
@@ -187,7 +188,7 @@ module _ (once : CanonicalOnce) where
         one_said number byte rest texts (line_either (byte ∷ rest)) (all_said (suc number) texts)
 
     -- what a block means
-    pub one_meaning : (kind : ProgramKind) (values : List ℕ) → HasOne (Means kind values)
+    pub one_meaning : ProgramBlockMeansOne
     one_meaning kinds.Bytes values = given (Ok values)
     one_meaning kinds.Text source =
         let said = all_said 1 (texts_of source) in

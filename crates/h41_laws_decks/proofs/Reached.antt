@@ -1,5 +1,6 @@
 -- The states that decks come to, and what their commands rest on there.
-use Rattle.std.proofs.Common.{◌≡◌, ℕ, Bool, zero, suc, ◌≤◌, List, [], ◌∷◌, ◌++◌, Option, Some, None, Result, Ok, Err, length, flat_map, refl, sym, subst, ap, ◌∙◌}
+use Rattle.std.proofs.Common.{◌≡◌, ℕ, Bool, zero, suc, ◌≤◌, List, [], ◌∷◌, ◌++◌, Option, Some, None, Result, Ok, Err, length, flat_map}
+use Rattle.std.proofs.Common.{refl, sym, subst, ap, ◌∙◌}
 use Rattle.std.specs.Prelude.{MatchOption, option_map}
 use Rattle.h41_commands.specs.Items.{Spelled, commands}
 use Rattle.h41_commands.specs.declared.commands.Command.{Command}
@@ -7,14 +8,13 @@ use Rattle.h41_commands.specs.declared.commands.Command.TheVariants as named
 use Rattle.h41_commands.specs.declared.commands.ProgramKind.{ProgramKind}
 use Rattle.h41_commands.specs.declared.commands.ProgramKind.TheVariants.{Bytes, Text}
 use Rattle.h41_commands.specs.declared.refusal.LineRefusal.{LineRefusal}
-use Rattle.h41_commands.specs.ProgramBlocks.{Means}
-use Rattle.h41_debug.proofs.Tracing.{traces_make}
 use Rattle.h41_debug.specs.Bench.{BenchState, PressesInTurn, Steps, StepsInto, start, with_calculator, with_set, without_set}
-use Rattle.h41_debug.specs.BenchLaws.{PressesAreDetermined}
+use Rattle.h41_debug.specs.BenchLaws.{PressesAreDetermined, TracesAreSteps}
 use Rattle.h41_deck.specs.Answers.{Answer, printed_text}
 use Rattle.h41_deck.specs.Deck.{AnswersInTurn, Deck, EndedText, FirstTextIsFront, commands_ended}
 use Rattle.h41_deck.specs.Pages.{of_plug, of_unplug}
-use Rattle.h41_deck.specs.Replies.{ItemReply, LoadsBytes, PlugsWords, Reply, block_refusal, set_refusal, state_unless, unset_refusal, with_words}
+use Rattle.h41_deck.specs.Replies.{ItemReply, LoadsBytes, PlugsWords, Reply, block_refusal, set_refusal, state_unless, unset_refusal}
+use Rattle.h41_deck.specs.Replies.{with_words}
 use Rattle.h41_deck.specs.declared.refusal.Refusal.{Refusal}
 use Rattle.h41_deck.specs.declared.refusal.Refusal.TheVariants.{Calculator}
 use Rattle.h41_keys.specs.declared.key.Key.{Key}
@@ -24,7 +24,7 @@ use Rattle.h41_pages.specs.PageMap as pages
 use Rattle.h41_xrom.specs.Calculator.{CalculatorState, after_call, after_reset, call_refusal, with_page, without_page}
 use Rattle.h41_xrom.specs.KeyActions.{Presses}
 use Rattle.h41_xrom.specs.declared.refusal.CalculatorRefusal.{CalculatorRefusal}
-use Rattle.h41_laws_decks.specs.DeckAnswers.{LoadRestsOn, RestsOn}
+use Rattle.h41_laws_decks.specs.DeckAnswers.{LoadRestsOn, ProgramBlockMeansOne, RestsOn}
 use Rattle.h41_laws_decks.specs.DeckTexts.{AnswersHaveOneList, DeckHasOneText, InTurnRestsOn, ItemRestsOn}
 use Rattle.h41_laws_decks.specs.WholeBenches.{EachDeckHasOneText, EachFrontHasOneText, FirstTextHasRest, IsWholeBench, ReplyLeavesWhole}
 use Rattle.h41_laws_decks.specs.WholeBenches.{WholeBenchRests}
@@ -118,7 +118,8 @@ module _ (presses : PressLeavesWhole) where
 
 -- REPLIES
 module _ (steps : StepLeavesWhole) (presses : PressLeavesWhole) (loads : LoadLeavesWhole) (sizes : SizeLeavesWhole)
-    (calls : CallLeavesWhole) (resets : ResetLeavesWhole) (plugs : PlugLeavesWhole) (unplugs : UnplugLeavesWhole) where
+    (calls : CallLeavesWhole) (resets : ResetLeavesWhole) (plugs : PlugLeavesWhole) (unplugs : UnplugLeavesWhole)
+    (traces : TracesAreSteps) where
   plugged : (page bank : ℕ) (writable : Bool) (words : Result (List ℕ) LineRefusal) (s t : BenchState) (answer : Answer) → IsWholeBench s
       → PlugsWords page bank writable words s t answer → IsWholeBench t
   plugged page bank writable (Ok words) s t answer whole is =
@@ -150,7 +151,7 @@ module _ (steps : StepLeavesWhole) (presses : PressLeavesWhole) (loads : LoadLea
   replied (named.Step count) values s t answer whole is = steps_whole steps count s t is.0 whole is.1
   replied (named.Run limit) values s t answer whole is = steps_whole steps is.0 s t None whole is.2.steps
   replied (named.Trace count) values s t answer whole is =
-      steps_whole steps count s t is.1 whole (traces_make count s t is.0 is.1 is.2)
+      steps_whole steps count s t is.1 whole (traces count s t is.0 is.1 is.2)
   replied (named.Break location) values s t answer whole is =
       subst IsWholeBench (sym is.0) (unless_whole (set_refusal s location) (with_set location s) s whole (λ none. whole))
   replied (named.Unbreak location) values s t answer whole is =
@@ -163,7 +164,7 @@ module _ (steps : StepLeavesWhole) (presses : PressLeavesWhole) (loads : LoadLea
   reply_whole (Err refusal) s t answer whole is = subst IsWholeBench (sym is.0) whole
 
 -- WHAT COMMANDS REST ON
-module _ (steps : StepLeavesWhole) (meant : (kind : ProgramKind) (values : List ℕ) → HasOne (Means kind values))
+module _ (steps : StepLeavesWhole) (meant : ProgramBlockMeansOne)
     (keys : (keys : List Key) (s : BenchState) → IsWholeBench s → HasOne (KeysLeave keys s)) where
   load_rests : (kind : ProgramKind) (values : List ℕ) → LoadRestsOn kind values
   load_rests Bytes values = tt

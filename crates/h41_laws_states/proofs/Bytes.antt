@@ -1,13 +1,15 @@
 -- Bytes, and the registers that they make.
-use Rattle.std.proofs.Common.{◌≡◌, ℕ, zero, suc, ◌+◌, ◌-◌, ◌*◌, ◌/◌, ◌%◌, ◌^◌, ◌<◌, ◌≤◌, Bool, true, false, List, [], ◌∷◌, ◌++◌, map, length}
-use Rattle.std.proofs.Common.{take, drop, replicate, slice_index, if◌then◌else◌, Option, Some, None, refl, arith}
-use Rattle.std.proofs.Common.{length-append, length-drop}
+use Rattle.std.proofs.Common.{◌≡◌, ℕ, zero, suc, ◌+◌, ◌-◌, ◌*◌, ◌/◌, ◌%◌, ◌^◌, ◌<◌, Bool, true, false, List, [], ◌∷◌, ◌++◌, map}
+use Rattle.std.proofs.Common.{length}
+use Rattle.std.proofs.Common.{drop, replicate, slice_index, if◌then◌else◌, Option, Some, None, refl, arith}
+use Rattle.std.proofs.Common.{length-append}
 use Rattle.std.specs.Prelude.{◌==◌, nat_lt, nat_le, All, reverse, ℤ, unsigned_abs}
 use Rattle.std.specs.Fmt.{decimal, digit_glyph, digits, digits_onto}
 use Rattle.std.proofs.lemmas.List.{get_or-reverse, length-reverse}
-use Rattle.std.proofs.lemmas.List.Elements.{All-append, All-cons, All-drop, All-from_get_or, All-map, All-nil, All-replicate, All-tail, All-head, All-take}
+use Rattle.std.proofs.lemmas.List.Elements.{All-append, All-cons, All-drop, All-from_get_or, All-map, All-nil, All-replicate, All-tail}
+use Rattle.std.proofs.lemmas.List.Elements.{All-head}
 use Rattle.h41_codes.specs.ByteGrammar.{IsBytes}
-use Rattle.h41_decimal.specs.Holding.{Holding, Number, Text, Other, after_nulls, holding, text_in}
+use Rattle.h41_decimal.specs.Holding.{Holding, Text, Other, after_nulls, holding, text_in}
 use Rattle.h41_decimal.specs.Signs.{sign_of}
 use Rattle.h41_decimal.specs.declared.sign.Sign.{Sign}
 use Rattle.h41_decimal.specs.declared.sign.Sign.TheVariants.{Plus, Minus}
@@ -88,7 +90,8 @@ Bytes register = bytes_of register
 
 pub alpha_bytes : (memory : RegisterMap) → HoldsRegisters memory → AreBytes (alpha_of memory)
 alpha_bytes memory holds =
-    let p = All-drop IsByte 4 (Bytes (p_of memory)) (bytes_small (p_of memory) (6 ∷ 5 ∷ 4 ∷ 3 ∷ 2 ∷ 1 ∷ 0 ∷ []) (held_at memory p_address holds)) in
+    let all = bytes_small (p_of memory) (6 ∷ 5 ∷ 4 ∷ 3 ∷ 2 ∷ 1 ∷ 0 ∷ []) (held_at memory p_address holds) in
+    let p = All-drop IsByte 4 (Bytes (p_of memory)) all in
     let o = bytes_small (o_of memory) (6 ∷ 5 ∷ 4 ∷ 3 ∷ 2 ∷ 1 ∷ 0 ∷ []) (held_at memory o_address holds) in
     let n = bytes_small (n_of memory) (6 ∷ 5 ∷ 4 ∷ 3 ∷ 2 ∷ 1 ∷ 0 ∷ []) (held_at memory n_address holds) in
     let m = bytes_small (m_of memory) (6 ∷ 5 ∷ 4 ∷ 3 ∷ 2 ∷ 1 ∷ 0 ∷ []) (held_at memory m_address holds) in
@@ -100,7 +103,8 @@ alpha_bytes memory holds =
 pub nulls_passed : (bytes : List ℕ) → AreBytes bytes → AreBytes (after_nulls bytes)
 nulls_passed [] all = all
 nulls_passed (byte ∷ bytes) all =
-    chosen AreBytes (byte == 0) (after_nulls bytes) (byte ∷ bytes) (λ null. nulls_passed bytes (All-tail IsByte byte bytes all)) (λ other. all)
+    chosen AreBytes (byte == 0) (after_nulls bytes) (byte ∷ bytes)
+    (λ null. nulls_passed bytes (All-tail IsByte byte bytes all)) (λ other. all)
 
 pub last_bytes : (bytes : List ℕ) → AreBytes bytes → AreBytes (last_24 bytes)
 last_bytes bytes all =

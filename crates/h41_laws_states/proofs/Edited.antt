@@ -1,8 +1,8 @@
 -- Keys in program mode leave memory as calculators have it.
-use Rattle.std.proofs.Common.{◌≡◌, ℕ, Bool, true, false, List, Option, Some, None, Result, Ok, Err, MatchBool, refl, sym, subst}
+use Rattle.std.proofs.Common.{◌≡◌, ℕ, List, Option, Some, None, Result, Ok, Err, sym, subst}
 use Rattle.h41_codes.specs.declared.line.Line.{Line}
 use Rattle.h41_editor.specs.Changes.{Changed, Deletes, DeletesAt, DeletesLine, Inserts, InsertsBefore, InsertsBy, Replaces, ReplacesAt}
-use Rattle.h41_editor.specs.Changes.{ShowsFront, ShowsNew, shown_in_front, showing_line}
+use Rattle.h41_editor.specs.Changes.{ShowsFront, ShowsNew, shown_in_front}
 use Rattle.h41_editor.specs.Moves.{EndsBy, GoesToEnd, ShowsAt, ShowsBefore, ShowsBeforeLine, ShowsBehind, ShowsEnd, ShowsInFront, ShowsNext}
 use Rattle.h41_editor.specs.Moves.{ShowsStart, is_last, shown_end}
 use Rattle.h41_editor.specs.declared.numbered.NumberedLine.{NumberedLine}
@@ -20,7 +20,6 @@ use Rattle.h41_program.specs.declared.editing.InFront.{InFront}
 use Rattle.h41_program.specs.declared.editing.InFront.TheVariants as fronts
 use Rattle.h41_program.specs.declared.listed_line.ListedLine.{ListedLine}
 use Rattle.h41_program.specs.declared.refusal.ProgramRefusal.{ProgramRefusal}
-use Rattle.h41_program.specs.declared.refusal.ProgramRefusal.TheVariants.{BrokenProgram}
 use Rattle.h41_ram.specs.RegisterMap.{RegisterMap}
 use Rattle.h41_laws_states.specs.WholeMemory.{IsWholeMemory}
 use Rattle.h41_laws_states.proofs.Lines.{matched}

@@ -1,6 +1,5 @@
 -- Lines that are carried out leave memory as calculators have it.
-use Rattle.std.proofs.Common.{◌≡◌, ℕ, Bool, true, false, List, [], Option, Some, None, Result, Ok, Err, MatchBool, refl, sym, subst, ap, ◌∙◌}
-use Rattle.std.specs.Prelude.{if◌then◌else◌, IsOkAnd}
+use Rattle.std.proofs.Common.{◌≡◌, ℕ, Bool, true, false, List, Option, Some, None, Result, Ok, Err, MatchBool, sym, subst}
 use Rattle.h41_codes.specs.ByteGrammar.{IsLine}
 use Rattle.h41_codes.specs.declared.functions.Function.{Function}
 use Rattle.h41_codes.specs.declared.line.Line.{Line}
@@ -10,9 +9,10 @@ use Rattle.h41_decimal.specs.declared.fault.DecimalFault.TheVariants.{Data, Rang
 use Rattle.h41_decimal.specs.declared.sign.Sign.{Sign}
 use Rattle.h41_decimal.specs.declared.ten.Ten.{Ten}
 use Rattle.h41_digits.specs.Register.{IsRegister}
-use Rattle.h41_focal.specs.Destinations.{Arrives, Destination, Halts, HasNoLabel, HasNoLine, Manner, Runs, Seeks, Stays, Stepped, Tells, Typed}
-use Rattle.h41_focal.specs.LineStep.{Applies, AppliesTo, AppliesWith, CarriesOut, ComputesIn, EntersLine, EntersWith, Ends, FailsIn, FailsLine}
-use Rattle.h41_focal.specs.LineStep.{FailsTyped, FailsWith, Left, Machine, PassesLine, PassesWith, Stands, StandsAt, StepsAs, StepsLine}
+use Rattle.h41_focal.specs.Destinations.{Arrives, Destination, Halts, HasNoLabel, HasNoLine, Manner, Runs, Seeks, Stays, Stepped, Tells}
+use Rattle.h41_focal.specs.Destinations.{Typed}
+use Rattle.h41_focal.specs.LineStep.{Applies, AppliesTo, AppliesWith, CarriesOut, ComputesIn, EntersWith, Ends, FailsIn}
+use Rattle.h41_focal.specs.LineStep.{FailsWith, Left, Machine, PassesWith, Stands, StepsAs, StepsLine}
 use Rattle.h41_focal.specs.LineStep.{TakesLine, TypesLine, Works, answer_of_showing, at_line, error_flag, left_by_fault, left_done}
 use Rattle.h41_focal.specs.LineStep.{left_failed, line_as, named_by, with_fault_caught, with_row}
 use Rattle.h41_focal.specs.Outcomes.{Answer}
@@ -31,16 +31,17 @@ use Rattle.h41_positions.specs.declared.position.Position.TheVariants.{Memory, P
 use Rattle.h41_program.specs.ProgramLines.{AnswersFirst}
 use Rattle.h41_program.specs.declared.listed_line.ListedLine.{ListedLine}
 use Rattle.h41_program.specs.declared.refusal.ProgramRefusal.{ProgramRefusal}
-use Rattle.h41_ram.specs.RegisterMap.{RegisterMap, flag_of, is_sound, zeros}
+use Rattle.h41_ram.specs.RegisterMap.{RegisterMap, flag_of, is_sound}
 use Rattle.h41_rows.specs.LineRows.{row_of}
 use Rattle.h41_rows.specs.Operands.{Meant, meant_of}
 use Rattle.h41_rows.specs.Places.{are_numbers}
 use Rattle.h41_rows.specs.Profile.{is_left_out}
 use Rattle.h41_rows.specs.Rows as rows
-use Rattle.h41_rows.specs.Values.{Computes, IsRegisterOf, Kept, Value}
+use Rattle.h41_rows.specs.Values.{Computes, Kept, Value}
 use Rattle.h41_rows.specs.declared.fault.LineFault.{LineFault}
 use Rattle.h41_rows.specs.declared.fault.LineFault.TheVariants.{AlphaData, DataError, Nonexistent, OutOfRange}
-use Rattle.h41_xrom.specs.Lines.{Answers, Begins, BeginsEntry, CallsEntry, CallsName, CarriesFrom, CarriesLine, CarriesNamed, Ended, EntersFrom}
+use Rattle.h41_xrom.specs.Lines.{Answers, Begins, BeginsEntry, CallsEntry, CallsName, CarriesFrom, CarriesLine, CarriesNamed, Ended}
+use Rattle.h41_xrom.specs.Lines.{EntersFrom}
 use Rattle.h41_xrom.specs.Lines.{Fails, FailsFrom, GoesOn, GoesOnFrom, PassesFrom, begun_at, end_of_answer, entered}
 use Rattle.h41_xrom.specs.declared.lines.LineSource.{LineSource}
 use Rattle.h41_xrom.specs.declared.lines.LineSource.TheVariants as sources
@@ -77,8 +78,8 @@ kept_register sign true (Err Range) register kept = kept.valid
 kept_register sign false (Err Range) register kept =
     absurd (let never : ◌≡◌ {A = Result (List ℕ) LineFault} (Ok register) (Err OutOfRange) = kept in cc)
 
-pub computed_by : (value : Value) (memory : RegisterMap) (named : ℕ) (result : Result (List ℕ) LineFault) → Computes value memory named result
-    → IsComputed result
+pub computed_by : (value : Value) (memory : RegisterMap) (named : ℕ) (result : Result (List ℕ) LineFault)
+    → Computes value memory named result → IsComputed result
 computed_by value memory named (Ok register) computes = kept_register _ _ computes.answer register computes.kept
 computed_by value memory named (Err fault) computes = tt
 

@@ -1,14 +1,14 @@
 -- Memory that is changed stays as calculators have it.
-use Rattle.std.proofs.Common.{◌≡◌, ℕ, zero, suc, ◌+◌, ◌-◌, ◌*◌, ◌/◌, ◌%◌, ◌^◌, ◌<◌, ◌≤◌, Bool, true, false, List, [], ◌∷◌, ◌++◌, map, length}
-use Rattle.std.proofs.Common.{take, drop, replicate, slice_index, slice_set, if◌then◌else◌, Option, Some, None, refl, sym, subst, ◌∙◌, arith}
+use Rattle.std.proofs.Common.{◌≡◌, ℕ, zero, suc, ◌-◌, ◌/◌, ◌%◌, ◌^◌, ◌<◌, Bool, true, false, List, [], ◌∷◌, ◌++◌, map}
+use Rattle.std.proofs.Common.{length}
+use Rattle.std.proofs.Common.{drop, replicate, slice_index, slice_set, if◌then◌else◌, Option, Some, None, refl}
+use Rattle.std.proofs.Common.{arith}
 use Rattle.std.proofs.Common.{length-append, length-drop}
-use Rattle.std.specs.Prelude.{◌==◌, ◌&&◌, nat_lt, nat_le, All}
+use Rattle.std.specs.Prelude.{◌==◌, nat_lt, All}
 use Rattle.std.specs.List.{range_with_len}
 use Rattle.std.proofs.Math.ListN.{length-set}
-use Rattle.std.proofs.lemmas.Bool.{leb-true}
-use Rattle.std.proofs.lemmas.List.Elements.{All-append, All-cons, All-drop, All-map, All-nil, All-replicate, All-set, All-take}
+use Rattle.std.proofs.lemmas.List.Elements.{All-append, All-cons, All-drop, All-map, All-nil, All-replicate, All-take}
 use Rattle.std.proofs.lemmas.List.FromFn.{length-map-range_with_len}
-use Rattle.h41_codes.specs.declared.functions.Function.{Function}
 use Rattle.h41_codes.specs.declared.functions.Function.TheVariants as functions
 use Rattle.h41_codes.specs.declared.functions.ParameterFunction.{ParameterFunction}
 use Rattle.h41_codes.specs.declared.functions.ParameterFunction.TheVariants as parameters
@@ -20,18 +20,18 @@ use Rattle.h41_codes.specs.declared.line.Line.TheVariants as lines
 use Rattle.h41_codes.specs.ByteGrammar.{IsLine}
 use Rattle.h41_decimal.specs.Holding.{after_nulls, number_in}
 use Rattle.h41_digits.specs.Register.{IsRegister}
-use Rattle.h41_ram.specs.RegisterMap.{RegisterMap, alpha_of, c_address, c_of, curtain_of, d_address, d_of, digit_with, digits_from}
+use Rattle.h41_ram.specs.RegisterMap.{RegisterMap, alpha_of, curtain_of, d_address, d_of, digit_with, digits_from}
 use Rattle.h41_ram.specs.RegisterMap.{m_address, main_start, n_address, o_address, p_address, p_of, register_at, seven_from}
-use Rattle.h41_ram.specs.RegisterMap.{status_end, three_digits, with_alpha, with_bit, with_flag, with_register, with_three_places, zeros}
-use Rattle.h41_rows.specs.LineRows.{count_row, named_row, operand_row, register_row, row_of, short_row, text_row, to_meant}
-use Rattle.h41_rows.specs.Operands.{Meant, Address, Count, Name, NoOperand}
+use Rattle.h41_ram.specs.RegisterMap.{status_end, with_alpha, with_bit, with_flag, with_register, zeros}
+use Rattle.h41_rows.specs.LineRows.{count_row, operand_row, register_row, row_of, text_row, to_meant}
+use Rattle.h41_rows.specs.Operands.{Meant, Count, Name}
 use Rattle.h41_rows.specs.Places.{place_address}
-use Rattle.h41_rows.specs.RowEffects.{alpha_after, cleared_register, last_24, memory_after, recalled_text, six_characters, takes_of, taken_from}
+use Rattle.h41_rows.specs.RowEffects.{alpha_after, cleared_register, memory_after, recalled_text, six_characters, takes_of}
+use Rattle.h41_rows.specs.RowEffects.{taken_from}
 use Rattle.h41_rows.specs.RowEffects.{text_register, with_alpha_change, with_cleared_data, with_data_if, with_flags, with_taken}
 use Rattle.h41_rows.specs.Rows as rows
 use Rattle.h41_show.specs.DisplayFormat.{format_of}
 use Rattle.h41_laws_words.proofs.Registers.{digit_at, held_at, held_with, register_set, zeros_register}
-use Rattle.h41_laws_words.specs.WholeStates.{HoldsRegisters}
 use Rattle.h41_laws_states.specs.WholeMemory.{AreBytes, IsWholeMemory}
 use Rattle.h41_laws_states.proofs.Bytes.{IsByte, alpha_bytes, chosen, digits_count, digits_small, last_bytes, nulls_passed, of_text}
 use Rattle.h41_laws_states.proofs.Bytes.{recalled_bytes, register_of}
@@ -96,7 +96,9 @@ p_register memory text whole all =
     let p = read memory p_address whole in
     let count = digits_count text (0 ∷ 1 ∷ 2 ∷ []) in
     record {
-      size = omega (arith, length-append (digits_from text (0 ∷ 1 ∷ 2 ∷ [])) (drop 6 (p_of memory)), length-drop 6 (p_of memory), count, p.size);
+      size =
+          omega
+          (arith, length-append (digits_from text (0 ∷ 1 ∷ 2 ∷ [])) (drop 6 (p_of memory)), length-drop 6 (p_of memory), count, p.size);
       each =
           All-append (λ digit. digit < 16) (digits_from text (0 ∷ 1 ∷ 2 ∷ [])) (drop 6 (p_of memory))
           (digits_small text (0 ∷ 1 ∷ 2 ∷ []) all) (All-drop (λ digit. digit < 16) 6 (p_of memory) p.each);
@@ -154,7 +156,8 @@ text_is_register : (characters : List ℕ) → AreBytes characters → IsRegiste
 text_is_register characters all =
     let filled = replicate (6 - length characters) 0x00 ++ characters in
     let bytes : AreBytes filled =
-    All-append IsByte (replicate (6 - length characters) 0x00) characters (All-replicate IsByte (6 - length characters) 0 (omega arith)) all in
+    All-append IsByte (replicate (6 - length characters) 0x00) characters
+    (All-replicate IsByte (6 - length characters) 0 (omega arith)) all in
     let places : List ℕ = 0 ∷ 1 ∷ 2 ∷ 3 ∷ 4 ∷ 5 ∷ [] in
     record {
       size = omega (arith, length-append (digits_from filled places) (0x0 ∷ 0x1 ∷ []), digits_count filled places);

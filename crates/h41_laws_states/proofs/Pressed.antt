@@ -1,6 +1,7 @@
 -- Keys leave calculators as calculators are.
-use Rattle.std.proofs.Common.{◌≡◌, ℕ, ◌<◌, Bool, true, false, List, [], ◌∷◌, ◌++◌, take, Option, Some, None, Result, Ok, Err, refl, sym, subst, arith}
-use Rattle.std.specs.Prelude.{IfSome, MatchBool, not}
+use Rattle.std.proofs.Common.{◌≡◌, ℕ, ◌<◌, Bool, true, false, List, [], ◌∷◌, ◌++◌, take, Option, Some, None, Result, Ok, Err, refl, sym}
+use Rattle.std.proofs.Common.{subst, arith}
+use Rattle.std.specs.Prelude.{IfSome, not}
 use Rattle.std.proofs.lemmas.List.Elements.{All-append, All-nil, All-take}
 use Rattle.h41_codes.specs.declared.characters.Character.{Character}
 use Rattle.h41_codes.specs.declared.functions.Function.{Function}
@@ -14,40 +15,35 @@ use Rattle.h41_editor.specs.Moves.{GoesToEnd, ShowsBefore, ShowsNext}
 use Rattle.h41_focal.specs.LineStep.{Machine}
 use Rattle.h41_focal.specs.declared.refusal.FocalRefusal.{FocalRefusal}
 use Rattle.h41_keys.specs.Keyboard.{code_of}
-use Rattle.h41_keys.specs.KeyPress.{presses}
 use Rattle.h41_keys.specs.declared.action.Action.{Action}
 use Rattle.h41_keys.specs.declared.action.Action.TheVariants as actions
-use Rattle.h41_keys.specs.declared.input.Flags.{Flags}
 use Rattle.h41_keys.specs.declared.input.Input.{Input}
 use Rattle.h41_keys.specs.declared.input.Pressed.{Pressed}
 use Rattle.h41_keys.specs.declared.key.Key.{Key}
 use Rattle.h41_keys.specs.declared.key.Key.TheVariants as keyboard
-use Rattle.h41_nut.specs.Processor.{Processor}
-use Rattle.h41_nut.specs.RegisterWords.{with_display}
 use Rattle.h41_pages.specs.FunctionTables.{AreNumbers, function_of_name}
 use Rattle.h41_pages.specs.PageMap.{PageMap}
 use Rattle.h41_program.specs.ProgramLaws.{IsInner}
 use Rattle.h41_program.specs.declared.refusal.ProgramRefusal.{ProgramRefusal}
 use Rattle.h41_ram.specs.NamedFlags.{alpha_entry, alpha_mode, number_entry}
-use Rattle.h41_ram.specs.RegisterMap.{RegisterMap, alpha_of, flag_of, is_sound, with_alpha, with_flag}
+use Rattle.h41_ram.specs.RegisterMap.{RegisterMap, alpha_of, flag_of}
 use Rattle.h41_rows.specs.Places.{X}
-use Rattle.h41_rows.specs.RowEffects.{last_24, takes_of, with_taken}
+use Rattle.h41_rows.specs.RowEffects.{last_24, takes_of}
 use Rattle.h41_rows.specs.Rows.{coming_in, compute}
-use Rattle.h41_rows.specs.Values.{Computes, Written}
+use Rattle.h41_rows.specs.Values.{Written}
 use Rattle.h41_xrom.specs.Calculator.{CalculatorState, machine_of}
-use Rattle.h41_xrom.specs.KeyActions.{ActionMakes, Acts, BeginsNumber, Carries, ChangesNumber, Edits, HasFlags, IsStoredAs, KeyMakes}
-use Rattle.h41_xrom.specs.KeyActions.{KeyOutcome, Leaves, LineEnds, Presses, Starts, StoredElsewhere, StoredFunction, StoredName, Stops}
-use Rattle.h41_xrom.specs.KeyActions.{StoresLine, activity_of, after_key, after_outcome, edit_effect, key_refusal, leaves_memory, line_effect}
-use Rattle.h41_xrom.specs.KeyActions.{press_of, taken_in, with_alpha_toggled, with_key_told, with_letters, with_line_begun}
-use Rattle.h41_xrom.specs.KeyActions.{with_line_changed, with_text}
-use Rattle.h41_xrom.specs.Lines.{Answers, Begins, Ended}
+use Rattle.h41_xrom.specs.KeyActions.{Acts, BeginsNumber, Carries, ChangesNumber, Edits, IsStoredAs, KeyMakes}
+use Rattle.h41_xrom.specs.KeyActions.{KeyOutcome, Leaves, LineEnds, Starts, StoredElsewhere, StoredFunction, StoredName, Stops}
+use Rattle.h41_xrom.specs.KeyActions.{StoresLine, activity_of, after_outcome, edit_effect, key_refusal}
+use Rattle.h41_xrom.specs.KeyActions.{line_effect}
+use Rattle.h41_xrom.specs.KeyActions.{press_of, taken_in, with_key_told, with_letters}
+use Rattle.h41_xrom.specs.KeyActions.{with_text}
+use Rattle.h41_xrom.specs.Lines.{Ended}
 use Rattle.h41_xrom.specs.declared.lines.LineSource.{LineSource}
 use Rattle.h41_xrom.specs.declared.lines.LineSource.TheVariants as sources
 use Rattle.h41_xrom.specs.declared.refusal.CalculatorRefusal.{CalculatorRefusal}
-use Rattle.h41_xrom.specs.declared.refusal.CalculatorRefusal.TheVariants.{KeyNotHeld}
 use Rattle.h41_laws_calculator.proofs.Numbered.{are_numbers}
 use Rattle.h41_laws_calculator.specs.Keys.{KeyHasOneOutcome, PressStoresInner, StoresInner}
-use Rattle.h41_laws_words.specs.WholeStates.{HasAllRegisters}
 use Rattle.h41_laws_states.specs.WholeCalculators.{IsWholeCalculator, PressLeavesWhole, WholeKeyHasOneOutcome}
 use Rattle.h41_laws_states.specs.WholeInputs.{IsWholeAction, IsWholeInput, IsWholePress, KeyLeavesWhole}
 use Rattle.h41_laws_states.specs.WholeMemory.{AreBytes, IsWholeMemory}
@@ -180,7 +176,8 @@ acts pages program_mode (actions.AddLetter letter) machine effect valid whole is
     (All-append IsByte text (letter ∷ []) (alpha_of_bytes machine.memory whole) (alone letter valid)))
 acts pages program_mode actions.TakeLetter machine effect valid whole is =
     let text = alpha_of machine.memory in
-    subst LeavesWhole (sym is) (text_set machine.memory (take 23 text) whole (All-take IsByte 23 text (alpha_of_bytes machine.memory whole)))
+    subst LeavesWhole (sym is)
+    (text_set machine.memory (take 23 text) whole (All-take IsByte 23 text (alpha_of_bytes machine.memory whole)))
 acts pages program_mode actions.ClearAlpha machine effect valid whole is =
     subst LeavesWhole (sym is) (text_set machine.memory [] whole (All-nil IsByte))
 

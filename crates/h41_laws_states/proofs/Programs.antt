@@ -1,14 +1,16 @@
 -- Memory whose program is changed stays as calculators have it.
-use Rattle.std.proofs.Common.{◌≡◌, ◌⊎◌, ℕ, suc, ◌+◌, ◌-◌, ◌*◌, ◌/◌, ◌%◌, ◌<◌, ◌≤◌, Bool, true, false, List, [], ◌∷◌, ◌++◌, map, length}
-use Rattle.std.proofs.Common.{replicate, slice_index, slice_set, if◌then◌else◌, Option, Some, None, Result, Ok, Err, inl, inr, refl, sym, subst, ◌∙◌}
+use Rattle.std.proofs.Common.{◌≡◌, ℕ, ◌+◌, ◌-◌, ◌*◌, ◌/◌, ◌%◌, ◌<◌, ◌≤◌, Bool, true, false, List, [], ◌∷◌, ◌++◌, map, length}
+use Rattle.std.proofs.Common.{replicate, slice_set, if◌then◌else◌, Option, Some, None, Result, Ok, Err, inl, inr, refl, sym}
+use Rattle.std.proofs.Common.{subst, ◌∙◌}
 use Rattle.std.proofs.Common.{ap, arith}
 use Rattle.std.specs.Prelude.{◌&&◌, nat_lt, nat_le, All, ◌==◌, is_some}
-use Rattle.std.specs.List.{flat_map, range_with_len}
+use Rattle.std.specs.List.{flat_map}
 use Rattle.std.specs.Bool.{then_some}
 use Rattle.std.specs.Option.{unwrap_or}
 use Rattle.std.proofs.lemmas.Bool.{and_parts, cases_Bool, leb-true, ltb-true}
 use Rattle.std.proofs.lemmas.List.Elements.{All-append, All-cons, All-head, All-map, All-nil, All-replicate, All-set, All-tail}
-use Rattle.h41_codes.specs.ByteGrammar.{IsBytes, IsLine, IsOperand, IsText, label_byte, link_high, link_low, mark_bits, operand_byte, spelling}
+use Rattle.h41_codes.specs.ByteGrammar.{IsLine, IsOperand, IsText, label_byte, link_high, link_low, mark_bits, operand_byte}
+use Rattle.h41_codes.specs.ByteGrammar.{spelling}
 use Rattle.h41_codes.specs.ByteGrammar.{indirect_byte, text_bytes}
 use Rattle.h41_codes.specs.Codes.{branch_code, character_code, function_code, name_function_code, parameter_function_code}
 use Rattle.h41_codes.specs.Codes.{register_function_code}
@@ -30,11 +32,11 @@ use Rattle.h41_codes.specs.declared.line.Operand.{Operand}
 use Rattle.h41_codes.specs.declared.line.Operand.TheVariants.{Direct, Indirect}
 use Rattle.h41_digits.specs.Register.{IsRegister}
 use Rattle.h41_program.proofs.Inner.{KeepsInner, before_inner, changed_inner, closed_inner, loaded_inner}
-use Rattle.h41_program.specs.Edits.{EditGives, LoadGives, LoadsBehind, before_end, changed_outcome, close_behind, close_outcome}
-use Rattle.h41_program.specs.Edits.{edit_outcome, has_line_at, is_open, lines_of, load_behind, load_outcome, loaded_of, memory_with_answer}
+use Rattle.h41_program.specs.Edits.{EditGives, LoadGives, LoadsBehind, before_end, close_behind}
+use Rattle.h41_program.specs.Edits.{has_line_at, is_open, lines_of, load_outcome, loaded_of, memory_with_answer}
 use Rattle.h41_program.specs.Edits.{with_last_end, without_end}
 use Rattle.h41_program.specs.Lines.{is_number}
-use Rattle.h41_program.specs.Packing.{filled_up, filler, gap, packed_lines, packing, written_end}
+use Rattle.h41_program.specs.Packing.{filler, gap, packed_lines, packing, written_end}
 use Rattle.h41_program.specs.ProgramBytes.{final_position, program_bytes}
 use Rattle.h41_program.specs.ProgramLaws.{IsInner}
 use Rattle.h41_program.specs.ProgramLines.{LinesFrom, Reads}
@@ -45,8 +47,8 @@ use Rattle.h41_program.specs.declared.listed_line.ListedLine.{ListedLine}
 use Rattle.h41_program.specs.declared.refusal.ProgramRefusal.{ProgramRefusal}
 use Rattle.h41_program.specs.declared.refusal.ProgramRefusal.TheVariants.{NoRoom, SizeTooLarge, BrokenProgram}
 use Rattle.h41_ram.specs.NamedRegisters.{data_address, data_of, size_of}
-use Rattle.h41_ram.specs.RegisterMap.{RegisterMap, c_address, c_of, curtain_of, digits_from, end_of, is_final_end, is_sound, main_start}
-use Rattle.h41_ram.specs.RegisterMap.{register_at, seven_from, sound_constant, constant_of, three_digits, top_of, with_three_places, zeros}
+use Rattle.h41_ram.specs.RegisterMap.{RegisterMap, c_address, c_of, curtain_of, end_of, is_final_end, is_sound, main_start}
+use Rattle.h41_ram.specs.RegisterMap.{register_at, sound_constant, constant_of, three_digits, top_of, with_three_places, zeros}
 use Rattle.h41_laws_words.proofs.Registers.{digit_at, register_set, zeros_register}
 use Rattle.h41_laws_states.specs.WholeMemory.{AreBytes, IsWholeMemory}
 use Rattle.h41_laws_states.proofs.Bytes.{IsByte, alone, chosen, of_text, register_of}
@@ -222,7 +224,8 @@ listed_inner memory change listed keeps from = elim (cases_Bool (is_sound memory
   | inr lost ↦ subst (λ (all : List ListedLine). All IsInner (flat_map change all)) (sym (from.lost lost)) (All-nil IsInner)
 ]
 
-pub edited : (memory : RegisterMap) (change : ℕ → ListedLine → List Line) (at : ℕ) (outcome : Result (RegisterMap × Unit {0}) ProgramRefusal)
+pub edited : (memory : RegisterMap) (change : ℕ → ListedLine → List Line) (at : ℕ)
+    (outcome : Result (RegisterMap × Unit {0}) ProgramRefusal)
     → ((position : ℕ) → KeepsInner (change position)) → IsWholeMemory memory → EditGives memory change at outcome → Kept outcome
 edited memory change at outcome keeps whole (inl found) =
     let position = found.0.position in
@@ -253,7 +256,8 @@ load_of memory before None whole own all = tt
 load_of memory before (Some program) whole own all =
     let closed = with_last_end (lines_of before) in
     answered (length (packed_lines closed)) (with_program_lines memory (closed ++ program))
-    (written_lines memory (closed ++ program) whole (All-append IsInner closed program (closed_inner (lines_of before) own) (all program refl)))
+    (written_lines memory (closed ++ program) whole
+    (All-append IsInner closed program (closed_inner (lines_of before) own) (all program refl)))
 
 given_inner : (bytes : List ℕ) (t : Bool) (given : List ListedLine) (program : List Line) → Reads bytes (length bytes) 0 given
     → (if t then Some (without_end (lines_of given)) else None) ≡ Some program → All IsInner program
@@ -301,12 +305,15 @@ record Bounds (memory : RegisterMap) : Type 0 where
 bounds : (memory : RegisterMap) → is_sound memory ≡ true → Bounds memory
 bounds memory sound =
     let constant = constant_of memory == sound_constant in
-    let order = nat_le main_start (end_of memory) && nat_lt (end_of memory) (curtain_of memory) && nat_le (curtain_of memory) (top_of memory) in
+    let above = nat_le main_start (end_of memory) in
+    let below = nat_lt (end_of memory) (curtain_of memory) in
+    let inside = nat_le (curtain_of memory) (top_of memory) in
+    let order = above && below && inside in
     let final = is_final_end (register_at memory (end_of memory)) in
     let first : (constant && order) ≡ true = (and_parts (constant && order) final sound).0 in
     let second : order ≡ true = (and_parts constant order first).1 in
-    let third = and_parts (nat_le main_start (end_of memory) && nat_lt (end_of memory) (curtain_of memory)) (nat_le (curtain_of memory) (top_of memory)) second in
-    let fourth = and_parts (nat_le main_start (end_of memory)) (nat_lt (end_of memory) (curtain_of memory)) third.0 in
+    let third = and_parts (above && below) inside second in
+    let fourth = and_parts above below third.0 in
     record {
       end = ltb-true (end_of memory) (curtain_of memory) fourth.1;
       curtain = leb-true (curtain_of memory) (top_of memory) third.1;

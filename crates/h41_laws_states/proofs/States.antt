@@ -1,33 +1,32 @@
 -- Calculators stay as calculators are.
-use Rattle.std.proofs.Common.{◌≡◌, ℕ, ◌+◌, ◌-◌, ◌*◌, ◌<◌, ◌≤◌, Bool, true, false, List, [], ◌∷◌, Option, Some, None, Result, Ok, Err, refl, sym, subst, ap, ◌∙◌}
-use Rattle.std.proofs.Common.{arith, length, replicate, slice_set, if◌then◌else◌}
+use Rattle.std.proofs.Common.{◌≡◌, ℕ, ◌+◌, ◌-◌, ◌<◌, ◌≤◌, Bool, true, false, [], ◌∷◌, Option, Some, None, Result, Ok, Err, refl}
+use Rattle.std.proofs.Common.{sym, subst, ap, ◌∙◌}
+use Rattle.std.proofs.Common.{arith, length, replicate, slice_set}
 use Rattle.std.specs.Bool.{then_some}
 use Rattle.std.specs.Option.{option_or}
-use Rattle.std.specs.Prelude.{All, IfSome, MatchOption, ◌&&◌, is_some, nat_lt, nat_le, not}
+use Rattle.std.specs.Prelude.{All, MatchOption, nat_le, not}
 use Rattle.std.specs.Result.{result_unwrap_or}
 use Rattle.std.proofs.Math.ListN.{length-set}
-use Rattle.std.proofs.lemmas.Bool.{and_parts, cases_Bool, leb-true}
+use Rattle.std.proofs.lemmas.Bool.{and_parts, leb-true}
 use Rattle.std.proofs.lemmas.List.{length-replicate}
-use Rattle.std.proofs.lemmas.List.Elements.{All-append, All-cons, All-from_recursion, All-nil, All-replicate, All-set, All-take}
-use Rattle.h41_codes.specs.declared.characters.Character.{Character}
+use Rattle.std.proofs.lemmas.List.Elements.{All-append, All-cons, All-from_recursion, All-nil, All-replicate, All-set}
 use Rattle.h41_digits.specs.Register.{IsRegister}
-use Rattle.h41_focal.specs.LineStep.{Machine, halted_at}
+use Rattle.h41_focal.specs.LineStep.{Machine}
 use Rattle.h41_focal.specs.Outcomes.{Answer}
 use Rattle.h41_focal.specs.Outcomes as answers
-use Rattle.h41_focal.specs.declared.refusal.FocalRefusal.{FocalRefusal}
 use Rattle.h41_nut.specs.Addresses.{address_count}
 use Rattle.h41_nut.specs.MemoryWords.{block_address}
 use Rattle.h41_nut.specs.Processor.{Processor, at_function, initial_state}
 use Rattle.h41_nut.specs.RegisterWords.{with_display}
-use Rattle.h41_nut.specs.WordStep.{Micro, Nut, WordEffect, ram_after, state_after, word_of}
+use Rattle.h41_nut.specs.WordStep.{Micro, Nut, WordEffect, ram_after, word_of}
 use Rattle.h41_pages.proofs.OtherPages.{bank_below}
-use Rattle.h41_pages.proofs.PageMaps.{choice_changed, choices_cleared, image_changed, none_held, none_is_page_map, page_changed, plugged_held}
+use Rattle.h41_pages.proofs.PageMaps.{choice_changed, choices_cleared, image_changed, none_held, none_is_page_map, page_changed}
+use Rattle.h41_pages.proofs.PageMaps.{plugged_held}
 use Rattle.h41_pages.specs.Addresses.{first_page, is_pluggable, last_page}
-use Rattle.h41_pages.specs.PageMap.{IsPageMap, PageMap, bank_numbered, bank_place, banks_at, is_bank, is_held, no_banks, plug_refusal}
-use Rattle.h41_pages.specs.PageMap.{unplug_refusal, with_first_banks, with_page_image, without_images}
+use Rattle.h41_pages.specs.PageMap.{IsPageMap, PageMap, bank_numbered, bank_place, is_bank, no_banks}
+use Rattle.h41_pages.specs.PageMap.{with_first_banks, with_page_image, without_images}
 use Rattle.h41_pages.specs.declared.refusal.UnplugRefusal.{UnplugRefusal}
 use Rattle.h41_pages.specs.declared.refusal.UnplugRefusal.TheVariants as unplugs
-use Rattle.h41_positions.specs.declared.position.Position.TheVariants.{Memory}
 use Rattle.h41_program.specs.Edits.{LoadGives}
 use Rattle.h41_program.specs.Size.{size_outcome}
 use Rattle.h41_program.specs.declared.refusal.ProgramRefusal.{ProgramRefusal}
@@ -37,25 +36,22 @@ use Rattle.h41_ram.specs.RegisterMap.{start_size, with_three_places, zeros}
 use Rattle.h41_words.specs.WordTable.{row_of}
 use Rattle.h41_words.specs.declared.rows.Row.{Row}
 use Rattle.h41_words.specs.declared.rows.Row.TheVariants as rows
-use Rattle.h41_xrom.specs.Calculator.{CalculatorState, StepIn, StepsByLine, after_answer, after_call, after_line, after_reset, after_word}
-use Rattle.h41_xrom.specs.Calculator.{is_idle, machine_of, not_typing, start, with_function, with_machine, with_page, with_pages, without_page}
+use Rattle.h41_xrom.specs.Calculator.{CalculatorState, StepIn, StepsByLine, after_answer, after_line, after_word}
+use Rattle.h41_xrom.specs.Calculator.{is_idle, machine_of, not_typing, start, with_function, with_machine, with_pages}
 use Rattle.h41_xrom.specs.Lines.{Answers, Begins, Ended}
 use Rattle.h41_xrom.specs.Messages.{processor_after}
-use Rattle.h41_xrom.specs.Programs.{LoadMakes, after_load, after_size, change_refusal, size_makes, unless_refused, with_program}
+use Rattle.h41_xrom.specs.Programs.{after_load, after_size, change_refusal, size_makes, unless_refused}
 use Rattle.h41_xrom.specs.declared.calculator.Caller.{Caller}
 use Rattle.h41_xrom.specs.declared.calculator.Mode.{Mode}
 use Rattle.h41_xrom.specs.declared.calculator.Mode.TheVariants as modes
 use Rattle.h41_xrom.specs.declared.lines.LineSource.TheVariants as sources
 use Rattle.h41_xrom.specs.declared.refusal.CalculatorRefusal.{CalculatorRefusal}
 use Rattle.h41_xrom.specs.declared.refusal.CalculatorRefusal.TheVariants.{Busy, MemoryLost}
-use Rattle.h41_laws_words.proofs.Registers.{register_set, zeros_register}
+use Rattle.h41_laws_words.proofs.Registers.{zeros_register}
 use Rattle.h41_laws_words.specs.WholeStates.{HasAllRegisters, HoldsRegisters, IsWhole, WordLeavesWhole}
-use Rattle.h41_laws_words.specs.WordAnswers.{HasRegisters}
 use Rattle.h41_laws_states.specs.WholeCalculators.{CallLeavesWhole, IsWholeCalculator, LoadLeavesWhole, PlugLeavesWhole, ResetLeavesWhole}
 use Rattle.h41_laws_states.specs.WholeCalculators.{SizeLeavesWhole, StartIsWhole, StepLeavesWhole, UnplugLeavesWhole}
-use Rattle.h41_laws_states.specs.WholeInputs.{IsWholeInput}
-use Rattle.h41_laws_states.specs.WholeMemory.{IsWholeMemory, most_main}
-use Rattle.h41_laws_states.proofs.Bytes.{chosen}
+use Rattle.h41_laws_states.specs.WholeMemory.{IsWholeMemory}
 use Rattle.h41_laws_states.proofs.Lines.{EndsWhole, line_leaves}
 use Rattle.h41_laws_states.proofs.Memories.{size_with}
 use Rattle.h41_laws_states.proofs.Programs.{Kept, loaded, sized, three_set}
@@ -161,7 +157,8 @@ module _ (words : WordLeavesWhole) where
       let memory = line_leaves sources.Program s.nut.pages (machine_of s) (Ok is.0) tt (memory_of s whole) is.1 in
       subst IsWholeCalculator (sym is.2) (line_left (not_typing s) is.0 (typing_ended s whole) memory)
 
-  by_word : (caller : Caller) (s t : CalculatorState) → IsWholeCalculator s → Micro s.nut t.nut → IsWholeCalculator (after_word caller s t.nut)
+  by_word : (caller : Caller) (s t : CalculatorState) → IsWholeCalculator s → Micro s.nut t.nut
+      → IsWholeCalculator (after_word caller s t.nut)
   by_word caller s t whole is = record {
     nut = words s.nut t.nut whole.nut is;
     most = omega (arith, word_size (row_of (word_of s.nut)) s.nut t.nut is.effect, whole.most);
@@ -292,18 +289,68 @@ d_valid : IsRegister 14 start_d
 d_valid = record {
   size = refl;
   each =
-      All-from_recursion (λ digit. digit < 16) start_d
-      (omega arith, (omega arith, (omega arith, (omega arith, (omega arith, (omega arith, (omega arith, (omega arith, (omega arith,
-      (omega arith, (omega arith, (omega arith, (omega arith, (omega arith, tt))))))))))))));
+      All-from_recursion (λ digit. digit < 16) start_d (
+        omega arith,
+        (
+          omega arith,
+          (
+            omega arith,
+            (
+              omega arith,
+              (
+                omega arith,
+                (
+                  omega arith,
+                  (
+                    omega arith,
+                    (
+                      omega arith,
+                      (
+                        omega arith,
+                        (omega arith, (omega arith, (omega arith, (omega arith, (omega arith, tt))))),
+                      ),
+                    ),
+                  ),
+                ),
+              ),
+            ),
+          ),
+        ),
+      );
 }
 
 empty_valid : IsRegister 14 empty_program
 empty_valid = record {
   size = refl;
   each =
-      All-from_recursion (λ digit. digit < 16) empty_program
-      (omega arith, (omega arith, (omega arith, (omega arith, (omega arith, (omega arith, (omega arith, (omega arith, (omega arith,
-      (omega arith, (omega arith, (omega arith, (omega arith, (omega arith, tt))))))))))))));
+      All-from_recursion (λ digit. digit < 16) empty_program (
+        omega arith,
+        (
+          omega arith,
+          (
+            omega arith,
+            (
+              omega arith,
+              (
+                omega arith,
+                (
+                  omega arith,
+                  (
+                    omega arith,
+                    (
+                      omega arith,
+                      (
+                        omega arith,
+                        (omega arith, (omega arith, (omega arith, (omega arith, (omega arith, tt))))),
+                      ),
+                    ),
+                  ),
+                ),
+              ),
+            ),
+          ),
+        ),
+      );
 }
 
 memory_start : (registers : ℕ) → registers ≤ 320 → HoldsRegisters (ram.start registers)
@@ -335,4 +382,5 @@ start_whole registers most = record {
 pub reset_whole : ResetLeavesWhole
 reset_whole s whole =
     let first = start (length s.nut.ram.main) in
-    pages_set (with_first_banks s.nut.pages) first (start_whole (length s.nut.ram.main) whole.most) (choices_cleared s.nut.pages whole.nut.pages)
+    pages_set (with_first_banks s.nut.pages) first (start_whole (length s.nut.ram.main) whole.most)
+    (choices_cleared s.nut.pages whole.nut.pages)

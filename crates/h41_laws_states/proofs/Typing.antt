@@ -1,12 +1,13 @@
 -- The lines that keys store and carry out have bytes, and what a keyboard keeps stays so.
-use Rattle.std.proofs.Common.{◌≡◌, ℕ, ◌+◌, ◌-◌, ◌*◌, ◌<◌, ◌≤◌, Bool, true, false, List, [], ◌∷◌, ◌++◌, length, take, Option, Some, None, refl, arith}
-use Rattle.std.specs.Prelude.{if◌then◌else◌, IfSome, ◌&&◌, ◌==◌, nat_le, nat_lt, not}
+use Rattle.std.proofs.Common.{◌≡◌, ℕ, ◌+◌, ◌-◌, ◌*◌, ◌<◌, ◌≤◌, Bool, true, false, List, [], ◌∷◌, ◌++◌, length, take, Option, Some, None}
+use Rattle.std.proofs.Common.{refl, arith}
+use Rattle.std.specs.Prelude.{IfSome, ◌&&◌, ◌==◌, nat_le, nat_lt, not}
 use Rattle.std.proofs.Common.{length-append}
 use Rattle.std.proofs.lemmas.Bool.{and_parts, leb-true, ltb-true}
 use Rattle.std.proofs.lemmas.Bool.Decides.{nat_tests}
 use Rattle.std.proofs.lemmas.List.{length-take}
 use Rattle.std.proofs.lemmas.List.Elements.{All-append, All-cons, All-take}
-use Rattle.h41_codes.specs.ByteGrammar.{IsLine, IsOperand, IsText}
+use Rattle.h41_codes.specs.ByteGrammar.{IsOperand, IsText}
 use Rattle.h41_codes.specs.Canon.{shortest_function, shortest_branch}
 use Rattle.h41_codes.specs.Counts.{number_most, short_label_count, short_register_count, text_most}
 use Rattle.h41_codes.specs.declared.characters.Character.{Character}
@@ -19,20 +20,17 @@ use Rattle.h41_codes.specs.declared.functions.ParameterFunction.TheVariants.{Rec
 use Rattle.h41_codes.specs.declared.line.Line.{Line}
 use Rattle.h41_codes.specs.declared.line.Line.TheVariants as lines
 use Rattle.h41_codes.specs.declared.line.Operand.{Operand}
-use Rattle.h41_codes.specs.declared.line.Operand.TheVariants.{Direct, Indirect}
+use Rattle.h41_codes.specs.declared.line.Operand.TheVariants.{Direct}
 use Rattle.h41_keys.specs.Keyboard.{row_of, meaning_of}
 use Rattle.h41_keys.specs.KeyPress as press
 use Rattle.h41_keys.specs.NumberTyping.{with_digit, with_point, with_exponent, with_sign_turned, without_last, kept_within, value_of}
 use Rattle.h41_keys.specs.PromptKeys as keys
 use Rattle.h41_keys.specs.Prompts.{prompt_row, digits_wanted, takes_stack, line_naming, name_line, parameter_line}
 use Rattle.h41_keys.specs.Prompts.{is_local_letter, local_label, stack_register}
-use Rattle.h41_keys.specs.declared.action.Action.{Action}
-use Rattle.h41_keys.specs.declared.action.Action.TheVariants as actions
 use Rattle.h41_keys.specs.declared.input.TypedEntry.{TypedEntry}
 use Rattle.h41_keys.specs.declared.input.TypedEntry.TheVariants as entries
 use Rattle.h41_keys.specs.declared.input.Flags.{Flags}
 use Rattle.h41_keys.specs.declared.input.Input.{Input}
-use Rattle.h41_keys.specs.declared.input.Activity.{Activity}
 use Rattle.h41_keys.specs.declared.input.Activity.TheVariants as modes
 use Rattle.h41_keys.specs.declared.input.Place.{Place}
 use Rattle.h41_keys.specs.declared.input.Place.TheVariants as places
@@ -51,7 +49,7 @@ use Rattle.h41_keys.specs.declared.prompt.Typed.TheVariants as typed
 use Rattle.h41_keys.specs.declared.prompt_step.PromptStep.{PromptStep}
 use Rattle.h41_keys.specs.declared.prompt_step.PromptStep.TheVariants as steps
 use Rattle.h41_program.specs.ProgramLaws.{IsInner}
-use Rattle.h41_laws_states.specs.WholeInputs.{IsWholeAction, IsWholeEntry, IsWholeInput, IsWholePress, IsWholePrompt, IsWholeTyped}
+use Rattle.h41_laws_states.specs.WholeInputs.{IsWholeEntry, IsWholeInput, IsWholePress, IsWholePrompt, IsWholeTyped}
 use Rattle.h41_laws_states.specs.WholeInputs.{KeyLeavesWhole}
 use Rattle.h41_laws_states.proofs.Bytes.{IsByte, alone, chosen, of_text, to_text}
 
@@ -108,7 +106,8 @@ named function (letter ∷ []) text =
 named function (letter ∷ second ∷ rest) text = naming function (letter ∷ second ∷ rest) text
 
 -- texts, a character longer or shorter
-text_more : (most : ℕ) (text : List ℕ) (letter : ℕ) → IsText most text → letter < 256 → length text < most → IsText most (text ++ letter ∷ [])
+text_more : (most : ℕ) (text : List ℕ) (letter : ℕ) → IsText most text → letter < 256 → length text < most
+    → IsText most (text ++ letter ∷ [])
 text_more most text letter is small less = record {
   fits = omega (arith, length-append text (letter ∷ []));
   bytes = to_text (text ++ letter ∷ []) (All-append IsByte text (letter ∷ []) (of_text text is.bytes) (alone letter small));
@@ -266,7 +265,8 @@ with_point_typed prompt other = tt
 name_letter : (prompt : Prompt) (name : List ℕ) (meaning : Meaning) → IsText 7 name → IsSmall meaning
     → IsWholeStep (keys.name_letter prompt name meaning)
 name_letter prompt name (meanings.Letter letter) text small =
-    chosen IsWholeStep (nat_lt (length name) 7) _ _ (λ less. text_more 7 name letter text small (ltb-true (length name) 7 less)) (λ full. tt)
+    chosen IsWholeStep (nat_lt (length name) 7) _ _
+    (λ less. text_more 7 name letter text small (ltb-true (length name) 7 less)) (λ full. tt)
 name_letter prompt name other text small = tt
 
 name_ended : (prompt : Prompt) (name : List ℕ) → IsText 7 name → IsWholeStep (keys.name_ended prompt name)
@@ -379,7 +379,8 @@ back_pressed input (entries.Number text) whole few =
 back_pressed input other whole is = press_of_clear input input.program_mode whole
 
 -- texts
-text_typed : (input : Input) (text : List ℕ) → IsWholeInput input → IsText 15 text → IsWholeInput (press.with_entry input (entries.TextLine text))
+text_typed : (input : Input) (text : List ℕ) → IsWholeInput input → IsText 15 text
+    → IsWholeInput (press.with_entry input (entries.TextLine text))
 text_typed input text whole is = entered input (entries.TextLine text) whole is
 
 inserts : (input : Input) (text : List ℕ) → IsWholeInput input → IsText 15 text → IsWholePress (press.text_line input press.inserts text)

@@ -1,6 +1,6 @@
 -- What a keyboard keeps, as each that there is has it, and what it has the calculator do: the lines
 -- that it stores and carries out have bytes.
-use Rattle.std.specs.Prelude.{◌≡◌, ℕ, ◌≤◌, ◌<◌, length, Option, Some, None, IfSome}
+use Rattle.std.specs.Prelude.{ℕ, ◌≤◌, ◌<◌, length, Option, Some, None, IfSome}
 use Rattle.h41_codes.specs.ByteGrammar.{IsLine, IsText}
 use Rattle.h41_codes.specs.Counts.{number_most, text_most}
 use Rattle.h41_keys.specs.KeyPress.{presses}

@@ -1,6 +1,5 @@
 -- What the lines of a program's block mean.
-use Rattle.std.proofs.Common.{◌≡◌, ◌≢◌, ◌⊎◌, ℕ, zero, suc, ◌<◌, ◌≤◌, List, [], ◌∷◌, ◌++◌, Option, Some, None, Result, Ok, Err, length}
-use Rattle.std.proofs.Common.{slice_index}
+use Rattle.std.proofs.Common.{◌≡◌, ◌≢◌, ◌⊎◌, ℕ, zero, suc, ◌<◌, ◌≤◌, List, [], ◌∷◌, Option, Some, None, Result, Ok, Err, length}
 use Rattle.std.proofs.Common.{inl, inr, refl, sym, ap, ◌∙◌, subst, drop, arith}
 use Rattle.std.specs.Option.{option_map}
 use Rattle.std.proofs.lemmas.Bool.{cases_eq, cases_lt}
@@ -14,7 +13,7 @@ use Rattle.h41_codes.specs.declared.line.Line.TheVariants.{BranchIndirect, Short
 use Rattle.h41_codes.specs.declared.line.Operand.{Operand}
 use Rattle.h41_codes.specs.declared.line.Operand.TheVariants.{Direct, Indirect}
 use Rattle.h41_commands.specs.Commands.{and_then}
-use Rattle.h41_commands.specs.ProgramBlocks.{IsBadText, SayLines, SaysLine, TextSpells, texts_of, with_more}
+use Rattle.h41_commands.specs.ProgramBlocks.{SayLines, texts_of, with_more}
 use Rattle.h41_commands.specs.declared.commands.ProgramKind.TheVariants as kinds
 use Rattle.h41_commands.specs.declared.refusal.LineRefusal.{LineRefusal}
 use Rattle.h41_commands.specs.declared.refusal.LineRefusal.TheVariants.{BadText}

@@ -1,5 +1,5 @@
 -- The states that decks come to, and what their commands rest on there.
-use Rattle.std.proofs.Common.{◌≡◌, ℕ, Bool, zero, suc, ◌≤◌, List, [], ◌∷◌, ◌++◌, Option, Some, None, Result, Ok, Err, length, flat_map}
+use Rattle.std.proofs.Common.{◌≡◌, ℕ, Bool, zero, suc, List, [], ◌∷◌, Option, Some, None, Result, Ok, Err, flat_map}
 use Rattle.std.proofs.Common.{refl, sym, subst, ap, ◌∙◌}
 use Rattle.std.specs.Prelude.{MatchOption, option_map}
 use Rattle.h41_commands.specs.Items.{Spelled, commands}
@@ -11,21 +11,19 @@ use Rattle.h41_commands.specs.declared.refusal.LineRefusal.{LineRefusal}
 use Rattle.h41_debug.specs.Bench.{BenchState, PressesInTurn, Steps, StepsInto, start, with_calculator, with_set, without_set}
 use Rattle.h41_debug.specs.BenchLaws.{PressesAreDetermined, TracesAreSteps}
 use Rattle.h41_deck.specs.Answers.{Answer, printed_text}
-use Rattle.h41_deck.specs.Deck.{AnswersInTurn, Deck, EndedText, FirstTextIsFront, commands_ended}
+use Rattle.h41_deck.specs.Deck.{FirstTextIsFront, commands_ended}
 use Rattle.h41_deck.specs.Pages.{of_plug, of_unplug}
-use Rattle.h41_deck.specs.Replies.{ItemReply, LoadsBytes, PlugsWords, Reply, block_refusal, set_refusal, state_unless, unset_refusal}
+use Rattle.h41_deck.specs.Replies.{LoadsBytes, PlugsWords, Reply, block_refusal, set_refusal, state_unless, unset_refusal}
 use Rattle.h41_deck.specs.Replies.{with_words}
 use Rattle.h41_deck.specs.declared.refusal.Refusal.{Refusal}
-use Rattle.h41_deck.specs.declared.refusal.Refusal.TheVariants.{Calculator}
 use Rattle.h41_keys.specs.declared.key.Key.{Key}
 use Rattle.h41_lines.specs.Lines.{lines}
 use Rattle.h41_commands.specs.Blocks.{page_of_words}
-use Rattle.h41_pages.specs.PageMap as pages
-use Rattle.h41_xrom.specs.Calculator.{CalculatorState, after_call, after_reset, call_refusal, with_page, without_page}
+use Rattle.h41_xrom.specs.Calculator.{CalculatorState, after_call, without_page}
 use Rattle.h41_xrom.specs.KeyActions.{Presses}
 use Rattle.h41_xrom.specs.declared.refusal.CalculatorRefusal.{CalculatorRefusal}
 use Rattle.h41_laws_decks.specs.DeckAnswers.{LoadRestsOn, ProgramBlockMeansOne, RestsOn}
-use Rattle.h41_laws_decks.specs.DeckTexts.{AnswersHaveOneList, DeckHasOneText, InTurnRestsOn, ItemRestsOn}
+use Rattle.h41_laws_decks.specs.DeckTexts.{AnswersHaveOneList, DeckHasOneText, InTurnRestsOn}
 use Rattle.h41_laws_decks.specs.WholeBenches.{EachDeckHasOneText, EachFrontHasOneText, FirstTextHasRest, IsWholeBench, ReplyLeavesWhole}
 use Rattle.h41_laws_decks.specs.WholeBenches.{WholeBenchRests}
 use Rattle.h41_laws_numbers.proofs.Answering.{Has}

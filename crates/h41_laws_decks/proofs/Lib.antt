@@ -1,3 +1,5 @@
 pub mod Said
 pub mod Replied
 pub mod Decked
+pub mod Meant
+pub mod Reached

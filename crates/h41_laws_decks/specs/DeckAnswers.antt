@@ -23,6 +23,10 @@ ViewHasOneText = (view : View) (s : BenchState) → HasOne (Shows view s)
 abbrev pub PageBlockSaysOne : Type 0
 PageBlockSaysOne = (kind : PageKind) (page : ℕ) (values : List ℕ) → HasOne (Fills kind page values)
 
+-- a block of a program's bytes or text means one program, or one refusal
+abbrev pub ProgramBlockMeansOne : Type 0
+ProgramBlockMeansOne = (kind : ProgramKind) (values : List ℕ) → HasOne (Means kind values)
+
 -- a state and an answer are those of a command
 abbrev pub ReplyLeaves : Command → List ℕ → BenchState → BenchState × Answer → Type 0
 ReplyLeaves command values s left = Reply command values s left.0 left.1

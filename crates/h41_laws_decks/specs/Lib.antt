@@ -1,2 +1,3 @@
 pub mod DeckAnswers
 pub mod DeckTexts
+pub mod WholeBenches

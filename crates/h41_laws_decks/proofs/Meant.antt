@@ -1,0 +1,199 @@
+-- What the lines of a program's block mean.
+use Rattle.std.proofs.Common.{◌≡◌, ◌≢◌, ◌⊎◌, ℕ, zero, suc, ◌<◌, ◌≤◌, List, [], ◌∷◌, Option, Some, None, Result, Ok, Err, length}
+use Rattle.std.proofs.Common.{inl, inr, refl, sym, ap, ◌∙◌, subst, drop, arith}
+use Rattle.std.specs.Option.{option_map}
+use Rattle.std.proofs.lemmas.Bool.{cases_eq, cases_lt}
+use Rattle.std.proofs.lemmas.Option.{none-some, same_Some}
+use Rattle.h41_codes.specs.ByteGrammar.{IsBytes, IsLine, IsOperand, IsText}
+use Rattle.h41_codes.specs.ByteLaws.{CanonicalOnce}
+use Rattle.h41_codes.specs.Canon.{canonical_line}
+use Rattle.h41_codes.specs.declared.line.Line.{Line}
+use Rattle.h41_codes.specs.declared.line.Line.TheVariants.{Null, LocalLabel, Number, Named, Register, Plain, WithOperand, Module}
+use Rattle.h41_codes.specs.declared.line.Line.TheVariants.{BranchIndirect, ShortGoTo, GlobalLabel, End, FinalEnd, BranchTo, Text}
+use Rattle.h41_codes.specs.declared.line.Operand.{Operand}
+use Rattle.h41_codes.specs.declared.line.Operand.TheVariants.{Direct, Indirect}
+use Rattle.h41_commands.specs.Commands.{and_then}
+use Rattle.h41_commands.specs.ProgramBlocks.{SayLines, texts_of, with_more}
+use Rattle.h41_commands.specs.declared.commands.ProgramKind.TheVariants as kinds
+use Rattle.h41_commands.specs.declared.refusal.LineRefusal.{LineRefusal}
+use Rattle.h41_commands.specs.declared.refusal.LineRefusal.TheVariants.{BadText}
+use Rattle.h41_program.specs.Packing.{packed_lines}
+use Rattle.h41_text.proofs.Reading.{reading_again}
+use Rattle.h41_text.specs.LineReading.{HasText, IsTextOf}
+use Rattle.h41_text.specs.LineText.{line_text}
+use Rattle.h41_text.specs.TextLaws.{OneLineOfText}
+use Rattle.h41_text.specs.private.TextParts.{candidate_line}
+use Rattle.h41_laws_numbers.specs.HasOne.{HasOne}
+use Rattle.h41_laws_decks.specs.DeckAnswers.{ProgramBlockMeansOne}
+use Rattle.h41_laws_decks.proofs.Said.{given}
+
+-- a fact that holds or does not
+abbrev Either : Type 0 → Type 0
+Either A = A ⊎ (A → ⊥)
+
+below : (a b : ℕ) → Either (a < b)
+below a b = elim (cases_lt a b) [ inl less ↦ inl less | inr more ↦ inr (λ less. omega (arith, less, more)) ]
+
+at_most : (a b : ℕ) → Either (a ≤ b)
+at_most a b = elim (cases_lt b a) [ inl more ↦ inr (λ less. omega (arith, less, more)) | inr less ↦ inl less ]
+
+both : {A B : Type 0} → Either A → Either B → Either (A × B)
+both (inl a) (inl b) = inl (a, b)
+both (inl a) (inr lacks) = inr (λ pair. lacks pair.1)
+both (inr lacks) other = inr (λ pair. lacks pair.0)
+
+-- whether a line has bytes
+operand_either : (operand : Operand) → Either (IsOperand operand)
+operand_either (Direct parameter) = below parameter 128
+operand_either (Indirect parameter) = below parameter 128
+
+more_bytes : (byte : ℕ) (bytes : List ℕ) → byte < 256 → IsBytes bytes → IsBytes (byte ∷ bytes)
+more_bytes byte bytes first rest zero inside = first
+more_bytes byte bytes first rest (suc index) inside = rest index (omega arith)
+
+are_bytes_either : (bytes : List ℕ) → Either (IsBytes bytes)
+are_bytes_either [] = inl (λ index inside. absurd (omega (arith, inside)))
+are_bytes_either (byte ∷ bytes) = elim (both (below byte 256) (are_bytes_either bytes)) [
+  | inl all ↦ inl (more_bytes byte bytes all.0 all.1)
+  | inr lacks ↦ inr (λ all. lacks (all 0 (omega arith), λ index inside. all (suc index) (omega (arith, inside))))
+]
+
+text_either : (most : ℕ) (characters : List ℕ) → Either (IsText most characters)
+text_either most characters = elim (both (at_most (length characters) most) (are_bytes_either characters)) [
+  | inl all ↦ inl (record { fits = all.0; bytes = all.1 })
+  | inr lacks ↦ inr (λ text. lacks (text.fits, text.bytes))
+]
+
+valid_either : (line : Line) → Either (IsLine line)
+valid_either Null = inl tt
+valid_either (LocalLabel label) = below label 15
+valid_either (Number characters) = both (at_most 1 (length characters)) (at_most (length characters) 16)
+valid_either (Named function name) = text_either 15 name
+valid_either (Register function register) = below register 16
+valid_either (Plain function) = inl tt
+valid_either (WithOperand function operand) = operand_either operand
+valid_either (Module number entry) = both (below number 32) (below entry 64)
+valid_either (BranchIndirect branch register) = below register 128
+valid_either (ShortGoTo label distance) = both (below label 15) (below distance 256)
+valid_either (GlobalLabel link key name) = elim (both (below link 3584) (both (below key 256) (text_either 14 name))) [
+  | inl all ↦ inl (all.0, all.1.0, all.1.1)
+  | inr lacks ↦ inr (λ all. lacks (all.0, (all.1, all.2)))
+]
+valid_either (End link marks) = both (below link 3584) (below marks 128)
+valid_either (FinalEnd link marks) = both (below link 3584) (below marks 112)
+valid_either (BranchTo branch distance backwards label) = both (below distance 4096) (below label 128)
+valid_either (Text characters) = text_either 15 characters
+
+null_either : (line : Line) → Either (line ≢ Null)
+null_either Null = inr (λ differs. differs refl)
+null_either line = inl (λ same. cc)
+
+has_either : (line : Line) → Either (HasText line)
+has_either line = elim (both (valid_either line) (null_either line)) [
+  | inl has ↦ inl (record { valid = has.0; shown = has.1 })
+  | inr lacks ↦ inr (λ has. lacks (has.valid, has.shown))
+]
+
+-- whether bytes are the same
+bytes_either : (bytes others : List ℕ) → Either (bytes ≡ others)
+bytes_either [] [] = inl refl
+bytes_either [] (other ∷ others) = inr (λ same. cc)
+bytes_either (byte ∷ bytes) [] = inr (λ same. cc)
+bytes_either (byte ∷ bytes) (other ∷ others) = elim (cases_eq byte other) [
+  | inl first ↦ elim (bytes_either bytes others) [
+    | inl rest ↦ inl (ap (λ (b : ℕ). b ∷ bytes) first ∙ ap (λ (all : List ℕ). other ∷ all) rest)
+    | inr lacks ↦ inr (λ same. lacks (ap (drop 1) same))
+  ]
+  | inr lacks ↦ inr (λ same. let first : byte ≡ other = cc in lacks first)
+]
+
+module _ (once : CanonicalOnce) where
+  -- whether a text is that of the one line that can have it
+  of_either : (text : List ℕ) (line : Line) → Either (IsTextOf text (canonical_line line))
+  of_either text line = elim (both (has_either (canonical_line line)) (bytes_either (line_text (canonical_line line)) text)) [
+    | inl of ↦ inl (record { has = of.0; shortest = once line; same = of.1 })
+    | inr lacks ↦ inr (λ of. lacks (of.has, of.same))
+  ]
+
+  -- and of any
+  abbrev HasLine : List ℕ → Type 0
+  HasLine text = (line : Line) × IsTextOf text line
+
+  read_as : (text : List ℕ) (line : Line) → IsTextOf text line → option_map canonical_line (candidate_line text) ≡ Some line
+  read_as text line of =
+      ap (λ t. option_map canonical_line (candidate_line t)) (sym of.same) ∙ reading_again line of.has ∙ ap Some of.shortest
+
+  found_either : (text : List ℕ) (found : Option Line) → candidate_line text ≡ found → Either (HasLine text)
+  found_either text None is = inr (λ has. none-some has.0 (ap (option_map canonical_line) (sym is) ∙ read_as text has.0 has.1))
+  found_either text (Some line) is = elim (of_either text line) [
+    | inl of ↦ inl (canonical_line line, of)
+    | inr lacks ↦ inr (λ has.
+        let same = same_Some (canonical_line line) has.0 (ap (option_map canonical_line) (sym is) ∙ read_as text has.0 has.1) in
+        lacks (subst (λ (l : Line). IsTextOf text l) (sym same) has.1))
+  ]
+
+  line_either : (text : List ℕ) → Either (HasLine text)
+  line_either text = found_either text (candidate_line text) refl
+
+  -- the lines that texts say in turn, or the first that says none
+  abbrev Lines : Type 0
+  Lines = Result (List Line) LineRefusal
+
+  module _ (one : OneLineOfText) where
+    none_said : (number byte : ℕ) (rest : List ℕ) (texts : List (List ℕ)) → (HasLine (byte ∷ rest) → ⊥) → (other : Lines)
+        → SayLines number ((byte ∷ rest) ∷ texts) other → other ≡ Err (BadText number)
+    none_said number byte rest texts lacks other (inl bad) = bad.1
+    none_said number byte rest texts lacks other (inr said) = absurd (lacks (said.1.0, said.1.1))
+
+    only_said : (number byte : ℕ) (rest : List ℕ) (texts : List (List ℕ)) (line : Line) → IsTextOf (byte ∷ rest) line
+        → (more : HasOne (SayLines (suc number) texts)) → (other : Lines) → SayLines number ((byte ∷ rest) ∷ texts) other
+        → other ≡ with_more (line ∷ []) more.answer
+    only_said number byte rest texts line of more other (inl bad) = absurd (bad.0 line of)
+    only_said number byte rest texts line of more other (inr said) =
+        let same = one (byte ∷ rest) said.1.0 line said.1.1 of in
+        said.4 ∙ ap (λ (lines : List Line). with_more lines said.2) (said.1.2 ∙ ap (λ (l : Line). l ∷ []) same)
+        ∙ ap (λ (lines : Lines). with_more (line ∷ []) lines) (more.only said.2 said.3)
+
+    only_empty : (number : ℕ) (texts : List (List ℕ)) (more : HasOne (SayLines (suc number) texts)) (other : Lines)
+        → SayLines number ([] ∷ texts) other → other ≡ with_more [] more.answer
+    only_empty number texts more other (inl bad) = absurd bad.0
+    only_empty number texts more other (inr said) =
+        said.4 ∙ ap (λ (lines : List Line). with_more lines said.2) said.1
+        ∙ ap (λ (lines : Lines). with_more [] lines) (more.only said.2 said.3)
+
+    one_said : (number byte : ℕ) (rest : List ℕ) (texts : List (List ℕ)) → Either (HasLine (byte ∷ rest))
+        → HasOne (SayLines (suc number) texts) → HasOne (SayLines number ((byte ∷ rest) ∷ texts))
+    one_said number byte rest texts (inl found) more = record {
+      answer = with_more (found.0 ∷ []) more.answer;
+      right = inr (found.0 ∷ [], (found.0, found.1, refl), more.answer, more.right, refl);
+      only = only_said number byte rest texts found.0 found.1 more;
+    }
+    one_said number byte rest texts (inr lacks) more = record {
+      answer = Err (BadText number);
+      right = inl (λ line of. lacks (line, of), refl);
+      only = none_said number byte rest texts lacks;
+    }
+
+    all_said : (number : ℕ) (texts : List (List ℕ)) → HasOne (SayLines number texts)
+    all_said number [] = given (Ok [])
+    all_said number ([] ∷ texts) =
+        let more = all_said (suc number) texts in
+        record {
+          answer = with_more [] more.answer;
+          right = inr ([], refl, more.answer, more.right, refl);
+          only = only_empty number texts more;
+        }
+    all_said number ((byte ∷ rest) ∷ texts) =
+        one_said number byte rest texts (line_either (byte ∷ rest)) (all_said (suc number) texts)
+
+    -- what a block means
+    pub one_meaning : ProgramBlockMeansOne
+    one_meaning kinds.Bytes values = given (Ok values)
+    one_meaning kinds.Text source =
+        let said = all_said 1 (texts_of source) in
+        record {
+          answer = and_then said.answer (λ lines. Ok (packed_lines lines));
+          right = (said.answer, said.right, refl);
+          only = λ other is.
+              is.2 ∙ ap (λ (lines : Lines). and_then lines (λ lines. Ok (packed_lines lines))) (said.only is.0 is.1);
+        }

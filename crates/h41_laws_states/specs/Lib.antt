@@ -1,0 +1,3 @@
+pub mod WholeMemory
+pub mod WholeInputs
+pub mod WholeCalculators

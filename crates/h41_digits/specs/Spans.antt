@@ -13,6 +13,11 @@ pub record IsFilled (number lo hi : ℕ) : Type 0 where
   pub in_register : hi < 14
   pub weights : number + 16 ^ lo ≡ 16 ^ (hi + 1)
 
+-- the two places are those of every filled number that this is
+abbrev pub AreItsPlaces : ℕ → ℕ → ℕ → Type 0
+AreItsPlaces number first last
+  = (lo hi : ℕ) → IsFilled number lo hi → (first ≡ lo) × (last ≡ hi)
+
 -- a number that has an F at each place of no such places
 abbrev pub IsNotFilled : ℕ → Type 0
 IsNotFilled number = (lo hi : ℕ) → IsFilled number lo hi → ⊥

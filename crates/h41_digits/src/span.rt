@@ -1,7 +1,7 @@
 //! Places in a row.
 
 ghost use Rattle.std.specs.Prelude.{◌≡◌, ℕ, ◌<◌, ◌≤◌, ◌+◌, ◌*◌, ◌^◌};
-ghost use Rattle.h41_digits.specs.Spans.{IsFilled, IsNotFilled};
+ghost use Rattle.h41_digits.specs.Spans.{AreItsPlaces, IsFilled, IsNotFilled};
 
 use crate::PLACES;
 
@@ -41,7 +41,7 @@ impl Span {
     /// The places that have this mask; where none have it, all those of a register.
     #[cold]
     pub fn from_mask(mask: u64) -> Self
-        ensures places { (lo hi : ℕ) → IsFilled mask lo hi → (result.lo ≡ lo) × (result.hi ≡ hi) }
+        ensures places { AreItsPlaces mask result.lo result.hi }
         ensures none { IsNotFilled mask → (result.lo ≡ 0) × (result.hi ≡ 13) }
     {
         let first = mask & mask.wrapping_neg();

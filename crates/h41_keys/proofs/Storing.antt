@@ -272,16 +272,16 @@ while_in_microcode input meanings.Nothing = tt
 while_in_microcode input other = tt
 
 -- a key that is left stores what it did
-held_in_page : (kept puts_end : Bool) (pressed : Option Pressed) → IfPressed pressed → IfPressed (press.held_in_page kept puts_end pressed)
-held_in_page kept puts_end (Some pressed) stores =
-    chosen IfPressed (press.is_held kept puts_end pressed.action) (Some pressed) None stores tt
-held_in_page kept puts_end None stores = tt
+held_in_page : (deletes_nothing puts_end : Bool) (pressed : Option Pressed) → IfPressed pressed → IfPressed (press.held_in_page deletes_nothing puts_end pressed)
+held_in_page deletes_nothing puts_end (Some pressed) stores =
+    chosen IfPressed (press.is_held deletes_nothing puts_end pressed.action) (Some pressed) None stores tt
+held_in_page deletes_nothing puts_end None stores = tt
 
 held_at : (place : Place) (program_mode : Bool) (pressed : Option Pressed) → IfPressed pressed
     → IfPressed (press.held_at place program_mode pressed)
 held_at places.Memory program_mode pressed stores = stores
-held_at (places.Page kept puts_end) false pressed stores = stores
-held_at (places.Page kept puts_end) true pressed stores = held_in_page kept puts_end pressed stores
+held_at (places.Page deletes_nothing puts_end) false pressed stores = stores
+held_at (places.Page deletes_nothing puts_end) true pressed stores = held_in_page deletes_nothing puts_end pressed stores
 
 presses_store : (input : Input) (key : Key) (mode : Activity) (flags : Flags) → IfPressed (press.presses input key mode flags)
 presses_store input key modes.Idle flags =

@@ -268,23 +268,23 @@ while_in_microcode input other = Some (does actions.Nothing input)
 -- A LINE OF A PAGE. In program mode, where one is shown, a key that would insert a line, replace or
 -- delete one is refused; BACK is held where it would change nothing in memory, at line 00 and at
 -- .END., and GTO . . where it puts no END
-abbrev pub is_held : (kept puts_end : Bool) → Action → Bool
-is_held kept puts_end (actions.Insert line) = false
-is_held kept puts_end (actions.Replace line) = false
-is_held kept puts_end actions.Delete = kept
-is_held kept puts_end actions.GoToEnd = not puts_end
-is_held kept puts_end other = true
+abbrev pub is_held : (deletes_nothing puts_end : Bool) → Action → Bool
+is_held deletes_nothing puts_end (actions.Insert line) = false
+is_held deletes_nothing puts_end (actions.Replace line) = false
+is_held deletes_nothing puts_end actions.Delete = deletes_nothing
+is_held deletes_nothing puts_end actions.GoToEnd = not puts_end
+is_held deletes_nothing puts_end other = true
 
-abbrev pub held_in_page : (kept puts_end : Bool) → Option Pressed → Option Pressed
-held_in_page kept puts_end (Some pressed) =
-    if is_held kept puts_end pressed.action then Some pressed else None
-held_in_page kept puts_end None = None
+abbrev pub held_in_page : (deletes_nothing puts_end : Bool) → Option Pressed → Option Pressed
+held_in_page deletes_nothing puts_end (Some pressed) =
+    if is_held deletes_nothing puts_end pressed.action then Some pressed else None
+held_in_page deletes_nothing puts_end None = None
 
 -- all else is as in memory
 abbrev pub held_at : Place → (program_mode : Bool) → Option Pressed → Option Pressed
 held_at places.Memory program_mode pressed = pressed
-held_at (places.Page kept puts_end) false pressed = pressed
-held_at (places.Page kept puts_end) true pressed = held_in_page kept puts_end pressed
+held_at (places.Page deletes_nothing puts_end) false pressed = pressed
+held_at (places.Page deletes_nothing puts_end) true pressed = held_in_page deletes_nothing puts_end pressed
 
 abbrev pub presses : Input → Key → Activity → Flags → Option Pressed
 presses input key modes.Idle flags =

@@ -50,7 +50,7 @@ pub enum Place {
     /// In a page, where they change none.
     Page {
         /// Whether BACK would change nothing there either: line 00 is shown, or `.END.`.
-        kept: bool,
+        deletes_nothing: bool,
         /// Whether `GTO . .` would put an END into program memory.
         puts_end: bool,
     },

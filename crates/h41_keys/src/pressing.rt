@@ -79,8 +79,8 @@ fn held_at(place: Place, program_mode: bool, pressed: Option<Pressed>) -> Option
     ensures { result ≡ spec.held_at place program_mode pressed }
 {
     match (place, pressed) {
-        (Place::Page { kept, puts_end }, Some(pressed)) if program_mode => if is_held(
-            kept,
+        (Place::Page { deletes_nothing, puts_end }, Some(pressed)) if program_mode => if is_held(
+            deletes_nothing,
             puts_end,
             pressed.action,
         ) {
@@ -93,12 +93,12 @@ fn held_at(place: Place, program_mode: bool, pressed: Option<Pressed>) -> Option
 }
 
 /// Whether an action is held in program mode where the shown line is one of a page.
-fn is_held(kept: bool, puts_end: bool, action: Action) -> bool
-    ensures { result ≡ spec.is_held kept puts_end action }
+fn is_held(deletes_nothing: bool, puts_end: bool, action: Action) -> bool
+    ensures { result ≡ spec.is_held deletes_nothing puts_end action }
 {
     match action {
         Action::Insert(_) | Action::Replace(_) => false,
-        Action::Delete => kept,
+        Action::Delete => deletes_nothing,
         Action::GoToEnd => !puts_end,
         _ => true,
     }

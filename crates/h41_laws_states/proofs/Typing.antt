@@ -479,16 +479,16 @@ while_in_microcode input meanings.Nothing whole = tt
 while_in_microcode input other whole = (tt, whole)
 
 -- a key that is left does what it did
-held_in_page : (kept puts_end : Bool) (pressed : Option Pressed) → IfPressed pressed → IfPressed (press.held_in_page kept puts_end pressed)
-held_in_page kept puts_end (Some pressed) whole =
-    chosen IfPressed (press.is_held kept puts_end pressed.action) (Some pressed) None (λ is. whole) (λ other. tt)
-held_in_page kept puts_end None whole = tt
+held_in_page : (deletes_nothing puts_end : Bool) (pressed : Option Pressed) → IfPressed pressed → IfPressed (press.held_in_page deletes_nothing puts_end pressed)
+held_in_page deletes_nothing puts_end (Some pressed) whole =
+    chosen IfPressed (press.is_held deletes_nothing puts_end pressed.action) (Some pressed) None (λ is. whole) (λ other. tt)
+held_in_page deletes_nothing puts_end None whole = tt
 
 held_at : (place : Place) (program_mode : Bool) (pressed : Option Pressed) → IfPressed pressed
     → IfPressed (press.held_at place program_mode pressed)
 held_at places.Memory program_mode pressed whole = whole
-held_at (places.Page kept puts_end) false pressed whole = whole
-held_at (places.Page kept puts_end) true pressed whole = held_in_page kept puts_end pressed whole
+held_at (places.Page deletes_nothing puts_end) false pressed whole = whole
+held_at (places.Page deletes_nothing puts_end) true pressed whole = held_in_page deletes_nothing puts_end pressed whole
 
 pub presses_whole : KeyLeavesWhole
 presses_whole input key modes.Idle flags whole =

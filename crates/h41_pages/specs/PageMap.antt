@@ -170,7 +170,7 @@ words_from pages address =
 
 -- whether microcode may write the words of an image: it is plugged, and as writable
 abbrev pub is_writable : Option PageImage → Bool
-is_writable image = option_map_or (λ with_page_image. with_page_image.writable) image false
+is_writable image = option_map_or (λ it. it.writable) image false
 
 -- a word is written where the chosen bank of its address's page is plugged as writable, and else
 -- refused as 12

@@ -22,7 +22,7 @@ pub fn shown_place<const REGS: usize>(machine: &Machine<REGS>, pages: &Pages) ->
         Position::Page(address) => {
             let is_final = is_final_at(pages, address);
             Place::Page {
-                kept: machine.focal.is_at_line_00 || is_final,
+                deletes_nothing: machine.focal.is_at_line_00 || is_final,
                 puts_end: puts_end(&machine.ram),
             }
         }

@@ -1,6 +1,6 @@
 -- What a line leaves for the calculator to do, without the texts that it shows: these are made from
 -- memory as the line left it.
-use Rattle.std.specs.Prelude.{IsTrue, None, Result, Ok, Err}
+use Rattle.std.specs.Prelude.{Bool, true, false, IsTrue, None, Result, Ok, Err}
 use Rattle.h41_focal.specs.LineStep.{Left, Machine, StepsLine}
 use Rattle.h41_focal.specs.Outcomes.{Answer, is_elsewhere}
 use Rattle.h41_focal.specs.Outcomes as answers
@@ -37,6 +37,12 @@ abbrev pub briefly_as : Answer → Machine → Result BriefOutcome FocalRefusal
     → Result Left FocalRefusal
 briefly_as called machine (Ok brief) = Ok (briefly called machine brief)
 briefly_as called machine (Err refusal) = Err refusal
+
+-- how a line ended that may be done at once: then nothing is to be told of it, and else this is
+abbrev pub end_told : (at_once : Bool) → Result BriefOutcome FocalRefusal
+    → Result BriefOutcome FocalRefusal
+end_told true told = Ok briefs.Done
+end_told false told = told
 
 -- the line at the position is carried out, and what it calls where memory does not have it is left
 -- to be asked for

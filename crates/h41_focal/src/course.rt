@@ -2,7 +2,9 @@
 
 ghost use Rattle.std.specs.Prelude.{◌≡◌};
 ghost use Rattle.h41_focal.specs.LabelledMachine.{Keeps, machine_of};
-ghost use Rattle.h41_focal.specs.private.Carrying.{FailsAs, behind_line, on_to_next};
+ghost use Rattle.h41_focal.specs.private.Carrying.{FailsAs, behind_line, fault_outcome};
+ghost use Rattle.h41_focal.specs.private.Carrying.{on_to_next};
+ghost use Rattle.h41_rows.specs.declared.fault.LineFault.{LineFault};
 ghost use Rattle.h41_rows.specs.Rows.{AsItWas, On};
 ghost use Rattle.h41_rows.specs.RowMarks.{LeavesMark};
 
@@ -49,7 +51,7 @@ pub fn go_behind(focal: &mut Focal, line: &Line, next: Position)
 
 /// A line cannot be done: the display shows why, and the program stops there. Flag 25 is cleared where it is set, and the
 /// program goes on with the next line.
-#[inline(never)]
+#[inline(always)]
 pub fn fail<const REGS: usize>(
     machine: &mut Machine<REGS>,
     origin: Origin,
@@ -59,13 +61,28 @@ pub fn fail<const REGS: usize>(
     ensures keeps { Keeps machine.old machine.new }
     ensures left { LeavesMark machine.old.ram machine.new.ram }
 {
+    if passes_fault(machine, origin) {
+        BriefOutcome::Done
+    } else {
+        BriefOutcome::Failed(fault)
+    }
+}
+
+/// Whether flag 25 has a line be passed that cannot be done. The flag is cleared then; else the line stays.
+#[inline(never)]
+fn passes_fault<const REGS: usize>(machine: &mut Machine<REGS>, origin: Origin) -> bool
+    ensures done { (fault : LineFault) → FailsAs origin fault (machine_of machine.old)
+        (machine_of machine.new) (fault_outcome result fault) }
+    ensures keeps { Keeps machine.old machine.new }
+    ensures left { LeavesMark machine.old.ram machine.new.ram }
+{
     if machine.ram.flag(ERROR_IGNORE) {
         machine.ram.set_flag(ERROR_IGNORE, false);
         go_on(&mut machine.focal, origin);
-        return BriefOutcome::Done;
+        return true;
     }
     if let Origin::Program(_) = origin {
         machine.focal.is_at_line_00 = false;
     }
-    BriefOutcome::Failed(fault)
+    false
 }

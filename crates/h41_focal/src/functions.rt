@@ -1,9 +1,11 @@
 //! Functions without an operand.
 
 ghost use Rattle.std.specs.Prelude.{ℕ, ◌≡◌, OnErr, IsTrue};
+ghost use Rattle.h41_focal.specs.BriefOutcomes.{end_told};
 ghost use Rattle.h41_focal.specs.LabelledMachine.{Keeps, machine_of};
 ghost use Rattle.h41_focal.specs.private.Carrying.{CarriesWork, TakesBriefly};
 ghost use Rattle.h41_codes.specs.declared.line.Line.TheVariants.{Plain};
+ghost use Rattle.h41_focal.specs.declared.origin.Origin.TheVariants.{Program};
 ghost use Rattle.h41_ram.specs.RegisterMap.{is_sound};
 ghost use Rattle.h41_rows.specs.RowMarks.{LeavesMark};
 
@@ -14,13 +16,14 @@ use crate::labels::go_back;
 use crate::machine::Machine;
 use crate::mode_lines::set_angle_unit;
 use crate::origin::Origin;
-use crate::outcome::BriefOutcome;
+use crate::outcome::{BriefOutcome, is_done};
 use crate::questions::ask;
 use crate::refusal::FocalRefusal;
 use crate::stack_lines::{clear_registers, do_nothing, move_stack};
 use crate::works::{FunctionWork, work_of};
 use h41_codes::Function;
 use h41_pages::Pages;
+use h41_positions::Position;
 
 /// A function is carried out; 13 where it is left out.
 #[inline(never)]
@@ -37,27 +40,32 @@ pub fn plain<const REGS: usize>(
     ensures keeps { Keeps machine.old machine.new }
     ensures left { LeavesMark machine.old.ram machine.new.ram }
 {
-    plain_at_once(machine, pages, origin, function)
+    match work_of(function) {
+        Some(work) => perform(machine, pages, origin, work),
+        None => Err(FocalRefusal::NotInProfile),
+    }
 }
 
-/// The same where each line of a program that runs comes by: what these do most is done here, and the rest by `perform`.
+/// The same of a program's line, whose next stands at a position: what programs do most is done at once, and there is nothing to
+/// tell of it; else `told` tells how it ended.
 #[inline(always)]
 pub fn plain_at_once<const REGS: usize>(
     machine: &mut Machine<REGS>,
     pages: &Pages,
-    origin: Origin,
+    next: Position,
     function: Function,
-) -> Result<BriefOutcome, FocalRefusal>
+    told: &mut Result<BriefOutcome, FocalRefusal>,
+) -> bool
     requires { IsTrue (is_sound machine.old.ram.registers) }
-    ensures taken { TakesBriefly pages.now origin (Plain function) (machine_of machine.old)
-        (machine_of machine.new) result }
-    ensures unchanged { OnErr result (machine.new ≡ machine.old) }
+    ensures taken { TakesBriefly pages.now (Program next) (Plain function)
+        (machine_of machine.old) (machine_of machine.new) (end_told result told.new) }
+    ensures unchanged { OnErr (end_told result told.new) (machine.new ≡ machine.old) }
     ensures keeps { Keeps machine.old machine.new }
     ensures left { LeavesMark machine.old.ram machine.new.ram }
 {
     match work_of(function) {
-        Some(work) => perform_at_once(machine, pages, origin, work),
-        None => Err(FocalRefusal::NotInProfile),
+        Some(work) => perform_at_once(machine, pages, next, work, told),
+        None => is_done(Err(FocalRefusal::NotInProfile), told),
     }
 }
 
@@ -66,23 +74,28 @@ pub fn plain_at_once<const REGS: usize>(
 fn perform_at_once<const REGS: usize>(
     machine: &mut Machine<REGS>,
     pages: &Pages,
-    origin: Origin,
+    next: Position,
     work: FunctionWork,
-) -> Result<BriefOutcome, FocalRefusal>
+    told: &mut Result<BriefOutcome, FocalRefusal>,
+) -> bool
     requires { IsTrue (is_sound machine.old.ram.registers) }
-    ensures carried { CarriesWork pages.now origin work (machine_of machine.old)
-        (machine_of machine.new) result }
-    ensures unchanged { OnErr result (machine.new ≡ machine.old) }
+    ensures carried { CarriesWork pages.now (Program next) work (machine_of machine.old)
+        (machine_of machine.new) (end_told result told.new) }
+    ensures unchanged { OnErr (end_told result told.new) (machine.new ≡ machine.old) }
     ensures keeps { Keeps machine.old machine.new }
     ensures left { LeavesMark machine.old.ram machine.new.ram }
 {
     match work {
-        FunctionWork::OfYAndX(value) => Ok(of_y_and_x(machine, origin, value)),
-        FunctionWork::OfX(value) => Ok(of_x(machine, origin, value)),
-        FunctionWork::Ask(test) => ask(machine, pages, origin, test),
-        FunctionWork::Move(movement) => Ok(move_stack(machine, origin, movement)),
-        FunctionWork::Return => Ok(go_back(machine, pages, origin)),
-        work => perform(machine, pages, origin, work),
+        FunctionWork::OfYAndX(value) => {
+            is_done(Ok(of_y_and_x(machine, Origin::Program(next), value)), told)
+        }
+        FunctionWork::OfX(value) => is_done(Ok(of_x(machine, Origin::Program(next), value)), told),
+        FunctionWork::Ask(test) => is_done(ask(machine, pages, Origin::Program(next), test), told),
+        FunctionWork::Move(movement) => {
+            is_done(Ok(move_stack(machine, Origin::Program(next), movement)), told)
+        }
+        FunctionWork::Return => is_done(Ok(go_back(machine, pages, Origin::Program(next))), told),
+        work => is_done(perform(machine, pages, Origin::Program(next), work), told),
     }
 }
 

@@ -1,7 +1,7 @@
 //! Memory and what lines work on beside it, as one value: what lines, edits and keys change.
 
 ghost use Rattle.std.specs.Prelude.{◌≡◌, ◌≤◌, ℕ, false, true, [], None, Ok, Some, OnErr};
-ghost use Rattle.h41_focal.specs.BriefOutcomes.{StepsBriefly};
+ghost use Rattle.h41_focal.specs.BriefOutcomes.{StepsBriefly, end_told};
 ghost use Rattle.h41_focal.specs.declared.outcome.BriefOutcome.TheVariants.{Elsewhere};
 ghost use Rattle.h41_focal.specs.MachineCalls.{Enters, Fails, FailsTyped, KeepsElsewhere, Passes};
 ghost use Rattle.h41_focal.specs.MachineCalls.{Steps, Types};
@@ -21,7 +21,7 @@ use crate::labels::arrive;
 use crate::laws::kept_answers_stay_right;
 use crate::lines::{carry_briefly, carry_out, standing};
 use crate::origin::Origin;
-use crate::outcome::{BriefOutcome, LineOutcome};
+use crate::outcome::{BriefOutcome, LineOutcome, is_done};
 use crate::refusal::FocalRefusal;
 use crate::short_lines::{carry_short, number_standing, short_standing};
 use crate::stack_lines::number_line;
@@ -97,14 +97,21 @@ impl<const REGS: usize> Machine<REGS> {
         carry_out(self, pages, Origin::Program(next), &line)
     }
 
-    /// The line at the position is carried out as by `step`, and refused as there, but for the texts of its outcome. A line that
-    /// calls what memory does not have changes nothing; `step` tells what it calls.
+    /// The line at the position is carried out as by `step`, and refused as there, but for the texts of its outcome. Where it was done
+    /// and there is nothing to tell of it, that is the answer; else `told` tells how it ended. A line that calls what memory does not
+    /// have changes nothing; `step` tells what it calls.
     #[inline(always)]
-    pub fn step_briefly(&mut self, pages: &Pages) -> Result<BriefOutcome, FocalRefusal>
+    pub fn step_briefly(
+        &mut self,
+        pages: &Pages,
+        told: &mut Result<BriefOutcome, FocalRefusal>,
+    ) -> bool
         requires { AreRight self.old }
-        ensures line { StepsBriefly pages.now (machine_of self.old) (machine_of self.new) result }
-        ensures unchanged { OnErr result (machine_of self.new ≡ machine_of self.old) }
-        ensures elsewhere { result ≡ Ok Elsewhere
+        ensures line { StepsBriefly pages.now (machine_of self.old) (machine_of self.new)
+            (end_told result told.new) }
+        ensures unchanged { OnErr (end_told result told.new)
+            (machine_of self.new ≡ machine_of self.old) }
+        ensures elsewhere { end_told result told.new ≡ Ok Elsewhere
             → machine_of self.new ≡ machine_of self.old }
         ensures kept { StepKeeps pages.now None self.old self.new }
         ensures mark { KeepsMark (begun_ram self.old.ram) self.new.ram }
@@ -115,9 +122,9 @@ impl<const REGS: usize> Machine<REGS> {
             Some((line, next)) => {
                 kept_answers_stay_right();
                 self.begin();
-                carry_short(self, pages, Origin::Program(next), line)
+                carry_short(self, pages, next, line, told)
             }
-            None => self.step_long(pages),
+            None => is_done(self.step_long(pages), told),
         }
     }
 

@@ -1,10 +1,11 @@
 //! What a line leaves for the calculator to do.
 
 ghost use Rattle.std.specs.Prelude.{◌≡◌, ◌≢◌};
-ghost use Rattle.h41_focal.specs.BriefOutcomes.{brief_answer};
+ghost use Rattle.h41_focal.specs.BriefOutcomes.{brief_answer, end_told};
 ghost use Rattle.h41_focal.specs.Outcomes.{Answer, answer_of};
 ghost use Rattle.h41_focal.specs.declared.outcome.BriefOutcome.TheVariants.{Elsewhere};
 
+use crate::refusal::FocalRefusal;
 use arrayvec::ArrayString;
 use h41_codes::{EntryNumber, ModuleNumber, Text};
 use h41_ram::Ram;
@@ -66,6 +67,23 @@ pub enum BriefOutcome {
     Elsewhere,
     /// The line could not be done: the display shows why, and the program stops.
     Failed(LineFault),
+}
+
+/// Whether a line was done and nothing is to be told of it; else `told` tells how it ended.
+#[inline(always)]
+pub fn is_done(
+    end: Result<BriefOutcome, FocalRefusal>,
+    told: &mut Result<BriefOutcome, FocalRefusal>,
+) -> bool
+    ensures { end_told result told.new ≡ end }
+{
+    match end {
+        Ok(BriefOutcome::Done) => true,
+        _ => {
+            *told = end;
+            false
+        }
+    }
 }
 
 impl BriefOutcome {

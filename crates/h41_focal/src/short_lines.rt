@@ -2,7 +2,9 @@
 
 ghost use Rattle.std.specs.Prelude.{◌≡◌, IfSome, Ok, OnErr, IsTrue};
 ghost use Rattle.h41_codes.specs.ShortLines.{line_of};
+ghost use Rattle.h41_focal.specs.BriefOutcomes.{end_told};
 ghost use Rattle.h41_focal.specs.LabelledMachine.{machine_of};
+ghost use Rattle.h41_focal.specs.declared.origin.Origin.TheVariants.{Program};
 ghost use Rattle.h41_focal.specs.LineStep.{Stands};
 ghost use Rattle.h41_focal.specs.private.Carrying.{StandsNumber};
 ghost use Rattle.h41_focal.specs.private.Carrying.{TakesBriefly};
@@ -19,7 +21,7 @@ use crate::lines::{indirect, short};
 use crate::machine::Machine;
 use crate::operand_lines::with_operand;
 use crate::origin::Origin;
-use crate::outcome::BriefOutcome;
+use crate::outcome::{BriefOutcome, is_done};
 use crate::refusal::FocalRefusal;
 use crate::stack_lines::be_silent;
 use h41_codes::{Branch, Parameter, ShortLine};
@@ -66,45 +68,44 @@ pub fn number_standing<const REGS: usize>(machine: &Machine<REGS>) -> Option<(Te
     }
 }
 
-/// A short line is carried out, but for the texts of the outcome; 13 where it is left out.
+/// A short line of a program is carried out, whose next stands at a position. Where it was done and there is nothing to tell of it,
+/// that is the answer; else `told` tells how it ended, but for the texts of an outcome: 13 where it is left out.
 #[inline(always)]
 pub fn carry_short<const REGS: usize>(
     machine: &mut Machine<REGS>,
     pages: &Pages,
-    origin: Origin,
+    next: Position,
     line: ShortLine,
-) -> Result<BriefOutcome, FocalRefusal>
+    told: &mut Result<BriefOutcome, FocalRefusal>,
+) -> bool
     requires sound { IsTrue (is_sound machine.old.ram.registers) }
     requires right { IsRight machine.old.focal.labels machine.old.ram.registers }
-    ensures taken { TakesBriefly pages.now origin (line_of line) (machine_of machine.old)
-        (machine_of machine.new) result }
-    ensures unchanged { OnErr result (machine.new ≡ machine.old) }
-    ensures kept { AsksOf origin (line_of line) machine.old machine.new }
+    ensures taken { TakesBriefly pages.now (Program next) (line_of line)
+        (machine_of machine.old) (machine_of machine.new) (end_told result told.new) }
+    ensures unchanged { OnErr (end_told result told.new) (machine.new ≡ machine.old) }
+    ensures kept { AsksOf (Program next) (line_of line) machine.old machine.new }
     ensures mark { KeepsMark machine.old.ram machine.new.ram }
     ensures left { LeavesMark machine.old.ram machine.new.ram }
 {
     match line {
-        ShortLine::LocalLabel(_) => Ok(be_silent(machine, origin)),
-        ShortLine::Register(function, register) => short(machine, origin, function, register),
-        ShortLine::Plain(function) => plain_at_once(machine, pages, origin, function),
+        ShortLine::LocalLabel(_) => is_done(Ok(be_silent(machine, Origin::Program(next))), told),
+        ShortLine::Register(function, register) => {
+            is_done(short(machine, Origin::Program(next), function, register), told)
+        }
+        ShortLine::Plain(function) => plain_at_once(machine, pages, next, function, told),
         ShortLine::WithOperand(function, operand) => {
-            with_operand(machine, pages, origin, function, &operand)
+            is_done(with_operand(machine, pages, Origin::Program(next), function, &operand), told)
         }
-        ShortLine::Module(_, _) => Ok(BriefOutcome::Elsewhere),
-        ShortLine::BranchIndirect(branch, register) => indirect(
-            machine, pages, origin, branch, register,
-        ),
+        ShortLine::Module(_, _) => is_done(Ok(BriefOutcome::Elsewhere), told),
+        ShortLine::BranchIndirect(branch, register) => {
+            is_done(indirect(machine, pages, Origin::Program(next), branch, register), told)
+        }
         ShortLine::ShortGoTo(label, _) => {
-            Ok(to_label(
-                machine,
-                pages,
-                origin,
-                Branch::GoTo,
-                Parameter::new(label.number()),
-            ))
+            let label = Parameter::new(label.number());
+            is_done(Ok(to_label(machine, pages, Origin::Program(next), Branch::GoTo, label)), told)
         }
-        ShortLine::BranchTo(branch, _, _, label) => Ok(to_label(
-            machine, pages, origin, branch, label,
-        )),
+        ShortLine::BranchTo(branch, _, _, label) => {
+            is_done(Ok(to_label(machine, pages, Origin::Program(next), branch, label)), told)
+        }
     }
 }

@@ -1,5 +1,5 @@
 -- What private functions promise one another.
-use Rattle.std.specs.Prelude.{◌≡◌, ◌≤◌, ℕ, length, Some, Bool, false, List, [], MatchBool}
+use Rattle.std.specs.Prelude.{◌≡◌, ◌≤◌, ℕ, length, Some, Bool, true, false, List, [], MatchBool}
 use Rattle.std.specs.Prelude.{Result, Ok, Err}
 use Rattle.h41_codes.specs.declared.characters.Character.{Character}
 use Rattle.h41_codes.specs.declared.functions.Branch.{Branch}
@@ -227,7 +227,11 @@ GoesToName pages origin branch name old new brief =
 abbrev pub GoesBack : PageMap → Origin → (old new : Machine) → BriefOutcome → Type 0
 GoesBack pages origin old new brief = CarriesWork pages origin Return old new (Ok brief)
 
--- of a fault
+-- of a fault, by whether the line is passed
+abbrev pub fault_outcome : (passed : Bool) → LineFault → BriefOutcome
+fault_outcome true fault = briefs.Done
+fault_outcome false fault = briefs.Failed fault
+
 abbrev pub FailsAs : Origin → LineFault → (old new : Machine) → BriefOutcome → Type 0
 FailsAs origin fault old new brief =
     FailsIn (manner_of origin) old fault (Ok (ended new brief))

@@ -1,7 +1,8 @@
 use Rattle.h41_focal.proofs.LinesTaken.{plain_taken}
+use Rattle.h41_focal.specs.declared.origin.Origin.TheVariants.{Program}
 use Rattle.h41_focal.proofs.functions.plain_at_once.Goals as goal
 
 pub returns-in-Some-clause-taken : goal.returns-in-Some-clause-taken
 returns-in-Some-clause-taken g c =
-    plain_taken c.args.pages.now c.args.origin c.args.function c.in-Some.work _ _ _
+    plain_taken c.args.pages.now (Program c.args.next) c.args.function c.in-Some.work _ _ _
     (let row = c.work_of.ensures in rw c.in-Some.is at row) (c.perform_at_once.ensures.carried 0)

@@ -262,12 +262,13 @@ impl<const REGS: usize> Calculator<REGS> {
         ensures change { OnOk result (StepsByLine self.old self.new) }
         ensures unchanged { OnErr result (self.new ≡ self.old) }
     {
-        match self.machine.step_briefly(&self.pages) {
+        let mut told = Ok(BriefOutcome::Done);
+        if self.machine.step_briefly(&self.pages, &mut told) {
+            self.end_entry();
+            return Ok(());
+        }
+        match told {
             Ok(brief) => match brief {
-                BriefOutcome::Done => {
-                    self.end_entry();
-                    Ok(())
-                }
                 BriefOutcome::Elsewhere => self.call_by_line(),
                 brief => {
                     self.end_entry();

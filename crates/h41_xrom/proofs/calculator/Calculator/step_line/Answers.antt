@@ -8,16 +8,14 @@ use Rattle.h41_xrom.specs.Calculator.{CalculatorState, RefusesLine, StepsByLine}
 use Rattle.h41_xrom.specs.private.PrivateCalls.{answered_briefly}
 use Rattle.h41_xrom.proofs.calculator.Calculator.step_line.Goals as goal
 
-pub returns-in-Done-clause-refusal : goal.returns-in-Done-clause-refusal
-returns-in-Done-clause-refusal g c =
-    let steps = c.in-Ok.ensures.line in
-    let steps = rw c.in-Done.is at steps in
+pub returns-then-step_briefly-clause-refusal : goal.returns-then-step_briefly-clause-refusal
+returns-then-step_briefly-clause-refusal g c =
+    let steps = c.if-step_briefly.ensures.line in
     brief_accepted steps.0 _ c.args.self.now (machine_of c.step_briefly.new.self) briefs.Done c.self.view_is steps.2 (λ is. cc is)
 
-pub returns-in-Done-clause-change : goal.returns-in-Done-clause-change
-returns-in-Done-clause-change g c =
-    let steps = c.in-Ok.ensures.line in
-    let steps = rw c.in-Done.is at steps in
+pub returns-then-step_briefly-clause-change : goal.returns-then-step_briefly-clause-change
+returns-then-step_briefly-clause-change g c =
+    let steps = c.if-step_briefly.ensures.line in
     brief_left steps.0 _ c.args.self.now _ (machine_of c.step_briefly.new.self) briefs.Done c.self.view_is steps.2
     (λ is. cc is) c.end_entry.ensures
 
@@ -25,29 +23,33 @@ pub returns-in-Elsewhere-clause-refusal : goal.returns-in-Elsewhere-clause-refus
 returns-in-Elsewhere-clause-refusal g c =
     subst (λ (of : CalculatorState). RefusesLine of (result_err c.call_by_line.result))
     (nothing_called _ c.args.self.now (machine_of c.step_briefly.new.self) c.self.view_is
-    (c.step_briefly.ensures.elsewhere (c.in-Ok.is ∙ ap Ok c.in-Elsewhere.is)))
+    (c.if-step_briefly.ensures.elsewhere (c.in-Ok.is ∙ ap Ok c.in-Elsewhere.is)))
     c.call_by_line.ensures.refusal
 
 pub returns-in-Elsewhere-clause-change : goal.returns-in-Elsewhere-clause-change
 returns-in-Elsewhere-clause-change g c =
     subst (λ (of : CalculatorState). OnOk c.call_by_line.result (StepsByLine of c.call_by_line.new.self))
     (nothing_called _ c.args.self.now (machine_of c.step_briefly.new.self) c.self.view_is
-    (c.step_briefly.ensures.elsewhere (c.in-Ok.is ∙ ap Ok c.in-Elsewhere.is)))
+    (c.if-step_briefly.ensures.elsewhere (c.in-Ok.is ∙ ap Ok c.in-Elsewhere.is)))
     c.call_by_line.ensures.change
 
 pub returns-in_default-clause-refusal : goal.returns-in_default-clause-refusal
 returns-in_default-clause-refusal g c =
-    let steps = c.in-Ok.ensures.line in
+    let steps = c.if-step_briefly.ensures.line in
+    let steps = rw c.in-Ok.is at steps in
     brief_accepted steps.0 _ c.args.self.now
     (machine_of c.step_briefly.new.self) c.in-Ok.brief c.self.view_is steps.2 c.in_default.not-Elsewhere
 
 pub returns-in_default-clause-change : goal.returns-in_default-clause-change
 returns-in_default-clause-change g c =
-    let steps = c.in-Ok.ensures.line in
+    let steps = c.if-step_briefly.ensures.line in
+    let steps = rw c.in-Ok.is at steps in
     brief_left steps.0 _ c.args.self.now _ (machine_of c.step_briefly.new.self) c.in-Ok.brief c.self.view_is steps.2
     c.in_default.not-Elsewhere
     (c.answer_briefly.ensures steps.0 ∙ ap (answered_briefly steps.0 c.in-Ok.brief) c.end_entry-in_default.ensures)
 
 pub returns-in-Err-clause-refusal : goal.returns-in-Err-clause-refusal
 returns-in-Err-clause-refusal g c =
-    brief_refused _ c.args.self.now c.in-Err.refusal _ c.self.view_is (c.in-Err.ensures.line).2 (ap Some c.into.ensures)
+    let steps = c.if-step_briefly.ensures.line in
+    let steps = rw c.in-Err.is at steps in
+    brief_refused _ c.args.self.now c.in-Err.refusal _ c.self.view_is steps.2 (ap Some c.into.ensures)

@@ -1,9 +1,9 @@
 //! Functions without an operand.
 
-ghost use Rattle.std.specs.Prelude.{ℕ, ◌≡◌, OnErr, IsTrue};
+ghost use Rattle.std.specs.Prelude.{◌≡◌, OnErr, IsTrue};
 ghost use Rattle.h41_focal.specs.BriefOutcomes.{end_told};
 ghost use Rattle.h41_focal.specs.LabelledMachine.{Keeps, machine_of};
-ghost use Rattle.h41_focal.specs.private.Carrying.{CarriesWork, TakesBriefly};
+ghost use Rattle.h41_focal.specs.private.Carrying.{TakesBriefly};
 ghost use Rattle.h41_codes.specs.declared.line.Line.TheVariants.{Plain};
 ghost use Rattle.h41_focal.specs.declared.origin.Origin.TheVariants.{Program};
 ghost use Rattle.h41_ram.specs.RegisterMap.{is_sound};
@@ -41,7 +41,23 @@ pub fn plain<const REGS: usize>(
     ensures left { LeavesMark machine.old.ram machine.new.ram }
 {
     match work_of(function) {
-        Some(work) => perform(machine, pages, origin, work),
+        Some(work) => match work {
+            FunctionWork::OfYAndX(value) => Ok(of_y_and_x(machine, origin, value)),
+            FunctionWork::OfX(value) => Ok(of_x(machine, origin, value)),
+            FunctionWork::Square => Ok(square(machine, origin)),
+            FunctionWork::Percent => Ok(percent(machine, origin)),
+            FunctionWork::ChangeSign => Ok(change_sign(machine, origin)),
+            FunctionWork::Ask(test) => ask(machine, pages, origin, test),
+            FunctionWork::Move(movement) => Ok(move_stack(machine, origin, movement)),
+            FunctionWork::Alpha(work) => Ok(change_alpha(machine, origin, work)),
+            FunctionWork::Display(work) => Ok(show(machine, origin, work)),
+            FunctionWork::Angles(grads, radians) => Ok(set_angle_unit(
+                machine, origin, grads, radians,
+            )),
+            FunctionWork::ClearRegisters => Ok(clear_registers(machine, origin)),
+            FunctionWork::Return => Ok(go_back(machine, pages, origin)),
+            FunctionWork::Nothing => Ok(do_nothing(machine, origin)),
+        },
         None => Err(FocalRefusal::NotInProfile),
     }
 }
@@ -64,69 +80,27 @@ pub fn plain_at_once<const REGS: usize>(
     ensures left { LeavesMark machine.old.ram machine.new.ram }
 {
     match work_of(function) {
-        Some(work) => perform_at_once(machine, pages, next, work, told),
+        Some(work) => match work {
+            FunctionWork::OfYAndX(value) => {
+                is_done(Ok(of_y_and_x(machine, Origin::Program(next), value)), told)
+            }
+            FunctionWork::OfX(value) => {
+                is_done(Ok(of_x(machine, Origin::Program(next), value)), told)
+            }
+            FunctionWork::Ask(test) => {
+                is_done(ask(machine, pages, Origin::Program(next), test), told)
+            }
+            FunctionWork::Move(movement) => {
+                is_done(
+                    Ok(move_stack(machine, Origin::Program(next), movement)),
+                    told,
+                )
+            }
+            FunctionWork::Return => {
+                is_done(Ok(go_back(machine, pages, Origin::Program(next))), told)
+            }
+            _ => is_done(plain(machine, pages, Origin::Program(next), function), told),
+        },
         None => is_done(Err(FocalRefusal::NotInProfile), told),
-    }
-}
-
-/// What is done for a function, likewise.
-#[inline(always)]
-fn perform_at_once<const REGS: usize>(
-    machine: &mut Machine<REGS>,
-    pages: &Pages,
-    next: Position,
-    work: FunctionWork,
-    told: &mut Result<BriefOutcome, FocalRefusal>,
-) -> bool
-    requires { IsTrue (is_sound machine.old.ram.registers) }
-    ensures carried { CarriesWork pages.now (Program next) work (machine_of machine.old)
-        (machine_of machine.new) (end_told result told.new) }
-    ensures unchanged { OnErr (end_told result told.new) (machine.new ≡ machine.old) }
-    ensures keeps { Keeps machine.old machine.new }
-    ensures left { LeavesMark machine.old.ram machine.new.ram }
-{
-    match work {
-        FunctionWork::OfYAndX(value) => {
-            is_done(Ok(of_y_and_x(machine, Origin::Program(next), value)), told)
-        }
-        FunctionWork::OfX(value) => is_done(Ok(of_x(machine, Origin::Program(next), value)), told),
-        FunctionWork::Ask(test) => is_done(ask(machine, pages, Origin::Program(next), test), told),
-        FunctionWork::Move(movement) => {
-            is_done(Ok(move_stack(machine, Origin::Program(next), movement)), told)
-        }
-        FunctionWork::Return => is_done(Ok(go_back(machine, pages, Origin::Program(next))), told),
-        work => is_done(perform(machine, pages, Origin::Program(next), work), told),
-    }
-}
-
-/// What is done for a function.
-#[inline(never)]
-fn perform<const REGS: usize>(
-    machine: &mut Machine<REGS>,
-    pages: &Pages,
-    origin: Origin,
-    work: FunctionWork,
-) -> Result<BriefOutcome, FocalRefusal>
-    requires { IsTrue (is_sound machine.old.ram.registers) }
-    ensures carried { CarriesWork pages.now origin work (machine_of machine.old)
-        (machine_of machine.new) result }
-    ensures unchanged { OnErr result (machine.new ≡ machine.old) }
-    ensures keeps { Keeps machine.old machine.new }
-    ensures left { LeavesMark machine.old.ram machine.new.ram }
-{
-    match work {
-        FunctionWork::OfYAndX(value) => Ok(of_y_and_x(machine, origin, value)),
-        FunctionWork::OfX(value) => Ok(of_x(machine, origin, value)),
-        FunctionWork::Square => Ok(square(machine, origin)),
-        FunctionWork::Percent => Ok(percent(machine, origin)),
-        FunctionWork::ChangeSign => Ok(change_sign(machine, origin)),
-        FunctionWork::Ask(test) => ask(machine, pages, origin, test),
-        FunctionWork::Move(movement) => Ok(move_stack(machine, origin, movement)),
-        FunctionWork::Alpha(work) => Ok(change_alpha(machine, origin, work)),
-        FunctionWork::Display(work) => Ok(show(machine, origin, work)),
-        FunctionWork::Angles(grads, radians) => Ok(set_angle_unit(machine, origin, grads, radians)),
-        FunctionWork::ClearRegisters => Ok(clear_registers(machine, origin)),
-        FunctionWork::Return => Ok(go_back(machine, pages, origin)),
-        FunctionWork::Nothing => Ok(do_nothing(machine, origin)),
     }
 }

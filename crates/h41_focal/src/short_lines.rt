@@ -90,22 +90,37 @@ pub fn carry_short<const REGS: usize>(
     match line {
         ShortLine::LocalLabel(_) => is_done(Ok(be_silent(machine, Origin::Program(next))), told),
         ShortLine::Register(function, register) => {
-            is_done(short(machine, Origin::Program(next), function, register), told)
+            is_done(
+                short(machine, Origin::Program(next), function, register),
+                told,
+            )
         }
         ShortLine::Plain(function) => plain_at_once(machine, pages, next, function, told),
         ShortLine::WithOperand(function, operand) => {
-            is_done(with_operand(machine, pages, Origin::Program(next), function, &operand), told)
+            is_done(
+                with_operand(machine, pages, Origin::Program(next), function, &operand),
+                told,
+            )
         }
         ShortLine::Module(_, _) => is_done(Ok(BriefOutcome::Elsewhere), told),
         ShortLine::BranchIndirect(branch, register) => {
-            is_done(indirect(machine, pages, Origin::Program(next), branch, register), told)
+            is_done(
+                indirect(machine, pages, Origin::Program(next), branch, register),
+                told,
+            )
         }
         ShortLine::ShortGoTo(label, _) => {
             let label = Parameter::new(label.number());
-            is_done(Ok(to_label(machine, pages, Origin::Program(next), Branch::GoTo, label)), told)
+            is_done(
+                Ok(to_label(machine, pages, Origin::Program(next), Branch::GoTo, label)),
+                told,
+            )
         }
         ShortLine::BranchTo(branch, _, _, label) => {
-            is_done(Ok(to_label(machine, pages, Origin::Program(next), branch, label)), told)
+            is_done(
+                Ok(to_label(machine, pages, Origin::Program(next), branch, label)),
+                told,
+            )
         }
     }
 }

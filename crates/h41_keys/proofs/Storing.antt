@@ -272,7 +272,8 @@ while_in_microcode input meanings.Nothing = tt
 while_in_microcode input other = tt
 
 -- a key that is left stores what it did
-held_in_page : (deletes_nothing puts_end : Bool) (pressed : Option Pressed) → IfPressed pressed → IfPressed (press.held_in_page deletes_nothing puts_end pressed)
+held_in_page : (deletes_nothing puts_end : Bool) (pressed : Option Pressed) → IfPressed pressed
+    → IfPressed (press.held_in_page deletes_nothing puts_end pressed)
 held_in_page deletes_nothing puts_end (Some pressed) stores =
     chosen IfPressed (press.is_held deletes_nothing puts_end pressed.action) (Some pressed) None stores tt
 held_in_page deletes_nothing puts_end None stores = tt

@@ -284,7 +284,8 @@ held_in_page deletes_nothing puts_end None = None
 abbrev pub held_at : Place → (program_mode : Bool) → Option Pressed → Option Pressed
 held_at places.Memory program_mode pressed = pressed
 held_at (places.Page deletes_nothing puts_end) false pressed = pressed
-held_at (places.Page deletes_nothing puts_end) true pressed = held_in_page deletes_nothing puts_end pressed
+held_at (places.Page deletes_nothing puts_end) true pressed =
+    held_in_page deletes_nothing puts_end pressed
 
 abbrev pub presses : Input → Key → Activity → Flags → Option Pressed
 presses input key modes.Idle flags =

@@ -479,7 +479,8 @@ while_in_microcode input meanings.Nothing whole = tt
 while_in_microcode input other whole = (tt, whole)
 
 -- a key that is left does what it did
-held_in_page : (deletes_nothing puts_end : Bool) (pressed : Option Pressed) → IfPressed pressed → IfPressed (press.held_in_page deletes_nothing puts_end pressed)
+held_in_page : (deletes_nothing puts_end : Bool) (pressed : Option Pressed) → IfPressed pressed
+    → IfPressed (press.held_in_page deletes_nothing puts_end pressed)
 held_in_page deletes_nothing puts_end (Some pressed) whole =
     chosen IfPressed (press.is_held deletes_nothing puts_end pressed.action) (Some pressed) None (λ is. whole) (λ other. tt)
 held_in_page deletes_nothing puts_end None whole = tt

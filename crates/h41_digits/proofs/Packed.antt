@@ -172,11 +172,15 @@ low_half : (places word k : ℕ) (digits : List ℕ) → digits_of places word �
 low_half places word k digits seen inside =
     ap (λ d. get_or d (2 * k) 0) (sym seen) ∙ get-digits_of places word (2 * k) (omega (arith, inside))
 
+pub byte_shifted : (places word k : ℕ) (digits : List ℕ) → digits_of places word ≡ digits → 2 * k + 1 < places
+    → word / 2 ^ (8 * k) % 256 ≡ byte_at digits k
+byte_shifted places word k digits seen inside =
+    ap (λ weight. word / weight % 256) (bits_of_bytes k)
+    ∙ halves (word / 16 ^ (2 * k)) _ _ (high_half places word k digits seen inside) (low_half places word k digits seen inside)
+
 pub byte_read : (places word k : ℕ) (digits : List ℕ) → digits_of places word ≡ digits → 2 * k + 1 < places
     → bit_and (word / 2 ^ (8 * k)) 255 ≡ byte_at digits k
-byte_read places word k digits seen inside =
-    and_mask (word / 2 ^ (8 * k)) 8 ∙ ap (λ weight. word / weight % 256) (bits_of_bytes k)
-    ∙ halves (word / 16 ^ (2 * k)) _ _ (high_half places word k digits seen inside) (low_half places word k digits seen inside)
+byte_read places word k digits seen inside = and_mask (word / 2 ^ (8 * k)) 8 ∙ byte_shifted places word k digits seen inside
 
 -- another digit, and another byte, put into the word
 pub put_digit : (places word new place digit : ℕ) (digits : List ℕ) → digits_of places word ≡ digits → word < 16 ^ places → place < places

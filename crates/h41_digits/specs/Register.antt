@@ -2,7 +2,7 @@
 -- processor's have 14.
 use Rattle.std.specs.Prelude.{◌≡◌, ℕ, zero, suc, ◌+◌, ◌-◌, ◌*◌, ◌/◌, ◌%◌, ◌^◌, ◌<◌, List, [], ◌∷◌}
 use Rattle.std.specs.Prelude.{◌++◌, take, drop, map, reverse, length, slice_index, slice_set, All}
-use Rattle.std.specs.Prelude.{true}
+use Rattle.std.specs.Prelude.{true, nat_lt, if◌then◌else◌}
 use Rattle.std.specs.Fmt.{digit_glyph}
 
 -- what a register of so many places is: one digit for each place, each from 0 to 15
@@ -38,6 +38,15 @@ hexadecimal_text (suc count) number =
 -- lower half
 abbrev pub byte_at : List ℕ → ℕ → ℕ
 byte_at digits k = slice_index digits (2 * k + 1) * 16 + slice_index digits (2 * k)
+
+-- the byte of a place, 0 to 13, of two registers one behind the other, the leftmost byte first
+abbrev pub byte_of_two : List ℕ → List ℕ → ℕ → ℕ
+byte_of_two here below place =
+    if nat_lt place 7 then byte_at here (6 - place) else byte_at below (13 - place)
+
+-- the byte k of a number, of which byte 0 is the lowest
+abbrev pub number_byte : ℕ → ℕ → ℕ
+number_byte number k = number / 256 ^ k % 256
 
 -- a register with this byte k: only its places 2k and 2k + 1 change
 abbrev pub set_byte : List ℕ → ℕ → ℕ → List ℕ

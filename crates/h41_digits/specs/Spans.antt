@@ -16,7 +16,7 @@ pub record IsFilled (number lo hi : ℕ) : Type 0 where
 -- the two places are those of every filled number that this is
 abbrev pub AreItsPlaces : ℕ → ℕ → ℕ → Type 0
 AreItsPlaces number first last
-  = (lo hi : ℕ) → IsFilled number lo hi → (first ≡ lo) × (last ≡ hi)
+    = (lo hi : ℕ) → IsFilled number lo hi → (first ≡ lo) × (last ≡ hi)
 
 -- a number that has an F at each place of no such places
 abbrev pub IsNotFilled : ℕ → Type 0

@@ -8,7 +8,8 @@ ghost use Rattle.h41_digits.specs.Packed.{digits_of, value-digits_of};
 ghost use Rattle.std.specs.Fmt.{digit_glyph};
 ghost use Rattle.std.proofs.Common.{ap};
 ghost use Rattle.h41_digits.specs.Register.{IsRegister, value, value_between, text};
-ghost use Rattle.h41_digits.specs.Register.{hexadecimal_text, byte_at, set_byte};
+ghost use Rattle.h41_digits.specs.Register.{hexadecimal_text, byte_at, byte_of_two, number_byte};
+ghost use Rattle.h41_digits.specs.Register.{set_byte};
 ghost use Rattle.h41_digits.specs.Spans.{in_places};
 
 use std::marker::Model;
@@ -216,6 +217,26 @@ impl<const N: usize> Digits<N> {
         }
         glyphs
     }
+}
+
+/// The eight bytes of two registers, one behind the other, that follow so many skipped ones of the first: the leftmost is the
+/// highest of the number.
+#[inline(always)]
+pub fn eight_bytes(here: Reg, below: Reg, skipped: usize) -> u64
+    requires { skipped < 7 }
+    ensures { (k : ℕ) → k < 8
+        → number_byte result (7 - k) ≡ byte_of_two here below (skipped + k) }
+{
+    (here.word << (8 * skipped + 8)) + (below.word >> (48 - 8 * skipped))
+}
+
+/// The byte `k`, 0 to 7, of a number, of which byte 0 is the lowest.
+#[inline(always)]
+pub fn number_byte(number: u64, k: usize) -> u8
+    requires { k < 8 }
+    ensures { result ≡ number_byte number k }
+{
+    (number >> (8 * k) & 0xFF) as u8
 }
 
 /// A hexadecimal digit, 0 to 15, in upper case.

@@ -20,11 +20,13 @@ pub mod Loads
 pub mod Mains
 pub mod Memory
 pub mod NewLines
+pub mod NullBytes
 pub mod Numbers
 pub mod Onward
 pub mod Outcomes
 pub mod Packings
 pub mod Places
+pub mod PlacesBehind
 pub mod PlacesFound
 pub mod PositionsRead
 pub mod Resized

@@ -1,9 +1,8 @@
 -- A short line of the bytes that were read is that of memory.
-use Rattle.std.proofs.Common.{◌≡◌, ◌≢◌, ℕ, suc, ◌+◌, ◌-◌, ◌/◌, ◌%◌, ◌<◌, ◌≤◌, List, [], ◌∷◌, ◌++◌, map, min, length, take, drop, Ok, Result}
-use Rattle.std.proofs.Common.{inl, inr, true, refl, sym, ap, ◌∙◌, subst, arith}
+use Rattle.std.proofs.Common.{◌≡◌, ◌≢◌, ℕ, suc, ◌+◌, ◌-◌, ◌<◌, ◌≤◌, List, [], ◌∷◌, ◌++◌, map, min, length, take, drop, Ok, Result}
+use Rattle.std.proofs.Common.{true, refl, sym, ap, ◌∙◌, subst, arith}
 use Rattle.std.specs.Prelude.{slice_index, slice_range}
 use Rattle.std.specs.List.{range_with_len}
-use Rattle.std.proofs.lemmas.Bool.{cases_lt}
 use Rattle.std.proofs.lemmas.List.{length-take}
 use Rattle.std.proofs.lemmas.List.FromFn.{take-map-range_with_len}
 use Rattle.h41_codes.specs.ByteGrammar.{spelling, Begins, GoesOn, IsWhole}
@@ -14,33 +13,22 @@ use Rattle.h41_codes.specs.declared.line.Line.{Line}
 use Rattle.h41_codes.specs.declared.line.Line.TheVariants.{Null}
 use Rattle.h41_codes.specs.declared.short_lines.ShortLine.{ShortLine}
 use Rattle.h41_codes.specs.declared.short_lines.ShortLine.TheVariants as short
-use Rattle.h41_digits.specs.Register.{byte_at}
+use Rattle.h41_digits.specs.Register.{number_byte}
 use Rattle.h41_program.specs.ProgramBytes.{byte_count, final_position, program_byte, program_bytes}
 use Rattle.h41_program.specs.ProgramLines.{AnswersBoth, HasFirst, PositionFrom}
 use Rattle.h41_program.specs.ShortLines.{HasNoShort, HasShort}
-use Rattle.h41_program.specs.private.Reading.{bytes_seen, FoundBehind}
+use Rattle.h41_program.specs.private.Reading.{bytes_seen, FoundBehind, HoldsBytes}
 use Rattle.h41_program.proofs.Memory.{Looked, looked_first}
 use Rattle.h41_program.proofs.PlacesFound.{begins_own}
 use Rattle.h41_program.proofs.PositionsRead.{both_found}
 use Rattle.h41_program.proofs.ShortLines.{BeginsNoNumber, seen_narrow}
 use Rattle.h41_program.proofs.Windows.{begins_count, begins_least, drop-map-range}
-use Rattle.h41_ram.specs.RegisterMap.{RegisterMap, curtain_of, is_sound, register_at}
+use Rattle.h41_ram.specs.RegisterMap.{RegisterMap, is_sound}
 
--- a byte of two registers one behind the other
-pub two_registers : (memory : RegisterMap) (at k byte : ℕ) → k < 7
-    → (at % 7 + k < 7 → byte ≡ byte_at (register_at memory (curtain_of memory - 1 - at / 7)) (6 - (at % 7 + k)))
-    → (7 ≤ at % 7 + k → byte ≡ byte_at (register_at memory (curtain_of memory - 1 - at / 7 - 1)) (13 - (at % 7 + k)))
-    → byte ≡ program_byte memory (at + k)
-two_registers memory at k byte few here below = elim (cases_lt (at % 7 + k) 7) [
-  | inl inside ↦
-      let q : at / 7 ≡ (at + k) / 7 = omega (arith, inside) in
-      let r : 6 - (at % 7 + k) ≡ 6 - (at + k) % 7 = omega (arith, inside) in
-      here inside ∙ (λ i. byte_at (register_at memory (curtain_of memory - 1 - q i)) (r i))
-  | inr behind ↦
-      let q : curtain_of memory - 1 - at / 7 - 1 ≡ curtain_of memory - 1 - (at + k) / 7 = omega (arith, behind, few) in
-      let r : 13 - (at % 7 + k) ≡ 6 - (at + k) % 7 = omega (arith, behind, few) in
-      below behind ∙ (λ i. byte_at (register_at memory (q i)) (r i))
-]
+-- the first of the bytes that were read
+pub first_read : (memory : RegisterMap) (at number byte : ℕ) → HoldsBytes memory at number → byte ≡ number_byte number 7
+    → byte ≡ program_byte memory at
+first_read memory at number byte holds is = is ∙ holds 0 (omega arith) ∙ ap (program_byte memory) (omega arith)
 
 -- what short lines are not
 no_null : (line : ShortLine) → line_of line ≡ Null → ⊥

@@ -1,10 +1,12 @@
 -- What is known of sound memory: where its program memory lies, and that it ends with an END.
-use Rattle.std.proofs.Common.{◌≡◌, ℕ, ◌+◌, ◌-◌, ◌*◌, ◌/◌, ◌%◌, ◌<◌, ◌≤◌, Bool, true, false, List, length, arith, refl}
+use Rattle.std.proofs.Common.{◌≡◌, ◌≢◌, ap, get_or, ℕ, ◌+◌, ◌-◌, ◌*◌, ◌/◌, ◌%◌, ◌<◌, ◌≤◌, Bool, true, false, List, length, arith, refl}
 use Rattle.std.proofs.lemmas.Bool.Decides.{nat_tests}
 use Rattle.std.specs.Prelude.{◌&&◌, nat_lt, nat_le, ◌==◌}
 use Rattle.h41_ram.specs.RegisterMap.{RegisterMap, main_start, top_of, curtain_of, end_of, is_sound, is_final_end, bit_of, register_at}
 use Rattle.h41_ram.specs.RegisterMap.{constant_of, sound_constant}
-use Rattle.h41_digits.specs.Register.{byte_at}
+use Rattle.h41_codes.specs.Heads.{IsIn}
+use Rattle.h41_digits.specs.Register.{byte_at, IsRegister}
+use Rattle.std.proofs.lemmas.List.Elements.{All-get_or}
 use Rattle.h41_program.specs.ProgramBytes.{program_byte, final_position}
 
 -- where program memory lies
@@ -89,6 +91,28 @@ module _ (memory : RegisterMap) (sound : is_sound memory ≡ true) where
       and_first first second (and_first (first && second) third (and_first (first && second && third) (bit_of final 5)
       (last_holds constant_test low_test order_test high_test end_test sound)))
 
+  -- the last three bytes, tested
+  three_tests : (nat_le 0xC0 (byte_at final 2) && nat_le (byte_at final 2) 0xCD && nat_lt (byte_at final 0) 0xF0) ≡ true
+  three_tests =
+      and_first (nat_le 0xC0 (byte_at final 2) && nat_le (byte_at final 2) 0xCD && nat_lt (byte_at final 0) 0xF0) (bit_of final 5) ends
+
+  first_most : byte_at final 2 ≤ 0xCD
+  first_most =
+      let first = nat_le 0xC0 (byte_at final 2) in
+      let second = nat_le (byte_at final 2) 0xCD in
+      le_holds (byte_at final 2) 0xCD
+      (and_second first second (and_first (first && second) (nat_lt (byte_at final 0) 0xF0) three_tests))
+
+  third_below : byte_at final 0 < 0xF0
+  third_below =
+      lt_holds (byte_at final 0) 0xF0
+      (and_second (nat_le 0xC0 (byte_at final 2) && nat_le (byte_at final 2) 0xCD) (nat_lt (byte_at final 0) 0xF0) three_tests)
+
+  third_marked : get_or final 1 0 / 2 % 2 ≡ 1
+  third_marked =
+      eq_holds (get_or final 1 0 / 2 % 2) 1
+      (and_second (nat_le 0xC0 (byte_at final 2) && nat_le (byte_at final 2) 0xCD && nat_lt (byte_at final 0) 0xF0) (bit_of final 5) ends)
+
 -- the byte of a position, by its register and its place there
 pub program_byte-at : (memory : RegisterMap) (position address place : ℕ) → curtain_of memory - 1 - position / 7 ≡ address
     → 6 - position % 7 ≡ place → program_byte memory position ≡ byte_at (register_at memory address) place
@@ -108,3 +132,38 @@ final_byte memory sound =
     rw (program_byte-at memory (final_position memory) (end_of memory) 2
     (last_register (curtain_of memory) (end_of memory) below) (last_place (curtain_of memory) (end_of memory) below))
     (le_holds 0xC0 (byte_at (register_at memory (end_of memory)) 2) (final_test memory sound))
+
+-- so no null
+pub no_null_at_end : (memory : RegisterMap) (last : ℕ) → is_sound memory ≡ true → last ≡ final_position memory
+    → program_byte memory last ≢ 0
+no_null_at_end memory last sound is null =
+    let high = final_byte memory sound in
+    let same = ap (program_byte memory) is in
+    omega (arith, high, null, same)
+
+-- all three
+pub record FinalBytes (memory : RegisterMap) (last : ℕ) : Type 0 where
+  pub first : IsIn 0xC0 0xCE (program_byte memory last)
+  pub second : program_byte memory (last + 1) < 256
+  pub third : program_byte memory (last + 2) < 0xF0
+  pub marked : program_byte memory (last + 2) / 32 % 2 ≢ 0
+
+pub final_bytes : (memory : RegisterMap) (last : ℕ) → is_sound memory ≡ true → IsRegister 14 (register_at memory (end_of memory))
+    → last ≡ final_position memory → FinalBytes memory last
+final_bytes memory last sound register is =
+    let below = (bounds memory sound).order in
+    let end = end_of memory in
+    let final = register_at memory end in
+    let digit = λ (place : ℕ) (inside : place < 14).
+    All-get_or (λ digit. digit < 16) final place 0 (omega (arith, inside, register.size)) register.each in
+    let first = program_byte-at memory last end 2 (omega (arith, is, below)) (omega (arith, is, below)) in
+    let second = program_byte-at memory (last + 1) end 1 (omega (arith, is, below)) (omega (arith, is, below)) in
+    let third = program_byte-at memory (last + 2) end 0 (omega (arith, is, below)) (omega (arith, is, below)) in
+    let high = final_byte memory sound in
+    let same = ap (program_byte memory) is in
+    record {
+      first = (omega (arith, high, same), omega (arith, first, first_most memory sound));
+      second = omega (arith, second, digit 2 (omega arith), digit 3 (omega arith));
+      third = omega (arith, third, third_below memory sound);
+      marked = λ clear. omega (arith, clear, third, third_marked memory sound, digit 0 (omega arith));
+    }

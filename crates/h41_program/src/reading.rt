@@ -1,8 +1,8 @@
 //! The line that stands at a position.
-ghost use Rattle.std.specs.Prelude.{◌≡◌, ◌≢◌, ℕ, ◌+◌, ◌-◌, ◌<◌, ◌≤◌, map, slice_index, min, IsSome};
+ghost use Rattle.std.specs.Prelude.{◌≡◌, ◌≢◌, ℕ, ◌+◌, ◌-◌, ◌/◌, ◌%◌, ◌<◌, ◌≤◌, map, slice_index, min, IsSome};
 ghost use Rattle.std.specs.Prelude.{IsTrue, IfSome, IfNone};
 ghost use Rattle.std.specs.List.{range_with_len};
-ghost use Rattle.h41_digits.specs.Register.{byte_at as register_byte};
+ghost use Rattle.h41_digits.specs.Register.{number_byte};
 ghost use Rattle.h41_ram.specs.RegisterMap.{is_sound};
 ghost use Rattle.h41_program.specs.ByteReading.{ReadsAt};
 ghost use Rattle.h41_program.specs.ProgramBytes.{byte_count, final_position, program_byte};
@@ -12,6 +12,7 @@ ghost use Rattle.h41_program.specs.ProgramLines.{HasPlace, PositionFrom};
 ghost use Rattle.h41_program.specs.ShortLines.{HasNoShort, HasShort};
 ghost use Rattle.h41_program.specs.private.Reading.{bytes_seen, register_holding, BeginsAt, Fits};
 ghost use Rattle.h41_program.specs.private.Reading.{BeginsNothing, BeginsSized, FoundBehind};
+ghost use Rattle.h41_program.specs.private.Reading.{HoldsBytes};
 ghost use Rattle.h41_codes.specs.Heads.{IsIn};
 
 use crate::kinds::is_final_end;
@@ -22,7 +23,7 @@ use h41_codes::laws::{byte_round_trip, first_bytes, line_or_none};
 use h41_codes::{
     Line, ShortLine, decode, is_one_byte, one_byte_line, short_line as short_line_of, two_byte_line,
 };
-use h41_digits::Reg;
+use h41_digits::{Reg, eight_bytes, number_byte};
 use h41_ram::Ram;
 
 /// How many bytes a register has.
@@ -84,6 +85,22 @@ pub fn final_position<const REGS: usize>(ram: &Ram<REGS>) -> u16
     (ram.curtain() - ram.end_register()) * REGISTER_BYTES - END_BYTES
 }
 
+/// How many registers of program memory end in front of a position. In 32 bits, whose upper half is zero, it is told in fewer steps.
+#[inline(always)]
+fn registers_before(position: u16) -> u16
+    ensures { result ≡ position / 7 }
+{
+    (u32::from(position) / 7) as u16
+}
+
+/// How many bytes of a position's register stand in front of it.
+#[inline(always)]
+fn bytes_before(position: u16) -> u16
+    ensures { result ≡ position % 7 }
+{
+    (u32::from(position) % 7) as u16
+}
+
 /// The register that has the byte at a position of program memory; at its end the one below it.
 #[inline(always)]
 fn register_holding<const REGS: usize>(ram: &Ram<REGS>, position: u16) -> Reg
@@ -91,7 +108,7 @@ fn register_holding<const REGS: usize>(ram: &Ram<REGS>, position: u16) -> Reg
     requires sound { IsTrue (is_sound ram.now.registers) }
     ensures { result ≡ register_holding ram.now.registers position }
 {
-    ram.read(ram.curtain() - 1 - position / REGISTER_BYTES)
+    ram.read(ram.curtain() - 1 - registers_before(position))
 }
 
 impl ByteReader {
@@ -104,7 +121,7 @@ impl ByteReader {
     {
         ByteReader {
             register: register_holding(ram, position),
-            left: REGISTER_BYTES - position % REGISTER_BYTES,
+            left: REGISTER_BYTES - bytes_before(position),
         }
     }
 
@@ -132,28 +149,55 @@ pub fn byte_at<const REGS: usize>(ram: &Ram<REGS>, position: u16) -> u8
     requires { position < byte_count ram.now.registers }
     ensures { result ≡ program_byte ram.now.registers position }
 {
-    let register = ram.read(ram.curtain() - 1 - position / REGISTER_BYTES);
-    register.byte(usize::from(6 - position % REGISTER_BYTES))
+    let register = ram.read(ram.curtain() - 1 - registers_before(position));
+    register.byte(usize::from(6 - bytes_before(position)))
 }
 
-/// The first position from one on, and before the last three bytes, whose byte is no null; else where these begin. And its byte.
+/// The eight bytes from a position on, the first of them leftmost.
+#[inline(always)]
+fn bytes_from<const REGS: usize>(ram: &Ram<REGS>, at: u16) -> u64
+    requires inside { at < byte_count ram.now.registers }
+    requires sound { IsTrue (is_sound ram.now.registers) }
+    ensures { HoldsBytes ram.now.registers at result }
+{
+    let address = ram.curtain() - 1 - registers_before(at);
+    let skipped = usize::from(bytes_before(at));
+    eight_bytes(ram.read(address), ram.read(address - 1), skipped)
+}
+
+/// How many of the eight bytes of a number are nulls, from the leftmost on to the first that is none.
+#[inline(always)]
+fn leading_nulls(bytes: u64) -> u16
+    requires { 0 < bytes }
+    ensures few { result < 8 }
+    ensures nulls { (k : ℕ) → k < result → number_byte bytes (7 - k) ≡ 0 }
+    ensures stop { number_byte bytes (7 - result) ≢ 0 }
+{
+    (bytes.leading_zeros() / 8) as u16
+}
+
+/// The first position from one on whose byte is no null, at most that of the last three bytes; and its byte.
 #[inline(always)]
 fn past_nulls<const REGS: usize>(ram: &Ram<REGS>, at: u16, last: u16) -> (u16, u8)
     requires from { at ≤ last }
-    requires last { last < byte_count ram.now.registers }
+    requires last { last ≡ spec.final_position ram.now.registers }
+    requires count { last + 3 ≡ byte_count ram.now.registers }
+    requires sound { IsTrue (is_sound ram.now.registers) }
     ensures from { at ≤ result.0 }
     ensures to { result.0 ≤ last }
     ensures nulls { (k : ℕ) → at ≤ k → k < result.0 → program_byte ram.now.registers k ≡ 0 }
-    ensures stop { result.0 < last → program_byte ram.now.registers result.0 ≢ 0 }
+    ensures stop { program_byte ram.now.registers result.0 ≢ 0 }
     ensures byte { result.1 ≡ program_byte ram.now.registers result.0 }
 {
-    for position in at..last {
-        let here = byte_at(ram, position);
-        if here != 0 {
-            return (position, here);
+    let mut position = at;
+    loop {
+        let bytes = bytes_from(ram, position);
+        if bytes != 0 {
+            let nulls = leading_nulls(bytes);
+            return (position + nulls, number_byte(bytes, usize::from(7 - nulls)));
         }
+        position += 8;
     }
-    (last, byte_at(ram, last))
 }
 
 /// The bytes from a position to another, or the first 18 of them.
@@ -224,6 +268,23 @@ fn place_at<const REGS: usize>(ram: &Ram<REGS>, at: u16, byte: u8, limit: u16) -
         0xD0..=0xEF => fitting(ram, at, limit, 3),
         0xF0..=0xFF => fitting(ram, at, limit, u16::from(byte - 0xF0) + 1),
         _ => fitting(ram, at, limit, 2),
+    }
+}
+
+/// The place of `.END.`, which sound memory has in its last three bytes.
+#[inline(always)]
+fn final_place<const REGS: usize>(ram: &Ram<REGS>, last: u16) -> LinePlace
+    requires last { last ≡ spec.final_position ram.now.registers }
+    requires bound { last ≤ 2237 }
+    requires sound { IsTrue (is_sound ram.now.registers) }
+    ensures { BeginsAt ram.now.registers last (last + 3) result }
+{
+    let _digits = ram.read(ram.end_register()).to_u64();
+    LinePlace {
+        position: last,
+        behind: last + END_BYTES,
+        ends_program: false,
+        ends_memory: true,
     }
 }
 
@@ -318,12 +379,10 @@ pub fn place_from<const REGS: usize>(ram: &Ram<REGS>, at: u16) -> Option<LinePla
         return None;
     }
     let (position, byte) = past_nulls(ram, at, last);
-    let limit = if position < last {
-        last
-    } else {
-        last + END_BYTES
-    };
-    place_at(ram, position, byte, limit)
+    if position == last {
+        return Some(final_place(ram, last));
+    }
+    place_at(ram, position, byte, last)
 }
 
 /// The first line from a position on, nulls passed over, and the byte behind it; `None` where no line follows. The list goes on
@@ -449,7 +508,21 @@ fn position_past_nulls<const REGS: usize>(ram: &Ram<REGS>, at: u16) -> u16
     requires { IsTrue (is_sound ram.now.registers) }
     ensures { PositionFrom ram.now.registers at result }
 {
-    match place_from(ram, at) {
+    byte_round_trip();
+    first_bytes();
+    line_or_none();
+    let last = final_position(ram);
+    if at >= last {
+        return at;
+    }
+    let (position, byte) = past_nulls(ram, at, last);
+    if position == last {
+        return final_place(ram, last).position;
+    }
+    if is_one_byte(byte) || byte < 0x1D {
+        return position;
+    }
+    match place_at(ram, position, byte, last) {
         Some(first) => first.position,
         None => at,
     }
@@ -469,56 +542,19 @@ pub fn short_line<const REGS: usize>(ram: &Ram<REGS>, at: u16) -> Option<(ShortL
     if at >= last {
         return None;
     }
-    let (first, second, third, fourth) = four_bytes(ram, at);
+    let bytes = bytes_from(ram, at);
+    let first = number_byte(bytes, 7);
+    let second = number_byte(bytes, 6);
+    let third = number_byte(bytes, 5);
     match short_line_of(first, second, third) {
         Some((line, size)) => {
             let behind = at + size;
             if behind > last {
                 return None;
             }
-            let byte = match size {
-                1 => second,
-                2 => third,
-                _ => fourth,
-            };
+            let byte = number_byte(bytes, 7 - usize::from(size));
             Some((line, position_by(ram, behind, byte)))
         }
         None => None,
-    }
-}
-
-/// The bytes at a position and at the three behind it.
-#[inline(always)]
-fn four_bytes<const REGS: usize>(ram: &Ram<REGS>, at: u16) -> (u8, u8, u8, u8)
-    requires inside { at + 3 < byte_count ram.now.registers }
-    requires sound { IsTrue (is_sound ram.now.registers) }
-    ensures first { result.0 ≡ program_byte ram.now.registers at }
-    ensures second { result.1 ≡ program_byte ram.now.registers (at + 1) }
-    ensures third { result.2 ≡ program_byte ram.now.registers (at + 2) }
-    ensures fourth { result.3 ≡ program_byte ram.now.registers (at + 3) }
-{
-    let address = ram.curtain() - 1 - at / REGISTER_BYTES;
-    let here = ram.read(address);
-    let below = ram.read(address - 1);
-    let place = at % REGISTER_BYTES;
-    (
-        byte_of_two(here, below, place),
-        byte_of_two(here, below, place + 1),
-        byte_of_two(here, below, place + 2),
-        byte_of_two(here, below, place + 3),
-    )
-}
-
-/// The byte of a place, 0 to 13, of two registers one behind the other.
-#[inline(always)]
-fn byte_of_two(here: Reg, below: Reg, place: u16) -> u8
-    requires { place < 14 }
-    ensures here { place < 7 → result ≡ register_byte here (6 - place) }
-    ensures below { 7 ≤ place → result ≡ register_byte below (13 - place) }
-{
-    if place < REGISTER_BYTES {
-        here.byte(usize::from(6 - place))
-    } else {
-        below.byte(usize::from(13 - place))
     }
 }

@@ -2,6 +2,7 @@
 use Rattle.std.specs.Prelude.{◌≡◌, ◌≤◌, ◌<◌, ℕ, ◌+◌, ◌-◌, ◌/◌, false, MatchBool, List}
 use Rattle.std.specs.Prelude.{map, min}
 use Rattle.std.specs.List.{range_with_len}
+use Rattle.h41_digits.specs.Register.{number_byte}
 use Rattle.h41_ram.specs.RegisterMap.{RegisterMap, curtain_of, register_at}
 use Rattle.h41_codes.specs.declared.line.Line.{Line}
 use Rattle.h41_program.specs.declared.listed_line.ListedLine.{ListedLine}
@@ -39,6 +40,11 @@ AnswersFrom answer memory at result =
 -- the register that has the byte at a position; at the end the one below it
 abbrev pub register_holding : RegisterMap → ℕ → List ℕ
 register_holding memory position = register_at memory (curtain_of memory - 1 - position / 7)
+
+-- a number has the eight bytes from a position on, of which the first is its highest
+abbrev pub HoldsBytes : RegisterMap → ℕ → ℕ → Type 0
+HoldsBytes memory at number =
+    (k : ℕ) → k < 8 → number_byte number (7 - k) ≡ program_byte memory (at + k)
 
 -- the bytes from a position to another, or the first 18 of them
 abbrev pub bytes_seen : RegisterMap → ℕ → ℕ → List ℕ

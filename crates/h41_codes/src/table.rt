@@ -260,6 +260,7 @@ pub(crate) fn function_code(function: Function) -> u8
 }
 
 /// The function with a parameter of a code, 90 to 9F, A8 to AD, CE or CF.
+#[inline(always)]
 pub(crate) fn parameter_function(code: u8) -> ParameterFunction
     requires { IsParameterCode code }
     ensures { spec.parameter_function_code result ≡ code }

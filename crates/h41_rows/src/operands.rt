@@ -30,6 +30,7 @@ pub fn data_address<const REGS: usize>(ram: &Ram<REGS>, n: u16) -> Result<u16, L
 }
 
 /// Where the register of an operand stands.
+#[inline(always)]
 pub fn register_of<const REGS: usize>(ram: &Ram<REGS>, operand: &Operand) -> Result<u16, LineFault>
     requires { is_operand_left_out operand.now ≡ false }
     ensures { result_map Address result ≡ meant_as RegisterKind ram.now.registers operand.now }

@@ -37,6 +37,7 @@ pub(crate) fn numbered_register<const REGS: usize>(
 }
 
 /// Where the register of a parameter stands.
+#[inline(always)]
 pub(crate) fn parameter_register<const REGS: usize>(
     ram: &Ram<REGS>,
     parameter: Parameter,
@@ -79,6 +80,7 @@ fn parameter_number<const REGS: usize>(
 }
 
 /// The address of the register that an operand is, or of the data register whose number stands in the one that it names.
+#[inline(always)]
 pub(crate) fn operand_register<const REGS: usize>(
     ram: &Ram<REGS>,
     operand: &Operand,
@@ -93,6 +95,7 @@ pub(crate) fn operand_register<const REGS: usize>(
 }
 
 /// The address of the data register whose number stands in the register of a parameter.
+#[inline(never)]
 fn indirect_register<const REGS: usize>(
     ram: &Ram<REGS>,
     parameter: Parameter,

@@ -1,6 +1,6 @@
 -- The bytes of program memory, eight at once, and the nulls among them.
-use Rattle.std.proofs.Common.{◌≡◌, ◌≢◌, ℕ, suc, ◌+◌, ◌-◌, ◌*◌, ◌/◌, ◌%◌, ◌^◌, ◌<◌, ◌≤◌, Bool, true, false, refl, sym, ap, arith, ◌∙◌, subst}
-use Rattle.std.proofs.Common.{inl, inr}
+use Rattle.std.proofs.Common.{◌≡◌, ◌≢◌, ℕ, suc, ◌+◌, ◌-◌, ◌*◌, ◌/◌, ◌%◌, ◌^◌, ◌<◌, ◌≤◌, Bool, List, true, false, refl, sym}
+use Rattle.std.proofs.Common.{ap, arith, ◌∙◌, subst, inl, inr}
 use Rattle.std.specs.Prelude.{nat_lt, if◌then◌else◌}
 use Rattle.std.specs.Int.{w64, leading_zeros}
 use Rattle.std.proofs.lemmas.Bool.{cases_lt, ltb-true}
@@ -9,30 +9,31 @@ use Rattle.std.proofs.Math.Nat.{div-eq_of_lt, mod-eq_of_lt, pow-le-pow_right, po
 use Rattle.std.proofs.lemmas.Nat.{pow_pos, leading_top, le-div, div_below}
 use Rattle.h41_digits.specs.Register.{byte_at, byte_of_two, number_byte}
 use Rattle.h41_digits.proofs.Windows.{bits_of_weight}
-use Rattle.h41_ram.specs.RegisterMap.{RegisterMap, curtain_of, register_at}
-use Rattle.h41_program.specs.ProgramBytes.{program_byte}
+use Rattle.h41_ram.specs.RegisterMap.{RegisterMap, curtain_of, is_sound, register_at}
+use Rattle.h41_program.specs.ProgramBytes.{byte_count, final_position, program_byte}
 use Rattle.h41_program.specs.private.Reading.{HoldsBytes}
+use Rattle.h41_program.proofs.Sound.{no_null_at_end}
 
 -- a byte of two registers of program memory
-pub two_registers : (memory : RegisterMap) (at k : ℕ) → k < 8
-    → byte_of_two (register_at memory (curtain_of memory - 1 - at / 7))
-    (register_at memory (curtain_of memory - 1 - at / 7 - 1)) (at % 7 + k)
-    ≡ program_byte memory (at + k)
-two_registers memory at k few =
-    let here = register_at memory (curtain_of memory - 1 - at / 7) in
-    let below = register_at memory (curtain_of memory - 1 - at / 7 - 1) in
+pub two_registers : (memory : RegisterMap) (at k : ℕ) (upper lower : List ℕ) → k < 8
+    → upper ≡ register_at memory (curtain_of memory - 1 - at / 7)
+    → (7 ≤ at % 7 + k → lower ≡ register_at memory (curtain_of memory - 1 - at / 7 - 1))
+    → byte_of_two upper lower (at % 7 + k) ≡ program_byte memory (at + k)
+two_registers memory at k upper lower few here below =
     elim (nat_lt (at % 7 + k) 7) as (λ (first : Bool). nat_lt (at % 7 + k) 7 ≡ first
-    → (if first then byte_at here (6 - (at % 7 + k)) else byte_at below (13 - (at % 7 + k))) ≡ program_byte memory (at + k)) [
+    → (if first then byte_at upper (6 - (at % 7 + k)) else byte_at lower (13 - (at % 7 + k))) ≡ program_byte memory (at + k)) [
       | true ↦ λ is.
           let inside : at % 7 + k < 7 = ltb-true (at % 7 + k) 7 is in
           let q : at / 7 ≡ (at + k) / 7 = omega (arith, inside) in
           let r : 6 - (at % 7 + k) ≡ 6 - (at + k) % 7 = omega (arith, inside) in
-          (λ i. byte_at (register_at memory (curtain_of memory - 1 - q i)) (r i))
+          ap (λ (register : List ℕ). byte_at register (6 - (at % 7 + k))) here
+          ∙ (λ i. byte_at (register_at memory (curtain_of memory - 1 - q i)) (r i))
       | false ↦ λ is.
           let behind : 7 ≤ at % 7 + k = grind (arith, nat_tests) in
           let q : curtain_of memory - 1 - at / 7 - 1 ≡ curtain_of memory - 1 - (at + k) / 7 = omega (arith, behind, few) in
           let r : 13 - (at % 7 + k) ≡ 6 - (at + k) % 7 = omega (arith, behind, few) in
-          (λ i. byte_at (register_at memory (q i)) (r i))
+          ap (λ (register : List ℕ). byte_at register (13 - (at % 7 + k))) (below behind)
+          ∙ (λ i. byte_at (register_at memory (q i)) (r i))
     ] refl
 
 -- the zeros in front of a number's highest bit
@@ -78,28 +79,48 @@ zero_byte place =
 
 -- bytes that were passed over are nulls, and end in front of one that is none
 module _ (memory : RegisterMap) (at position : ℕ) (before : (k : ℕ) → at ≤ k → k < position → program_byte memory k ≡ 0) where
-  pub more_nulls : (next : ℕ) → ((k : ℕ) → k < next → program_byte memory (position + k) ≡ 0) → (k : ℕ) → at ≤ k → k < position + next
-      → program_byte memory k ≡ 0
-  more_nulls next zeros k from below = elim (cases_lt k position) [
+  pub more_nulls : (next last : ℕ)
+      → ((k : ℕ) → k < next → position + k < byte_count memory → program_byte memory (position + k) ≡ 0)
+      → position + next ≤ last → last < byte_count memory → (k : ℕ) → at ≤ k → k < position + next → program_byte memory k ≡ 0
+  more_nulls next last zeros to inside k from below = elim (cases_lt k position) [
     | inl earlier ↦ before k from earlier
     | inr later ↦
         let here : k ≡ position + (k - position) = omega (arith, later) in
-        ap (program_byte memory) here ∙ zeros (k - position) (omega (arith, later, below))
+        ap (program_byte memory) here
+        ∙ zeros (k - position) (omega (arith, later, below)) (omega (arith, later, below, to, inside))
   ]
 
-pub not_past : (memory : RegisterMap) (position next last : ℕ) → ((k : ℕ) → k < next → program_byte memory (position + k) ≡ 0)
-    → program_byte memory last ≢ 0 → position ≤ last → position + next ≤ last
-not_past memory position next last zeros other from = elim (cases_lt last (position + next)) [
+pub not_past : (memory : RegisterMap) (position next last : ℕ)
+    → ((k : ℕ) → k < next → position + k < byte_count memory → program_byte memory (position + k) ≡ 0)
+    → program_byte memory last ≢ 0 → last < byte_count memory → position ≤ last → position + next ≤ last
+not_past memory position next last zeros other inside from = elim (cases_lt last (position + next)) [
   | inl past ↦
       let here : last ≡ position + (last - position) = omega (arith, from) in
-      absurd (other (ap (program_byte memory) here ∙ zeros (last - position) (omega (arith, from, past))))
-  | inr inside ↦ inside
+      absurd (other (ap (program_byte memory) here
+      ∙ zeros (last - position) (omega (arith, from, past)) (omega (arith, from, inside))))
+  | inr before ↦ before
 ]
 
 pub eight_nulls : (memory : RegisterMap) (position number : ℕ) → HoldsBytes memory position number → number ≡ 0
-    → (k : ℕ) → k < 8 → program_byte memory (position + k) ≡ 0
-eight_nulls memory position number holds none k few = sym (holds k few) ∙ ap (λ n. number_byte n (7 - k)) none ∙ zero_byte (7 - k)
+    → (k : ℕ) → k < 8 → position + k < byte_count memory → program_byte memory (position + k) ≡ 0
+eight_nulls memory position number holds none k few inside =
+    sym (holds k few inside) ∙ ap (λ n. number_byte n (7 - k)) none ∙ zero_byte (7 - k)
 
 pub leading : (memory : RegisterMap) (position number nulls : ℕ) → HoldsBytes memory position number → nulls < 8
-    → ((k : ℕ) → k < nulls → number_byte number (7 - k) ≡ 0) → (k : ℕ) → k < nulls → program_byte memory (position + k) ≡ 0
-leading memory position number nulls holds few zeros k below = sym (holds k (omega (arith, below, few))) ∙ zeros k below
+    → ((k : ℕ) → k < nulls → number_byte number (7 - k) ≡ 0)
+    → (k : ℕ) → k < nulls → position + k < byte_count memory → program_byte memory (position + k) ≡ 0
+leading memory position number nulls holds few zeros k below inside =
+    sym (holds k (omega (arith, below, few)) inside) ∙ zeros k below
+
+-- bytes that were read in front of the last ones end there at the latest
+module _ (memory : RegisterMap) (position last number : ℕ) (sound : is_sound memory ≡ true) (last_is : last ≡ final_position memory)
+    (count : last + 3 ≡ byte_count memory) (to : position ≤ last) (holds : HoldsBytes memory position number) where
+  pub eight_inside : number ≡ 0 → position + 8 ≤ last
+  eight_inside none =
+      not_past memory position 8 last (eight_nulls memory position number holds none) (no_null_at_end memory last sound last_is)
+      (omega (arith, count)) to
+
+  pub nulls_inside : (nulls : ℕ) → nulls < 8 → ((k : ℕ) → k < nulls → number_byte number (7 - k) ≡ 0) → position + nulls ≤ last
+  nulls_inside nulls few zeros =
+      not_past memory position nulls last (leading memory position number nulls holds few zeros) (no_null_at_end memory last sound last_is)
+      (omega (arith, count)) to

@@ -26,9 +26,10 @@ use Rattle.h41_program.proofs.Windows.{begins_count, begins_least, drop-map-rang
 use Rattle.h41_ram.specs.RegisterMap.{RegisterMap, is_sound}
 
 -- the first of the bytes that were read
-pub first_read : (memory : RegisterMap) (at number byte : ℕ) → HoldsBytes memory at number → byte ≡ number_byte number 7
-    → byte ≡ program_byte memory at
-first_read memory at number byte holds is = is ∙ holds 0 (omega arith) ∙ ap (program_byte memory) (omega arith)
+pub first_read : (memory : RegisterMap) (at number byte : ℕ) → at < byte_count memory → HoldsBytes memory at number
+    → byte ≡ number_byte number 7 → byte ≡ program_byte memory at
+first_read memory at number byte inside holds is =
+    is ∙ holds 0 (omega arith) (omega (arith, inside)) ∙ ap (program_byte memory) (omega arith)
 
 -- what short lines are not
 no_null : (line : ShortLine) → line_of line ≡ Null → ⊥

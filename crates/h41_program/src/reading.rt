@@ -24,7 +24,7 @@ use h41_codes::{
     Line, ShortLine, decode, is_one_byte, one_byte_line, short_line as short_line_of, two_byte_line,
 };
 use h41_digits::{Reg, eight_bytes, number_byte};
-use h41_ram::Ram;
+use h41_ram::{MAIN_START, Ram};
 
 /// How many bytes a register has.
 pub const REGISTER_BYTES: u16 = 7;
@@ -153,7 +153,7 @@ pub fn byte_at<const REGS: usize>(ram: &Ram<REGS>, position: u16) -> u8
     register.byte(usize::from(6 - bytes_before(position)))
 }
 
-/// The eight bytes from a position on, the first of them leftmost.
+/// The eight bytes from a position on, the first of them leftmost; those behind the last of program memory are any.
 #[inline(always)]
 fn bytes_from<const REGS: usize>(ram: &Ram<REGS>, at: u16) -> u64
     requires inside { at < byte_count ram.now.registers }
@@ -162,7 +162,8 @@ fn bytes_from<const REGS: usize>(ram: &Ram<REGS>, at: u16) -> u64
 {
     let address = ram.curtain() - 1 - registers_before(at);
     let skipped = usize::from(bytes_before(at));
-    eight_bytes(ram.read(address), ram.read(address - 1), skipped)
+    let below = (address - 1).max(MAIN_START as u16);
+    eight_bytes(ram.read_main(address), ram.read_main(below), skipped)
 }
 
 /// How many of the eight bytes of a number are nulls, from the leftmost on to the first that is none.

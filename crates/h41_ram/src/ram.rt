@@ -125,6 +125,16 @@ impl<const REGS: usize> Ram<REGS> {
         }
     }
 
+    /// The register at an address of main memory.
+    #[inline(always)]
+    pub fn read_main(&self, address: u16) -> Reg
+        requires from { spec.main_start ≤ address }
+        requires to { address < spec.top_of self.now.registers }
+        ensures { result ≡ spec.register_at self.now.registers address }
+    {
+        self.main[usize::from(address) - MAIN_START]
+    }
+
     /// Writes the register at an address. An address that does not exist takes no write (this project's choice).
     #[inline(always)]
     pub fn write(&mut self, address: u16, register: Reg)

@@ -10,7 +10,7 @@ use Rattle.h41_codes.specs.ByteGrammar.{Begins}
 use Rattle.h41_program.specs.declared.reading.Found.{Found}
 use Rattle.h41_program.specs.declared.reading.LinePlace.{LinePlace}
 use Rattle.h41_program.specs.Lines.{is_end, is_final_end}
-use Rattle.h41_program.specs.ProgramBytes.{program_byte}
+use Rattle.h41_program.specs.ProgramBytes.{byte_count, program_byte}
 use Rattle.h41_program.specs.ProgramLines.{HasFirst, LinesFrom, PositionFrom}
 
 -- a line ends neither a program nor memory
@@ -41,10 +41,12 @@ AnswersFrom answer memory at result =
 abbrev pub register_holding : RegisterMap → ℕ → List ℕ
 register_holding memory position = register_at memory (curtain_of memory - 1 - position / 7)
 
--- a number has the eight bytes from a position on, of which the first is its highest
+-- a number has the eight bytes from a position on, of which the first is its highest, or those of
+-- them that program memory has
 abbrev pub HoldsBytes : RegisterMap → ℕ → ℕ → Type 0
 HoldsBytes memory at number =
-    (k : ℕ) → k < 8 → number_byte number (7 - k) ≡ program_byte memory (at + k)
+    (k : ℕ) → k < 8 → at + k < byte_count memory
+    → number_byte number (7 - k) ≡ program_byte memory (at + k)
 
 -- the bytes from a position to another, or the first 18 of them
 abbrev pub bytes_seen : RegisterMap → ℕ → ℕ → List ℕ

@@ -9,10 +9,10 @@ returns-then-behind-last-clause-none g c =
     no_room c.byte_round_trip.ensures.one c.args.ram.now.registers c.args.at last.result
     c.number_byte-first.result c.number_byte-second.result c.number_byte-third.result
     last.ensures.value last.ensures.count (omega (arith, c.if-at-last.false))
-    (first_read c.args.ram.now.registers c.args.at c.bytes_from-bytes.result c.number_byte-first.result c.bytes_from-bytes.ensures
-    c.number_byte-first.ensures)
-    (c.number_byte-second.ensures ∙ c.bytes_from-bytes.ensures 1 (omega arith))
-    (c.number_byte-third.ensures ∙ c.bytes_from-bytes.ensures 2 (omega arith))
+    (first_read c.args.ram.now.registers c.args.at c.bytes_from-bytes.result c.number_byte-first.result
+    (omega (arith, c.if-at-last.false, last.ensures.count)) c.bytes_from-bytes.ensures c.number_byte-first.ensures)
+    (c.number_byte-second.ensures ∙ c.bytes_from-bytes.ensures 1 (omega arith) (omega (arith, c.if-at-last.false, last.ensures.count)))
+    (c.number_byte-third.ensures ∙ c.bytes_from-bytes.ensures 2 (omega arith) (omega (arith, c.if-at-last.false, last.ensures.count)))
     c.in-Some.line c.in-Some.size c.in-Some.ensures.some c.if-behind-last.true
 
 pub overflow_sub-from : goal.overflow_sub-from
@@ -32,7 +32,8 @@ position_by-requires g c =
         (
           omega (arith, c.if-behind-last.false, last.count),
           c.number_byte-byte.ensures ∙ ap (λ n. number_byte c.bytes_from-bytes.result (7 - n)) c.from.ensures
-              ∙ c.bytes_from-bytes.ensures c.in-Some.size (omega (arith, most.1)),
+              ∙ c.bytes_from-bytes.ensures c.in-Some.size (omega (arith, most.1))
+              (omega (arith, c.if-behind-last.false, last.count)),
         ),
       ),
     )
@@ -43,10 +44,10 @@ returns-in-None-clause-none g c =
     no_short c.byte_round_trip.ensures.one c.args.ram.now.registers c.args.at last.result
     c.number_byte-first.result c.number_byte-second.result c.number_byte-third.result
     last.ensures.value last.ensures.count (omega (arith, c.if-at-last.false))
-    (first_read c.args.ram.now.registers c.args.at c.bytes_from-bytes.result c.number_byte-first.result c.bytes_from-bytes.ensures
-    c.number_byte-first.ensures)
-    (c.number_byte-second.ensures ∙ c.bytes_from-bytes.ensures 1 (omega arith))
-    (c.number_byte-third.ensures ∙ c.bytes_from-bytes.ensures 2 (omega arith))
+    (first_read c.args.ram.now.registers c.args.at c.bytes_from-bytes.result c.number_byte-first.result
+    (omega (arith, c.if-at-last.false, last.ensures.count)) c.bytes_from-bytes.ensures c.number_byte-first.ensures)
+    (c.number_byte-second.ensures ∙ c.bytes_from-bytes.ensures 1 (omega arith) (omega (arith, c.if-at-last.false, last.ensures.count)))
+    (c.number_byte-third.ensures ∙ c.bytes_from-bytes.ensures 2 (omega arith) (omega (arith, c.if-at-last.false, last.ensures.count)))
     c.in-None.ensures.none
 
 pub returns-else-behind-last-clause-some : goal.returns-else-behind-last-clause-some
@@ -56,10 +57,11 @@ returns-else-behind-last-clause-some g c =
       short_first c.byte_round_trip.ensures.one c.args.ram.now.registers c.args.at last.result
           c.number_byte-first.result c.number_byte-second.result c.number_byte-third.result
           last.ensures.value last.ensures.count (omega (arith, c.if-at-last.false))
-          (first_read c.args.ram.now.registers c.args.at c.bytes_from-bytes.result c.number_byte-first.result c.bytes_from-bytes.ensures
-          c.number_byte-first.ensures)
-          (c.number_byte-second.ensures ∙ c.bytes_from-bytes.ensures 1 (omega arith))
-          (c.number_byte-third.ensures ∙ c.bytes_from-bytes.ensures 2 (omega arith))
+          (first_read c.args.ram.now.registers c.args.at c.bytes_from-bytes.result c.number_byte-first.result
+          (omega (arith, c.if-at-last.false, last.ensures.count)) c.bytes_from-bytes.ensures c.number_byte-first.ensures)
+          (c.number_byte-second.ensures
+          ∙ c.bytes_from-bytes.ensures 1 (omega arith) (omega (arith, c.if-at-last.false, last.ensures.count)))
+          (c.number_byte-third.ensures ∙ c.bytes_from-bytes.ensures 2 (omega arith) (omega (arith, c.if-at-last.false, last.ensures.count)))
           c.first_bytes.ensures.number c.first_bytes.ensures.null c.requires c.in-Some.line c.in-Some.size
           c.in-Some.ensures.some (omega (arith, c.if-behind-last.false)),
       c.position_by.ensures,

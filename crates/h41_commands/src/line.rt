@@ -19,6 +19,15 @@ pub enum LineKind {
     Named(FirstWord),
 }
 
+/// The first line of an item, as it is told before its words are read.
+#[derive(Clone, Copy, Debug, PartialEq, Eq)]
+pub struct FirstLine {
+    /// What it is.
+    pub kind: LineKind,
+    /// How many bytes it has up to the end of its first word; 0 where it is too long.
+    pub name_end: usize,
+}
+
 /// What a line is; nothing where it says nothing.
 #[inline(always)]
 pub(crate) fn line_kind(line: &[u8]) -> Option<LineKind>

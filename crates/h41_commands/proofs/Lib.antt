@@ -8,6 +8,7 @@ pub mod ItemLines
 pub mod KeptBytes
 pub mod KeyWords
 pub mod KeysInCells
+pub mod NameEnds
 pub mod ParsedCommands
 pub mod ProgramTextLines
 pub mod ToldCommands

@@ -1,15 +1,17 @@
 -- What the first line of an item is, by its length and its first word.
 use Rattle.std.specs.Prelude.{ℕ, Bool, true, false, List, [], ◌∷◌, Option, Some, None}
-use Rattle.std.specs.Prelude.{if◌then◌else◌}
+use Rattle.std.specs.Prelude.{if◌then◌else◌, ◌+◌, not, drop}
+use Rattle.std.specs.List.{position_or_len}
 use Rattle.h41_commands.specs.declared.commands.BlockKind.{BlockKind}
 use Rattle.h41_commands.specs.declared.commands.FirstWord.{FirstWord}
 use Rattle.h41_commands.specs.declared.commands.FirstWord.TheVariants.{Opening, Plain, Unknown}
 use Rattle.h41_commands.specs.declared.commands.PlainKind.{PlainKind}
+use Rattle.h41_commands.specs.declared.line.FirstLine.{FirstLine}
 use Rattle.h41_commands.specs.declared.line.LineKind.{LineKind}
 use Rattle.h41_commands.specs.declared.line.LineKind.TheVariants.{Long, Named}
 use Rattle.h41_commands.specs.Commands.{kind_of_word, plain_of_word}
 use Rattle.h41_commands.specs.DeckLines.{is_long, is_skipped}
-use Rattle.h41_lines.specs.Words.{words_of}
+use Rattle.h41_lines.specs.Words.{is_blank, words_of}
 
 -- a word that opens a block, or is the name of another command, or of none
 abbrev pub word_by : Option BlockKind → Option PlainKind → FirstWord
@@ -37,3 +39,24 @@ opens_block Long = false
 opens_block (Named (Opening kind)) = true
 opens_block (Named (Plain kind)) = false
 opens_block (Named Unknown) = false
+
+-- how many bytes a line has in front of its first word, and up to the end of that: the first blank
+-- behind, or the line's end
+abbrev pub name_start : List ℕ → ℕ
+name_start line = position_or_len (λ byte. not (is_blank byte)) line
+
+abbrev pub name_end : List ℕ → ℕ
+name_end line = name_start line + position_or_len is_blank (drop (name_start line) line)
+
+-- a line with both
+abbrev pub told_as : List ℕ → LineKind → FirstLine
+told_as line Long = record { kind = Long; name_end = 0 }
+told_as line (Named word) = record { kind = Named word; name_end = name_end line }
+
+abbrev pub told_by : List ℕ → Option LineKind → Option FirstLine
+told_by line None = None
+told_by line (Some kind) = Some (told_as line kind)
+
+-- the first line of an item; none where it says nothing
+abbrev pub first_line : List ℕ → Option FirstLine
+first_line line = told_by line (line_kind line)

@@ -3,6 +3,7 @@
 use Rattle.std.specs.Prelude.{◌≡◌, ◌<◌, ℕ, Bool, true, false, List, [], ◌∷◌, ◌++◌}
 use Rattle.std.specs.Prelude.{if◌then◌else◌, Option, Some, None, OnSome, Result, Ok, Err}
 use Rattle.std.specs.List.{list_any, before_first}
+use Rattle.h41_commands.specs.declared.line.FirstLine.{FirstLine}
 use Rattle.h41_commands.specs.declared.line.LineKind.{LineKind}
 use Rattle.h41_commands.specs.declared.commands.Command.{Command}
 use Rattle.h41_commands.specs.declared.fault.ItemFault.{ItemFault}
@@ -12,7 +13,7 @@ use Rattle.h41_commands.specs.declared.refusal.LineRefusal.TheVariants.{NoEnd}
 use Rattle.h41_commands.specs.Blocks.{block_values}
 use Rattle.h41_commands.specs.Commands.{and_then, kind_of}
 use Rattle.h41_commands.specs.DeckLines.{is_end}
-use Rattle.h41_commands.specs.FirstLines.{line_kind}
+use Rattle.h41_commands.specs.FirstLines.{first_line, line_kind}
 use Rattle.h41_commands.specs.Items.{Spelled, commands, is_open, opens_first, with_values}
 use Rattle.h41_commands.specs.Items.{without_open_block}
 use Rattle.h41_ends.specs.InputLines.{MayFollow, ReadsMore, line_in, most_left}
@@ -67,6 +68,17 @@ pub record ReadsNext (result : Result (Option Spelled) ItemFault)
   pub lines : List (List ℕ)
   pub reads : ReadsMore before after old new lines
   pub spelled : SpellNext result new.at_end lines
+
+-- the kind of the line that was told
+abbrev pub kind_told : {E : Type 0} → Result (Option FirstLine) E → Result (Option LineKind) E
+kind_told (Ok None) = Ok None
+kind_told (Ok (Some first)) = Ok (Some first.kind)
+kind_told (Err fault) = Err fault
+
+-- it is that line
+abbrev pub TellsFirst : List ℕ → Option FirstLine → Type 0
+TellsFirst line None = Unit {0}
+TellsFirst line (Some first) = first_line line ≡ Some first
 
 -- where a line is told, fewer bytes are left
 abbrev pub LeavesFewer : {A : Type 0} → InputLines → InputLines → Option A → Type 0

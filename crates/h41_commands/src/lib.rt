@@ -19,6 +19,6 @@ pub use commands::parse::{
 pub use commands::{BlockKind, Command, FirstWord, PageKind, PlainKind, ProgramKind, View};
 pub use fault::ItemFault;
 pub use item::{GivenCommand, Item};
-pub use line::LineKind;
+pub use line::{FirstLine, LineKind};
 pub use reading::{line_item, read_block, read_first_line};
 pub use refusal::LineRefusal;

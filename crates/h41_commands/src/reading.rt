@@ -9,7 +9,8 @@ ghost use Rattle.h41_commands.specs.BlockReading.{ReadsBlock, ReadsTaken};
 ghost use Rattle.h41_commands.specs.Blocks.{HasTaken};
 ghost use Rattle.h41_commands.specs.Entries.{what_is_spelled};
 ghost use Rattle.h41_commands.specs.Commands.{command_of};
-ghost use Rattle.h41_commands.specs.ItemReading.{LeavesFewer, ReadsFirst, is_unended};
+ghost use Rattle.h41_commands.specs.ItemReading.{LeavesFewer, ReadsFirst, TellsFirst};
+ghost use Rattle.h41_commands.specs.ItemReading.{is_unended, kind_told};
 ghost use Rattle.h41_commands.specs.DeckLines.{longest_line};
 ghost use Rattle.h41_commands.specs.Items.{is_open, spelled_by};
 
@@ -18,13 +19,13 @@ use crate::commands::Command;
 use crate::commands::parse::parse;
 use crate::fault::ItemFault;
 use crate::item::{GivenCommand, Item};
-use crate::line::{LineKind, is_end, line_kind};
+use crate::line::{FirstLine, first_line, is_end};
 use crate::refusal::LineRefusal;
 use h41_ends::{InputLines, LineFault, Sink, Source};
 use std::alloc::Global;
 
-/// Reads up to the end of the first line of the next item, and tells what it is: `input.line()` is that line. Nothing where no line is
-/// left that says something. The writer is flushed before each read, unless it is.
+/// Reads up to the end of the first line of the next item, and tells what it is and where its first word ends: `input.line()` is that
+/// line. Nothing where no line is left that says something. The writer is flushed before each read, unless it is.
 ///
 /// # Errors
 ///
@@ -35,12 +36,13 @@ pub fn read_first_line<R: Source, W: Sink>(
     input: &mut InputLines,
     reader: &mut R,
     writer: &mut W,
-) -> Result<Option<LineKind>, LineFault>
+) -> Result<Option<FirstLine>, LineFault>
     requires reader_clear { R.failed reader.old ≡ false }
     requires writer_clear { W.failed writer.old ≡ false }
     requires counted { IsCounted input.old (R.given reader.old) }
-    ensures line { ReadsFirst result (R.remaining reader.old) (R.remaining reader.new)
+    ensures line { ReadsFirst (kind_told result) (R.remaining reader.old) (R.remaining reader.new)
         input.old input.new }
+    ensures first { IfOk result (TellsFirst (line_in input.new)) }
     ensures shorter { OnOk result (most_left input.new ≤ most_left input.old) }
     ensures fewer { IfOk result (LeavesFewer input.old input.new) }
     ensures end { result ≡ Ok None → IsTold input.new }
@@ -58,8 +60,8 @@ pub fn read_first_line<R: Source, W: Sink>(
     ensures write_fault { result ≡ Err LineFault.WriteFault → W.failed writer.new ≡ true }
 {
     while input.next_line(reader, writer)? {
-        if let Some(kind) = line_kind(input.line()) {
-            return Ok(Some(kind));
+        if let Some(first) = first_line(input.line()) {
+            return Ok(Some(first));
         }
     }
     Ok(None)

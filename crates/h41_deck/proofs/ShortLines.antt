@@ -26,7 +26,7 @@ use Rattle.h41_debug.specs.Bench.{BenchState}
 use Rattle.h41_debug.specs.Positions.{position_text}
 use Rattle.h41_ends.specs.Ends.{AppendsPart, Writes}
 use Rattle.h41_ends.specs.declared.fault.WriteFault as fault
-use Rattle.h41_deck.specs.AnsweredItems.{AnswersShort, AnswersWritten, plain_spelled}
+use Rattle.h41_deck.specs.AnsweredItems.{AnswersWritten, plain_spelled}
 use Rattle.h41_deck.specs.Answers.{ending_line, ends_by, says}
 use Rattle.h41_deck.specs.Replies.{ItemReply}
 use Rattle.h41_deck.specs.Views.{line_of}
@@ -38,7 +38,7 @@ use Rattle.h41_deck.specs.declared.replies.Outcome.{Outcome}
 use Rattle.h41_deck.proofs.Commanded.{ends_part, ends_reply, part_longer}
 
 -- a text in silence, and then its refusal
-silent : (item : Spelled) (s t : BenchState) (old : Option (List ℕ)) (refusal : Option Refusal) → ItemReply item s t (ends_by refusal)
+pub silent : (item : Spelled) (s t : BenchState) (old : Option (List ℕ)) (refusal : Option Refusal) → ItemReply item s t (ends_by refusal)
     → SaysText item s t old old refusal
 silent item s t old refusal reply = record { text = []; reply = reply; written = Appends-nil old }
 
@@ -46,18 +46,6 @@ module _ (line : List ℕ) (kind : PlainKind) (is : line_kind line ≡ Some (Nam
     (old new : Option (List ℕ)) where
   same : line_spelled line ≡ plain_spelled kind (drop 1 (words_of line))
   same = named_spelled line kind is
-
-  pub short_reply : (refusal : Option Refusal) (outcome : Outcome) → AnswersShort kind (drop 1 (words_of line)) s t refusal
-      → outcome ≡ outcome_in refusal → Appends old new (ending_line refusal) → Replies (line_spelled line) s t old new outcome
-  short_reply refusal outcome reply is_so ending =
-      subst (λ (item : Spelled). Replies item s t old new outcome) (sym same)
-      (ends_reply _ s t old old new refusal outcome (silent _ s t old refusal reply) is_so ending)
-
-  pub short_part : (refusal : Option Refusal) → AnswersShort kind (drop 1 (words_of line)) s t refusal
-      → AppendsPart old new (ending_line refusal) → RepliesInPart (line_spelled line) s t old new
-  short_part refusal reply part =
-      subst (λ (item : Spelled). RepliesInPart item s t old new) (sym same)
-      (ends_part _ s t old old new refusal (silent _ s t old refusal reply) part)
 
   pub plain_reply : (outcome : Outcome) → Replies (plain_spelled kind (drop 1 (words_of line))) s t old new outcome
       → Replies (line_spelled line) s t old new outcome

@@ -1,21 +1,18 @@
 -- What the code that goes through a deck has answered. It only connects the code with the other
 -- definitions.
-use Rattle.std.specs.Prelude.{ℕ, Bool, true, false, List, [], Option, Result, Ok, Err}
+use Rattle.std.specs.Prelude.{ℕ, Bool, List, [], Option, Result, Ok, Err}
 use Rattle.h41_ends.specs.declared.fault.WriteFault as fault
 use Rattle.h41_commands.specs.Blocks.{block_values}
 use Rattle.h41_commands.specs.Commands.{and_then, kind_of, read_plain}
 use Rattle.h41_commands.specs.Items.{Spelled, line_spelled, with_values}
 use Rattle.h41_commands.specs.declared.commands.PlainKind.{PlainKind}
-use Rattle.h41_commands.specs.declared.commands.PlainKind.TheVariants as plain
 use Rattle.h41_commands.specs.declared.item.Item.{Item}
 use Rattle.h41_commands.specs.Entries.{what_is_spelled}
 use Rattle.h41_debug.specs.Bench.{BenchState}
 use Rattle.h41_deck.specs.declared.fault.CommandFault.{CommandFault}
 use Rattle.h41_deck.specs.declared.replies.Outcome.{Outcome}
 use Rattle.h41_deck.specs.declared.replies.Outcome.TheVariants.{Accepted, Refused}
-use Rattle.h41_deck.specs.declared.refusal.Refusal.{Refusal}
-use Rattle.h41_deck.specs.Answers.{ends_by}
-use Rattle.h41_deck.specs.Replies.{ItemReply, item_takes_memory}
+use Rattle.h41_deck.specs.Replies.{item_takes_memory}
 use Rattle.h41_deck.specs.Writing.{Leaves, Replies, RepliesInPart}
 
 -- how a deck ends that goes on with one more command
@@ -48,27 +45,6 @@ AnswersWritten (Ok outcome) kind operands s t contents old new =
     Replies (plain_spelled kind operands) s t (contents old) (contents new) outcome
 AnswersWritten (Err failed) kind operands s t contents old new =
     RepliesInPart (plain_spelled kind operands) s t (contents old) (contents new)
-
--- those that write nothing but their refusal, and are answered without the value of a command
-abbrev pub writes_refusal_alone : PlainKind → Bool
-writes_refusal_alone plain.Unplug = true
-writes_refusal_alone plain.Size = false
-writes_refusal_alone plain.Reset = true
-writes_refusal_alone plain.Call = false
-writes_refusal_alone plain.Key = false
-writes_refusal_alone plain.Step = true
-writes_refusal_alone plain.Run = false
-writes_refusal_alone plain.Trace = false
-writes_refusal_alone plain.Break = true
-writes_refusal_alone plain.Unbreak = true
-writes_refusal_alone plain.List = false
-writes_refusal_alone plain.Show = false
-
--- the answer to such a one
-abbrev pub AnswersShort : PlainKind → List (List ℕ) → BenchState → BenchState → Option Refusal
-    → Type 0
-AnswersShort kind operands s t refusal =
-    ItemReply (plain_spelled kind operands) s t (ends_by refusal)
 
 abbrev pub plain_takes_memory : PlainKind → List (List ℕ) → Bool
 plain_takes_memory kind operands = item_takes_memory (plain_spelled kind operands)

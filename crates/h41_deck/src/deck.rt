@@ -4,7 +4,7 @@ ghost use Rattle.std.specs.Prelude.{◌≡◌, ◌≢◌, ◌≤◌, Err, IfOk, 
 ghost use Rattle.h41_deck.specs.Deck.{EndsKnown, LeavesDeck, PassedOn, WritesDeck};
 
 use crate::fault::Fault;
-use crate::lines::{answer, answer_line, opens_block};
+use crate::lines::{answer, answer_line};
 use crate::replies::Outcome;
 use h41_commands::{read_block, read_first_line};
 use h41_debug::Bench;
@@ -81,14 +81,14 @@ fn answer_deck<R: Source, W: Sink, const REGS: usize>(
     let mut bench = Bench::<REGS>::new(alloc)?;
     let mut input = InputLines::new();
     let mut outcome = Outcome::Accepted;
-    while let Some(kind) = read_first_line(&mut input, reader, writer)? {
-        if opens_block(kind) {
+    while let Some(first) = read_first_line(&mut input, reader, writer)? {
+        if first.kind.opens_block() {
             let item = read_block(alloc, &mut input, reader, writer)?;
             let answered = answer(alloc, &mut bench, item, writer)?;
             outcome = outcome.and(answered);
             continue;
         }
-        let next = answer_line(alloc, &mut bench, kind, input.line(), writer)?;
+        let next = answer_line(alloc, &mut bench, first, input.line(), writer)?;
         outcome = outcome.and(next);
     }
     flush(writer)?;

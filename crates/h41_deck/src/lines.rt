@@ -1,11 +1,11 @@
 //! The lines of a deck, answered as they stand: a short command without the value that would hold every command.
 
-ghost use Rattle.std.specs.Prelude.{◌≡◌, ◌≢◌, ◌≤◌, true, false, length};
+ghost use Rattle.std.specs.Prelude.{◌≡◌, ◌≢◌, ◌≤◌, true, false, drop, length};
 ghost use Rattle.std.specs.Prelude.{Err, IfOk, OnErr, OnOk, Some};
 ghost use Rattle.h41_ends.specs.Ends.{Writes};
 ghost use Rattle.h41_commands.specs.DeckLines.{longest_line};
 ghost use Rattle.h41_commands.specs.Entries.{what_is_spelled};
-ghost use Rattle.h41_commands.specs.FirstLines.{line_kind, opens_block};
+ghost use Rattle.h41_commands.specs.FirstLines.{first_line, line_kind, opens_block};
 ghost use Rattle.h41_commands.specs.Items.{line_spelled};
 ghost use Rattle.h41_commands.specs.declared.commands.FirstWord.TheVariants.{Plain};
 ghost use Rattle.h41_commands.specs.declared.commands.PlainKind.TheVariants as plain;
@@ -13,8 +13,7 @@ ghost use Rattle.h41_commands.specs.declared.refusal.LineRefusal.TheVariants.{Ba
 ghost use Rattle.h41_commands.specs.declared.line.LineKind.TheVariants.{Named};
 ghost use Rattle.h41_lines.specs.Words.{words_of};
 ghost use Rattle.h41_deck.specs.AnsweredItems.{AnswersItem, AnswersLine, AnswersPlain};
-ghost use Rattle.h41_deck.specs.AnsweredItems.{AnswersShort, AnswersWritten, plain_takes_memory};
-ghost use Rattle.h41_deck.specs.AnsweredItems.{writes_refusal_alone};
+ghost use Rattle.h41_deck.specs.AnsweredItems.{AnswersWritten, plain_takes_memory};
 ghost use Rattle.h41_deck.specs.Answers.{ending_line};
 ghost use Rattle.h41_deck.specs.Replies.{item_takes_memory};
 ghost use Rattle.h41_deck.specs.Writing.{EndsAs};
@@ -25,34 +24,26 @@ use crate::refusal::Refusal;
 use crate::replies::running::{run, set_break, unbreak};
 use crate::replies::{Outcome, apply, end, reset, show, step, unplug};
 use h41_commands::{
-    FirstWord, GivenCommand, Item, LineKind, LineRefusal, PlainKind, break_location, line_item,
-    most_steps, no_operand, operands, step_count, unplugged_page, view,
+    FirstLine, FirstWord, GivenCommand, Item, LineKind, LineRefusal, PlainKind, break_location,
+    line_item, most_steps, no_operand, operands, step_count, unplugged_page, view,
 };
 use h41_debug::Bench;
 use h41_ends::{Sink, WriteFault, write_whole};
 use h41_lines::words::LineWords;
 use std::alloc::Global;
 
-/// Whether a line of this kind opens a block.
-#[inline(always)]
-pub fn opens_block(kind: LineKind) -> bool
-    ensures { result ≡ opens_block kind }
-{
-    matches!(kind, LineKind::Named(FirstWord::Opening(_)))
-}
-
 /// Answers a line that opens no block.
 #[inline(always)]
 pub fn answer_line<W: Sink, const REGS: usize>(
     alloc: Global,
     bench: &mut Bench<REGS>,
-    kind: LineKind,
+    first: FirstLine,
     line: &[u8],
     writer: &mut W,
 ) -> Result<Outcome, CommandFault>
     requires clear { W.failed writer.old ≡ false }
-    requires kind { line_kind line.now ≡ Some kind }
-    requires plain { opens_block kind ≡ false }
+    requires first { first_line line.now ≡ Some first }
+    requires plain { opens_block first.kind ≡ false }
     ensures reply { AnswersLine result line.now bench.old bench.new
         W.contents writer.old writer.new }
     ensures memory { result ≡ Err CommandFault.OutOfMemory
@@ -60,24 +51,30 @@ pub fn answer_line<W: Sink, const REGS: usize>(
     ensures mark { result ≡ Err CommandFault.WriteFault → W.failed writer.new ≡ true }
     ensures clear { result ≢ Err CommandFault.WriteFault → W.failed writer.new ≡ false }
 {
-    match kind {
-        LineKind::Named(FirstWord::Plain(kind)) => answer_plain(alloc, bench, kind, line, writer),
+    match first.kind {
+        LineKind::Named(FirstWord::Plain(kind)) => {
+            let operands = operands(line, first.name_end);
+            answer_plain(alloc, bench, kind, operands, line, writer)
+        }
         LineKind::Named(FirstWord::Unknown) => Ok(refuse_unknown(writer)?),
         LineKind::Long => Ok(end(Some(Refusal::Line(LineRefusal::LineTooLong)), writer)?),
         LineKind::Named(FirstWord::Opening(_)) => unreachable!(),
     }
 }
 
-/// Answers a line that is a command without a block.
+/// Answers a line that is a command without a block, by the words behind its name, where these say all.
+#[inline(always)]
 fn answer_plain<W: Sink, const REGS: usize>(
     alloc: Global,
     bench: &mut Bench<REGS>,
     kind: PlainKind,
+    operands: LineWords<'_>,
     line: &[u8],
     writer: &mut W,
 ) -> Result<Outcome, CommandFault>
     requires clear { W.failed writer.old ≡ false }
     requires kind { line_kind line.now ≡ Some (Named (Plain kind)) }
+    requires words { words_of operands.rest.now ≡ drop 1 (words_of line.now) }
     ensures reply { AnswersLine result line.now bench.old bench.new
         W.contents writer.old writer.new }
     ensures memory { result ≡ Err CommandFault.OutOfMemory
@@ -85,15 +82,14 @@ fn answer_plain<W: Sink, const REGS: usize>(
     ensures mark { result ≡ Err CommandFault.WriteFault → W.failed writer.new ≡ true }
     ensures clear { result ≢ Err CommandFault.WriteFault → W.failed writer.new ≡ false }
 {
-    let words = operands(line);
     match kind {
-        PlainKind::Unplug
-        | PlainKind::Reset
-        | PlainKind::Step
-        | PlainKind::Break
-        | PlainKind::Unbreak => Ok(end(answer_short(bench, kind, words), writer)?),
-        PlainKind::Run => Ok(run_counted(bench, words, writer)?),
-        PlainKind::Show => show_named(alloc, bench, words, writer),
+        PlainKind::Step => Ok(step_counted(bench, operands, writer)?),
+        PlainKind::Run => Ok(run_counted(bench, operands, writer)?),
+        PlainKind::Break => Ok(break_placed(bench, operands, writer)?),
+        PlainKind::Unbreak => Ok(unbreak_placed(bench, operands, writer)?),
+        PlainKind::Unplug => Ok(unplug_named(bench, operands, writer)?),
+        PlainKind::Reset => Ok(reset_alone(bench, operands, writer)?),
+        PlainKind::Show => show_named(alloc, bench, operands, writer),
         PlainKind::Size | PlainKind::Call | PlainKind::Trace | PlainKind::List | PlainKind::Key => {
             answer_whole(alloc, bench, line, writer)
         }
@@ -153,38 +149,98 @@ fn refuse_unknown<W: Sink>(writer: &mut W) -> Result<Outcome, WriteFault>
     Ok(Outcome::Refused)
 }
 
-/// Answers a command that writes nothing but its refusal, by the words behind its name.
+/// Makes the steps that the words behind `step` count, and writes the refusal, where there is one.
 #[inline(never)]
-fn answer_short<const REGS: usize>(
+fn step_counted<W: Sink, const REGS: usize>(
     bench: &mut Bench<REGS>,
-    kind: PlainKind,
     operands: LineWords<'_>,
-) -> Option<Refusal>
-    requires { writes_refusal_alone kind ≡ true }
-    ensures { AnswersShort kind (words_of operands.entry.rest.now) bench.old bench.new result }
+    writer: &mut W,
+) -> Result<Outcome, WriteFault>
+    requires { W.failed writer.old ≡ false }
+    ensures reply { AnswersWritten result plain.Step (words_of operands.entry.rest.now)
+        bench.old bench.new W.contents writer.old writer.new }
+    ensures clear { OnOk result (W.failed writer.new ≡ false) }
+    ensures mark { OnErr result (W.failed writer.new ≡ true) }
 {
-    match kind {
-        PlainKind::Unplug => match unplugged_page(operands) {
-            Ok(page) => unplug(bench, page),
-            Err(refusal) => Some(Refusal::Line(refusal)),
-        },
-        PlainKind::Reset => match no_operand(operands) {
-            Ok(()) => reset(bench),
-            Err(refusal) => Some(Refusal::Line(refusal)),
-        },
-        PlainKind::Step => match step_count(operands) {
-            Ok(count) => step(bench, count),
-            Err(refusal) => Some(Refusal::Line(refusal)),
-        },
-        PlainKind::Break => match break_location(operands) {
-            Ok(location) => set_break(bench, location),
-            Err(refusal) => Some(Refusal::Line(refusal)),
-        },
-        PlainKind::Unbreak => match break_location(operands) {
-            Ok(location) => unbreak(bench, location),
-            Err(refusal) => Some(Refusal::Line(refusal)),
-        },
-        _ => unreachable!(),
+    match step_count(operands) {
+        Ok(count) => end(step(bench, count), writer),
+        Err(refusal) => end(Some(Refusal::Line(refusal)), writer),
+    }
+}
+
+/// Sets the breakpoint that the words behind `break` name, likewise.
+#[inline(never)]
+fn break_placed<W: Sink, const REGS: usize>(
+    bench: &mut Bench<REGS>,
+    operands: LineWords<'_>,
+    writer: &mut W,
+) -> Result<Outcome, WriteFault>
+    requires { W.failed writer.old ≡ false }
+    ensures reply { AnswersWritten result plain.Break (words_of operands.entry.rest.now)
+        bench.old bench.new W.contents writer.old writer.new }
+    ensures clear { OnOk result (W.failed writer.new ≡ false) }
+    ensures mark { OnErr result (W.failed writer.new ≡ true) }
+{
+    match break_location(operands) {
+        Ok(location) => end(set_break(bench, location), writer),
+        Err(refusal) => end(Some(Refusal::Line(refusal)), writer),
+    }
+}
+
+/// Takes away the breakpoint that the words behind `unbreak` name, likewise.
+#[inline(never)]
+fn unbreak_placed<W: Sink, const REGS: usize>(
+    bench: &mut Bench<REGS>,
+    operands: LineWords<'_>,
+    writer: &mut W,
+) -> Result<Outcome, WriteFault>
+    requires { W.failed writer.old ≡ false }
+    ensures reply { AnswersWritten result plain.Unbreak (words_of operands.entry.rest.now)
+        bench.old bench.new W.contents writer.old writer.new }
+    ensures clear { OnOk result (W.failed writer.new ≡ false) }
+    ensures mark { OnErr result (W.failed writer.new ≡ true) }
+{
+    match break_location(operands) {
+        Ok(location) => end(unbreak(bench, location), writer),
+        Err(refusal) => end(Some(Refusal::Line(refusal)), writer),
+    }
+}
+
+/// Takes out the page that the words behind `unplug` name, likewise.
+#[inline(never)]
+fn unplug_named<W: Sink, const REGS: usize>(
+    bench: &mut Bench<REGS>,
+    operands: LineWords<'_>,
+    writer: &mut W,
+) -> Result<Outcome, WriteFault>
+    requires { W.failed writer.old ≡ false }
+    ensures reply { AnswersWritten result plain.Unplug (words_of operands.entry.rest.now)
+        bench.old bench.new W.contents writer.old writer.new }
+    ensures clear { OnOk result (W.failed writer.new ≡ false) }
+    ensures mark { OnErr result (W.failed writer.new ≡ true) }
+{
+    match unplugged_page(operands) {
+        Ok(page) => end(unplug(bench, page), writer),
+        Err(refusal) => end(Some(Refusal::Line(refusal)), writer),
+    }
+}
+
+/// Begins anew, where no words stand behind `reset`, likewise.
+#[inline(never)]
+fn reset_alone<W: Sink, const REGS: usize>(
+    bench: &mut Bench<REGS>,
+    operands: LineWords<'_>,
+    writer: &mut W,
+) -> Result<Outcome, WriteFault>
+    requires { W.failed writer.old ≡ false }
+    ensures reply { AnswersWritten result plain.Reset (words_of operands.entry.rest.now)
+        bench.old bench.new W.contents writer.old writer.new }
+    ensures clear { OnOk result (W.failed writer.new ≡ false) }
+    ensures mark { OnErr result (W.failed writer.new ≡ true) }
+{
+    match no_operand(operands) {
+        Ok(()) => end(reset(bench), writer),
+        Err(refusal) => end(Some(Refusal::Line(refusal)), writer),
     }
 }
 

@@ -295,6 +295,7 @@ pub(crate) fn step<const REGS: usize>(bench: &mut Bench<REGS>, count: u32) -> Op
 }
 
 /// Writes a view, or tells why it is refused. Nothing is made of a position first. 21 where memory is refused.
+#[inline(always)]
 pub(crate) fn show<W: Sink, const REGS: usize>(
     alloc: Global,
     bench: &mut Bench<REGS>,

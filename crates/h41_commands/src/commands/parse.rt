@@ -12,6 +12,7 @@ ghost use Rattle.h41_commands.specs.Commands.{view_of, list_command, plug_at_ban
 ghost use Rattle.h41_commands.specs.Commands.{bank_number, image_view, image_view_at, is_bank_word};
 ghost use Rattle.h41_lines.specs.Words.{words_of};
 ghost use Rattle.h41_commands.specs.DeckLines.{longest_line, most_keys};
+ghost use Rattle.h41_commands.specs.FirstLines.{name_end};
 ghost use Rattle.h41_commands.specs.Numbers as spec;
 ghost use Rattle.h41_commands.specs.declared.commands.Command.{Command};
 ghost use Rattle.h41_commands.specs.declared.commands.Command.TheVariants as commands;
@@ -56,14 +57,13 @@ pub fn parse(line: &[u8]) -> Result<Command, LineRefusal>
     }
 }
 
-/// The words behind the first of a line.
+/// The words behind the first of a line, which ends there.
 #[inline(always)]
-pub fn operands(line: &[u8]) -> LineWords<'_>
+pub fn operands(line: &[u8], at: usize) -> LineWords<'_>
+    requires { at ≡ name_end line.now }
     ensures { words_of result.rest.now ≡ drop 1 (words_of line.now) }
 {
-    let mut words = LineWords::new(line);
-    let _name = words.next();
-    words
+    LineWords::new(&line[at..])
 }
 
 /// The command of a line that opens a block of this kind, by the words behind its name.

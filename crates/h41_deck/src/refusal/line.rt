@@ -2,7 +2,7 @@
 
 ghost use Rattle.std.specs.Prelude.{◌≡◌, ◌≤◌, ◌<◌, ◌++◌};
 ghost use Rattle.arrayvec.specs.ArrayString.{array_string_len};
-ghost use Rattle.h41_deck.specs.Refusals.{calculator_detail, detail_text, line_detail, word_detail};
+ghost use Rattle.h41_deck.specs.Refusals.{detail_text, word_detail};
 
 use crate::refusal::Refusal;
 use arrayvec::ArrayString;
@@ -45,20 +45,14 @@ impl Refusal {
         ensures { result ≡ detail self }
     {
         match self {
-            Refusal::Calculator(refusal) => calculator_told(refusal),
-            Refusal::Line(refusal) => line_told(refusal),
+            Refusal::Calculator(CalculatorRefusal::Word(refusal)) => {
+                Some(Detail::Address(word_address(refusal)))
+            }
+            Refusal::Line(LineRefusal::Source(_, line) | LineRefusal::BadText(line)) => {
+                Some(Detail::Line(line))
+            }
             _ => None,
         }
-    }
-}
-
-/// Of a refusal of the calculator.
-fn calculator_told(refusal: CalculatorRefusal) -> Option<Detail>
-    ensures { result ≡ calculator_detail refusal }
-{
-    match refusal {
-        CalculatorRefusal::Word(refusal) => Some(Detail::Address(word_address(refusal))),
-        _ => None,
     }
 }
 
@@ -74,16 +68,6 @@ fn word_address(refusal: WordRefusal) -> u16
         | WordRefusal::PeripheralNotHeld(address)
         | WordRefusal::Asleep(address)
         | WordRefusal::ReadOnly(address) => address,
-    }
-}
-
-/// Of a refusal of lines.
-fn line_told(refusal: LineRefusal) -> Option<Detail>
-    ensures { result ≡ line_detail refusal }
-{
-    match refusal {
-        LineRefusal::Source(_, line) | LineRefusal::BadText(line) => Some(Detail::Line(line)),
-        _ => None,
     }
 }
 

@@ -22,6 +22,7 @@ const RAN: usize = 24;
 const TRACED: usize = TRACE_CAPACITY + 1;
 
 /// A run of at most so many steps. Writes how many it made and why it stopped, and tells its refusal where that is why.
+#[inline(always)]
 pub fn run<W: Sink, const REGS: usize>(
     bench: &mut Bench<REGS>,
     limit: u32,

@@ -1,9 +1,10 @@
-use Rattle.std.proofs.Common.{◌∷◌, ◌++◌, [], ap, sym, refl, ◌∙◌, arith, rules}
+use Rattle.std.proofs.Common.{◌≡◌, Some, ◌∷◌, ◌++◌, [], ap, sym, refl, ◌∙◌, arith, rules}
 use Rattle.std.proofs.lemmas.Result.{err_from_is_err_and}
 use Rattle.h41_ends.specs.InputLines.{line_in}
 use Rattle.h41_ends.proofs.InputReading.{keeps-both, keeps-known, reads_both, reads_nothing}
-use Rattle.h41_commands.specs.FirstLines.{line_kind}
+use Rattle.h41_commands.specs.FirstLines.{first_line}
 use Rattle.h41_commands.proofs.FirstLines.{skips_line}
+use Rattle.h41_commands.proofs.NameEnds.{told_kind, told_none}
 use Rattle.h41_commands.proofs.reading.read_first_line.Goals as goal
 
 pub loop-input-init : goal.loop-input-init
@@ -32,11 +33,13 @@ pub returns-in-Some-clause-line : goal.returns-in-Some-clause-line
 returns-in-Some-clause-line g c =
     let so_far = c.loop-input.invariant.lines in
     let next = rw c.if-branch.true at c.in_ok-next_line.ensures.lines in
+    let line = line_in c.next_line.new.self in
+    let told : first_line line ≡ Some c.in-Some.first = ap first_line (sym c.line.ensures) ∙ sym c.in-Some.ensures in
     record {
       skipped = so_far.0;
       nothing = so_far.1;
       reads = reads_both _ _ _ c.args.input.now c.loop-input.input c.next_line.new.self _ _ so_far.2 next;
-      kind = ap line_kind (sym c.line.ensures) ∙ sym c.in-Some.ensures;
+      kind = told_kind line c.in-Some.first told;
     }
 
 pub loop-input-preserved : goal.loop-input-preserved
@@ -47,7 +50,7 @@ loop-input-preserved g c =
     record {
       lines = (
         so_far.0 ++ line ∷ [],
-        skips_line so_far.0 line so_far.1 (ap line_kind (sym c.line.ensures) ∙ sym c.line_kind.ensures ∙ c.in_default.is),
+        skips_line so_far.0 line so_far.1 (told_none line (ap first_line (sym c.line.ensures) ∙ sym c.first_line.ensures ∙ c.in_default.is)),
         reads_both _ _ _ c.args.input.now c.loop-input.input c.next_line.new.self _ _ so_far.2 next,
       );
       bound = omega (arith, c.loop-input.invariant.bound, c.in_ok-next_line.ensures.bound);

@@ -26,18 +26,18 @@ loop-bench-init g c = record {
 
 pub read_block-requires-clause-line : goal.read_block-requires-clause-line
 read_block-requires-clause-line g c =
-    let first = rw c.in-Some.is at c.in_ok-kind.ensures.line in
-    block_short (line_in c.read_first_line.new.input) c.in-Some.kind (sym c.if-opens_block.ensures) first.kind
+    let first = rw c.in-Some.is at c.in_ok-first.ensures.line in
+    block_short (line_in c.read_first_line.new.input) c.in-Some.first.kind (sym c.if-opens_block.ensures) first.kind
 
 pub loop-bench-preserved-then-opens_block : goal.loop-bench-preserved-then-opens_block
 loop-bench-preserved-then-opens_block g c =
     let so_far = c.loop-bench.invariant.done in
-    let first = rw c.in-Some.is at c.in_ok-kind.ensures.line in
-    let fewer = rw c.in-Some.is at c.in_ok-kind.ensures.fewer in
-    let next = block_next _ _ _ c.loop-bench.input c.read_first_line.new.input c.read_block.new.input c.in-Some.kind
+    let first = rw c.in-Some.is at c.in_ok-first.ensures.line in
+    let fewer = rw c.in-Some.is at c.in_ok-first.ensures.fewer in
+    let next = block_next _ _ _ c.loop-bench.input c.read_first_line.new.input c.read_block.new.input c.in-Some.first.kind
     (sym c.if-opens_block.ensures) first c.in_ok-item.item c.in_ok-item.ensures.item in
     let told = told_kept _ _ _ so_far.0 c.loop-bench.bench c.loop-bench.outcome
-    (told_kept _ _ _ so_far.0 c.loop-bench.bench c.loop-bench.outcome so_far.2 c.in_ok-kind.ensures.kept) c.in_ok-item.ensures.kept in
+    (told_kept _ _ _ so_far.0 c.loop-bench.bench c.loop-bench.outcome so_far.2 c.in_ok-first.ensures.kept) c.in_ok-item.ensures.kept in
     record {
       done = (
         so_far.0 ++ what_is_spelled c.in_ok-item.item ∷ [],
@@ -54,11 +54,11 @@ loop-bench-preserved-then-opens_block g c =
 pub loop-bench-preserved : goal.loop-bench-preserved
 loop-bench-preserved g c =
     let so_far = c.loop-bench.invariant.done in
-    let first = rw c.in-Some.is at c.in_ok-kind.ensures.line in
-    let fewer = rw c.in-Some.is at c.in_ok-kind.ensures.fewer in
+    let first = rw c.in-Some.is at c.in_ok-first.ensures.line in
+    let fewer = rw c.in-Some.is at c.in_ok-first.ensures.fewer in
     let line = line_in c.read_first_line.new.input in
-    let next = first_line _ _ c.loop-bench.input c.read_first_line.new.input c.in-Some.kind first (sym c.if-opens_block.ensures) in
-    let told = told_kept _ _ _ so_far.0 c.loop-bench.bench c.loop-bench.outcome so_far.2 c.in_ok-kind.ensures.kept in
+    let next = first_line _ _ c.loop-bench.input c.read_first_line.new.input c.in-Some.first.kind first (sym c.if-opens_block.ensures) in
+    let told = told_kept _ _ _ so_far.0 c.loop-bench.bench c.loop-bench.outcome so_far.2 c.in_ok-first.ensures.kept in
     record {
       done = (
         so_far.0 ++ line_spelled line ∷ [],
@@ -69,24 +69,24 @@ loop-bench-preserved g c =
       );
       reader = search rules;
       writer = search rules;
-      counted = c.in_ok-kind.ensures.counted;
+      counted = c.in_ok-first.ensures.counted;
     }
 
 pub returns-clause-deck : goal.returns-clause-deck
 returns-clause-deck g c =
     let so_far = c.loop-bench.invariant.done in
-    let next = first_none _ _ _ _ (rw c.in_default.is at c.in_ok-kind.ensures.line) in
-    let end = rw c.in_default.is at c.in_ok-kind.ensures.end in
+    let next = first_none _ _ _ _ (rw c.in_default.is at c.in_ok-first.ensures.line) in
+    let end = rw c.in_default.is at c.in_ok-first.ensures.end in
     let whole = whole_done _ _ _ c.loop-bench.input c.read_first_line.new.input so_far.0 so_far.1 next (end refl) in
-    let told = told_kept _ _ _ so_far.0 c.loop-bench.bench c.loop-bench.outcome so_far.2 c.in_ok-kind.ensures.kept in
+    let told = told_kept _ _ _ so_far.0 c.loop-bench.bench c.loop-bench.outcome so_far.2 c.in_ok-first.ensures.kept in
     deck_written _ _ _ _ so_far.0 c.loop-bench.bench c.loop-bench.outcome whole
     (told_kept _ _ _ so_far.0 c.loop-bench.bench c.loop-bench.outcome told c.in_ok-flush.ensures.bytes)
 
 pub returns-clause-outcome : goal.returns-clause-outcome
 returns-clause-outcome g c =
     let so_far = c.loop-bench.invariant.done in
-    let next = first_none _ _ _ _ (rw c.in_default.is at c.in_ok-kind.ensures.line) in
-    let end = rw c.in_default.is at c.in_ok-kind.ensures.end in
+    let next = first_none _ _ _ _ (rw c.in_default.is at c.in_ok-first.ensures.line) in
+    let end = rw c.in_default.is at c.in_ok-first.ensures.end in
     let whole = whole_done _ _ _ c.loop-bench.input c.read_first_line.new.input so_far.0 so_far.1 next (end refl) in
     deck_ended _ _ _ _ so_far.0 c.loop-bench.bench c.loop-bench.outcome whole so_far.2
 
@@ -95,28 +95,28 @@ returns-in_err-bench-clause-left g c =
     let failed = err_from_is_err_and c.from_residual.result c.from_residual.ensures.1 in
     rw (failed.1, failed.2) (leaves_none g.row.REGS g.R.Source g.W.Sink c.args.reader.now c.args.writer.now)
 
-pub returns-in_err-kind-clause-left : goal.returns-in_err-kind-clause-left
-returns-in_err-kind-clause-left g c =
+pub returns-in_err-first-clause-left : goal.returns-in_err-first-clause-left
+returns-in_err-first-clause-left g c =
     let so_far = c.loop-bench.invariant.done in
-    let failed = err_from_is_err_and c.from_residual-in_err-kind.result c.from_residual-in_err-kind.ensures.1 in
+    let failed = err_from_is_err_and c.from_residual-in_err-first.result c.from_residual-in_err-first.ensures.1 in
     rw (failed.1, failed.2)
     (leaves_first g.row.REGS g.R.Source g.W.Sink c.args.reader.now c.loop-bench.reader c.read_first_line.new.reader c.args.writer.now
     c.loop-bench.writer c.read_first_line.new.writer c.loop-bench.input c.read_first_line.new.input so_far.0 c.loop-bench.bench
-    c.loop-bench.outcome c.in_err-kind.field-0.0 so_far.1 so_far.2 c.in_err-kind.ensures.line c.in_err-kind.ensures.kept
-    (λ is. c.in_err-kind.ensures.stopped (ap (λ why. Err why) is)) (λ is. c.in_err-kind.ensures.cause (ap (λ why. Err why) is))
-    c.in_err-kind.ensures.counted)
+    c.loop-bench.outcome c.in_err-first.field-0.0 so_far.1 so_far.2 c.in_err-first.ensures.line c.in_err-first.ensures.kept
+    (λ is. c.in_err-first.ensures.stopped (ap (λ why. Err why) is)) (λ is. c.in_err-first.ensures.cause (ap (λ why. Err why) is))
+    c.in_err-first.ensures.counted)
 
 pub returns-in_err-item-clause-left : goal.returns-in_err-item-clause-left
 returns-in_err-item-clause-left g c =
     let so_far = c.loop-bench.invariant.done in
     let failed = err_from_is_err_and c.from_residual-in_err-item.result c.from_residual-in_err-item.ensures.1 in
-    let first = rw c.in-Some.is at c.in_ok-kind.ensures.line in
-    let told = told_kept _ _ _ so_far.0 c.loop-bench.bench c.loop-bench.outcome so_far.2 c.in_ok-kind.ensures.kept in
+    let first = rw c.in-Some.is at c.in_ok-first.ensures.line in
+    let told = told_kept _ _ _ so_far.0 c.loop-bench.bench c.loop-bench.outcome so_far.2 c.in_ok-first.ensures.kept in
     rw (failed.1, failed.2)
     (leaves_item g.row.REGS g.R.Source g.W.Sink c.args.reader.now c.loop-bench.reader c.read_block.new.reader c.args.writer.now
     c.read_first_line.new.writer c.read_block.new.writer c.loop-bench.input c.read_block.new.input so_far.0 c.loop-bench.bench
     c.loop-bench.outcome c.in_err-item.field-0.0 so_far.1 told
-    (block_failed _ _ _ c.loop-bench.input c.read_first_line.new.input c.read_block.new.input c.in-Some.kind
+    (block_failed _ _ _ c.loop-bench.input c.read_first_line.new.input c.read_block.new.input c.in-Some.first.kind
     (sym c.if-opens_block.ensures) first c.in_err-item.field-0.0 c.in_err-item.ensures.item) c.in_err-item.ensures.kept
     (λ is. c.in_err-item.ensures.stopped (ap (λ why. Err why) is)) (λ is. c.in_err-item.ensures.cause (ap (λ why. Err why) is))
     c.in_err-item.ensures.counted)
@@ -125,12 +125,12 @@ pub returns-in_err-answered-clause-left : goal.returns-in_err-answered-clause-le
 returns-in_err-answered-clause-left g c =
     let so_far = c.loop-bench.invariant.done in
     let failed = err_from_is_err_and c.from_residual-in_err-answered.result c.from_residual-in_err-answered.ensures.1 in
-    let first = rw c.in-Some.is at c.in_ok-kind.ensures.line in
-    let fewer = rw c.in-Some.is at c.in_ok-kind.ensures.fewer in
-    let next = block_next _ _ _ c.loop-bench.input c.read_first_line.new.input c.read_block.new.input c.in-Some.kind
+    let first = rw c.in-Some.is at c.in_ok-first.ensures.line in
+    let fewer = rw c.in-Some.is at c.in_ok-first.ensures.fewer in
+    let next = block_next _ _ _ c.loop-bench.input c.read_first_line.new.input c.read_block.new.input c.in-Some.first.kind
     (sym c.if-opens_block.ensures) first c.in_ok-item.item c.in_ok-item.ensures.item in
     let told = told_kept _ _ _ so_far.0 c.loop-bench.bench c.loop-bench.outcome
-    (told_kept _ _ _ so_far.0 c.loop-bench.bench c.loop-bench.outcome so_far.2 c.in_ok-kind.ensures.kept) c.in_ok-item.ensures.kept in
+    (told_kept _ _ _ so_far.0 c.loop-bench.bench c.loop-bench.outcome so_far.2 c.in_ok-first.ensures.kept) c.in_ok-item.ensures.kept in
     rw (failed.1, failed.2)
     (leaves_answer g.row.REGS g.R.Source g.W.Sink c.args.reader.now c.read_block.new.reader c.args.writer.now c.read_block.new.writer
     c.answer.new.writer c.read_block.new.input so_far.0 c.loop-bench.bench c.answer.new.bench c.loop-bench.outcome
@@ -143,11 +143,11 @@ pub returns-in_err-next-clause-left : goal.returns-in_err-next-clause-left
 returns-in_err-next-clause-left g c =
     let so_far = c.loop-bench.invariant.done in
     let failed = err_from_is_err_and c.from_residual-in_err-next.result c.from_residual-in_err-next.ensures.1 in
-    let first = rw c.in-Some.is at c.in_ok-kind.ensures.line in
-    let fewer = rw c.in-Some.is at c.in_ok-kind.ensures.fewer in
+    let first = rw c.in-Some.is at c.in_ok-first.ensures.line in
+    let fewer = rw c.in-Some.is at c.in_ok-first.ensures.fewer in
     let line = line_in c.read_first_line.new.input in
-    let next = first_line _ _ c.loop-bench.input c.read_first_line.new.input c.in-Some.kind first (sym c.if-opens_block.ensures) in
-    let told = told_kept _ _ _ so_far.0 c.loop-bench.bench c.loop-bench.outcome so_far.2 c.in_ok-kind.ensures.kept in
+    let next = first_line _ _ c.loop-bench.input c.read_first_line.new.input c.in-Some.first.kind first (sym c.if-opens_block.ensures) in
+    let told = told_kept _ _ _ so_far.0 c.loop-bench.bench c.loop-bench.outcome so_far.2 c.in_ok-first.ensures.kept in
     rw (failed.1, failed.2)
     (leaves_answer g.row.REGS g.R.Source g.W.Sink c.args.reader.now c.read_first_line.new.reader c.args.writer.now
     c.read_first_line.new.writer c.answer_line.new.writer c.read_first_line.new.input so_far.0 c.loop-bench.bench
@@ -161,10 +161,10 @@ pub returns-in_err-flush-clause-left : goal.returns-in_err-flush-clause-left
 returns-in_err-flush-clause-left g c =
     let so_far = c.loop-bench.invariant.done in
     let failed = err_from_is_err_and c.from_residual-in_err-flush.result c.from_residual-in_err-flush.ensures.1 in
-    let next = first_none _ _ _ _ (rw c.in_default.is at c.in_ok-kind.ensures.line) in
-    let end = rw c.in_default.is at c.in_ok-kind.ensures.end in
+    let next = first_none _ _ _ _ (rw c.in_default.is at c.in_ok-first.ensures.line) in
+    let end = rw c.in_default.is at c.in_ok-first.ensures.end in
     let whole = whole_done _ _ _ c.loop-bench.input c.read_first_line.new.input so_far.0 so_far.1 next (end refl) in
-    let told = told_kept _ _ _ so_far.0 c.loop-bench.bench c.loop-bench.outcome so_far.2 c.in_ok-kind.ensures.kept in
+    let told = told_kept _ _ _ so_far.0 c.loop-bench.bench c.loop-bench.outcome so_far.2 c.in_ok-first.ensures.kept in
     rw (failed.1, failed.2)
     (leaves_whole g.row.REGS g.R.Source g.W.Sink c.args.reader.now c.read_first_line.new.reader c.args.writer.now
     c.read_first_line.new.writer c.flush.new.writer so_far.0 c.loop-bench.bench c.loop-bench.outcome whole told c.flush.ensures.bytes)

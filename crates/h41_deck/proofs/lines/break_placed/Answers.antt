@@ -1,0 +1,30 @@
+use Rattle.std.proofs.Common.{◌≡◌, [], Some, Result, Ok, Err, ap, sym, ◌∙◌}
+use Rattle.h41_breakpoints.specs.declared.location.Location.{Location}
+use Rattle.h41_commands.specs.Commands.{and_then}
+use Rattle.h41_commands.specs.declared.commands.Command.TheVariants as commands
+use Rattle.h41_commands.specs.declared.commands.PlainKind.TheVariants as plain
+use Rattle.h41_commands.specs.declared.refusal.LineRefusal.{LineRefusal}
+use Rattle.h41_commands.proofs.FirstLines.{plain_spelled as spelled_alone}
+use Rattle.h41_lines.specs.Words.{words_of}
+use Rattle.h41_deck.specs.AnsweredItems.{plain_spelled}
+use Rattle.h41_deck.specs.declared.refusal.Refusal.TheVariants.{Line}
+use Rattle.h41_deck.proofs.ShortLines.{ends_written, refused_said, silent}
+use Rattle.h41_deck.proofs.lines.break_placed.Goals as goal
+
+pub returns-in-Ok-clause-reply : goal.returns-in-Ok-clause-reply
+returns-in-Ok-clause-reply g c =
+    let is : plain_spelled plain.Break (words_of c.args.operands.rest.now) ≡ Ok (commands.Break c.in-Ok.location, []) =
+    ap (λ (read : Result Location LineRefusal). spelled_alone (and_then read (λ location. Ok (commands.Break location))))
+    (sym c.break_location.ensures ∙ c.in-Ok.is) in
+    ends_written c.end.result plain.Break _ (Ok (commands.Break c.in-Ok.location, [])) is c.args.bench.now c.set_break.new.bench g.W.Sink.contents
+    c.args.writer.now c.args.writer.now c.end.new.writer c.set_break.result
+    (silent _ c.args.bench.now c.set_break.new.bench _ c.set_break.result c.set_break.ensures) c.end.ensures.outcome c.end.ensures.written
+
+pub returns-in-Err-clause-reply : goal.returns-in-Err-clause-reply
+returns-in-Err-clause-reply g c =
+    let is : plain_spelled plain.Break (words_of c.args.operands.rest.now) ≡ Err c.in-Err.refusal =
+    ap (λ (read : Result Location LineRefusal). spelled_alone (and_then read (λ location. Ok (commands.Break location))))
+    (sym c.break_location.ensures ∙ c.in-Err.is) in
+    ends_written c.end-in-Err.result plain.Break _ (Err c.in-Err.refusal) is c.args.bench.now c.args.bench.now g.W.Sink.contents
+    c.args.writer.now c.args.writer.now c.end-in-Err.new.writer (Some (Line c.in-Err.refusal))
+    (refused_said c.in-Err.refusal c.args.bench.now _) c.end-in-Err.ensures.outcome c.end-in-Err.ensures.written

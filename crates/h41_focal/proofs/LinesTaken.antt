@@ -1,6 +1,6 @@
 -- Lines are taken, by what was found of their operands and by their rows.
 use Rattle.std.specs.Prelude.{IsTrue}
-use Rattle.std.proofs.Common.{◌≡◌, ℕ, Bool, true, false, IfSome, Option, Some, None, Ok, Err, Result, refl}
+use Rattle.std.proofs.Common.{◌≡◌, ℕ, Bool, true, false, IfNone, IfSome, Option, Some, None, Ok, Err, Result, refl}
 use Rattle.h41_codes.specs.declared.functions.Function.{Function}
 use Rattle.h41_codes.specs.declared.functions.ParameterFunction.{ParameterFunction}
 use Rattle.h41_codes.specs.declared.functions.RegisterFunction.{RegisterFunction}
@@ -9,7 +9,7 @@ use Rattle.h41_codes.specs.declared.line.Line.TheVariants as lines
 use Rattle.h41_codes.specs.declared.line.Operand.{Operand}
 use Rattle.h41_codes.specs.declared.short_lines.ShortLine.{ShortLine}
 use Rattle.h41_codes.specs.ShortLines.{line_of}
-use Rattle.h41_focal.specs.private.Carrying.{CarriesFound, CarriesRow, StandsNumber, TakesBriefly, UsesAddress, UsesDigits, UsesFlag}
+use Rattle.h41_focal.specs.private.Carrying.{CarriesFound, CarriesRow, StandsNoShort, StandsNumber, TakesBriefly, UsesAddress, UsesDigits, UsesFlag}
 use Rattle.h41_focal.specs.LineStep.{Machine, StandsAt, lift_behind}
 use Rattle.h41_focal.specs.private.Works.{digits_use_row, flag_use_row, highest_of, register_use_row, row_of_work}
 use Rattle.h41_focal.specs.declared.origin.Origin.{Origin}
@@ -147,3 +147,9 @@ short_stands pages memory (Memory at) (Some found) sound (next, has, is) =
     let stands = both_here pages memory at (line_of found.0) next (short_found memory at found.0 next has) in
     rw is (sound, stands.0, stands.1)
 short_stands pages memory (Page address) (Some found) sound never = absurd never
+
+pub no_short_stands : (pages : PageMap) (machine : Machine) (result : Option (ShortLine × Position))
+    → ShortLineAt pages machine.memory machine.focal.position result
+    → IfNone result (StandsNoShort pages machine)
+no_short_stands pages machine None none = λ sound. none
+no_short_stands pages machine (Some found) some = tt

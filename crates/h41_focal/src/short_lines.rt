@@ -1,12 +1,12 @@
 //! Short lines are carried out without room for a text.
 
-ghost use Rattle.std.specs.Prelude.{◌≡◌, IfSome, Ok, OnErr, IsTrue};
+ghost use Rattle.std.specs.Prelude.{◌≡◌, IfNone, IfSome, Ok, OnErr, IsTrue};
 ghost use Rattle.h41_codes.specs.ShortLines.{line_of};
 ghost use Rattle.h41_focal.specs.BriefOutcomes.{end_told};
 ghost use Rattle.h41_focal.specs.LabelledMachine.{machine_of};
 ghost use Rattle.h41_focal.specs.declared.origin.Origin.TheVariants.{Program};
 ghost use Rattle.h41_focal.specs.LineStep.{Stands};
-ghost use Rattle.h41_focal.specs.private.Carrying.{StandsNumber};
+ghost use Rattle.h41_focal.specs.private.Carrying.{StandsNoNumber, StandsNoShort, StandsNumber};
 ghost use Rattle.h41_focal.specs.private.Carrying.{TakesBriefly};
 ghost use Rattle.h41_focal.specs.private.Searching.{AsksOf};
 ghost use Rattle.h41_labels.specs.KeptAnswers.{IsRight};
@@ -38,8 +38,9 @@ pub fn short_standing<const REGS: usize>(
     machine: &Machine<REGS>,
     pages: &Pages,
 ) -> Option<(ShortLine, Position)>
-    ensures { IfSome result
+    ensures some { IfSome result
         (λ found. Stands pages.now (machine_of machine.now) (Ok (line_of found.0, found.1))) }
+    ensures none { IfNone result (StandsNoShort pages.now (machine_of machine.now)) }
 {
     let Machine { ram, focal } = machine;
     if !ram.is_sound() {
@@ -52,8 +53,9 @@ pub fn short_standing<const REGS: usize>(
 /// in pages.
 #[inline(always)]
 pub fn number_standing<const REGS: usize>(machine: &Machine<REGS>) -> Option<(Ten, Position)>
-    ensures { IfSome result (λ found. (pages : PageMap)
+    ensures some { IfSome result (λ found. (pages : PageMap)
         → StandsNumber pages (machine_of machine.now) found.0 found.1) }
+    ensures none { IfNone result (StandsNoNumber (machine_of machine.now)) }
 {
     let Machine { ram, focal } = machine;
     if !ram.is_sound() {

@@ -1,6 +1,6 @@
 -- What private functions promise one another.
 use Rattle.std.specs.Prelude.{◌≡◌, ◌≤◌, ℕ, length, Some, Bool, true, false, List, [], MatchBool}
-use Rattle.std.specs.Prelude.{Result, Ok, Err}
+use Rattle.std.specs.Prelude.{IsTrue, None, Result, Ok, Err}
 use Rattle.h41_codes.specs.declared.characters.Character.{Character}
 use Rattle.h41_codes.specs.declared.functions.Branch.{Branch}
 use Rattle.h41_codes.specs.declared.functions.NameFunction.{NameFunction}
@@ -45,10 +45,12 @@ use Rattle.h41_focal.specs.declared.uses.FlagUse.{FlagUse}
 use Rattle.h41_focal.specs.declared.uses.FlagUse.TheVariants.{AskAndClear}
 use Rattle.h41_focal.specs.declared.uses.RegisterUse.{RegisterUse}
 use Rattle.h41_pages.specs.PageMap.{PageMap}
-use Rattle.h41_positions.specs.Positions.{NextAt}
+use Rattle.h41_numbers.specs.MemoryNumbers.{HasNoNumber}
+use Rattle.h41_positions.specs.Positions.{NextAt, ShortLineAt}
+use Rattle.h41_positions.specs.declared.position.Position.TheVariants.{Memory}
 use Rattle.h41_positions.specs.declared.position.Position.{Position}
 use Rattle.h41_program.specs.declared.refusal.ProgramRefusal.TheVariants as program
-use Rattle.h41_ram.specs.RegisterMap.{RegisterMap}
+use Rattle.h41_ram.specs.RegisterMap.{RegisterMap, is_sound}
 
 -- how a line comes
 abbrev pub manner_of : Origin → Manner
@@ -177,6 +179,17 @@ StandsNumber pages machine number next =
     (text : List Character)
     × Stands pages machine (Ok (lines.Number text, next))
     × IsNumberOf text number
+
+-- in sound memory no short line stands at the position itself, or no such number line
+abbrev pub StandsNoShort : PageMap → Machine → Type 0
+StandsNoShort pages machine =
+    IsTrue (is_sound machine.memory)
+    → ShortLineAt pages machine.memory machine.focal.position None
+
+abbrev pub StandsNoNumber : Machine → Type 0
+StandsNoNumber machine =
+    IsTrue (is_sound machine.memory)
+    → (at : ℕ) → machine.focal.position ≡ Memory at → HasNoNumber machine.memory at
 
 -- the same of a row that names no register, of a line without an operand, of the work of a
 -- function, of the use of a register or a flag

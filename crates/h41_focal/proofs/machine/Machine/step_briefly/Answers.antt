@@ -20,7 +20,7 @@ returns-in-Some-clause-line g c =
       (
         Ok (line_of c.in-Some.line, c.in-Some.next),
         subst (λ (machine : Machine). Stands c.args.pages.now machine (Ok (line_of c.in-Some.line, c.in-Some.next)))
-            (sym (ap machine_of c.begin.ensures.begun)) c.in-Some.ensures,
+            (sym (ap machine_of c.begin.ensures.begun)) c.in-Some.ensures.some,
         c.carry_short.ensures.taken,
       ),
     )
@@ -41,7 +41,7 @@ returns-in-Some-clause-kept g c =
     let next = c.in-Some.next in
     let kept = subst (λ (m : LabelledMachine). KeepsSearch m.ram.registers (search_of m.ram.registers next (line_of c.in-Some.line))
     m.focal.labels c.carry_short.new.machine.focal.labels) c.begin.ensures.begun c.carry_short.ensures.kept in
-    (Ok (line_of c.in-Some.line, next), c.in-Some.ensures, kept)
+    (Ok (line_of c.in-Some.line, next), c.in-Some.ensures.some, kept)
 
 pub returns-in-None-clause-line : goal.returns-in-None-clause-line
 returns-in-None-clause-line g c = rw c.is_done.ensures c.step_long.ensures.line

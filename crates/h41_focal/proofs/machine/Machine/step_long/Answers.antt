@@ -10,7 +10,7 @@ use Rattle.h41_focal.specs.declared.origin.Origin.TheVariants.{Program}
 
 pub returns-in-Some : goal.returns-in-Some
 returns-in-Some g c =
-    let found = c.in-Some.ensures c.args.pages.now in
+    let found = c.in-Some.ensures.some c.args.pages.now in
     let begun = c.begin in
     let keeps = c.number_line.ensures.keeps in
     let done = c.number_line.ensures.done found.0 (c.number_register-register.ensures found.0 found.2) 0 c.args.pages.now in

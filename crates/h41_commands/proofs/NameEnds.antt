@@ -36,7 +36,8 @@ named_told line start n word found here is =
     rw (words, is, end) refl
 
 -- the bytes behind the first word
-behind : (line : List ℕ) → drop (name_end line) line ≡ drop (position_or_len is_blank (drop (name_start line) line)) (drop (name_start line) line)
+behind : (line : List ℕ) → drop (name_end line) line
+    ≡ drop (position_or_len is_blank (drop (name_start line) line)) (drop (name_start line) line)
 behind line = sym (drop-drop _ (name_start line) line)
 
 no_word : (line : List ℕ) → length line ≤ name_start line → words_of (drop (name_end line) line) ≡ drop 1 (words_of line)

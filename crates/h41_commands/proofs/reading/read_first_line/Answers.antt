@@ -50,7 +50,8 @@ loop-input-preserved g c =
     record {
       lines = (
         so_far.0 ++ line ∷ [],
-        skips_line so_far.0 line so_far.1 (told_none line (ap first_line (sym c.line.ensures) ∙ sym c.first_line.ensures ∙ c.in_default.is)),
+        skips_line so_far.0 line so_far.1 (told_none line (ap first_line (sym c.line.ensures)
+            ∙ sym c.first_line.ensures ∙ c.in_default.is)),
         reads_both _ _ _ c.args.input.now c.loop-input.input c.next_line.new.self _ _ so_far.2 next,
       );
       bound = omega (arith, c.loop-input.invariant.bound, c.in_ok-next_line.ensures.bound);

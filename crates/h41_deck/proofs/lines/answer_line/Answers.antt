@@ -12,7 +12,8 @@ use Rattle.h41_deck.proofs.lines.answer_line.Goals as goal
 pub returns-in_ok-refuse_unknown-in-Named-Unknown-clause-reply : goal.returns-in_ok-refuse_unknown-in-Named-Unknown-clause-reply
 returns-in_ok-refuse_unknown-in-Named-Unknown-clause-reply g c =
     line_refused c.args.line.now BadCommand
-    (unknown_spelled c.args.line.now (told_kind c.args.line.now c.args.first c.requires.first ∙ ap (λ (kind : LineKind). Some kind) c.in-Named-Unknown.is
+    (unknown_spelled c.args.line.now (told_kind c.args.line.now c.args.first c.requires.first
+    ∙ ap (λ (kind : LineKind). Some kind) c.in-Named-Unknown.is
     ∙ ap (λ (word : FirstWord). Some (Named word)) (rw c.in-Named-Unknown.is at c.in-Named-Unknown.field-0-is)))
     c.args.bench.now _ _
     c.in_ok-refuse_unknown-in-Named-Unknown.field-0 c.in_ok-refuse_unknown-in-Named-Unknown.ensures.outcome
@@ -23,7 +24,8 @@ returns-in_err-refuse_unknown-in-Named-Unknown-clause-reply g c =
     let failed = err_from_is_err_and c.from_residual.result c.from_residual.ensures.1 in
     rw (failed.1, failed.2)
     (line_refused_part c.args.line.now BadCommand
-    (unknown_spelled c.args.line.now (told_kind c.args.line.now c.args.first c.requires.first ∙ ap (λ (kind : LineKind). Some kind) c.in-Named-Unknown.is
+    (unknown_spelled c.args.line.now (told_kind c.args.line.now c.args.first c.requires.first
+    ∙ ap (λ (kind : LineKind). Some kind) c.in-Named-Unknown.is
     ∙ ap (λ (word : FirstWord). Some (Named word)) (rw c.in-Named-Unknown.is at c.in-Named-Unknown.field-0-is)))
     c.args.bench.now _ _
     c.in_err-refuse_unknown-in-Named-Unknown.ensures.written)
@@ -31,7 +33,8 @@ returns-in_err-refuse_unknown-in-Named-Unknown-clause-reply g c =
 pub returns-in_ok-end-in-Long-clause-reply : goal.returns-in_ok-end-in-Long-clause-reply
 returns-in_ok-end-in-Long-clause-reply g c =
     line_refused c.args.line.now LineTooLong
-    (long_spelled c.args.line.now (told_kind c.args.line.now c.args.first c.requires.first ∙ ap (λ (kind : LineKind). Some kind) c.in-Long.is)) c.args.bench.now _ _
+    (long_spelled c.args.line.now (told_kind c.args.line.now c.args.first c.requires.first ∙ ap (λ (kind : LineKind). Some kind) c.in-Long.is))
+    c.args.bench.now _ _
     c.in_ok-end-in-Long.field-0 c.in_ok-end-in-Long.ensures.outcome c.in_ok-end-in-Long.ensures.written
 
 pub returns-in_err-end-in-Long-clause-reply : goal.returns-in_err-end-in-Long-clause-reply
@@ -39,5 +42,6 @@ returns-in_err-end-in-Long-clause-reply g c =
     let failed = err_from_is_err_and c.from_residual-in_err-end-in-Long.result c.from_residual-in_err-end-in-Long.ensures.1 in
     rw (failed.1, failed.2)
     (line_refused_part c.args.line.now LineTooLong
-    (long_spelled c.args.line.now (told_kind c.args.line.now c.args.first c.requires.first ∙ ap (λ (kind : LineKind). Some kind) c.in-Long.is)) c.args.bench.now _ _
+    (long_spelled c.args.line.now (told_kind c.args.line.now c.args.first c.requires.first ∙ ap (λ (kind : LineKind). Some kind) c.in-Long.is))
+    c.args.bench.now _ _
     c.in_err-end-in-Long.ensures.written)

@@ -44,7 +44,8 @@ returns-in_ok-break_placed-in-Break-clause-reply g c =
 
 pub returns-in_err-break_placed-in-Break-clause-reply : goal.returns-in_err-break_placed-in-Break-clause-reply
 returns-in_err-break_placed-in-Break-clause-reply g c =
-    let failed = err_from_is_err_and c.from_residual-in_err-break_placed-in-Break.result c.from_residual-in_err-break_placed-in-Break.ensures.1 in
+    let failed = err_from_is_err_and c.from_residual-in_err-break_placed-in-Break.result
+    c.from_residual-in_err-break_placed-in-Break.ensures.1 in
     rw (failed.1, failed.2)
     (plain_part c.args.line.now plain.Break (c.requires.kind ∙ ap (λ (kind : PlainKind). Some (Named (Plain kind))) c.in-Break.is)
     c.args.bench.now c.break_placed.new.bench _ _ (rw c.requires.words at c.in_err-break_placed-in-Break.ensures.reply))
@@ -57,7 +58,8 @@ returns-in_ok-unbreak_placed-in-Unbreak-clause-reply g c =
 
 pub returns-in_err-unbreak_placed-in-Unbreak-clause-reply : goal.returns-in_err-unbreak_placed-in-Unbreak-clause-reply
 returns-in_err-unbreak_placed-in-Unbreak-clause-reply g c =
-    let failed = err_from_is_err_and c.from_residual-in_err-unbreak_placed-in-Unbreak.result c.from_residual-in_err-unbreak_placed-in-Unbreak.ensures.1 in
+    let failed = err_from_is_err_and c.from_residual-in_err-unbreak_placed-in-Unbreak.result
+    c.from_residual-in_err-unbreak_placed-in-Unbreak.ensures.1 in
     rw (failed.1, failed.2)
     (plain_part c.args.line.now plain.Unbreak (c.requires.kind ∙ ap (λ (kind : PlainKind). Some (Named (Plain kind))) c.in-Unbreak.is)
     c.args.bench.now c.unbreak_placed.new.bench _ _ (rw c.requires.words at c.in_err-unbreak_placed-in-Unbreak.ensures.reply))
@@ -70,7 +72,8 @@ returns-in_ok-unplug_named-in-Unplug-clause-reply g c =
 
 pub returns-in_err-unplug_named-in-Unplug-clause-reply : goal.returns-in_err-unplug_named-in-Unplug-clause-reply
 returns-in_err-unplug_named-in-Unplug-clause-reply g c =
-    let failed = err_from_is_err_and c.from_residual-in_err-unplug_named-in-Unplug.result c.from_residual-in_err-unplug_named-in-Unplug.ensures.1 in
+    let failed = err_from_is_err_and c.from_residual-in_err-unplug_named-in-Unplug.result
+    c.from_residual-in_err-unplug_named-in-Unplug.ensures.1 in
     rw (failed.1, failed.2)
     (plain_part c.args.line.now plain.Unplug (c.requires.kind ∙ ap (λ (kind : PlainKind). Some (Named (Plain kind))) c.in-Unplug.is)
     c.args.bench.now c.unplug_named.new.bench _ _ (rw c.requires.words at c.in_err-unplug_named-in-Unplug.ensures.reply))
@@ -83,7 +86,8 @@ returns-in_ok-reset_alone-in-Reset-clause-reply g c =
 
 pub returns-in_err-reset_alone-in-Reset-clause-reply : goal.returns-in_err-reset_alone-in-Reset-clause-reply
 returns-in_err-reset_alone-in-Reset-clause-reply g c =
-    let failed = err_from_is_err_and c.from_residual-in_err-reset_alone-in-Reset.result c.from_residual-in_err-reset_alone-in-Reset.ensures.1 in
+    let failed = err_from_is_err_and c.from_residual-in_err-reset_alone-in-Reset.result
+    c.from_residual-in_err-reset_alone-in-Reset.ensures.1 in
     rw (failed.1, failed.2)
     (plain_part c.args.line.now plain.Reset (c.requires.kind ∙ ap (λ (kind : PlainKind). Some (Named (Plain kind))) c.in-Reset.is)
     c.args.bench.now c.reset_alone.new.bench _ _ (rw c.requires.words at c.in_err-reset_alone-in-Reset.ensures.reply))

@@ -16,7 +16,8 @@ returns-in-Ok-clause-reply g c =
     let is : plain_spelled plain.Break (words_of c.args.operands.rest.now) ≡ Ok (commands.Break c.in-Ok.location, []) =
     ap (λ (read : Result Location LineRefusal). spelled_alone (and_then read (λ location. Ok (commands.Break location))))
     (sym c.break_location.ensures ∙ c.in-Ok.is) in
-    ends_written c.end.result plain.Break _ (Ok (commands.Break c.in-Ok.location, [])) is c.args.bench.now c.set_break.new.bench g.W.Sink.contents
+    ends_written c.end.result plain.Break _ (Ok (commands.Break c.in-Ok.location, [])) is c.args.bench.now c.set_break.new.bench
+    g.W.Sink.contents
     c.args.writer.now c.args.writer.now c.end.new.writer c.set_break.result
     (silent _ c.args.bench.now c.set_break.new.bench _ c.set_break.result c.set_break.ensures) c.end.ensures.outcome c.end.ensures.written
 

@@ -16,7 +16,8 @@ returns-in-Ok-clause-reply g c =
     let is : plain_spelled plain.Unbreak (words_of c.args.operands.rest.now) ≡ Ok (commands.Unbreak c.in-Ok.location, []) =
     ap (λ (read : Result Location LineRefusal). spelled_alone (and_then read (λ location. Ok (commands.Unbreak location))))
     (sym c.break_location.ensures ∙ c.in-Ok.is) in
-    ends_written c.end.result plain.Unbreak _ (Ok (commands.Unbreak c.in-Ok.location, [])) is c.args.bench.now c.unbreak.new.bench g.W.Sink.contents
+    ends_written c.end.result plain.Unbreak _ (Ok (commands.Unbreak c.in-Ok.location, [])) is c.args.bench.now c.unbreak.new.bench
+    g.W.Sink.contents
     c.args.writer.now c.args.writer.now c.end.new.writer c.unbreak.result
     (silent _ c.args.bench.now c.unbreak.new.bench _ c.unbreak.result c.unbreak.ensures) c.end.ensures.outcome c.end.ensures.written
 

@@ -15,7 +15,8 @@ returns-in-Ok-clause-reply g c =
     let is : plain_spelled plain.Unplug (words_of c.args.operands.rest.now) ≡ Ok (commands.Unplug c.in-Ok.page, []) =
     ap spelled_alone (c.unplugged_page.ensures
     ∙ ap (λ (read : Result ℕ LineRefusal). and_then read (λ page. Ok (commands.Unplug page))) c.in-Ok.is) in
-    ends_written c.end.result plain.Unplug _ (Ok (commands.Unplug c.in-Ok.page, [])) is c.args.bench.now c.unplug.new.bench g.W.Sink.contents
+    ends_written c.end.result plain.Unplug _ (Ok (commands.Unplug c.in-Ok.page, [])) is c.args.bench.now c.unplug.new.bench
+    g.W.Sink.contents
     c.args.writer.now c.args.writer.now c.end.new.writer c.unplug.result
     (silent _ c.args.bench.now c.unplug.new.bench _ c.unplug.result c.unplug.ensures) c.end.ensures.outcome c.end.ensures.written
 

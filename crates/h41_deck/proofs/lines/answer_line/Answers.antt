@@ -42,6 +42,7 @@ returns-in_err-end-in-Long-clause-reply g c =
     let failed = err_from_is_err_and c.from_residual-in_err-end-in-Long.result c.from_residual-in_err-end-in-Long.ensures.1 in
     rw (failed.1, failed.2)
     (line_refused_part c.args.line.now LineTooLong
-    (long_spelled c.args.line.now (told_kind c.args.line.now c.args.first c.requires.first ∙ ap (λ (kind : LineKind). Some kind) c.in-Long.is))
+    (long_spelled c.args.line.now (told_kind c.args.line.now c.args.first c.requires.first
+    ∙ ap (λ (kind : LineKind). Some kind) c.in-Long.is))
     c.args.bench.now _ _
     c.in_err-end-in-Long.ensures.written)

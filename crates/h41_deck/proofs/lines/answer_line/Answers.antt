@@ -33,7 +33,8 @@ returns-in_err-refuse_unknown-in-Named-Unknown-clause-reply g c =
 pub returns-in_ok-end-in-Long-clause-reply : goal.returns-in_ok-end-in-Long-clause-reply
 returns-in_ok-end-in-Long-clause-reply g c =
     line_refused c.args.line.now LineTooLong
-    (long_spelled c.args.line.now (told_kind c.args.line.now c.args.first c.requires.first ∙ ap (λ (kind : LineKind). Some kind) c.in-Long.is))
+    (long_spelled c.args.line.now (told_kind c.args.line.now c.args.first c.requires.first
+    ∙ ap (λ (kind : LineKind). Some kind) c.in-Long.is))
     c.args.bench.now _ _
     c.in_ok-end-in-Long.field-0 c.in_ok-end-in-Long.ensures.outcome c.in_ok-end-in-Long.ensures.written
 

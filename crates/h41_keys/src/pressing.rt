@@ -79,11 +79,13 @@ fn held_at(place: Place, program_mode: bool, pressed: Option<Pressed>) -> Option
     ensures { result ≡ spec.held_at place program_mode pressed }
 {
     match (place, pressed) {
-        (Place::Page { deletes_nothing, puts_end }, Some(pressed)) if program_mode => if is_held(
-            deletes_nothing,
-            puts_end,
-            pressed.action,
-        ) {
+        (
+            Place::Page {
+                deletes_nothing,
+                puts_end,
+            },
+            Some(pressed),
+        ) if program_mode => if is_held(deletes_nothing, puts_end, pressed.action) {
             Some(pressed)
         } else {
             None

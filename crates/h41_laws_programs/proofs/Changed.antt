@@ -4,6 +4,7 @@ use Rattle.h41_codes.specs.declared.line.Line.{Line}
 use Rattle.h41_ram.specs.RegisterMap.{RegisterMap}
 use Rattle.h41_program.specs.Edits.{AnswersChanged, ChangeGives, EditGives, LoadGives, LoadsBehind, PlacesAreDetermined, before_end}
 use Rattle.h41_program.specs.Edits.{count_before, edit_outcome, load_outcome, loaded_of}
+use Rattle.h41_program.specs.Lines.{is_final_end}
 use Rattle.h41_program.specs.ProgramBytes.{final_position, program_bytes}
 use Rattle.h41_program.specs.ProgramLaws.{EachHasFirst, EachIsListed, EditsAreDetermined, LoadsAreDetermined, OneList}
 use Rattle.h41_program.specs.declared.listed_line.ListedLine.{ListedLine}
@@ -38,7 +39,7 @@ module _ (firsts : EachHasFirst) (each : EachIsListed) (lists : OneList) where
   load_behind : (memory : RegisterMap) (bytes : List ℕ) (lines : Option (List ListedLine)) → Has (LoadsBehind memory bytes lines)
   load_behind memory bytes None = record { answer = Err BrokenProgram; right = refl }
   load_behind memory bytes (Some lines) =
-      let given = listed each bytes (length bytes) 0 in
+      let given = listed each is_final_end bytes (length bytes) 0 in
       record { answer = load_outcome memory lines (loaded_of bytes given.answer); right = (given.answer, given.right, refl) }
 
   pub one_load : LoadsAreDetermined → LoadHasOneOutcome

@@ -1,25 +1,25 @@
 -- Lists of lines, and answers by them.
-use Rattle.std.proofs.Common.{ℕ, List, refl}
-use Rattle.h41_program.specs.Lines.{is_final_end}
+use Rattle.std.proofs.Common.{ℕ, Bool, List, refl}
+use Rattle.h41_codes.specs.declared.line.Line.{Line}
 use Rattle.h41_program.specs.ProgramLaws.{EachIsListed, OneList, ReadIsDetermined}
-use Rattle.h41_program.specs.ProgramLines.{AnswersOf, Reads}
+use Rattle.h41_program.specs.ProgramLines.{AnswersOf, ReadsTo}
 use Rattle.h41_program.specs.SearchLaws.{AnswersAreDetermined, ProgramIsDetermined}
 use Rattle.h41_program.specs.Searches.{AnswersProgram, start_in, up_to_end}
 use Rattle.h41_laws_numbers.proofs.Answering.{Has}
 use Rattle.h41_laws_programs.specs.ProgramAnswers.{BytesHaveOneList, MemoryHasOneAnswer, ProgramHasOneAnswer}
 
-pub listed : EachIsListed → (bytes : List ℕ) (final at : ℕ) → Has (Reads bytes final at)
-listed lists bytes final at =
-    let found = lists is_final_end bytes final at in
+pub listed : EachIsListed → (ends : Line → Bool) (bytes : List ℕ) (final at : ℕ) → Has (ReadsTo ends bytes final at)
+listed lists ends bytes final at =
+    let found = lists ends bytes final at in
     record { answer = found.0; right = found.1 }
 
 pub one_listed : EachIsListed → ReadIsDetermined → BytesHaveOneList
-one_listed lists determined bytes final at =
-    let found = listed lists bytes final at in
+one_listed lists determined ends bytes final at =
+    let found = listed lists ends bytes final at in
     record {
       answer = found.answer;
       right = found.right;
-      only = λ other again. determined is_final_end bytes final at other found.answer again found.right;
+      only = λ other again. determined ends bytes final at other found.answer again found.right;
     }
 
 pub by_list : {A : Type 0} → OneList → AnswersAreDetermined A → MemoryHasOneAnswer A

@@ -1,7 +1,8 @@
 -- Lists of lines, and what is found in them, exist.
-use Rattle.std.specs.Prelude.{ℕ, List}
+use Rattle.std.specs.Prelude.{ℕ, List, Bool}
+use Rattle.h41_codes.specs.declared.line.Line.{Line}
 use Rattle.h41_ram.specs.RegisterMap.{RegisterMap}
-use Rattle.h41_program.specs.ProgramLines.{AnswersOf, Reads}
+use Rattle.h41_program.specs.ProgramLines.{AnswersOf, ReadsTo}
 use Rattle.h41_program.specs.Searches.{AnswersProgram}
 use Rattle.h41_program.specs.declared.listed_line.ListedLine.{ListedLine}
 use Rattle.h41_pages.specs.PageMap.{PageMap}
@@ -9,9 +10,11 @@ use Rattle.h41_positions.specs.PositionLaws.{Finding}
 use Rattle.h41_positions.specs.declared.position.Position.{Position}
 use Rattle.h41_laws_numbers.specs.HasOne.{HasOne}
 
--- bytes have one list of lines from each position on, wherever their last three begin
+-- bytes have one list of lines from each position on, wherever their last three begin and whichever
+-- lines end it, as in memory or in a page
 abbrev pub BytesHaveOneList : Type 0
-BytesHaveOneList = (bytes : List ℕ) (final at : ℕ) → HasOne (Reads bytes final at)
+BytesHaveOneList =
+    (ends : Line → Bool) (bytes : List ℕ) (final at : ℕ) → HasOne (ReadsTo ends bytes final at)
 
 -- what is asked of the list of lines from a position on has one answer
 abbrev pub MemoryHasOneAnswer : Type 0 → Type 0

@@ -16,7 +16,8 @@ use h41_program::laws::{
     each_is_listed, edits_are_determined, lists_are_determined, one_list, searches_are_determined,
 };
 
-/// Bytes are read as one list of lines from each position on, whatever they are and wherever their last line stands.
+/// Bytes are read as one list of lines from each position on, whatever they are, wherever their last line stands and whichever lines
+/// end a list: those of memory, and those of a page.
 pub fn bytes_have_one_list()
     ensures { BytesHaveOneList }
 {

@@ -73,7 +73,7 @@ pub fn insert<const REGS: usize>(
     ensures unchanged { OnErr result (ram.new ≡ ram.old) }
     ensures mark { KeepsMark ram.old ram.new }
 {
-    put(ram, before, line, Placement::Before)
+    place_line(ram, before, line, Placement::Before)
 }
 
 /// Deletes the line that a position stands for; `.END.` stays. Answers where the line stands that is then before, or, where the
@@ -115,11 +115,11 @@ pub fn replace<const REGS: usize>(
     ensures unchanged { OnErr result (ram.new ≡ ram.old) }
     ensures mark { KeepsMark ram.old ram.new }
 {
-    put(ram, at, line, Placement::Instead)
+    place_line(ram, at, line, Placement::Instead)
 }
 
 /// Puts a line at the one that a position stands for, and answers where it then stands.
-fn put<const REGS: usize>(
+fn place_line<const REGS: usize>(
     ram: &mut Ram<REGS>,
     at: u16,
     line: Line,

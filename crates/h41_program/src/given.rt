@@ -1,6 +1,6 @@
 //! The lines of bytes that are given.
 ghost use Rattle.std.specs.Prelude.{◌≡◌, ◌≢◌, ℕ, ◌<◌, ◌≤◌, length, slice_index, IfSome, IfNone};
-ghost use Rattle.std.specs.Prelude.{drop, ◌==◌};
+ghost use Rattle.std.specs.Prelude.{◌==◌};
 ghost use Rattle.std.specs.List.{list_all};
 ghost use Rattle.h41_program.specs.GivenLines.{BytesHaveFirst, BytesHaveNone};
 
@@ -19,7 +19,7 @@ pub struct Taken {
 }
 
 /// The first position from one on whose byte is no null, else where the bytes end.
-fn past_nulls(bytes: &[u8], at: usize) -> usize
+fn nulls_end(bytes: &[u8], at: usize) -> usize
     requires { at ≤ length bytes.now }
     ensures from { at ≤ result }
     ensures to { result ≤ length bytes.now }
@@ -43,7 +43,7 @@ pub fn line_in(bytes: &[u8], at: usize) -> Option<Taken>
     if at > bytes.len() {
         return None;
     }
-    let position = past_nulls(bytes, at);
+    let position = nulls_end(bytes, at);
     match decode(&bytes[position..]) {
         Ok((line, count)) => Some(Taken {
             position,
@@ -54,16 +54,8 @@ pub fn line_in(bytes: &[u8], at: usize) -> Option<Taken>
     }
 }
 
-/// Whether bytes from a position on are nulls.
-pub fn are_nulls(bytes: &[u8], at: usize) -> bool
-    requires { at ≤ length bytes.now }
-    ensures { result ≡ list_all (λ byte. byte == 0) (drop at bytes.now) }
-{
-    all_null(&bytes[at..])
-}
-
 /// Whether all bytes are nulls.
-fn all_null(bytes: &[u8]) -> bool
+pub fn are_nulls(bytes: &[u8]) -> bool
     ensures { result ≡ list_all (λ byte. byte == 0) bytes.now }
 {
     bytes.iter().all(|byte| *byte == 0)

@@ -25,10 +25,10 @@ pub use kinds::{is_end, is_final_end, is_inner, is_label, is_named, is_number};
 pub use listed_line::ListedLine;
 pub use loading::{close_last, is_last_open, load};
 pub use numbering::line_before;
-pub use positions::{end_of, line_and_next, line_number, next};
+pub use positions::{line_and_next, line_number, next};
 pub use reading::{
     ByteReader, Found, final_position, first_from, line_at, position_by, short_line,
 };
 pub use refusal::ProgramRefusal;
-pub use searches::{global, local, start_of};
+pub use searches::{end_of, global, local, start_of};
 pub use size::set_size;

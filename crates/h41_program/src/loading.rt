@@ -98,7 +98,7 @@ fn put_loaded(packer: &mut Packer, bytes: &[u8]) -> Result<(), ProgramRefusal>
         put_pending(packer, pending);
         at = taken.behind;
         if is_final_end(taken.line) {
-            return if are_nulls(bytes, at) {
+            return if are_nulls(&bytes[at..]) {
                 Ok(())
             } else {
                 Err(ProgramRefusal::BrokenProgram)
@@ -106,7 +106,7 @@ fn put_loaded(packer: &mut Packer, bytes: &[u8]) -> Result<(), ProgramRefusal>
         }
         pending = Some(taken.line);
     }
-    if !are_nulls(bytes, at) {
+    if !are_nulls(&bytes[at..]) {
         return Err(ProgramRefusal::BrokenProgram);
     }
     put_last(packer, pending);

@@ -3,14 +3,14 @@
 ghost use Rattle.std.specs.Prelude.{IsTrue};
 ghost use Rattle.h41_program.specs.Numbering.{number_in};
 ghost use Rattle.h41_program.specs.ProgramLines.{AnswersBoth, AnswersNext};
-ghost use Rattle.h41_program.specs.Searches.{AnswersProgram, end_in};
+ghost use Rattle.h41_program.specs.Searches.{AnswersProgram};
 ghost use Rattle.h41_ram.specs.RegisterMap.{is_sound};
 
 use crate::laws::one_list;
 use crate::numbering::number_from;
 use crate::reading::{Found, first_from, position_behind};
 use crate::refusal::ProgramRefusal;
-use crate::searches::{end_from, start_of};
+use crate::searches::start_of;
 use h41_codes::Line;
 use h41_codes::laws::byte_round_trip;
 use h41_ram::Ram;
@@ -45,17 +45,6 @@ pub fn line_and_next<const REGS: usize>(
         }
         None => Err(ProgramRefusal::BrokenProgram),
     }
-}
-
-/// Where the program of a position ends: where its END stands, or `.END.` where that comes first. `None` where its list has
-/// neither: bytes that are no line come first.
-pub fn end_of<const REGS: usize>(ram: &Ram<REGS>, at: u16) -> Option<u16>
-    requires { IsTrue (is_sound ram.now.registers) }
-    ensures { AnswersProgram end_in ram.now.registers at result }
-{
-    byte_round_trip();
-    one_list();
-    end_from(ram, start_of(ram, at))
 }
 
 /// The number of the line at its own position in its program, where the first has number 1. `None` where the list from the

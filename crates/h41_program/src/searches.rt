@@ -4,7 +4,7 @@ ghost use Rattle.h41_ram.specs.RegisterMap.{is_sound};
 ghost use Rattle.h41_program.specs.Lines as spec;
 ghost use Rattle.h41_program.specs.ProgramLines.{AnswersOf, HasPlace};
 ghost use Rattle.h41_program.specs.private.Reading.{AnswersFrom, OfPlace};
-ghost use Rattle.h41_program.specs.Searches.{AnswersLocal, end_in, label_in};
+ghost use Rattle.h41_program.specs.Searches.{AnswersLocal, AnswersProgram, end_in, label_in};
 ghost use Rattle.h41_program.specs.Searches.{named_in, position_of, start_in, up_to_end};
 
 use crate::kinds::{is_label, is_named};
@@ -40,7 +40,7 @@ pub fn start_of<const REGS: usize>(ram: &Ram<REGS>, at: u16) -> u16
 }
 
 /// Where the first END or `.END.` stands from a position on.
-pub fn end_from<const REGS: usize>(ram: &Ram<REGS>, from: u16) -> Option<u16>
+fn end_from<const REGS: usize>(ram: &Ram<REGS>, from: u16) -> Option<u16>
     requires { IsTrue (is_sound ram.now.registers) }
     ensures { AnswersFrom (λ lines. end_in (up_to_end lines)) ram.now.registers from result }
 {
@@ -55,6 +55,17 @@ pub fn end_from<const REGS: usize>(ram: &Ram<REGS>, from: u16) -> Option<u16>
         at = place.behind;
     }
     None
+}
+
+/// Where the program of a position ends: where its END stands, or `.END.` where that comes first. `None` where its list has
+/// neither: bytes that are no line come first.
+pub fn end_of<const REGS: usize>(ram: &Ram<REGS>, at: u16) -> Option<u16>
+    requires { IsTrue (is_sound ram.now.registers) }
+    ensures { AnswersProgram end_in ram.now.registers at result }
+{
+    byte_round_trip();
+    one_list();
+    end_from(ram, start_of(ram, at))
 }
 
 /// Where the `LBL n` stands that a position finds: the first from there to the END, else the first of its program.

@@ -4,7 +4,7 @@ use Rattle.h41_program.specs.declared.editing.Change.TheVariants.{Put}
 use Rattle.h41_program.specs.private.EditSteps.{lines_of_change, listed_of}
 use Rattle.h41_program.proofs.EditAnswers.{leaves_new, put_there, some_found, stands_new, stands_there}
 use Rattle.h41_program.proofs.Inner.{inner_line}
-use Rattle.h41_program.proofs.editing.put.Goals as goal
+use Rattle.h41_program.proofs.editing.place_line.Goals as goal
 
 pub unwrap-new-requires : goal.unwrap-new-requires
 unwrap-new-requires g c =

@@ -1,6 +1,6 @@
 use Rattle.h41_program.specs.Searches.{end_in}
 use Rattle.h41_program.proofs.Numbers.{of_program}
-use Rattle.h41_program.proofs.positions.end_of.Goals as goal
+use Rattle.h41_program.proofs.searches.end_of.Goals as goal
 
 pub returns : goal.returns
 returns g c =

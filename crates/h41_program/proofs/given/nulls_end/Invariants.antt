@@ -1,5 +1,5 @@
 use Rattle.std.proofs.Common.{◌≡◌, ℕ, ◌<◌, ◌≤◌, get_or}
-use Rattle.h41_program.proofs.given.past_nulls.Given as goal
+use Rattle.h41_program.proofs.given.nulls_end.Given as goal
 
 -- the bytes so far are nulls
 abbrev pub invariant-loop-position : goal.invariant-loop-position

@@ -36,8 +36,8 @@ with_c_at ram address s = with_register ram address s.c
 abbrev pub with_c_in_block : RegisterMap → ℕ → Processor → RegisterMap
 with_c_in_block ram register s = with_c_at ram (block_address register s) s
 
--- FETCH S&X: the word at the address in C; 000 where no page is plugged there (this project's
--- choice)
+-- FETCH S&X: the word at the address in C; 000 where its page's chosen bank is not plugged (this
+-- project's choice)
 abbrev pub with_fetched_word : PageMap → Processor → Processor
 with_fetched_word pages s = with_word_in_c (word_or_zero (word_at pages (address_in_c s))) s
 

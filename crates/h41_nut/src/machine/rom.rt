@@ -21,19 +21,6 @@ pub fn fetch(pages: &Pages, address: u16) -> Result<Word, WordRefusal>
     Ok(pages.fetch(address)?)
 }
 
-/// The word at an address, and 000 where nothing is plugged (this project's choice). Refused as 8 in pages 0 to 3.
-#[tactic(auto, unfolding(h41_pages::specs::PageMap::fetched))]
-fn fetch_or_zero(pages: &Pages, address: u16) -> Result<Word, WordRefusal>
-    ensures refusal { result_err result ≡ system_refusal address }
-    ensures word { IfOk result (λ word. word ≡ word_or_zero (word_at pages.now address)) }
-{
-    match pages.fetch(address) {
-        Ok(word) => Ok(word),
-        Err(FetchRefusal::EmptyPage(_)) => Ok(Word::new(0).unwrap()),
-        Err(refusal) => Err(refusal.into()),
-    }
-}
-
 /// `WROM`: the word in C is written at the address in C. Refused as 12 before all else where its page is not writable.
 pub fn write_rom(cpu: &mut Cpu, pages: &mut Pages) -> Result<(), WordRefusal>
     requires { first_address ≤ cpu.old.pc }
@@ -49,12 +36,16 @@ pub fn write_rom(cpu: &mut Cpu, pages: &mut Pages) -> Result<(), WordRefusal>
     Ok(())
 }
 
-/// `FETCH S&X`: the word at the address in C goes to C; 000 where no page is plugged there. Refused as 8 before all else in
-/// the system's pages.
+/// `FETCH S&X`: the word at the address in C goes to C; 000 where the chosen bank of its page is not plugged (this project's
+/// choice). Refused as 8 before all else in the system's pages.
+#[tactic(auto, unfolding(h41_pages::specs::PageMap::fetched))]
 pub fn fetch_word(cpu: &mut Cpu, pages: &Pages) -> Result<(), WordRefusal>
     requires { first_address ≤ cpu.old.pc }
     ensures { FetchesWord pages.now cpu.old cpu.new result }
 {
-    let word = fetch_or_zero(pages, cpu.address_in_c())?;
-    cpu.load_word(word)
+    match pages.fetch(cpu.address_in_c()) {
+        Ok(word) => cpu.load_word(word),
+        Err(FetchRefusal::EmptyPage(_)) => cpu.load_word(Word::new(0).unwrap()),
+        Err(refusal) => Err(refusal.into()),
+    }
 }

@@ -46,32 +46,24 @@ pub fn asks<const REGS: usize>(ram: &Ram<REGS>, test: Test) -> Result<bool, Line
     ensures { Tells ram.now.registers (condition_of test) result }
 {
     match test {
-        Test::XEqualsY => Ok(x_is_y(ram)),
-        Test::XDiffersFromY => Ok(!x_is_y(ram)),
+        Test::XEqualsY => Ok(x_is(ram, ram.status_register(StatusRegister::Y))),
+        Test::XDiffersFromY => Ok(!x_is(ram, ram.status_register(StatusRegister::Y))),
         Test::XLessThanY => below(number_in_x(ram), number_in_y(ram)),
         Test::XGreaterThanY => below(number_in_y(ram), number_in_x(ram)),
         Test::XAtMostY => at_most(number_in_x(ram), number_in_y(ram)),
-        Test::XZero => Ok(x_is_nought(ram)),
-        Test::XNotZero => Ok(!x_is_nought(ram)),
+        Test::XZero => Ok(x_is(ram, Reg::zero())),
+        Test::XNotZero => Ok(!x_is(ram, Reg::zero())),
         Test::XPositive => below(Some(Ten::Zero), number_in_x(ram)),
         Test::XNegative => below(number_in_x(ram), Some(Ten::Zero)),
         Test::XAtMostZero => at_most(number_in_x(ram), Some(Ten::Zero)),
     }
 }
 
-/// Whether X and Y hold the same digits.
-fn x_is_y<const REGS: usize>(ram: &Ram<REGS>) -> bool
-    ensures { result ≡ bytes_eq (status_of ram.now.registers names.X)
-        (status_of ram.now.registers names.Y) }
+/// Whether X holds the same digits as a register.
+fn x_is<const REGS: usize>(ram: &Ram<REGS>, register: Reg) -> bool
+    ensures { result ≡ bytes_eq (status_of ram.now.registers names.X) register }
 {
-    ram.status_register(StatusRegister::X) == ram.status_register(StatusRegister::Y)
-}
-
-/// Whether X holds zero alone.
-fn x_is_nought<const REGS: usize>(ram: &Ram<REGS>) -> bool
-    ensures { result ≡ bytes_eq (status_of ram.now.registers names.X) zeros }
-{
-    ram.status_register(StatusRegister::X) == Reg::zero()
+    ram.status_register(StatusRegister::X) == register
 }
 
 /// The number in X, or nothing where it holds none.

@@ -4,7 +4,7 @@ use Rattle.std.proofs.Common.{None, Result, Ok, Err, refl, sym, ap, subst, ◌�
 use Rattle.std.specs.Option.{is_some}
 use Rattle.std.proofs.lemmas.Bool.{cond-true, cond-false, eq-eqb, le-ltb, ltb-false, or_left}
 use Rattle.h41_ends.specs.InputLines.{line_in}
-use Rattle.h41_ends.specs.declared.fault.LineFault.{LineFault}
+use Rattle.h41_ends.specs.declared.fault.LineReadFault.{LineReadFault}
 use Rattle.h41_ends.specs.declared.input_lines.InputLines.{InputLines}
 use Rattle.h41_ends.proofs.InputReading.{reads_both}
 use Rattle.h41_commands.specs.BlockReading.{ReadsBlock}
@@ -165,21 +165,21 @@ shut_words (name ∷ operands) (Named (Plain kind)) e shut = (plain_words (name 
 shut_words (name ∷ operands) (Named Unknown) e shut = (unknown_words (name ∷ operands) e).0
 
 module _ (before after : Option (List ℕ)) (old new : InputLines) where
-  pub first_none : ReadsFirst {E = LineFault} (Ok None) before after old new → ReadsNext (Ok None) before after old new
+  pub first_none : ReadsFirst {E = LineReadFault} (Ok None) before after old new → ReadsNext (Ok None) before after old new
   first_none first = record {
     lines = first.skipped ++ [];
     reads = first.reads;
     spelled = λ more may. nothing_still first.skipped first.nothing more;
   }
 
-  pub first_fault : (why : LineFault) → ReadsFirst (Err why) before after old new → ReadsNext (Err (of_line why)) before after old new
+  pub first_fault : (why : LineReadFault) → ReadsFirst (Err why) before after old new → ReadsNext (Err (of_line why)) before after old new
   first_fault why first = record {
     lines = first.skipped ++ [];
     reads = first.reads;
     spelled = fault_before why new.at_end (first.skipped ++ []) (nothing_still first.skipped first.nothing);
   }
 
-  spells : (kind : LineKind) (first : ReadsFirst {E = LineFault} (Ok (Some kind)) before after old new) → opens_block kind ≡ false
+  spells : (kind : LineKind) (first : ReadsFirst {E = LineReadFault} (Ok (Some kind)) before after old new) → opens_block kind ≡ false
       → Spell new.at_end (first.skipped ++ line_in new ∷ []) (line_spelled (line_in new) ∷ [])
   spells kind first shut =
       let line = line_in new in
@@ -192,7 +192,7 @@ module _ (before after : Option (List ℕ)) (old new : InputLines) where
             (shut_words (words_of line) kind short.2 shut) (cond-false (is_long line) _ _ short.0)
       ]
 
-  pub first_line : (kind : LineKind) → ReadsFirst {E = LineFault} (Ok (Some kind)) before after old new → opens_block kind ≡ false
+  pub first_line : (kind : LineKind) → ReadsFirst {E = LineReadFault} (Ok (Some kind)) before after old new → opens_block kind ≡ false
       → ReadsNext (Ok (Some (line_spelled (line_in new)))) before after old new
   first_line kind first shut = record {
     lines = first.skipped ++ line_in new ∷ [];
@@ -202,7 +202,7 @@ module _ (before after : Option (List ℕ)) (old new : InputLines) where
 
 -- a block, and one that was not read to its end
 module _ (before mid after : Option (List ℕ)) (old first_at new : InputLines) (kind : BlockKind)
-    (first : ReadsFirst {E = LineFault} (Ok (Some (Named (Opening kind)))) before mid old first_at) where
+    (first : ReadsFirst {E = LineReadFault} (Ok (Some (Named (Opening kind)))) before mid old first_at) where
   parts : (is_long (line_in first_at) ≡ false) × (is_skipped (line_in first_at) ≡ false)
       × (kind_by_words (words_of (line_in first_at)) ≡ Some (Named (Opening kind)))
   parts = named (line_in first_at) (Opening kind) first.kind

@@ -6,8 +6,8 @@ use Rattle.std.proofs.lemmas.Bool.{cond-true, cond-false, or_from}
 use Rattle.std.proofs.lemmas.List.{drop_all}
 use Rattle.std.proofs.lemmas.List.Folds.{list_any-append}
 use Rattle.h41_ends.specs.InputLines.{MayFollow}
-use Rattle.h41_ends.specs.declared.fault.LineFault.{LineFault}
-use Rattle.h41_ends.specs.declared.fault.LineFault.TheVariants as read
+use Rattle.h41_ends.specs.declared.fault.LineReadFault.{LineReadFault}
+use Rattle.h41_ends.specs.declared.fault.LineReadFault.TheVariants as read
 use Rattle.h41_commands.specs.BlockReading.{AreTaken}
 use Rattle.h41_commands.specs.Blocks.{TakenBlock, Takes, block_values, judgement, kept_of, said_by, short_lines, unless_long, whole_said}
 use Rattle.h41_commands.specs.Commands.{and_then, command_of, is_opening, kind_of}
@@ -172,7 +172,7 @@ passed_over (line ∷ lines) more e =
     ∙ passed_over lines more none.2
 
 -- a fault, before an item and in its block
-pub fault_before : (why : LineFault) (at_end : Bool) (lines : List (List ℕ)) → SpellNothing lines
+pub fault_before : (why : LineReadFault) (at_end : Bool) (lines : List (List ℕ)) → SpellNothing lines
     → SpellNext (Err (of_line why)) at_end lines
 fault_before read.ReadFault at_end lines before = spells_none lines before
 fault_before read.WriteFault at_end lines before = tt

@@ -3,7 +3,7 @@
 ghost use Rattle.std.specs.Prelude.{◌≡◌};
 ghost use Rattle.h41_commands.specs.declared.fault.ItemFault.TheVariants as item;
 
-use h41_ends::LineFault;
+use h41_ends::LineReadFault;
 use std::alloc::AllocError;
 
 /// Why the next item of a deck was not read to its end.
@@ -25,16 +25,16 @@ impl From<AllocError> for ItemFault {
     }
 }
 
-impl From<LineFault> for ItemFault {
+impl From<LineReadFault> for ItemFault {
     ghost use Rattle.std.specs.Prelude.{◌≡◌};
     ghost use Rattle.h41_commands.specs.Faults.{of_line};
 
     ghost from_gives = { λ fault own. own ≡ of_line fault };
 
-    fn from(fault: LineFault) -> Self {
+    fn from(fault: LineReadFault) -> Self {
         match fault {
-            LineFault::ReadFault => ItemFault::ReadFault,
-            LineFault::WriteFault => ItemFault::WriteFault,
+            LineReadFault::ReadFault => ItemFault::ReadFault,
+            LineReadFault::WriteFault => ItemFault::WriteFault,
         }
     }
 }

@@ -21,7 +21,7 @@ use crate::fault::ItemFault;
 use crate::item::{GivenCommand, Item};
 use crate::line::{FirstLine, first_line, is_end};
 use crate::refusal::LineRefusal;
-use h41_ends::{InputLines, LineFault, Sink, Source};
+use h41_ends::{InputLines, LineReadFault, Sink, Source};
 use std::alloc::Global;
 
 /// Reads up to the end of the first line of the next item, and tells what it is and where its first word ends: `input.line()` is that
@@ -36,7 +36,7 @@ pub fn read_first_line<R: Source, W: Sink>(
     input: &mut InputLines,
     reader: &mut R,
     writer: &mut W,
-) -> Result<Option<FirstLine>, LineFault>
+) -> Result<Option<FirstLine>, LineReadFault>
     requires reader_clear { R.failed reader.old ≡ false }
     requires writer_clear { W.failed writer.old ≡ false }
     requires counted { IsCounted input.old (R.given reader.old) }
@@ -48,16 +48,16 @@ pub fn read_first_line<R: Source, W: Sink>(
     ensures end { result ≡ Ok None → IsTold input.new }
 
     // A read fault comes for its cause, behind a flush.
-    ensures stopped { result ≡ Err LineFault.ReadFault → IsStopped input.new }
-    ensures cause { result ≡ Err LineFault.ReadFault
+    ensures stopped { result ≡ Err LineReadFault.ReadFault → IsStopped input.new }
+    ensures cause { result ≡ Err LineReadFault.ReadFault
         → (R.failed reader.new ≡ true) ⊎ (input.new.is_over ≡ true) }
-    ensures flushed { result ≡ Err LineFault.ReadFault → W.flushed writer.new ≡ true }
+    ensures flushed { result ≡ Err LineReadFault.ReadFault → W.flushed writer.new ≡ true }
 
     ensures kept { Keeps (W.contents writer.old) (W.contents writer.new) }
     ensures counted { IsCounted input.new (R.given reader.new) }
-    ensures reader { result ≢ Err LineFault.ReadFault → R.failed reader.new ≡ false }
-    ensures writer { result ≢ Err LineFault.WriteFault → W.failed writer.new ≡ false }
-    ensures write_fault { result ≡ Err LineFault.WriteFault → W.failed writer.new ≡ true }
+    ensures reader { result ≢ Err LineReadFault.ReadFault → R.failed reader.new ≡ false }
+    ensures writer { result ≢ Err LineReadFault.WriteFault → W.failed writer.new ≡ false }
+    ensures write_fault { result ≡ Err LineReadFault.WriteFault → W.failed writer.new ≡ true }
 {
     while input.next_line(reader, writer)? {
         if let Some(first) = first_line(input.line()) {

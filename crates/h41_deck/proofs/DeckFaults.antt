@@ -13,8 +13,8 @@ use Rattle.h41_commands.specs.declared.fault.ItemFault.TheVariants as item
 use Rattle.h41_debug.specs.Bench.{BenchState, start}
 use Rattle.h41_ends.specs.Ends.{most_bytes}
 use Rattle.h41_ends.specs.InputLines.{IsCounted, IsStopped, bytes_within}
-use Rattle.h41_ends.specs.declared.fault.LineFault.{LineFault}
-use Rattle.h41_ends.specs.declared.fault.LineFault.TheVariants as read
+use Rattle.h41_ends.specs.declared.fault.LineReadFault.{LineReadFault}
+use Rattle.h41_ends.specs.declared.fault.LineReadFault.TheVariants as read
 use Rattle.h41_ends.specs.declared.input_lines.InputLines.{InputLines}
 use Rattle.h41_ends.specs.declared.sink.Sink as sinks
 use Rattle.h41_ends.specs.declared.source.Source as sources
@@ -125,7 +125,7 @@ module _ {R W : Type 0} (registers : ℕ) (source : sources.Ghosts R) (sink : si
 
   -- where its first line was not
   pub leaves_first : (first mid after : R) (old before new : W) (input next : InputLines) (done : List Spelled) (s : BenchState)
-      (outcome : Outcome) (why : LineFault) → ReadSoFar (source.remaining first) (source.remaining mid) input done
+      (outcome : Outcome) (why : LineReadFault) → ReadSoFar (source.remaining first) (source.remaining mid) input done
       → Told registers (sink.contents old) (sink.contents before) done s outcome
       → ReadsFirst (Err why) (source.remaining mid) (source.remaining after) input next
       → Keeps (sink.contents before) (sink.contents new) → (why ≡ read.ReadFault → IsStopped next)

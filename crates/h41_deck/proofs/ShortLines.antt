@@ -13,7 +13,7 @@ use Rattle.h41_commands.specs.declared.fault.ItemFault.{ItemFault}
 use Rattle.h41_commands.specs.declared.item.Item.{Item}
 use Rattle.h41_commands.specs.declared.line.LineKind.{LineKind}
 use Rattle.h41_ends.specs.InputLines.{line_in}
-use Rattle.h41_ends.specs.declared.fault.LineFault.{LineFault}
+use Rattle.h41_ends.specs.declared.fault.LineReadFault.{LineReadFault}
 use Rattle.h41_ends.specs.declared.input_lines.InputLines.{InputLines}
 use Rattle.h41_commands.specs.Items.{Spelled, line_spelled}
 use Rattle.h41_commands.specs.declared.commands.Command.TheVariants as commands
@@ -112,7 +112,7 @@ position_part s values text old new is part = record {
 -- a block by the kind of its first line
 module _ (before mid after : Option (List ℕ)) (old first_at new : InputLines) where
   pub block_next : (kind : LineKind) → opens_block kind ≡ true
-      → ReadsFirst {E = LineFault} (Ok (Some kind)) before mid old first_at → (item : Item)
+      → ReadsFirst {E = LineReadFault} (Ok (Some kind)) before mid old first_at → (item : Item)
       → ReadsBlock {E = ItemFault} (Ok item) (command_of (words_of (line_in first_at))) mid after first_at new
       → ReadsNext (Ok (Some (what_is_spelled item))) before after old new
   block_next Long opens first item block = cc
@@ -121,7 +121,7 @@ module _ (before mid after : Option (List ℕ)) (old first_at new : InputLines) 
   block_next (Named Unknown) opens first item block = cc
 
   pub block_failed : (kind : LineKind) → opens_block kind ≡ true
-      → ReadsFirst {E = LineFault} (Ok (Some kind)) before mid old first_at → (why : ItemFault)
+      → ReadsFirst {E = LineReadFault} (Ok (Some kind)) before mid old first_at → (why : ItemFault)
       → ReadsBlock (Err why) (command_of (words_of (line_in first_at))) mid after first_at new
       → ReadsNext (Err why) before after old new
   block_failed Long opens first why block = cc

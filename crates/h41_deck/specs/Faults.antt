@@ -1,8 +1,8 @@
 -- The faults of a part, as those of the deck.
 use Rattle.h41_ends.specs.declared.fault.InputFault.{InputFault}
 use Rattle.h41_ends.specs.declared.fault.InputFault.TheVariants as input
-use Rattle.h41_ends.specs.declared.fault.LineFault.{LineFault}
-use Rattle.h41_ends.specs.declared.fault.LineFault.TheVariants as line
+use Rattle.h41_ends.specs.declared.fault.LineReadFault.{LineReadFault}
+use Rattle.h41_ends.specs.declared.fault.LineReadFault.TheVariants as line
 use Rattle.h41_commands.specs.declared.fault.ItemFault.{ItemFault}
 use Rattle.h41_commands.specs.declared.fault.ItemFault.TheVariants as item
 use Rattle.h41_deck.specs.declared.fault.CommandFault.{CommandFault}
@@ -14,7 +14,7 @@ abbrev pub of_input : InputFault → Fault
 of_input input.OutOfMemory = OutOfMemory
 of_input input.ReadFault = ReadFault
 
-abbrev pub of_line : LineFault → Fault
+abbrev pub of_line : LineReadFault → Fault
 of_line line.ReadFault = ReadFault
 of_line line.WriteFault = WriteFault
 

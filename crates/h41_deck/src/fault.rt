@@ -7,7 +7,7 @@ ghost use Rattle.h41_deck.specs.declared.fault.Fault.TheVariants as deck;
 
 use crate::refusal::Refusal;
 use h41_commands::ItemFault;
-use h41_ends::{InputFault, LineFault, WriteFault};
+use h41_ends::{InputFault, LineReadFault, WriteFault};
 use std::alloc::AllocError;
 use std::error::Error;
 use std::fmt;
@@ -119,16 +119,16 @@ impl From<ItemFault> for Fault {
     }
 }
 
-impl From<LineFault> for Fault {
+impl From<LineReadFault> for Fault {
     ghost use Rattle.std.specs.Prelude.{◌≡◌};
     ghost use Rattle.h41_deck.specs.Faults.{of_line};
 
     ghost from_gives = { λ fault own. own ≡ of_line fault };
 
-    fn from(fault: LineFault) -> Self {
+    fn from(fault: LineReadFault) -> Self {
         match fault {
-            LineFault::ReadFault => Fault::ReadFault,
-            LineFault::WriteFault => Fault::WriteFault,
+            LineReadFault::ReadFault => Fault::ReadFault,
+            LineReadFault::WriteFault => Fault::WriteFault,
         }
     }
 }

@@ -2,7 +2,7 @@
 
 ghost use Rattle.std.specs.Prelude.{◌≡◌};
 ghost use Rattle.h41_ends.specs.declared.fault.InputFault.TheVariants as input;
-ghost use Rattle.h41_ends.specs.declared.fault.LineFault.TheVariants as lines;
+ghost use Rattle.h41_ends.specs.declared.fault.LineReadFault.TheVariants as lines;
 
 use std::alloc::{AllocError, AllocFailed};
 
@@ -37,17 +37,17 @@ impl<T: Drop> From<AllocFailed<T>> for InputFault {
 
 /// Why the next line of an input was not read to its end.
 #[derive(Clone, Copy, Debug, PartialEq, Eq)]
-pub enum LineFault {
+pub enum LineReadFault {
     /// 22: the input cannot be read, or is too long.
     ReadFault,
     /// 23: the output cannot be passed on.
     WriteFault,
 }
 
-impl From<WriteFault> for LineFault {
+impl From<WriteFault> for LineReadFault {
     ghost from_gives = { λ _ fault. fault ≡ lines.WriteFault };
 
     fn from(_fault: WriteFault) -> Self {
-        LineFault::WriteFault
+        LineReadFault::WriteFault
     }
 }

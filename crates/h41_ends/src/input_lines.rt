@@ -3,7 +3,7 @@
 ghost use Rattle.std.specs.Prelude.{◌≡◌, ◌≤◌, true, false};
 ghost use Rattle.h41_ends.specs.Ends.{most_bytes};
 
-use crate::fault::LineFault;
+use crate::fault::LineReadFault;
 use crate::input::MOST_BYTES;
 use crate::line_ends::line_end;
 use crate::output::flush;
@@ -93,7 +93,7 @@ impl InputLines {
         &mut self,
         reader: &mut R,
         writer: &mut W,
-    ) -> Result<bool, LineFault>
+    ) -> Result<bool, LineReadFault>
         requires reader_clear { R.failed reader.old ≡ false }
         requires writer_clear { W.failed writer.old ≡ false }
         requires counted { IsCounted self.old (R.given reader.old) }
@@ -104,16 +104,16 @@ impl InputLines {
         ensures fewer { result ≡ Ok true → most_left self.new < most_left self.old }
 
         // A read fault comes for its cause, behind a flush.
-        ensures stopped { result ≡ Err LineFault.ReadFault → IsStopped self.new }
-        ensures cause { result ≡ Err LineFault.ReadFault
+        ensures stopped { result ≡ Err LineReadFault.ReadFault → IsStopped self.new }
+        ensures cause { result ≡ Err LineReadFault.ReadFault
             → (R.failed reader.new ≡ true) ⊎ (self.new.is_over ≡ true) }
-        ensures flushed { result ≡ Err LineFault.ReadFault → W.flushed writer.new ≡ true }
+        ensures flushed { result ≡ Err LineReadFault.ReadFault → W.flushed writer.new ≡ true }
 
         ensures kept { Keeps (W.contents writer.old) (W.contents writer.new) }
         ensures counted { IsCounted self.new (R.given reader.new) }
-        ensures reader { result ≢ Err LineFault.ReadFault → R.failed reader.new ≡ false }
-        ensures writer { result ≢ Err LineFault.WriteFault → W.failed writer.new ≡ false }
-        ensures write_fault { result ≡ Err LineFault.WriteFault → W.failed writer.new ≡ true }
+        ensures reader { result ≢ Err LineReadFault.ReadFault → R.failed reader.new ≡ false }
+        ensures writer { result ≢ Err LineReadFault.WriteFault → W.failed writer.new ≡ false }
+        ensures write_fault { result ≡ Err LineReadFault.WriteFault → W.failed writer.new ≡ true }
     {
         loop {
             if let Some(end) = line_end(self.held()) {
@@ -169,7 +169,7 @@ impl InputLines {
         &mut self,
         reader: &mut R,
         writer: &mut W,
-    ) -> Result<bool, LineFault>
+    ) -> Result<bool, LineReadFault>
         requires unended { IsUnended (held_in self.old) }
         requires goes_on { self.old.at_end ≡ false }
         requires reader_clear { R.failed reader.old ≡ false }
@@ -182,20 +182,20 @@ impl InputLines {
         ensures end { result ≡ Ok false → ReachesEnd (R.remaining reader.new) self.new }
         ensures bound { OnOk result (most_left self.new ≤ most_left self.old) }
         ensures stopped { OnErr result (IsStopped self.new) }
-        ensures cause { result ≡ Err LineFault.ReadFault
+        ensures cause { result ≡ Err LineReadFault.ReadFault
             → (R.failed reader.new ≡ true) ⊎ (self.new.is_over ≡ true) }
-        ensures flushed { result ≡ Err LineFault.ReadFault → W.flushed writer.new ≡ true }
+        ensures flushed { result ≡ Err LineReadFault.ReadFault → W.flushed writer.new ≡ true }
         ensures kept { Keeps (W.contents writer.old) (W.contents writer.new) }
         ensures counted { IsCounted self.new (R.given reader.new) }
-        ensures reader { result ≢ Err LineFault.ReadFault → R.failed reader.new ≡ false }
-        ensures writer { result ≢ Err LineFault.WriteFault → W.failed writer.new ≡ false }
-        ensures write_fault { result ≡ Err LineFault.WriteFault → W.failed writer.new ≡ true }
+        ensures reader { result ≢ Err LineReadFault.ReadFault → R.failed reader.new ≡ false }
+        ensures writer { result ≢ Err LineReadFault.WriteFault → W.failed writer.new ≡ false }
+        ensures write_fault { result ≡ Err LineReadFault.WriteFault → W.failed writer.new ≡ true }
     {
         if !writer.is_flushed() {
             flush(writer)?;
         }
         if self.is_over {
-            return Err(LineFault::ReadFault);
+            return Err(LineReadFault::ReadFault);
         }
         self.shorten();
         match reader.read(&mut self.buffer[self.end..]) {
@@ -203,7 +203,7 @@ impl InputLines {
                 self.take_read(count);
                 Ok(count > 0)
             }
-            Err(_) => Err(LineFault::ReadFault),
+            Err(_) => Err(LineReadFault::ReadFault),
         }
     }
 

@@ -9,7 +9,7 @@ mod output;
 mod sink;
 mod source;
 
-pub use fault::{InputFault, LineFault, WriteFault};
+pub use fault::{InputFault, LineReadFault, WriteFault};
 pub use input::{MOST_BYTES, ReadInput, read_whole};
 pub use input_lines::{InputLines, MOST_TOLD};
 pub use output::{flush, write_whole};

@@ -48,12 +48,12 @@ fn push_name(text: &mut Vec<u8>, name: &Option<Name>) -> Result<(), AllocError>
 {
     match name {
         None => text.extend_from_slice(b"-"),
-        Some(name) => push_characters(text, name.as_bytes()),
+        Some(name) => push_printed(text, name.as_bytes()),
     }
 }
 
 /// Appends characters as they are printed.
-fn push_characters(text: &mut Vec<u8>, characters: &[u8]) -> Result<(), AllocError>
+fn push_printed(text: &mut Vec<u8>, characters: &[u8]) -> Result<(), AllocError>
     ensures { OnOk result (text.new.items ≡ text.old.items ++ characters_text characters.now) }
 {
     for character in characters {

@@ -1,6 +1,6 @@
 use Rattle.std.proofs.Common.{◌≡◌, ◌++◌, take}
 use Rattle.h41_lines.specs.Characters.{characters_text}
-use Rattle.h41_deck.proofs.replies.functions.push_characters.Given as goal
+use Rattle.h41_deck.proofs.replies.functions.push_printed.Given as goal
 
 -- the characters so far
 abbrev pub invariant-loop-character : goal.invariant-loop-character

@@ -23,6 +23,7 @@ use Rattle.h41_program.specs.ProgramBytes.{final_position}
 use Rattle.h41_program.specs.ProgramLaws.{EditsAreDetermined, ListsAreDetermined}
 use Rattle.h41_program.specs.SearchLaws.{AnswersAreDetermined}
 use Rattle.h41_program.specs.Searches.{start_in}
+use Rattle.h41_positions.proofs.OneNext.{same_next}
 use Rattle.h41_positions.specs.PositionLaws.{HasOneAnswer, IsReadOnce}
 use Rattle.h41_positions.specs.Positions.{EndOf, LineAt, LineBefore, NextAt, NumberAt, StartOf}
 use Rattle.h41_program.specs.declared.editing.InFront.{InFront}
@@ -46,10 +47,6 @@ GoesOn pages machine moved = (next : Position) × NextAt pages machine.memory ma
 abbrev ByFirst : PageMap → Machine → (Result PlacedLine ProgramRefusal → Type 0) → Type 0
 ByFirst pages machine holds = (first : Result PlacedLine ProgramRefusal) × LineAt pages machine.memory machine.focal.position first
     × holds first
-
-same_next : (once : IsReadOnce) (pages : PageMap) (memory : RegisterMap) (at a b : Position)
-    → NextAt pages memory at (Ok a) → NextAt pages memory at (Ok b) → a ≡ b
-same_next once pages memory at a b p q = let same = once.next pages memory at (Ok a) (Ok b) p q in cc
 
 -- line 00, where each program has one start
 module _ (same_start : HasOneAnswer StartOf) where

@@ -11,7 +11,7 @@ use Rattle.h41_focal.specs.LineStep.{AppliesTo, CarriesOut, FailsIn, Left, Machi
 use Rattle.h41_focal.specs.MachineCalls.{left_of}
 use Rattle.h41_focal.specs.Outcomes.{Answer, answer_of, is_elsewhere}
 use Rattle.h41_focal.specs.Outcomes as answers
-use Rattle.h41_focal.specs.private.Carrying.{FailsAs, GoesToTarget, TakesAs, TakesBranch, TakesBriefly, called_by, ended, manner_of}
+use Rattle.h41_focal.specs.private.Carrying.{FailsAs, GoesToTarget, TakesAs, TakesBranch, TakesBriefly, called_by, ending_of, manner_of}
 use Rattle.h41_focal.specs.private.Carrying.{name_meant, nowhere}
 use Rattle.h41_focal.specs.declared.origin.Origin.{Origin}
 use Rattle.h41_focal.specs.declared.outcome.BriefOutcome.{BriefOutcome}
@@ -37,7 +37,7 @@ failure_is_here origin fault old new brief failing is =
     absurd
     (true≢false
     (sym (ap (λ (of : BriefOutcome). is_elsewhere (brief_answer nowhere new.memory of)) is)
-    ∙ fails_here (manner_of origin) old fault (ended new brief) failing))
+    ∙ fails_here (manner_of origin) old fault (ending_of new brief) failing))
 
 -- what a call would answer does not matter where nothing is called
 same_answer :
@@ -110,7 +110,7 @@ outcome_taken pages origin line old new brief outcome takes answers =
 pub same_left :
     (new : Machine) (brief : BriefOutcome) (outcome : LineOutcome)
     → ((called : Answer) → answer_of outcome ≡ brief_answer called new.memory brief)
-    → left_of new outcome ≡ ended new brief
+    → left_of new outcome ≡ ending_of new brief
 same_left new brief outcome answers = ap (λ (answer : Answer). record { machine = new; answer = answer }) (answers nowhere)
 
 -- the same of a result

@@ -19,6 +19,7 @@ use Rattle.h41_focal.specs.Outcomes.{Answer}
 use Rattle.h41_focal.specs.declared.refusal.FocalRefusal.{FocalRefusal}
 use Rattle.h41_focal.specs.declared.refusal.FocalRefusal.TheVariants.{BrokenProgram, MemoryLost, NotInProfile}
 use Rattle.h41_pages.specs.PageMap.{PageMap}
+use Rattle.h41_positions.proofs.OneNext.{same_next}
 use Rattle.h41_positions.specs.PositionLaws.{HasOneAnswer, HasOneAnswerEach, IsReadOnce}
 use Rattle.h41_positions.specs.Positions.{LineAt, LocalFrom, NextAt, StartOf}
 use Rattle.h41_program.specs.SearchLaws.{AnswersAreDetermined}
@@ -39,10 +40,6 @@ use Rattle.h41_rows.specs.Rows as rows
 use Rattle.h41_rows.specs.Values.{Value}
 use Rattle.h41_rows.specs.declared.fault.LineFault.{LineFault}
 use Rattle.h41_rows.specs.declared.fault.LineFault.TheVariants.{AlphaData}
-
-same_next : (once : IsReadOnce) (pages : PageMap) (memory : RegisterMap) (at a b : Position)
-    → NextAt pages memory at (Ok a) → NextAt pages memory at (Ok b) → a ≡ b
-same_next once pages memory at a b p q = let same = once.next pages memory at (Ok a) (Ok b) p q in cc
 
 no_next : (once : IsReadOnce) (pages : PageMap) (memory : RegisterMap) (at a : Position)
     → NextAt pages memory at (Ok a) → NextAt pages memory at (Err refusals.BrokenProgram) → ⊥

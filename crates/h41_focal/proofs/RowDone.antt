@@ -2,7 +2,7 @@
 use Rattle.std.proofs.Common.{arith, ◌≡◌, ◌≢◌, ℕ, ◌≤◌, false, nat_eq, List, [], ◌∷◌, length, drop, slice_index, Some, Result, Ok, refl}
 use Rattle.std.proofs.lemmas.Bool.Decides.{nat_tests}
 use Rattle.h41_focal.proofs.RowApplied.{opened_row, row_applied}
-use Rattle.h41_focal.specs.private.Carrying.{Leaves, on_to_next, ended, nowhere}
+use Rattle.h41_focal.specs.private.Carrying.{Leaves, on_to_next, ending_of, nowhere}
 use Rattle.h41_focal.specs.BriefOutcomes.{brief_answer}
 use Rattle.h41_rows.specs.Computing.{WorksOn, value_of_two}
 use Rattle.h41_rows.specs.LineRows.{text_row}
@@ -33,7 +33,7 @@ pub row_done :
     → after ≡ on_to_next origin row.lift focal
     → Leaves origin row named machine (machine_with new after) brief
 row_done origin row named machine memory focal register brief new after opened goes works answers makes ends = λ pages.
-    opened_row pages origin row named machine memory focal (Ok (ended (machine_with new after) brief)) opened
+    opened_row pages origin row named machine memory focal (Ok (ending_of (machine_with new after) brief)) opened
     (rw (makes, ends) (row_applied origin row named (machine_with memory focal) register brief goes works (rw makes at answers) pages))
 
 -- arithmetic in a register works on the numbers of its value alone

@@ -15,7 +15,7 @@ use Rattle.h41_text.specs.TextLaws.{OneLineOfText}
 use Rattle.h41_xrom.proofs.StepLaws.{line_determined}
 use Rattle.h41_xrom.specs.Lines.{Answers, BeginsEntry, CallsEntry, CallsName, CarriesFrom, CarriesLine}
 use Rattle.h41_xrom.specs.Lines.{CarriesNamed, Ended, EntersFrom, Fails, FailsFrom}
-use Rattle.h41_xrom.specs.Lines.{GoesOn, GoesOnFrom, PassesFrom, begun_at, end_of_answer, entered}
+use Rattle.h41_xrom.specs.Lines.{GoesOn, GoesOnFrom, PassesFrom, begun_at, end_of_answer, end_of_entering}
 use Rattle.h41_xrom.specs.declared.lines.LineSource.{LineSource}
 use Rattle.h41_xrom.specs.declared.lines.LineSource.TheVariants as sources
 use Rattle.h41_laws_numbers.proofs.Answering.{Has}
@@ -54,7 +54,7 @@ module _ (steps : StepHasOneOutcome) (typed : TypedHasOneOutcome) (failures : Fa
   enters : (source : LineSource) (pages : PageMap) (address : ℕ) (machine : Machine) → Has (EntersFrom source pages address machine)
   enters sources.Program pages address machine =
       let after = enterings pages address machine in
-      record { answer = entered after.answer; right = (after.answer, after.right, refl) }
+      record { answer = end_of_entering after.answer; right = (after.answer, after.right, refl) }
   enters (sources.Keys line) pages address machine = alone _
 
   begun : (source : LineSource) (pages : PageMap) (address : ℕ) (machine : Machine) → Has (Begun source pages address machine)

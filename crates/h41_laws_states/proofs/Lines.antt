@@ -42,7 +42,7 @@ use Rattle.h41_rows.specs.declared.fault.LineFault.{LineFault}
 use Rattle.h41_rows.specs.declared.fault.LineFault.TheVariants.{AlphaData, DataError, Nonexistent, OutOfRange}
 use Rattle.h41_xrom.specs.Lines.{Answers, Begins, BeginsEntry, CallsEntry, CallsName, CarriesFrom, CarriesLine, CarriesNamed, Ended}
 use Rattle.h41_xrom.specs.Lines.{EntersFrom}
-use Rattle.h41_xrom.specs.Lines.{Fails, FailsFrom, GoesOn, GoesOnFrom, PassesFrom, begun_at, end_of_answer, entered}
+use Rattle.h41_xrom.specs.Lines.{Fails, FailsFrom, GoesOn, GoesOnFrom, PassesFrom, begun_at, end_of_answer, end_of_entering}
 use Rattle.h41_xrom.specs.declared.lines.LineSource.{LineSource}
 use Rattle.h41_xrom.specs.declared.lines.LineSource.TheVariants as sources
 use Rattle.h41_laws_words.proofs.Registers.{zeros_register}
@@ -253,7 +253,7 @@ begun_so : (address : ℕ) (after : Result Machine FocalRefusal) → LeavesMachi
 begun_so address (Ok machine) whole = whole
 begun_so address (Err refusal) whole = tt
 
-entered_so : (after : Result Machine FocalRefusal) → LeavesMachine after → EndsWhole (entered after)
+entered_so : (after : Result Machine FocalRefusal) → LeavesMachine after → EndsWhole (end_of_entering after)
 entered_so (Ok machine) whole = whole
 entered_so (Err refusal) whole = tt
 

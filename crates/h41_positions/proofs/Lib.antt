@@ -1,3 +1,4 @@
+pub mod OneNext
 pub mod PageAnswers
 pub mod PageStarts
 pub mod PageWalks

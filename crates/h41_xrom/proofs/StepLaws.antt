@@ -31,7 +31,7 @@ use Rattle.h41_xrom.specs.Calculator.{machine_of, not_typing}
 use Rattle.h41_xrom.specs.CalculatorLaws as CalculatorLaws
 use Rattle.h41_xrom.specs.CalculatorLaws.{LoadIsDetermined, StepRefusalIsDetermined}
 use Rattle.h41_xrom.specs.Lines.{CallsEntry, CallsName, CarriesFrom, CarriesLine, CarriesNamed, Ended, EntersFrom, Fails, FailsFrom}
-use Rattle.h41_xrom.specs.Lines.{GoesOn, GoesOnFrom, IsNamed, PassesFrom, begun_at, end_of_answer, entered, of_line}
+use Rattle.h41_xrom.specs.Lines.{GoesOn, GoesOnFrom, IsNamed, PassesFrom, begun_at, end_of_answer, end_of_entering, of_line}
 use Rattle.h41_xrom.specs.declared.lines.LineSource.{LineSource}
 use Rattle.h41_xrom.specs.declared.lines.LineSource.TheVariants as sources
 use Rattle.h41_xrom.specs.Programs.{change_refusal, after_load}
@@ -77,7 +77,7 @@ module _ (same_step : StepIsDetermined) (same_typing : TypedIsDetermined) (same_
   same_entered : (source : LineSource) (pages : PageMap) (address : ℕ) (machine : Machine) (a b : Result Ended FocalRefusal)
       → EntersFrom source pages address machine a → EntersFrom source pages address machine b → a ≡ b
   same_entered sources.Program pages address machine a b (p, p_enters, p_is) (q, q_enters, q_is) =
-      p_is ∙ ap entered (same_entering pages address machine p q p_enters q_enters) ∙ sym q_is
+      p_is ∙ ap end_of_entering (same_entering pages address machine p q p_enters q_enters) ∙ sym q_is
   same_entered (sources.Keys line) pages address machine a b p q = p ∙ sym q
 
   same_begun : (keystroke : Bool) (source : LineSource) (pages : PageMap) (address : ℕ) (machine : Machine)

@@ -44,9 +44,9 @@ begun_at address (Ok machine) = Ok (Begins machine address)
 begun_at address (Err refusal) = Err refusal
 
 -- a line that is done once a program of a module has been entered; or why not
-abbrev pub entered : Result Machine FocalRefusal → Result Ended FocalRefusal
-entered (Ok machine) = Ok (Answers (left_done machine))
-entered (Err refusal) = Err refusal
+abbrev pub end_of_entering : Result Machine FocalRefusal → Result Ended FocalRefusal
+end_of_entering (Ok machine) = Ok (Answers (left_done machine))
+end_of_entering (Err refusal) = Err refusal
 
 -- and a typed one, which has that program run
 abbrev pub left_running : Machine → Left
@@ -82,7 +82,7 @@ abbrev pub EntersFrom : LineSource → PageMap → ℕ → Machine → Result En
 EntersFrom sources.Program pages address machine ended =
     (after : Result Machine FocalRefusal)
     × EntersLine pages address machine after
-    × (ended ≡ entered after)
+    × (ended ≡ end_of_entering after)
 EntersFrom (sources.Keys line) pages address machine ended =
     ended ≡ Ok (Answers (left_running (with_program_run (Page address) machine)))
 

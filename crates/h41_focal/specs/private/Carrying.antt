@@ -85,8 +85,8 @@ called_by memory (lines.BranchIndirect branch register) =
 called_by memory line = nowhere
 
 -- what a line leaves that calls nothing so
-abbrev pub ended : Machine → BriefOutcome → Left
-ended new brief = briefly nowhere new brief
+abbrev pub ending_of : Machine → BriefOutcome → Left
+ending_of new brief = briefly nowhere new brief
 
 abbrev pub ended_as : Machine → Result BriefOutcome FocalRefusal → Result Left FocalRefusal
 ended_as new result = briefly_as nowhere new result
@@ -94,7 +94,7 @@ ended_as new result = briefly_as nowhere new result
 -- a row was applied to a machine, by a line that looks for no position, whatever pages have
 abbrev pub Leaves : Origin → LineRow → ℕ → (old new : Machine) → BriefOutcome → Type 0
 Leaves origin row named old new brief =
-    (pages : PageMap) → Applies pages (manner_of origin) row named old (Ok (ended new brief))
+    (pages : PageMap) → Applies pages (manner_of origin) row named old (Ok (ending_of new brief))
 
 -- the same of a line that may call what memory does not have
 abbrev pub LeavesCalling : PageMap → Answer → Origin → LineRow → ℕ → (old new : Machine)
@@ -247,7 +247,7 @@ fault_outcome false fault = briefs.Failed fault
 
 abbrev pub FailsAs : Origin → LineFault → (old new : Machine) → BriefOutcome → Type 0
 FailsAs origin fault old new brief =
-    FailsIn (manner_of origin) old fault (Ok (ended new brief))
+    FailsIn (manner_of origin) old fault (Ok (ending_of new brief))
 
 -- lines of each kind are taken
 abbrev pub TakesNamed : PageMap → Origin → NameFunction → List ℕ → BriefCall

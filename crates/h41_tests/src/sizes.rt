@@ -157,7 +157,7 @@ fn deck_of(alloc: Global, size: &Size) -> Result<String, AllocError> {
         show ram {last:03X}\nshow ram {above:03X}\n\
         size {counted}\nprogram\n{limit}\nLBL 01\nSTO IND X\nISG X\nGTO 01\nSTOP\nCLRG\nend\n\
         key R/S\nrun 9999\nshow ram {last:03X}\nstep\nshow ram {last:03X}\nshow ram 0C3\n\
-        reset\nshow ram 00D\nsize 0\nload\n{full}\nend\nshow ram 0C0\nshow ram {last:03X}\n\
+        reset\nshow ram 00D\nsize 0\nload\n{full}\nend\nsize 1\nshow ram 0C0\nshow ram {last:03X}\n\
         reset\nsize 0\nload\n{more}\nend\n"
     )
 }
@@ -177,7 +177,7 @@ fn text_of(alloc: Global, size: &Size) -> Result<String, AllocError> {
         "00D={start}\n00 REG {free}\n! 17 SizeTooLarge\n\
         {last:03X}=00000000000{last:03X}\n{above:03X}=00000000000000\n\
         ran {steps} Idle\n{last:03X}={register}\n{last:03X}=00000000000000\n0C3=00000000000000\n\
-        00D={start}\n0C0=25252525C00020\n{last:03X}=25252525252525\n! 16 NoRoom\n"
+        00D={start}\n! 16 NoRoom\n0C0=25252525C00020\n{last:03X}=25252525252525\n! 16 NoRoom\n"
     )
 }
 

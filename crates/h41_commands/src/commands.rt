@@ -42,6 +42,7 @@ impl BlockKind {
     ghost use Rattle.h41_commands.specs.Commands.{kind_of_word};
 
     /// The kind of the block that a line opens whose first word this is; nothing where it opens none.
+    #[inline(always)]
     #[tactic(auto, unfolding(crate::specs::Commands::kind_of_word))]
     pub(crate) fn of_word(word: &[u8]) -> Option<Self>
         ensures { result ≡ kind_of_word word.now }
@@ -120,6 +121,7 @@ impl PlainKind {
     ghost use Rattle.h41_commands.specs.Commands.{plain_of_word};
 
     /// The command whose first word this is; nothing where it is that of none.
+    #[inline(always)]
     #[tactic(auto, unfolding(crate::specs::Commands::plain_of_word))]
     pub(crate) fn of_word(word: &[u8]) -> Option<Self>
         ensures kind { result ≡ plain_of_word word.now }

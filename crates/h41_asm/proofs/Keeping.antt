@@ -1,45 +1,25 @@
 -- What is kept of the lines that have words: the faults and the words of these are those of all lines.
-use Rattle.std.proofs.Common.{◌≡◌, ℕ, suc, ◌+◌, ◌≤◌, true, false, ◌==◌, List, [], ◌∷◌, ◌++◌, length, drop, map, refl, sym, ap, ◌∙◌, subst}
+use Rattle.std.proofs.Common.{◌≡◌, ℕ, suc, ◌+◌, ◌≤◌, true, false, ◌==◌, List, [], ◌∷◌, ◌++◌, length, drop, refl, sym, ap, ◌∙◌, subst}
 use Rattle.std.proofs.Common.{append_assoc, arith, add-one, IsOk, None, Option, Ok, Err, Result, inl, inr}
+use Rattle.std.specs.Borrow.{Bor}
 use Rattle.std.specs.Option.{option_or}
 use Rattle.std.proofs.lemmas.Bool.{cases_Bool, eqb-true}
-use Rattle.std.proofs.lemmas.List.{map-append}
 use Rattle.h41_asm.specs.declared.fault.SourceFault.{SourceFault}
 use Rattle.h41_asm.specs.declared.fault.SpellError.{SpellError}
 use Rattle.h41_asm.specs.declared.fault.SpellError.TheVariants as spell_errors
 use Rattle.h41_asm.specs.declared.kept.KeptLine.{KeptLine}
 use Rattle.h41_asm.specs.declared.statement.Statement as code
-use Rattle.h41_asm.specs.declared.statement.Statement.TheVariants as codes_of
 use Rattle.h41_asm.specs.Assembly.{address_count}
-use Rattle.h41_asm.specs.CodeStatements.{in_code}
+use Rattle.h41_asm.specs.CodeStatements.{in_code, in_form}
 use Rattle.h41_asm.specs.Faults.{FaultOnLine, at_line, read_fault, read_length, reference_fault}
-use Rattle.h41_asm.specs.KeptLines.{Said, first_reading, kept_of, kept_reading, kept_said, kept_words, said_from, with_words}
+use Rattle.h41_asm.specs.KeptLines.{AreReady, Said, SaidSpell, kept_lines, kept_names, kept_said, said_faults, said_from, with_words}
 use Rattle.h41_asm.specs.LabelTable.{IsReady, SpellsNext}
 use Rattle.h41_asm.specs.Placing.{Labels, LinesSpell, SpellsRead}
 use Rattle.h41_asm.specs.Refusals.{IsFault, IsRefusal, refusal_of}
-use Rattle.h41_asm.specs.SourceLines.{SourceLine, source_lines}
+use Rattle.h41_asm.specs.SourceLines.{SourceLine}
 use Rattle.h41_asm.specs.Statements.{Statement, Words, OutOfReach, LongJumpTo, ShortJumpTo, EntryAt, reading_of, statement_length}
 use Rattle.h41_asm.proofs.Determined.{length-line}
 use Rattle.h41_asm.proofs.Walks.{reference_faults}
-
--- the first fault of a reference in what lines say from an address on
-abbrev pub said_faults : Labels → ℕ → List Said → FaultOnLine
-said_faults labels address [] = None
-said_faults labels address (said ∷ rest) =
-    option_or (at_line said.0 (read_fault labels address said.1)) (said_faults labels (address + read_length said.1) rest)
-
--- all could be read, and end within the addresses
-abbrev pub AreReady : ℕ → List Said → Type 0
-AreReady address [] = Unit {0}
-AreReady address (said ∷ rest) =
-    IsOk said.1 × (address + read_length said.1 ≤ address_count) × AreReady (address + read_length said.1) rest
-
--- and they spell these words, each its own
-abbrev pub SaidSpell : Labels → ℕ → List Said → List ℕ → Type 0
-SaidSpell labels address [] words = words ≡ []
-SaidSpell labels address (said ∷ rest) words =
-    (own : List ℕ) × (others : List ℕ) × (words ≡ own ++ others) × SpellsRead labels address said.1 own
-    × SaidSpell labels (address + read_length said.1) rest others
 
 -- what has no words has no fault of a reference, and spells nothing
 no_words-no_fault : (labels : Labels) (address : ℕ) (said : Result Statement SourceFault) → read_length said ≡ 0
@@ -153,43 +133,50 @@ faults_next labels address said statement rest read none =
     let own : read_fault labels address said.1 ≡ None = sym (ap (read_fault labels address) read) ∙ none in
     sym (ap (λ fault. option_or (at_line said.0 fault) (said_faults labels (address + read_length said.1) rest)) own)
 
--- what is kept of a line is what it says
-kept_words-reading : (text : List ℕ) (start : ℕ) (statement : code.Statement)
-    → Ok (in_code statement) ≡ first_reading (source_lines (drop start text))
-    → kept_reading text (kept_words start statement) ≡ Ok (in_code statement)
-kept_words-reading text start codes_of.Nothing read = sym read
-kept_words-reading text start (codes_of.One word) read = refl
-kept_words-reading text start (codes_of.Two first second) read = refl
-kept_words-reading text start (codes_of.Name name) read = sym read
-kept_words-reading text start codes_of.OutOfReach read = sym read
-kept_words-reading text start (codes_of.LongJumpTo condition kind name) read = sym read
-kept_words-reading text start (codes_of.ShortJumpTo condition name) read = sym read
-kept_words-reading text start (codes_of.EntryAt kind name) read = sym read
+-- what was kept of lines and of more lines
+said_of_both : (lines more : List KeptLine) (names others : List (Bor (List ℕ))) → length names ≡ length lines
+    → kept_said (lines ++ more) (names ++ others) ≡ kept_said lines names ++ kept_said more others
+said_of_both [] more [] others same = refl
+said_of_both [] more (name ∷ names) others same = absurd (omega (arith, same))
+said_of_both (line ∷ lines) more [] others same = absurd (omega (arith, same))
+said_of_both (line ∷ lines) more (name ∷ names) others same =
+    ap (λ said. (line.number, Ok (in_form line.form name.now)) ∷ said) (said_of_both lines more names others (omega (arith, same)))
 
-kept_of-said : (text : List ℕ) (number start : ℕ) (statement : code.Statement)
-    → Ok (in_code statement) ≡ first_reading (source_lines (drop start text))
-    → map (kept_said text) (kept_of number start statement) ≡ with_words number (Ok (in_code statement))
-kept_of-said text number start statement read =
+-- what is kept of a line is what it says
+said_of_line : (number : ℕ) (statement : code.Statement)
+    → kept_said (kept_lines number statement) (kept_names statement) ≡ with_words number (Ok (in_code statement))
+said_of_line number statement =
     elim (cases_Bool (statement_length (in_code statement) == 0)) [
       | inl none ↦ rw none refl
-      | inr some ↦ rw some (ap (λ said. (number, said) ∷ []) (kept_words-reading text start statement read))
+      | inr some ↦ rw some refl
+    ]
+
+pub length_of_line : (number : ℕ) (statement : code.Statement) → length (kept_names statement) ≡ length (kept_lines number statement)
+length_of_line number statement =
+    elim (cases_Bool (statement_length (in_code statement) == 0)) [
+      | inl none ↦ rw none refl
+      | inr some ↦ rw some refl
     ]
 
 -- what is kept with one more line
-pub kept_next : (text : List ℕ) (number start : ℕ) (statement : code.Statement)
-    (line : SourceLine) (rest : List SourceLine) (before after : List KeptLine)
-    → Ok (in_code statement) ≡ reading_of line.code → source_lines (drop start text) ≡ line ∷ rest
-    → after ≡ before ++ kept_of number start statement
-    → map (kept_said text) after ++ said_from (number + 1) rest ≡ map (kept_said text) before ++ said_from number (line ∷ rest)
-kept_next text number start statement line rest before after read left added =
-    let again : Ok (in_code statement) ≡ first_reading (source_lines (drop start text)) = read ∙ ap first_reading (sym left) in
-    let own = kept_of-said text number start statement again ∙ ap (with_words number) read in
-    let more : map (kept_said text) after ≡ map (kept_said text) before ++ with_words number (reading_of line.code) =
-    ap (map (kept_said text)) added ∙ map-append (kept_said text) before (kept_of number start statement)
-    ∙ ap (λ others. map (kept_said text) before ++ others) own in
+pub kept_next : (number : ℕ) (statement : code.Statement) (line : SourceLine) (rest : List SourceLine) (lines : List KeptLine)
+    (names : List (Bor (List ℕ))) → length names ≡ length lines → Ok (in_code statement) ≡ reading_of line.code
+    → kept_said (lines ++ kept_lines number statement) (names ++ kept_names statement) ++ said_from (number + 1) rest
+    ≡ kept_said lines names ++ said_from number (line ∷ rest)
+kept_next number statement line rest lines names same read =
+    let own = said_of_line number statement ∙ ap (with_words number) read in
+    let more = said_of_both lines (kept_lines number statement) names (kept_names statement) same
+    ∙ ap (λ others. kept_said lines names ++ others) own in
     ap (λ others. others ++ said_from (number + 1) rest) more
-    ∙ append_assoc (map (kept_said text) before) (with_words number (reading_of line.code)) (said_from (number + 1) rest)
+    ∙ append_assoc (kept_said lines names) (with_words number (reading_of line.code)) (said_from (number + 1) rest)
     ∙ rw add-one refl
+
+-- the line at a place is the first of those that are left
+pub said_at : (lines : List KeptLine) (names : List (Bor (List ℕ))) (i : ℕ) (line : KeptLine) (name : Bor (List ℕ))
+    → drop i lines ≡ line ∷ drop (i + 1) lines → drop i names ≡ name ∷ drop (i + 1) names
+    → kept_said (drop i lines) (drop i names)
+    ≡ (line.number, Ok (in_form line.form name.now)) ∷ kept_said (drop (i + 1) lines) (drop (i + 1) names)
+said_at lines names i line name first_line first_name = rw (first_line, first_name) refl
 
 -- a fault of the first line is the first of all
 pub refused_first : (found : Option SourceFault) (error : SpellError) (number : ℕ) (others : FaultOnLine) → IsFault found error

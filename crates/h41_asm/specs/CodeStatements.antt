@@ -6,7 +6,8 @@ use Rattle.std.specs.Option.{option_map}
 use Rattle.h41_asm.specs.declared.fault.SourceFault.{SourceFault}
 use Rattle.h41_asm.specs.declared.source.SourceLine as lines
 use Rattle.h41_asm.specs.declared.statement.Statement as code
-use Rattle.h41_asm.specs.declared.statement.Statement.TheVariants as codes_of
+use Rattle.h41_asm.specs.declared.statement.Form as form
+use Rattle.h41_asm.specs.declared.statement.Form.TheVariants as forms
 use Rattle.h41_asm.specs.declared.words.SourceWords as rests
 use Rattle.h41_asm.specs.declared.table.EntryKind as entry
 use Rattle.h41_asm.specs.declared.table.EntryKind.TheVariants as kinds
@@ -30,15 +31,18 @@ entry_bits kinds.Microcode = 0
 entry_bits kinds.Keystroke = 0x200
 
 -- what a statement of the code says
+abbrev pub in_form : form.Form → List ℕ → Statement
+in_form forms.Nothing name = Words []
+in_form (forms.One word) name = Words (word ∷ [])
+in_form (forms.Two first second) name = Words (first ∷ second ∷ [])
+in_form forms.Name name = Words (name_words name)
+in_form forms.OutOfReach name = OutOfReach
+in_form (forms.LongJumpTo condition kind) name = LongJumpTo condition kind name
+in_form (forms.ShortJumpTo condition) name = ShortJumpTo condition name
+in_form (forms.EntryAt kind) name = EntryAt (entry_bits kind) name
+
 abbrev pub in_code : code.Statement → Statement
-in_code codes_of.Nothing = Words []
-in_code (codes_of.One word) = Words (word ∷ [])
-in_code (codes_of.Two first second) = Words (first ∷ second ∷ [])
-in_code (codes_of.Name text) = Words (name_words text.now)
-in_code codes_of.OutOfReach = OutOfReach
-in_code (codes_of.LongJumpTo condition kind name) = LongJumpTo condition kind name.now
-in_code (codes_of.ShortJumpTo condition name) = ShortJumpTo condition name.now
-in_code (codes_of.EntryAt kind name) = EntryAt (entry_bits kind) name.now
+in_code statement = in_form statement.form statement.name.now
 
 abbrev pub read_in_code : Result code.Statement SourceFault → Result Statement SourceFault
 read_in_code (Ok statement) = Ok (in_code statement)

@@ -1,41 +1,31 @@
 -- What the code keeps of the lines that have words: it is what these lines say. It only connects
 -- the code with the definitions of assembly.
-use Rattle.std.specs.Prelude.{◌≡◌, ℕ, suc, List, [], ◌∷◌, ◌++◌, map, drop, ◌==◌, if◌then◌else◌}
-use Rattle.std.specs.Prelude.{Result, Ok, Err}
+use Rattle.std.specs.Prelude.{◌≡◌, ℕ, suc, ◌+◌, ◌≤◌, List, [], ◌∷◌, ◌++◌, map, ◌==◌, if◌then◌else◌}
+use Rattle.std.specs.Prelude.{IsOk, None, Result, Ok, Vec, length}
+use Rattle.std.specs.Borrow.{Bor}
+use Rattle.std.specs.Global.{Global}
+use Rattle.std.specs.List.{zip}
+use Rattle.std.specs.Option.{option_or}
 use Rattle.h41_asm.specs.declared.fault.SourceFault.{SourceFault}
-use Rattle.h41_asm.specs.declared.fault.SourceFault.TheVariants.{BadLine}
 use Rattle.h41_asm.specs.declared.kept.KeptLine.{KeptLine}
-use Rattle.h41_asm.specs.declared.kept.KeptWords.{KeptWords}
-use Rattle.h41_asm.specs.declared.kept.KeptWords.TheVariants.{One, Two, Again}
 use Rattle.h41_asm.specs.declared.source.SourceLine as code_lines
 use Rattle.h41_asm.specs.declared.statement.Statement as code
-use Rattle.h41_asm.specs.declared.statement.Statement.TheVariants as codes_of
-use Rattle.h41_asm.specs.CodeStatements.{in_code, in_line}
-use Rattle.h41_asm.specs.Faults.{read_length}
+use Rattle.h41_asm.specs.Assembly.{address_count}
+use Rattle.h41_asm.specs.CodeStatements.{in_code, in_form, in_line}
+use Rattle.h41_asm.specs.Faults.{FaultOnLine, at_line, read_fault, read_length}
+use Rattle.h41_asm.specs.LabelTable.{Table, labels_in}
+use Rattle.h41_asm.specs.Placing.{Labels, SpellsRead}
 use Rattle.h41_asm.specs.SourceLines.{SourceLine, source_lines}
-use Rattle.h41_asm.specs.Statements.{Statement, Words, reading_of, statement_length}
+use Rattle.h41_asm.specs.Statements.{Statement, reading_of, statement_length}
 
 -- what a line says, with its number
 abbrev pub Said : Type 0
 Said = ℕ × Result Statement SourceFault
 
--- what the first of some lines says
-abbrev pub first_reading : List SourceLine → Result Statement SourceFault
-first_reading [] = Err BadLine
-first_reading (line ∷ rest) = reading_of line.code
-
--- what the line says that begins at a place in a text
-abbrev pub reading_at : List ℕ → ℕ → Result Statement SourceFault
-reading_at text start = first_reading (source_lines (drop start text))
-
--- what was kept of a line, by the text that it may have to be read again from
-abbrev pub kept_reading : List ℕ → KeptWords → Result Statement SourceFault
-kept_reading text (One word) = Ok (Words (word ∷ []))
-kept_reading text (Two first second) = Ok (Words (first ∷ second ∷ []))
-kept_reading text (Again start) = reading_at text start
-
-abbrev pub kept_said : List ℕ → KeptLine → Said
-kept_said text kept = (kept.number, kept_reading text kept.words)
+-- what was kept of lines, with the name in each
+abbrev pub kept_said : List KeptLine → List (Bor (List ℕ)) → List Said
+kept_said lines names =
+    map (λ kept. (kept.0.number, Ok (in_form kept.0.form kept.1.now))) (zip lines names)
 
 -- what the lines say that have words, where the first line has this number
 abbrev pub with_words : ℕ → Result Statement SourceFault → List Said
@@ -47,24 +37,58 @@ said_from number (line ∷ rest) =
     with_words number (reading_of line.code) ++ said_from (suc number) rest
 
 -- this is kept of the lines of a source
-abbrev pub KeepsLines : List ℕ → List KeptLine → Type 0
-KeepsLines text kept = map (kept_said text) kept ≡ said_from 1 (source_lines text)
+pub record KeepsLines (text : List ℕ)
+    (lines : List KeptLine) (names : List (Bor (List ℕ))) : Type 0 where
+  pub length : length names ≡ length lines
+  pub said : kept_said lines names ≡ said_from 1 (source_lines text)
 
--- what is kept of a statement of the code
-abbrev pub kept_words : ℕ → code.Statement → KeptWords
-kept_words start codes_of.Nothing = Again start
-kept_words start (codes_of.One word) = One word
-kept_words start (codes_of.Two first second) = Two first second
-kept_words start (codes_of.Name text) = Again start
-kept_words start codes_of.OutOfReach = Again start
-kept_words start (codes_of.LongJumpTo condition kind name) = Again start
-kept_words start (codes_of.ShortJumpTo condition name) = Again start
-kept_words start (codes_of.EntryAt kind name) = Again start
-
-abbrev pub kept_of : ℕ → ℕ → code.Statement → List KeptLine
-kept_of number start statement =
+-- what is kept of a line
+abbrev pub kept_lines : ℕ → code.Statement → List KeptLine
+kept_lines number statement =
     if statement_length (in_code statement) == 0 then []
-    else record { number = number; words = kept_words start statement } ∷ []
+    else record { number = number; form = statement.form } ∷ []
+
+abbrev pub kept_names : code.Statement → List (Bor (List ℕ))
+kept_names statement =
+    if statement_length (in_code statement) == 0 then [] else statement.name ∷ []
+
+-- the first fault of a reference in what lines say from an address on
+abbrev pub said_faults : Labels → ℕ → List Said → FaultOnLine
+said_faults labels address [] = None
+said_faults labels address (said ∷ rest) =
+    option_or (at_line said.0 (read_fault labels address said.1))
+    (said_faults labels (address + read_length said.1) rest)
+
+abbrev pub first_fault_by : {S : Type 0} → Table S → ℕ → List KeptLine → List (Bor (List ℕ))
+    → FaultOnLine
+first_fault_by table origin lines names =
+    said_faults (labels_in table) origin (kept_said lines names)
+
+-- all could be read, and end within the addresses
+abbrev pub AreReady : ℕ → List Said → Type 0
+AreReady address [] = Unit {0}
+AreReady address (said ∷ rest) =
+    IsOk said.1
+    × (address + read_length said.1 ≤ address_count)
+    × AreReady (address + read_length said.1) rest
+
+abbrev pub AreReadyFrom : ℕ → List KeptLine → List (Bor (List ℕ)) → Type 0
+AreReadyFrom origin lines names = AreReady origin (kept_said lines names)
+
+-- and they spell these words, each its own
+abbrev pub SaidSpell : Labels → ℕ → List Said → List ℕ → Type 0
+SaidSpell labels address [] words = words ≡ []
+SaidSpell labels address (said ∷ rest) words =
+    (own : List ℕ)
+    × (others : List ℕ)
+    × (words ≡ own ++ others)
+    × SpellsRead labels address said.1 own
+    × SaidSpell labels (address + read_length said.1) rest others
+
+abbrev pub SpellsBy : {S : Type 0} → Table S → ℕ → List KeptLine → List (Bor (List ℕ))
+    → Vec ℕ Global → Type 0
+SpellsBy table origin lines names words =
+    SaidSpell (labels_in table) origin (kept_said lines names) words.items
 
 -- a line of the code says what a statement of the code does
 abbrev pub Says : code.Statement → code_lines.SourceLine → Type 0

@@ -17,8 +17,8 @@ use Rattle.h41_asm.specs.Assembly.{address_count}
 use Rattle.h41_asm.specs.CodeStatements.{in_code, in_label, in_line}
 use Rattle.h41_asm.specs.Faults.{FaultOnLine, first_fault, label_address, line_length}
 use Rattle.h41_asm.specs.Faults.{numbered_lines}
-use Rattle.h41_asm.specs.Faults.{own_fault, own_fault_at, reference_fault, reference_fault_at}
-use Rattle.h41_asm.specs.Placing.{Labels, LinesSpell, StatementSpells}
+use Rattle.h41_asm.specs.Faults.{own_fault, own_fault_at, reference_fault}
+use Rattle.h41_asm.specs.Placing.{Labels, StatementSpells}
 use Rattle.h41_asm.specs.SourceLines.{SourceLine, source_lines}
 use Rattle.h41_asm.specs.Statements.{Statement, is_in_reach, reading_of}
 
@@ -41,17 +41,9 @@ abbrev pub AddsOwn : {S : Type 0} → Table S → ℕ → code.Statement → Vec
 AddsOwn table address statement before after =
     SpellsNext (labels_in table) address (in_code statement) before.items after.items
 
--- the fault of a statement's reference, and the first of a source's references
+-- the fault of a statement's reference
 abbrev pub fault_by : {S : Type 0} → Table S → ℕ → code.Statement → Option SourceFault
 fault_by table address statement = reference_fault (labels_in table) address (in_code statement)
-
-abbrev pub first_fault_by : {S : Type 0} → Table S → ℕ → List ℕ → FaultOnLine
-first_fault_by table origin source =
-    first_fault (reference_fault_at (labels_in table)) (numbered_lines origin (source_lines source))
-
--- the words of a source under a table
-abbrev pub SpellsBy : {S : Type 0} → Table S → ℕ → List ℕ → List ℕ → Type 0
-SpellsBy table origin source words = LinesSpell (labels_in table) origin (source_lines source) words
 
 -- the word of a short jump, or that it is out of reach
 abbrev pub jump_word : Condition → ℤ → Result ℕ SourceFault
@@ -67,9 +59,6 @@ IsReady labels address (line ∷ rest) =
     × (address + line_length line ≤ address_count)
     × IfSome line.label (λ name. labels name ≡ Some address)
     × IsReady labels (address + line_length line) rest
-
-abbrev pub IsReadyBy : {S : Type 0} → Table S → ℕ → List ℕ → Type 0
-IsReadyBy table origin source = IsReady (labels_in table) origin (source_lines source)
 
 -- the first fault of a source's own lines
 abbrev pub first_own_fault : ℕ → List ℕ → FaultOnLine

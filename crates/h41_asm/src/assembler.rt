@@ -1,22 +1,22 @@
 //! From lines to words, in two passes: first the addresses of the labels, then the words.
 
-ghost use Rattle.std.specs.Prelude.{◌≡◌, ◌-ℤ◌, pos, ◌<◌, ◌≤◌, ◌++◌, [], ◌∷◌, None, IfOk, IfErr};
-ghost use Rattle.std.specs.Prelude.{OnOk};
+ghost use Rattle.std.specs.Prelude.{◌≡◌, ◌-ℤ◌, pos, ◌<◌, ◌≤◌, ◌++◌, [], ◌∷◌, None, Some, IfOk};
+ghost use Rattle.std.specs.Prelude.{IfErr, OnOk, length};
 ghost use Rattle.std.specs.Option.{ok_or};
 ghost use Rattle.h41_asm.specs.Assembly.{Assembles, address_count};
 ghost use Rattle.h41_asm.specs.CodeStatements.{in_label};
 ghost use Rattle.h41_asm.specs.Faults.{assembly_fault, is_past};
-ghost use Rattle.h41_asm.specs.KeptLines.{KeepsLines, Says};
-ghost use Rattle.h41_asm.specs.LabelTable.{AddsLabel, AddsName, AddsOwn, HoldsLabels, IsReadyBy};
-ghost use Rattle.h41_asm.specs.LabelTable.{SpellsBy, fault_by, first_fault_by, first_own_fault};
-ghost use Rattle.h41_asm.specs.LabelTable.{is_held_in, jump_word, labels_in, line_fault_in};
+ghost use Rattle.h41_asm.specs.KeptLines.{AreReadyFrom, KeepsLines, Says, SpellsBy, first_fault_by};
+ghost use Rattle.h41_asm.specs.LabelTable.{AddsLabel, AddsName, AddsOwn, HoldsLabels, fault_by};
+ghost use Rattle.h41_asm.specs.LabelTable.{first_own_fault, is_held, is_held_in, jump_word};
+ghost use Rattle.h41_asm.specs.LabelTable.{labels_in, line_fault_in};
 ghost use Rattle.h41_asm.specs.Refusals.{IsFault, IsRefusal};
 
 use crate::emit::{entry_words, push_name};
 use crate::fault::{AssembleError, SourceFault, SpellError};
 use crate::kept::{KeptLine, keep};
 use crate::source::{SourceLine, line_at, read_line};
-use crate::statement::{Statement, long_jump_words, read};
+use crate::statement::{Form, Statement, long_jump_words, read};
 use crate::table::EntryKind;
 use h41_words::{Condition, Displacement, LongJumpKind, Row, Word, word};
 use indexmap::IndexMap;
@@ -36,8 +36,8 @@ pub fn assemble(alloc: Global, text: &[u8], origin: u16) -> Result<Vec<Word>, As
     ensures ok { OnOk result (assembly_fault text.now origin ≡ None) }
     ensures err { IfErr result (IsRefusal (assembly_fault text.now origin)) }
 {
-    let (labels, kept) = place(alloc, text, origin)?;
-    spell(alloc, text, origin, &labels, &kept)
+    let (labels, lines, names) = place(alloc, text, origin)?;
+    spell(alloc, origin, &labels, &lines, &names)
 }
 
 /// The addresses of the labels of a source, and what its lines with words say; or the first fault that a line has whatever the
@@ -46,14 +46,15 @@ fn place<'a>(
     alloc: Global,
     text: &'a [u8],
     origin: u16,
-) -> Result<(Labels<'a>, Vec<KeptLine>), AssembleError>
+) -> Result<(Labels<'a>, Vec<KeptLine>, Vec<&'a [u8]>), AssembleError>
     ensures ok { OnOk result (first_own_fault origin text.now ≡ None) }
     ensures labels { IfOk result (λ placed. HoldsLabels placed.0 origin text.now) }
-    ensures kept { IfOk result (λ placed. KeepsLines text.now placed.1.items) }
+    ensures kept { IfOk result (λ placed. KeepsLines text.now placed.1.items placed.2.items) }
     ensures err { IfErr result (IsRefusal (first_own_fault origin text.now)) }
 {
     let mut labels = IndexMap::new(alloc);
-    let mut kept = Vec::new(alloc);
+    let mut lines = Vec::new(alloc);
+    let mut names = Vec::new(alloc);
     let mut address = u32::from(origin);
     let mut number = 1;
     let mut start = 0;
@@ -61,7 +62,7 @@ fn place<'a>(
         let (line, next) = line_at(text, start);
         match place_line(&mut labels, address, read_line(line)) {
             Ok(statement) => {
-                keep(&mut kept, number, start, &statement)?;
+                keep(&mut lines, &mut names, number, &statement)?;
                 address += statement.length() as u32;
             }
             Err(error) => return Err(error.at_line(number)),
@@ -69,7 +70,7 @@ fn place<'a>(
         number += 1;
         start = next;
     }
-    Ok((labels, kept))
+    Ok((labels, lines, names))
 }
 
 /// Notes the label of a line at an address, and answers what the line says.
@@ -89,26 +90,30 @@ fn place_line<'a>(
         Ok(statement) => statement,
         Err(fault) => return Err(SpellError::Fault(fault)),
     };
-    if is_held(labels, line.label) {
-        return Err(SpellError::Fault(SourceFault::LabelTwice));
-    }
     if is_too_long(address, line.label, statement.length()) {
-        return Err(SpellError::Fault(SourceFault::TooLong));
+        return Err(SpellError::Fault(if is_held(labels, line.label) {
+            SourceFault::LabelTwice
+        } else {
+            SourceFault::TooLong
+        }));
     }
     if let Some(name) = line.label {
-        note(labels, name, address)?;
+        if note(labels, name, address)? {
+            return Err(SpellError::Fault(SourceFault::LabelTwice));
+        }
     }
     Ok(statement)
 }
 
-/// Notes the address of a label.
+/// Notes the address of a label, and answers whether it had one.
 #[inline(always)]
-fn note<'a>(labels: &mut Labels<'a>, name: &'a [u8], address: u32) -> Result<(), AllocError>
+fn note<'a>(labels: &mut Labels<'a>, name: &'a [u8], address: u32) -> Result<bool, AllocError>
     requires { address < address_count }
-    ensures { OnOk result (AddsName labels.old labels.new address name.now) }
+    ensures added { OnOk result (AddsName labels.old labels.new address name.now) }
+    ensures twice { IfOk result (λ held. held ≡ is_held (labels_in labels.old) (Some name.now)) }
 {
-    labels.insert(name, address as u16)?;
-    Ok(())
+    let before = labels.insert(name, address as u16)?;
+    Ok(before.is_some())
 }
 
 /// Whether a label has an address.
@@ -131,24 +136,24 @@ fn is_too_long(address: u32, label: Option<&[u8]>, length: usize) -> bool
     (label.is_some() && ADDRESSES <= address) || length > (ADDRESSES - address) as usize
 }
 
-/// The words of a source whose lines can be read and placed, or the first fault of a reference.
+/// The words of the lines of a source that can be read and placed, or the first fault of a reference.
 fn spell(
     alloc: Global,
-    text: &[u8],
     origin: u16,
     labels: &Labels<'_>,
-    kept: &[KeptLine],
+    lines: &[KeptLine],
+    names: &[&[u8]],
 ) -> Result<Vec<Word>, AssembleError>
-    requires ready { IsReadyBy labels.now origin text.now }
-    requires kept { KeepsLines text.now kept.now }
-    ensures ok { OnOk result (first_fault_by labels.now origin text.now ≡ None) }
-    ensures words { IfOk result (λ words. SpellsBy labels.now origin text.now words.items) }
-    ensures err { IfErr result (IsRefusal (first_fault_by labels.now origin text.now)) }
+    requires length { length names.now ≡ length lines.now }
+    requires ready { AreReadyFrom origin lines.now names.now }
+    ensures ok { OnOk result (first_fault_by labels.now origin lines.now names.now ≡ None) }
+    ensures words { IfOk result (SpellsBy labels.now origin lines.now names.now) }
+    ensures err { IfErr result (IsRefusal (first_fault_by labels.now origin lines.now names.now)) }
 {
-    let mut words = Vec::new(alloc);
+    let mut words = Vec::with_capacity(alloc, lines.len())?;
     let mut address = u32::from(origin);
-    for line in kept {
-        let statement = line.words.statement(text);
+    for (i, line) in lines.iter().enumerate() {
+        let statement = line.form.with(names[i]);
         match push_statement(&mut words, labels, address, &statement) {
             Ok(()) => address += statement.length() as u32,
             Err(error) => return Err(error.at_line(line.number)),
@@ -170,25 +175,25 @@ fn push_statement(
     ensures own { OnOk result (AddsOwn labels.now address statement.now words.old words.new) }
     ensures err { IfErr result (IsFault (fault_by labels.now address statement.now)) }
 {
-    match statement {
-        Statement::Nothing => {}
-        Statement::One(word) => words.push(*word)?,
-        Statement::Two(first, second) => push_two(words, *first, *second)?,
-        Statement::Name(text) => push_name(words, text)?,
-        Statement::OutOfReach => return Err(SpellError::Fault(SourceFault::TooFar)),
-        Statement::LongJumpTo(condition, kind, name) => {
-            let target = label_address(labels, name)?;
-            let (first, second) = long_jump_words(*condition, *kind, target);
+    match statement.form {
+        Form::Nothing => {}
+        Form::One(word) => words.push(word)?,
+        Form::Two(first, second) => push_two(words, first, second)?,
+        Form::Name => push_name(words, statement.name)?,
+        Form::OutOfReach => return Err(SpellError::Fault(SourceFault::TooFar)),
+        Form::LongJumpTo(condition, kind) => {
+            let target = label_address(labels, statement.name)?;
+            let (first, second) = long_jump_words(condition, kind, target);
             push_two(words, first, second)?;
         }
-        Statement::ShortJumpTo(condition, name) => {
-            let target = label_address(labels, name)?;
-            let word = short_jump(*condition, distance(address, target))?;
+        Form::ShortJumpTo(condition) => {
+            let target = label_address(labels, statement.name)?;
+            let word = short_jump(condition, distance(address, target))?;
             words.push(word)?;
         }
-        Statement::EntryAt(kind, name) => {
-            let target = label_address(labels, name)?;
-            let (first, second) = entry_words(*kind, target);
+        Form::EntryAt(kind) => {
+            let target = label_address(labels, statement.name)?;
+            let (first, second) = entry_words(kind, target);
             push_two(words, first, second)?;
         }
     }
@@ -206,6 +211,7 @@ fn push_two(words: &mut Vec<Word>, first: Word, second: Word) -> Result<(), Allo
 }
 
 /// The address of a label.
+#[inline(always)]
 fn label_address(labels: &Labels<'_>, name: &[u8]) -> Result<u16, SourceFault>
     ensures { result ≡ ok_or (labels_in labels.now name.now) SourceFault.NoLabel }
 {

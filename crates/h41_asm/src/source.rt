@@ -6,7 +6,8 @@ ghost use Rattle.h41_asm.specs.SourceLines.{line_of, lines, words_of};
 
 use crate::names::label_in;
 use crate::words::SourceWords;
-use h41_lines::lines::{line_end, without_return};
+use h41_ends::line_end;
+use h41_lines::lines::without_return;
 
 /// A line of a source.
 #[derive(Clone, Copy, Debug)]

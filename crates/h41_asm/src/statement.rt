@@ -1,8 +1,11 @@
 //! What a line says behind its label.
 
 ghost use Rattle.std.specs.Prelude.{◌≡◌, ◌+◌, ◌≤◌, ◌==◌, [], ◌∷◌, codes, length};
-ghost use Rattle.h41_asm.specs.CodeStatements.{found_in_code, in_code, in_line, read_in_code};
-ghost use Rattle.h41_asm.specs.CodeStatements.{taken_operand, takes_in_code, takes_numbered};
+ghost use Rattle.std.specs.Option.{ok_or};
+ghost use Rattle.h41_asm.specs.declared.fault.SourceFault.TheVariants.{BadOperand};
+ghost use Rattle.h41_asm.specs.CodeStatements.{found_in_code, in_code, in_form, in_line};
+ghost use Rattle.h41_asm.specs.CodeStatements.{read_in_code, taken_operand, takes_in_code};
+ghost use Rattle.h41_asm.specs.CodeStatements.{takes_numbered};
 ghost use Rattle.h41_asm.specs.Openings as openings;
 ghost use Rattle.h41_asm.specs.Openings.{Reads, ReadsSecond};
 ghost use Rattle.h41_asm.specs.SourceLines.{words_of};
@@ -24,23 +27,53 @@ use h41_words::{
 
 /// What a line says: words, some by an address that a label stands for.
 #[derive(Clone, Copy, Debug)]
-pub(crate) enum Statement<'a> {
+pub(crate) struct Statement<'a> {
+    /// Which words.
+    pub form: Form,
+    /// The name that they come from, if they come from one: that of a label, or the text of a `NAME`.
+    pub name: &'a [u8],
+}
+
+/// Where the words of a statement come from.
+#[derive(Clone, Copy, Debug)]
+pub(crate) enum Form {
     /// No words.
     Nothing,
     /// An instruction of one word, or a word as a number.
     One(Word),
     /// An instruction of two words.
     Two(Word, Word),
-    /// The words of a name, by its text.
-    Name(&'a [u8]),
+    /// The words of the name.
+    Name,
     /// A short jump by a displacement that no word has.
     OutOfReach,
-    /// A jump by address to a label.
-    LongJumpTo(Condition, LongJumpKind, &'a [u8]),
-    /// A short jump to a label.
-    ShortJumpTo(Condition, &'a [u8]),
-    /// The two words of a function that begins at a label.
-    EntryAt(EntryKind, &'a [u8]),
+    /// A jump by address to the label.
+    LongJumpTo(Condition, LongJumpKind),
+    /// A short jump to the label.
+    ShortJumpTo(Condition),
+    /// The two words of a function that begins at the label.
+    EntryAt(EntryKind),
+}
+
+impl Form {
+    /// A statement without a name.
+    #[inline(always)]
+    fn alone<'a>(self) -> Statement<'a>
+        ensures { in_code result ≡ in_form self [] }
+    {
+        Statement {
+            form: self,
+            name: b"",
+        }
+    }
+
+    /// A statement with this name.
+    #[inline(always)]
+    pub(crate) fn with(self, name: &[u8]) -> Statement<'_>
+        ensures { in_code result ≡ in_form self name.now }
+    {
+        Statement { form: self, name }
+    }
 }
 
 impl Statement<'_> {
@@ -49,11 +82,11 @@ impl Statement<'_> {
     pub(crate) fn length(&self) -> usize
         ensures { result ≡ spec.statement_length (in_code self.now) }
     {
-        match self {
-            Statement::Nothing => 0,
-            Statement::One(_) | Statement::OutOfReach | Statement::ShortJumpTo(..) => 1,
-            Statement::Two(..) | Statement::LongJumpTo(..) | Statement::EntryAt(..) => 2,
-            Statement::Name(text) => text.len(),
+        match self.form {
+            Form::Nothing => 0,
+            Form::One(_) | Form::OutOfReach | Form::ShortJumpTo(_) => 1,
+            Form::Two(..) | Form::LongJumpTo(..) | Form::EntryAt(_) => 2,
+            Form::Name => self.name.len(),
         }
     }
 }
@@ -65,7 +98,7 @@ pub(crate) fn read(line: SourceLine<'_>) -> Result<Statement<'_>, SourceFault>
 {
     match line.first {
         Some(first) => read_from(first, line.others),
-        None => Ok(Statement::Nothing),
+        None => Ok(Form::Nothing.alone()),
     }
 }
 
@@ -114,7 +147,7 @@ fn alone(instruction: Word, others: SourceWords<'_>) -> Result<Statement<'_>, So
     ensures { Reads (openings.without_operand instruction) others.entry result }
 {
     if is_nothing(others) {
-        Ok(Statement::One(instruction))
+        Ok(Form::One(instruction).alone())
     } else {
         Err(SourceFault::BadOperand)
     }
@@ -129,7 +162,7 @@ fn data_or(
     ensures { Reads (openings.data_or instruction (takes_numbered numbered)) others.entry result }
 {
     if is_data(others) {
-        Ok(Statement::One(instruction))
+        Ok(Form::One(instruction).alone())
     } else {
         taken(Taking::Number(numbered), others)
     }
@@ -225,15 +258,23 @@ fn taken(taking: Taking, operands: SourceWords<'_>) -> Result<Statement<'_>, Sou
 {
     let mut operands = operands;
     match (operands.next(), operands.next()) {
-        (Some(operand), None) => match take(taking, operand) {
-            Some(statement) => Ok(statement),
-            None => Err(SourceFault::BadOperand),
-        },
+        (Some(operand), None) => take_only(taking, operand),
         _ => Err(SourceFault::BadOperand),
     }
 }
 
+/// What an only operand says with its mnemonic, or that it is none that this takes.
+fn take_only(taking: Taking, operand: &[u8]) -> Result<Statement<'_>, SourceFault>
+    ensures { read_in_code result ≡ ok_or (takes_in_code taking operand.now) BadOperand }
+{
+    match take(taking, operand) {
+        Some(statement) => Ok(statement),
+        None => Err(SourceFault::BadOperand),
+    }
+}
+
 /// What an operand says with its mnemonic, where that takes it.
+#[inline(always)]
 fn take(taking: Taking, operand: &[u8]) -> Option<Statement<'_>>
     ensures { found_in_code result ≡ takes_in_code taking operand.now }
 {
@@ -242,23 +283,23 @@ fn take(taking: Taking, operand: &[u8]) -> Option<Statement<'_>>
         Taking::ShortJump(condition) => take_displacement(condition, operand),
         Taking::Immediate => {
             let number = word_in(operand)?;
-            Some(Statement::Two(word(Row::LoadImmediate), number))
+            Some(Form::Two(word(Row::LoadImmediate), number).alone())
         }
         Taking::Constant => {
             let number = word_in(operand)?;
-            Some(Statement::One(number))
+            Some(Form::One(number).alone())
         }
         Taking::Name => {
             let text = text_in(operand)?;
-            Some(Statement::Name(text))
+            Some(Form::Name.with(text))
         }
         Taking::Entry(kind) => {
             let name = reference_in(operand)?;
-            Some(Statement::EntryAt(kind, name))
+            Some(Form::EntryAt(kind).with(name))
         }
         Taking::Field(operation) => {
             let field = field_in(operand)?;
-            Some(Statement::One(word(Row::Arithmetic(operation, field))))
+            Some(Form::One(word(Row::Arithmetic(operation, field))).alone())
         }
         Taking::Number(numbered) => take_number(numbered, operand),
     }
@@ -279,7 +320,7 @@ fn take_number(numbered: Numbered, operand: &[u8]) -> Option<Statement<'_>>
         Numbered::Write => Row::Write(BlockRegister::new(number_in(0, 16, operand)?)),
         Numbered::Read => Row::Read(ReadRegister::new(number_in(1, 15, operand)?)),
     };
-    Some(Statement::One(word(row)))
+    Some(Form::One(word(row)).alone())
 }
 
 /// A jump to an address, or to a label.
@@ -289,11 +330,11 @@ fn take_address(condition: Condition, kind: LongJumpKind, operand: &[u8]) -> Opt
     match address_in(operand) {
         Some(address) => {
             let (first, second) = long_jump_words(condition, kind, address);
-            Some(Statement::Two(first, second))
+            Some(Form::Two(first, second).alone())
         }
         None => {
             let name = reference_in(operand)?;
-            Some(Statement::LongJumpTo(condition, kind, name))
+            Some(Form::LongJumpTo(condition, kind).with(name))
         }
     }
 }
@@ -322,7 +363,7 @@ fn take_displacement(condition: Condition, operand: &[u8]) -> Option<Statement<'
         Some(displacement) => Some(short_jump_by(condition, displacement)),
         None => {
             let name = reference_in(operand)?;
-            Some(Statement::ShortJumpTo(condition, name))
+            Some(Form::ShortJumpTo(condition).with(name))
         }
     }
 }
@@ -333,8 +374,8 @@ pub(crate) fn short_jump_by<'a>(condition: Condition, displacement: i16) -> Stat
 {
     if -64 <= displacement && displacement <= 63 {
         let displacement = Displacement::new(displacement as i8);
-        Statement::One(word(Row::ShortJump(condition, displacement)))
+        Form::One(word(Row::ShortJump(condition, displacement))).alone()
     } else {
-        Statement::OutOfReach
+        Form::OutOfReach.alone()
     }
 }

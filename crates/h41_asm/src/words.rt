@@ -1,8 +1,8 @@
 //! The words of a line.
 
 ghost use Rattle.std.specs.Iterator.{YieldsFirstRef, item_count};
-ghost use Rattle.std.specs.Prelude.{◌≡◌, ◌≤◌, false, length};
-ghost use Rattle.h41_asm.specs.SourceLines.{part_length, words_of};
+ghost use Rattle.std.specs.Prelude.{◌≡◌, ◌≤◌, ◌==◌, ◌||◌, IsTrue, false, length};
+ghost use Rattle.h41_asm.specs.SourceLines.{is_blank, part_length, words_of};
 
 use h41_lines::words::word_start;
 
@@ -51,6 +51,9 @@ fn word_end(line: &[u8]) -> usize
 {
     let mut quoted = false;
     for (i, byte) in line.iter().enumerate() {
+        if is_within(*byte) {
+            continue;
+        }
         match *byte {
             b' ' | b'\t' | b';' if !quoted => return i,
             b'"' => quoted = !quoted,
@@ -58,4 +61,33 @@ fn word_end(line: &[u8]) -> usize
         }
     }
     line.len()
+}
+
+/// The bytes that end a word, or begin or end quotes: a blank, a tab, a quote and a `;`.
+#[rattlefmt::skip]
+const ENDS: [u8; 256] = [
+    0, 0, 0, 0, 0, 0, 0, 0, 0, 1, 0, 0, 0, 0, 0, 0,
+    0, 0, 0, 0, 0, 0, 0, 0, 0, 0, 0, 0, 0, 0, 0, 0,
+    1, 0, 1, 0, 0, 0, 0, 0, 0, 0, 0, 0, 0, 0, 0, 0,
+    0, 0, 0, 0, 0, 0, 0, 0, 0, 0, 0, 1, 0, 0, 0, 0,
+    0, 0, 0, 0, 0, 0, 0, 0, 0, 0, 0, 0, 0, 0, 0, 0,
+    0, 0, 0, 0, 0, 0, 0, 0, 0, 0, 0, 0, 0, 0, 0, 0,
+    0, 0, 0, 0, 0, 0, 0, 0, 0, 0, 0, 0, 0, 0, 0, 0,
+    0, 0, 0, 0, 0, 0, 0, 0, 0, 0, 0, 0, 0, 0, 0, 0,
+    0, 0, 0, 0, 0, 0, 0, 0, 0, 0, 0, 0, 0, 0, 0, 0,
+    0, 0, 0, 0, 0, 0, 0, 0, 0, 0, 0, 0, 0, 0, 0, 0,
+    0, 0, 0, 0, 0, 0, 0, 0, 0, 0, 0, 0, 0, 0, 0, 0,
+    0, 0, 0, 0, 0, 0, 0, 0, 0, 0, 0, 0, 0, 0, 0, 0,
+    0, 0, 0, 0, 0, 0, 0, 0, 0, 0, 0, 0, 0, 0, 0, 0,
+    0, 0, 0, 0, 0, 0, 0, 0, 0, 0, 0, 0, 0, 0, 0, 0,
+    0, 0, 0, 0, 0, 0, 0, 0, 0, 0, 0, 0, 0, 0, 0, 0,
+    0, 0, 0, 0, 0, 0, 0, 0, 0, 0, 0, 0, 0, 0, 0, 0,
+];
+
+/// Whether a byte of a word is just that: it neither ends the word nor begins or ends quotes.
+#[inline(always)]
+fn is_within(byte: u8) -> bool
+    ensures { IsTrue result → (is_blank byte || byte == 59 || byte == 34) ≡ false }
+{
+    ENDS[byte as usize] == 0
 }

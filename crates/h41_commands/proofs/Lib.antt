@@ -2,6 +2,7 @@ pub mod BlockLines
 pub mod BlocksDetermined
 pub mod ClosedBlocks
 pub mod DeckItems
+pub mod EndLines
 pub mod Filling
 pub mod FirstLines
 pub mod ItemLines

@@ -15,7 +15,7 @@ use Rattle.h41_commands.specs.declared.line.LineKind.{LineKind}
 use Rattle.h41_commands.specs.declared.line.LineKind.TheVariants.{Long, Named}
 
 -- its first byte is no blank
-end_behind : (line : List ℕ) (start n : ℕ) → Some start ≡ position (λ byte. not (is_blank byte)) line
+pub end_behind : (line : List ℕ) (start n : ℕ) → Some start ≡ position (λ byte. not (is_blank byte)) line
     → n ≡ position_or_len is_blank (drop (start + 1) line) → 1 + n ≡ position_or_len is_blank (drop start line)
 end_behind line start n found here =
     let at = position_some (λ byte. not (is_blank byte)) line start found in

@@ -1,9 +1,9 @@
 //! What a line is before its words are read: too long, one that says nothing, or the end of a block.
 
 ghost use Rattle.std.specs.List.{position};
-ghost use Rattle.std.specs.Prelude.{◌≡◌};
+ghost use Rattle.std.specs.Prelude.{◌≡◌, ◌==◌, length};
 ghost use Rattle.h41_lines.specs.Words.{is_blank, words_of};
-ghost use Rattle.h41_commands.specs.DeckLines.{is_end, is_long, is_skipped};
+ghost use Rattle.h41_commands.specs.DeckLines.{is_end, is_long, is_only_end, is_skipped};
 ghost use Rattle.h41_commands.specs.FirstLines.{first_line, kind_by_words, told_by};
 
 use crate::commands::FirstWord;
@@ -97,8 +97,16 @@ pub fn is_skipped(line: &[u8]) -> bool
 {
     match line {
         [b'#', ..] => true,
-        _ => LineWords::new(line).next().is_none(),
+        _ => is_blank_line(line),
     }
+}
+
+/// A line without a word.
+#[inline(always)]
+fn is_blank_line(line: &[u8]) -> bool
+    ensures { result ≡ (length (words_of line.now) == 0) }
+{
+    word_start(line).is_none()
 }
 
 /// A line that ends a block.
@@ -106,9 +114,20 @@ pub fn is_skipped(line: &[u8]) -> bool
 pub fn is_end(line: &[u8]) -> bool
     ensures { result ≡ is_end line.now }
 {
+    match word_start(line) {
+        // Its first byte tells of most lines that they end none.
+        Some(start) if line[start] == b'e' => is_only_end(line) && !is_long(line),
+        _ => false,
+    }
+}
+
+/// A line whose one word is `end`.
+fn is_only_end(line: &[u8]) -> bool
+    ensures { result ≡ is_only_end (words_of line.now) }
+{
     let mut words = LineWords::new(line);
     match words.next() {
-        Some(b"end") => words.next().is_none() && !is_long(line),
+        Some(b"end") => words.next().is_none(),
         _ => false,
     }
 }

@@ -10,9 +10,9 @@ use std::simd::prelude::*;
 /// How many bytes are looked at at once.
 const LANES: usize = 16;
 
-/// Where the first LF of a text stands.
+/// Where the first LF of a text stands, if it has one: the place of its byte, counted from 0.
 #[inline(always)]
-pub(crate) fn line_end(text: &[u8]) -> Option<usize>
+pub fn line_end(text: &[u8]) -> Option<usize>
     ensures { result ≡ position (λ byte. byte == 10) text.now }
 {
     let mut at = 0;

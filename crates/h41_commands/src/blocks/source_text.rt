@@ -91,7 +91,7 @@ fn page_numbers(alloc: Global, words: &[Word]) -> Result<Result<Vec<u16>, LineRe
     if words.len() > PAGE_WORDS {
         return Ok(Err(LineRefusal::BadImage));
     }
-    let mut numbers = Vec::new(alloc);
+    let mut numbers = Vec::with_capacity(alloc, words.len())?;
     for word in words {
         numbers.push(word.number())?;
     }

@@ -1,24 +1,25 @@
-use Rattle.std.proofs.Common.{◌≡◌, ◌∷◌, ◌++◌, List, ℕ, arith, refl, sym, ◌∙◌, ap, drop, length, map}
+use Rattle.std.proofs.Common.{◌≡◌, ◌∷◌, ◌++◌, List, ℕ, arith, refl, sym, ◌∙◌, ap, drop, length, length-append, map}
 use Rattle.h41_asm.specs.CodeStatements.{in_line}
 use Rattle.h41_asm.specs.Faults.{line_length, read_length}
-use Rattle.h41_asm.specs.KeptLines.{kept_said, said_from}
+use Rattle.h41_asm.specs.KeptLines.{kept_lines, kept_names, kept_said, said_from}
 use Rattle.h41_asm.specs.LabelTable.{labels_in}
 use Rattle.h41_asm.specs.Placing.{Labels}
 use Rattle.h41_asm.specs.SourceLines.{SourceLine, line_of, source_lines, words_of}
 use Rattle.h41_lines.proofs.LineCount.{length-lines}
-use Rattle.h41_asm.proofs.Keeping.{kept_next}
+use Rattle.h41_asm.proofs.Keeping.{kept_next, length_of_line}
 use Rattle.h41_asm.proofs.Placed.{IsPlaced, placed_next, placed_none, placed_within}
 use Rattle.h41_asm.proofs.assembler.place.Goals as goal
 
 pub loop-start-init : goal.loop-start-init
 loop-start-init c =
     let count = length-lines c.args.text.now in
-    rw (c.from-address.ensures, c.new-kept.ensures.items)
+    rw (c.from-address.ensures, c.new-lines.ensures.items, c.new-names.ensures.items)
     (record {
       within = omega arith;
       count = omega (arith, count);
       placed = placed_none (labels_in c.new-labels.result) (source_lines c.args.text.now)
           c.args.origin (λ name. rw c.new-labels.ensures.empty refl);
+      length = refl;
       kept = refl;
     })
 
@@ -45,8 +46,17 @@ loop-start-preserved c =
       within = omega (arith, within, long);
       count = omega (arith, count, c.loop-start.invariant.count);
       placed = rw long (placed_next before after all c.args.origin number address line rest placed gave.ok gave.labels);
+      length = rw (c.in_ok-keep-in-Ok.ensures.names, c.in_ok-keep-in-Ok.ensures.lines) (omega (
+        arith,
+        c.loop-start.invariant.length,
+        length_of_line number c.in-Ok.statement,
+        length-append c.loop-start.names.items (kept_names c.in-Ok.statement),
+        length-append c.loop-start.lines.items (kept_lines number c.in-Ok.statement),
+      ));
       kept =
-          kept_next text number start c.in-Ok.statement line rest c.loop-start.kept.items
-          c.keep.new.kept.items gave.read left c.in_ok-keep-in-Ok.ensures
-          ∙ ap (λ some. map (kept_said text) c.loop-start.kept.items ++ said_from number some) (sym left) ∙ c.loop-start.invariant.kept;
+          rw (c.in_ok-keep-in-Ok.ensures.names, c.in_ok-keep-in-Ok.ensures.lines)
+          (kept_next number c.in-Ok.statement line rest c.loop-start.lines.items c.loop-start.names.items
+          c.loop-start.invariant.length gave.read
+          ∙ ap (λ some. kept_said c.loop-start.lines.items c.loop-start.names.items ++ said_from number some) (sym left)
+          ∙ c.loop-start.invariant.kept);
     }

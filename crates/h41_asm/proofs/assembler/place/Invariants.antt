@@ -1,4 +1,4 @@
-use Rattle.std.proofs.Common.{◌≡◌, ◌+◌, ◌-◌, ◌≤◌, ◌++◌, drop, length, map}
+use Rattle.std.proofs.Common.{◌≡◌, ◌+◌, ◌-◌, ◌≤◌, ◌++◌, drop, length}
 use Rattle.h41_asm.specs.KeptLines.{kept_said, said_from}
 use Rattle.h41_asm.specs.LabelTable.{labels_in}
 use Rattle.h41_asm.specs.SourceLines.{lines, source_lines}
@@ -13,7 +13,9 @@ invariant-loop-start l = record {
   -- the lines before are placed, without a fault
   placed : IsPlaced (labels_in l.labels) (source_lines l.text) l.origin l.number l.address (source_lines (drop l.start l.text));
   -- and what they say is kept
-  kept : map (kept_said l.text) l.kept.items ++ said_from l.number (source_lines (drop l.start l.text)) ≡ said_from 1 (source_lines l.text);
+  length : length l.names.items ≡ length l.lines.items;
+  kept : kept_said l.lines.items l.names.items ++ said_from l.number (source_lines (drop l.start l.text))
+      ≡ said_from 1 (source_lines l.text);
 }
 
 abbrev pub decreases-loop-start : goal.decreases-loop-start

@@ -1,20 +1,17 @@
-use Rattle.std.proofs.Common.{◌≡◌, ◌≤◌, ℕ, List, ◌++◌, drop, map}
-use Rattle.h41_asm.specs.KeptLines.{kept_said}
-use Rattle.h41_asm.specs.LabelTable.{first_fault_by, labels_in}
-use Rattle.h41_asm.specs.Placing.{LinesSpell}
-use Rattle.h41_asm.specs.SourceLines.{source_lines}
-use Rattle.h41_asm.proofs.Keeping.{AreReady, SaidSpell, said_faults}
+use Rattle.std.proofs.Common.{◌≡◌, ◌≤◌, ℕ, List, ◌++◌, drop}
+use Rattle.h41_asm.specs.KeptLines.{AreReady, SaidSpell, first_fault_by, kept_said, said_faults}
+use Rattle.h41_asm.specs.LabelTable.{labels_in}
 use Rattle.h41_asm.proofs.assembler.spell.Given as goal
 
-abbrev pub invariant-loop-line : goal.invariant-loop-line
-invariant-loop-line l = record {
+abbrev pub invariant-loop-i : goal.invariant-loop-i
+invariant-loop-i l = record {
   -- the lines that are left are ready from here on
-  ready : AreReady l.address (map (kept_said l.text) (drop l.line-index l.kept));
+  ready : AreReady l.address (kept_said (drop l.i l.lines) (drop l.i l.names));
   within : l.address ≤ 65536;
   -- the faults are those that are left
-  faults : said_faults (labels_in l.labels) l.address (map (kept_said l.text) (drop l.line-index l.kept))
-      ≡ first_fault_by l.labels l.origin l.text;
+  faults : said_faults (labels_in l.labels) l.address (kept_said (drop l.i l.lines) (drop l.i l.names))
+      ≡ first_fault_by l.labels l.origin l.lines l.names;
   -- and what spells these spells all, behind the words so far
-  spelled : (others : List ℕ) → SaidSpell (labels_in l.labels) l.address (map (kept_said l.text) (drop l.line-index l.kept)) others
-      → LinesSpell (labels_in l.labels) l.origin (source_lines l.text) (l.words.items ++ others);
+  spelled : (others : List ℕ) → SaidSpell (labels_in l.labels) l.address (kept_said (drop l.i l.lines) (drop l.i l.names)) others
+      → SaidSpell (labels_in l.labels) l.origin (kept_said l.lines l.names) (l.words.items ++ others);
 }

@@ -1,7 +1,7 @@
 //! The words of a line.
 
 ghost use Rattle.std.specs.Iterator.{YieldsFirstRef, item_count};
-ghost use Rattle.std.specs.Prelude.{◌≡◌, ◌≤◌, ◌==◌, ◌||◌, IsTrue, false, length};
+ghost use Rattle.std.specs.Prelude.{◌≡◌, ◌≤◌, ◌==◌, ◌||◌, false, not, length};
 ghost use Rattle.h41_asm.specs.SourceLines.{is_blank, part_length, words_of};
 
 use h41_lines::words::word_start;
@@ -54,10 +54,10 @@ fn word_end(line: &[u8]) -> usize
         if is_within(*byte) {
             continue;
         }
-        match *byte {
-            b' ' | b'\t' | b';' if !quoted => return i,
-            b'"' => quoted = !quoted,
-            _ => {}
+        if *byte == b'"' {
+            quoted = !quoted;
+        } else if !quoted {
+            return i;
         }
     }
     line.len()
@@ -87,7 +87,7 @@ const ENDS: [u8; 256] = [
 /// Whether a byte of a word is just that: it neither ends the word nor begins or ends quotes.
 #[inline(always)]
 fn is_within(byte: u8) -> bool
-    ensures { IsTrue result → (is_blank byte || byte == 59 || byte == 34) ≡ false }
+    ensures { result ≡ not (is_blank byte || byte == 59 || byte == 34) }
 {
     ENDS[byte as usize] == 0
 }

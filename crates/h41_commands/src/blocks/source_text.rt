@@ -13,6 +13,9 @@ use h41_asm::{AssembleError, assemble};
 use h41_words::Word;
 use std::alloc::{AllocError, Global};
 
+/// How many bytes room is made for with the first line: sixteen for each word of a page.
+const ROOM: usize = 16 * PAGE_WORDS;
+
 /// How many pages there are.
 const PAGES: u8 = 16;
 
@@ -44,6 +47,9 @@ impl SourceText {
     pub fn add_line(&mut self, line: &[u8]) -> Result<(), AllocError>
         ensures { IfOk result (λ _. TakesSource self.old line.now self.new) }
     {
+        if self.text.is_empty() {
+            self.text.reserve(ROOM)?;
+        }
         if !is_skipped(line) {
             self.text.extend_from_slice(line)?;
         }

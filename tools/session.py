@@ -1,5 +1,6 @@
 """One process of `bench run -`, asked a command at a time: the bench writes each reply before it reads the next command."""
 import re
+import shutil
 import subprocess
 
 from decks import BENCH, Failure, LONGEST_LINE, MARK, MARK_ANSWER, MEMORY, NO_ANSWER, OPENERS, running
@@ -23,11 +24,19 @@ def is_whole(command):
     return not others
 
 
+def want_program():
+    """Wants a program that answers at once: what rt try compiles reads all commands before it answers any."""
+    ready = subprocess.run([BENCH, "prove", "--check"], stdin=subprocess.DEVNULL, capture_output=True)
+    if ready.returncode and (ready.returncode != 1 or shutil.which("rt")):
+        raise Failure("no proved program stands: ./bench prove proves and builds it", NO_ANSWER)
+
+
 class Session:
     """A bench that goes on until it is closed, with so many registers of memory. It begins empty, and keeps what its commands
     leave."""
 
     def __init__(self, memory=MEMORY):
+        want_program()
         self.bench = subprocess.Popen([BENCH, *running(memory)], stdin=subprocess.PIPE, stdout=subprocess.PIPE)
 
     def ask(self, command):

@@ -279,6 +279,21 @@ fn replies_are_passed_on_before_more_is_read(rt: HostRuntime) -> Result<(), Fail
 }
 
 #[test]
+fn a_read_costs_one_flush_at_most(rt: HostRuntime) -> Result<(), Fail> {
+    for deck in DECKS {
+        let lines = lines_of(rt.alloc(), deck)?;
+        for most in [1, 2, 7, 4096] {
+            let mut reader = Reader::new(&lines, most, None);
+            let mut writer = Writer::new(rt.alloc(), 4096, None);
+            let _ = run_deck::<_, _, 320>(rt.alloc(), &mut reader, &mut writer)?;
+            let most_flushes = reader.calls().saturating_add(1);
+            assert!(&rt; writer.flushes() <= most_flushes, "by {most}");
+        }
+    }
+    Ok(())
+}
+
+#[test]
 fn a_reader_that_never_ends_is_a_fault(rt: HostRuntime) {
     let mut reader = Long {
         before: b"fly\n",

@@ -120,6 +120,7 @@ pub struct Writer<'a> {
     most: usize,
     fails: Option<(usize, Once)>,
     calls: usize,
+    flushes: usize,
     has_failed: bool,
     is_flushed: bool,
     told: Option<&'a Cell<usize>>,
@@ -135,6 +136,7 @@ impl<'a> Writer<'a> {
             most,
             fails,
             calls: 0,
+            flushes: 0,
             has_failed: false,
             is_flushed: false,
             told: None,
@@ -151,6 +153,11 @@ impl<'a> Writer<'a> {
     /// How many calls there were.
     pub fn calls(&self) -> usize {
         self.calls
+    }
+
+    /// How many of them were flushes.
+    pub fn flushes(&self) -> usize {
+        self.flushes
     }
 
     /// Whether what was taken is passed on.
@@ -199,6 +206,7 @@ impl Sink for Writer<'_> {
 
     fn flush(&mut self) -> io::Result<()> {
         let once = self.next_call();
+        self.flushes = self.flushes.saturating_add(1);
         self.is_flushed = once.is_none();
         if once.is_some() {
             self.has_failed = true;

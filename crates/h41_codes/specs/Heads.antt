@@ -1,8 +1,8 @@
 -- What first bytes stand for, as the functions that read bytes promise it one another. Of public
--- contracts only those of lines of one byte or two need this file.
+-- contracts only those of lines of one to three bytes need this file.
 use Rattle.h41_codes.specs.ByteGrammar.{Spells}
 use Rattle.h41_codes.specs.declared.line.Line.{Line}
-use Rattle.std.specs.Prelude.{ℕ, ◌<◌, ◌≤◌, ◌⊎◌, ◌≡◌, ◌+◌, List, [], ◌∷◌, length, slice_index}
+use Rattle.std.specs.Prelude.{ℕ, ◌<◌, ◌≤◌, ◌⊎◌, ◌≡◌, ◌≢◌, ◌+◌, List, [], ◌∷◌, length, slice_index}
 
 -- a number from the first on and below the second
 abbrev pub IsIn : ℕ → ℕ → ℕ → Type 0
@@ -19,6 +19,13 @@ IsAlone byte = (line : Line) × Spells (byte ∷ []) line
 -- functions with an operand, XROM, GTO IND and XEQ IND, GTO 00 to 14
 abbrev pub IsTwoBytes : ℕ → Type 0
 IsTwoBytes first = IsIn 0x90 0xAF first ⊎ IsIn 0xB1 0xC0 first ⊎ IsIn 0xCE 0xD0 first
+
+-- a short line that a first byte begins has so many bytes
+abbrev pub IsShort : ℕ → ℕ → Type 0
+IsShort first size =
+    ((size ≡ 1) × IsOneByte first × (first ≢ 0))
+    ⊎ ((size ≡ 2) × IsTwoBytes first)
+    ⊎ ((size ≡ 3) × IsIn 0xD0 0xF0 first)
 
 -- bytes without a whole text in front: none, one below F0, or fewer than it counts
 abbrev pub LacksText : List ℕ → Type 0

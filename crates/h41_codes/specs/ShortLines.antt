@@ -1,5 +1,5 @@
 -- Lines of one to three bytes that are told in numbers alone: each is a line.
-use Rattle.std.specs.Prelude.{ℕ, List}
+use Rattle.std.specs.Prelude.{◌≡◌, ℕ, List, ◌∷◌}
 use Rattle.h41_codes.specs.ByteGrammar.{Begins}
 use Rattle.h41_codes.specs.declared.line.Line.{Line}
 use Rattle.h41_codes.specs.declared.line.Line.TheVariants as lines
@@ -21,3 +21,9 @@ line_of (short.BranchTo branch distance backwards label) =
 -- bytes begin with no such line
 abbrev pub BeginsNoShort : List ℕ → Type 0
 BeginsNoShort bytes = (one : ShortLine) (size : ℕ) → Begins bytes (line_of one) size → ⊥
+
+-- the short lines that begin with a first byte have so many bytes each
+abbrev pub BeginsShorts : ℕ → ℕ → Type 0
+BeginsShorts first size =
+    (rest : List ℕ) (line : ShortLine) (count : ℕ) → Begins (first ∷ rest) (line_of line) count
+    → count ≡ size

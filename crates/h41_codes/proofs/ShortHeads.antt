@@ -1,9 +1,10 @@
--- First bytes with which no short line begins.
-use Rattle.std.proofs.Common.{◌≡◌, ℕ, zero, suc, ◌/◌, ◌<◌, ◌≤◌, List, ◌∷◌, length, take, get_or, ◌⊎◌, inl, inr, sym, ap, subst, arith}
+-- The first byte of a short line tells how many it has.
+use Rattle.std.proofs.Common.{◌≡◌, ℕ, zero, suc, ◌/◌, ◌<◌, ◌≤◌, List, ◌∷◌, length, take, get_or, inl, inr, refl, sym, ap, subst, arith}
+use Rattle.std.proofs.lemmas.List.{length-take}
 use Rattle.h41_codes.specs.ByteGrammar.{spelling, IsLine}
 use Rattle.h41_codes.specs.Codes.{parameter_function_code}
-use Rattle.h41_codes.specs.Heads.{IsIn}
-use Rattle.h41_codes.specs.ShortLines.{BeginsNoShort, line_of}
+use Rattle.h41_codes.specs.Heads.{IsIn, IsOneByte, IsShort, IsTwoBytes}
+use Rattle.h41_codes.specs.ShortLines.{BeginsShorts, line_of}
 use Rattle.h41_codes.specs.declared.functions.ParameterFunction.{ParameterFunction}
 use Rattle.h41_codes.specs.declared.functions.ParameterFunction.TheVariants.{Exchange, Label}
 use Rattle.h41_codes.specs.declared.line.Line.{Line}
@@ -13,60 +14,60 @@ use Rattle.h41_codes.proofs.LineLengths.{spelling_least}
 use Rattle.h41_codes.proofs.Reading.{branch_range, register_range}
 use Rattle.h41_codes.proofs.Tables.{function_range}
 
--- the first bytes of short lines
-abbrev pub IsHead : ℕ → Type 0
-IsHead byte = IsIn 0x01 0x10 byte ⊎ IsIn 0x20 0xAF byte ⊎ IsIn 0xB1 0xC0 byte ⊎ IsIn 0xCE 0xF0 byte
+operand_head : (function : ParameterFunction) → IsTwoBytes (parameter_function_code function)
+operand_head Exchange = inr (inr (omega arith, omega arith))
+operand_head Label = inr (inr (omega arith, omega arith))
+operand_head function = inl (omega arith, omega arith)
 
-operand_head : (function : ParameterFunction) → IsHead (parameter_function_code function)
-operand_head Exchange = inr (inr (inr (omega arith, omega arith)))
-operand_head Label = inr (inr (inr (omega arith, omega arith)))
-operand_head function = inr (inl (omega arith, omega arith))
-
-head_of : (one : ShortLine) → IsLine (line_of one) → IsHead (get_or (spelling (line_of one)) 0 0)
-head_of (short.LocalLabel label) valid = inl (omega arith, omega (arith, valid))
+head_of : (one : ShortLine) → IsLine (line_of one) → IsShort (get_or (spelling (line_of one)) 0 0) (length (spelling (line_of one)))
+head_of (short.LocalLabel label) valid = inl (refl, inl (omega (arith, valid)), λ null. omega (arith, null))
 head_of (short.Register function register) valid =
-    let range = register_range function register valid in inr (inl (range.0, omega (arith, range.1)))
+    let range = register_range function register valid in
+    inl (refl, inr (range.0, omega (arith, range.1)), λ null. omega (arith, null, range.0))
 head_of (short.Plain function) valid =
-    let range = function_range function in inr (inl (omega (arith, range.0), omega (arith, range.1)))
-head_of (short.WithOperand function operand) valid = operand_head function
-head_of (short.Module number entry) valid = inr (inl (omega arith, omega (arith, valid.0)))
-head_of (short.BranchIndirect branch register) valid = inr (inl (omega arith, omega arith))
-head_of (short.ShortGoTo label distance) valid = inr (inr (inl (omega arith, omega (arith, valid.0))))
+    let range = function_range function in
+    inl (refl, inr (omega (arith, range.0), omega (arith, range.1)), λ null. omega (arith, null, range.0))
+head_of (short.WithOperand function operand) valid = inr (inl (refl, operand_head function))
+head_of (short.Module number entry) valid = inr (inl (refl, inl (omega arith, omega (arith, valid.0))))
+head_of (short.BranchIndirect branch register) valid = inr (inl (refl, inl (omega arith, omega arith)))
+head_of (short.ShortGoTo label distance) valid = inr (inl (refl, inr (inl (omega arith, omega (arith, valid.0)))))
 head_of (short.BranchTo branch distance backwards label) valid =
     let range = branch_range branch (distance / 256) (omega (arith, valid.0)) in
-    inr (inr (inr (omega (arith, range.0), range.1)))
+    inr (inr (refl, (omega (arith, range.0), range.1)))
+
+low : (first : ℕ) → IsOneByte first → first < 0x90
+low first (inl a) = omega (arith, a)
+low first (inr a) = a.1
+
+middle : (first : ℕ) → IsTwoBytes first → IsIn 0x90 0xD0 first
+middle first (inl a) = (a.0, omega (arith, a.1))
+middle first (inr (inl a)) = (omega (arith, a.0), omega (arith, a.1))
+middle first (inr (inr a)) = (omega (arith, a.0), a.1)
+
+one_size : (first a b : ℕ) → IsShort first a → IsShort first b → a ≡ b
+one_size first a b (inl x) (inl y) = omega (arith, x.0, y.0)
+one_size first a b (inl x) (inr (inl y)) = absurd (omega (arith, low first x.1, (middle first y.1).0))
+one_size first a b (inl x) (inr (inr y)) = absurd (omega (arith, low first x.1, y.1.0))
+one_size first a b (inr (inl x)) (inl y) = absurd (omega (arith, low first y.1, (middle first x.1).0))
+one_size first a b (inr (inl x)) (inr (inl y)) = omega (arith, x.0, y.0)
+one_size first a b (inr (inl x)) (inr (inr y)) = absurd (omega (arith, (middle first x.1).1, y.1.0))
+one_size first a b (inr (inr x)) (inl y) = absurd (omega (arith, low first y.1, x.1.0))
+one_size first a b (inr (inr x)) (inr (inl y)) = absurd (omega (arith, (middle first y.1).1, x.1.0))
+one_size first a b (inr (inr x)) (inr (inr y)) = omega (arith, x.0, y.0)
 
 first_of : (first : ℕ) (rest : List ℕ) (line : Line) (size : ℕ) → 1 ≤ length (spelling line) → take size (first ∷ rest) ≡ spelling line
     → get_or (spelling line) 0 0 ≡ first
 first_of first rest line zero some same = absurd (omega (arith, some, ap length same))
 first_of first rest line (suc n) some same = sym (ap (λ (bytes : List ℕ). get_or bytes 0 0) same)
 
--- bytes begin with no short line whose first is none of these
-pub no_head : (first : ℕ) (rest : List ℕ) → (IsHead first → ⊥) → BeginsNoShort (first ∷ rest)
-no_head first rest other one size begins =
+-- a short line that begins so has as many bytes as another
+pub size_of_head : (first size : ℕ) → IsShort first size → BeginsShorts first size
+size_of_head first size is rest line count begins =
     let valid = begins.spells.valid in
-    let same = first_of first rest (line_of one) size (spelling_least (line_of one) valid) begins.spells.same in
-    other (subst (λ (byte : ℕ). IsHead byte) same (head_of one valid))
-
--- a first byte between those
-pub between : (byte : ℕ) → (byte < 0x01) ⊎ IsIn 0x10 0x20 byte ⊎ IsIn 0xAF 0xB1 byte ⊎ IsIn 0xC0 0xCE byte ⊎ (0xF0 ≤ byte) → IsHead byte → ⊥
-between byte (inl a) (inl b) = omega (arith, a, b.0)
-between byte (inl a) (inr (inl b)) = omega (arith, a, b.0)
-between byte (inl a) (inr (inr (inl b))) = omega (arith, a, b.0)
-between byte (inl a) (inr (inr (inr b))) = omega (arith, a, b.0)
-between byte (inr (inl a)) (inl b) = omega (arith, a.0, b.1)
-between byte (inr (inl a)) (inr (inl b)) = omega (arith, a.1, b.0)
-between byte (inr (inl a)) (inr (inr (inl b))) = omega (arith, a.1, b.0)
-between byte (inr (inl a)) (inr (inr (inr b))) = omega (arith, a.1, b.0)
-between byte (inr (inr (inl a))) (inl b) = omega (arith, a.0, b.1)
-between byte (inr (inr (inl a))) (inr (inl b)) = omega (arith, a.0, b.1)
-between byte (inr (inr (inl a))) (inr (inr (inl b))) = omega (arith, a.1, b.0)
-between byte (inr (inr (inl a))) (inr (inr (inr b))) = omega (arith, a.1, b.0)
-between byte (inr (inr (inr (inl a)))) (inl b) = omega (arith, a.0, b.1)
-between byte (inr (inr (inr (inl a)))) (inr (inl b)) = omega (arith, a.0, b.1)
-between byte (inr (inr (inr (inl a)))) (inr (inr (inl b))) = omega (arith, a.0, b.1)
-between byte (inr (inr (inr (inl a)))) (inr (inr (inr b))) = omega (arith, a.1, b.0)
-between byte (inr (inr (inr (inr a)))) (inl b) = omega (arith, a, b.1)
-between byte (inr (inr (inr (inr a)))) (inr (inl b)) = omega (arith, a, b.1)
-between byte (inr (inr (inr (inr a)))) (inr (inr (inl b))) = omega (arith, a, b.1)
-between byte (inr (inr (inr (inr a)))) (inr (inr (inr b))) = omega (arith, a, b.1)
+    let same = first_of first rest (line_of line) count (spelling_least (line_of line) valid) begins.spells.same in
+    let count_is : length (spelling (line_of line)) ≡ count =
+    omega (arith, ap length begins.spells.same, length-take count (first ∷ rest), begins.inside) in
+    let own : IsShort first count =
+    subst (λ (n : ℕ). IsShort first n) count_is
+    (subst (λ (byte : ℕ). IsShort byte (length (spelling (line_of line)))) same (head_of line valid)) in
+    one_size first count size own is

@@ -25,4 +25,4 @@ pub use numbers::{
     Distance, EndMarks, EntryNumber, FinalMarks, Link, ModuleNumber, Parameter, ShortLabel,
     ShortRegister,
 };
-pub use short_lines::{ShortLine, short_line};
+pub use short_lines::{ShortLine, short_line, short_size};

@@ -1,9 +1,9 @@
 //! Lines of one to three bytes, in numbers alone.
-ghost use Rattle.std.specs.Prelude.{◌≡◌, ◌≢◌, ◌∷◌, [], IfSome, IfNone};
+ghost use Rattle.std.specs.Prelude.{◌≡◌, ◌≢◌, ℕ, List, ◌∷◌, [], IfSome, IfNone};
 ghost use Rattle.h41_codes.specs.ByteGrammar.{operand_byte, spelling, Begins, IsLine};
 ghost use Rattle.h41_codes.specs.ByteGrammar as grammar;
-ghost use Rattle.h41_codes.specs.Heads.{IsIn, IsOneByte, IsTwoBytes};
-ghost use Rattle.h41_codes.specs.ShortLines.{BeginsNoShort, line_of};
+ghost use Rattle.h41_codes.specs.Heads.{IsIn, IsOneByte, IsShort, IsTwoBytes};
+ghost use Rattle.h41_codes.specs.ShortLines.{BeginsNoShort, BeginsShorts, line_of};
 
 use crate::functions::{Branch, Function, ParameterFunction, RegisterFunction};
 use crate::line::{Line, Operand};
@@ -52,19 +52,36 @@ impl ShortLine {
     }
 }
 
-/// The short line that three bytes begin with, told by the first, and how many of them it takes. `None` where they begin with
-/// another line, or with none.
+/// How many bytes the short line has that a first byte begins. `None` where it begins another line, or none. Those of which
+/// programs have most are told first.
 #[inline(always)]
-pub fn short_line(first: u8, second: u8, third: u8) -> Option<(ShortLine, u16)>
-    ensures some { IfSome result
-        (λ found. Begins (first ∷ second ∷ third ∷ []) (line_of found.0) found.1) }
-    ensures none { IfNone result (BeginsNoShort (first ∷ second ∷ third ∷ [])) }
+pub fn short_size(first: u8) -> Option<u16>
+    ensures some { IfSome result (IsShort first) }
+    ensures size { IfSome result (BeginsShorts first) }
+    ensures none { IfNone result ((rest : List ℕ) → BeginsNoShort (first ∷ rest)) }
+{
+    if first >= 0x20 && first < 0x90 {
+        return Some(1);
+    }
+    match first {
+        0x01..=0x0F => Some(1),
+        0x90..=0xAE | 0xB1..=0xBF | 0xCE | 0xCF => Some(2),
+        0xD0..=0xEF => Some(3),
+        _ => None,
+    }
+}
+
+/// The short line that three bytes begin with, the first of which begins one.
+#[inline(always)]
+pub fn short_line(first: u8, second: u8, third: u8) -> ShortLine
+    requires { (size : ℕ) × IsShort first size }
+    ensures { (size : ℕ) → IsShort first size
+        → Begins (first ∷ second ∷ third ∷ []) (line_of result) size }
 {
     match first {
-        0x01..=0x0F | 0x20..=0x8F => Some((short_byte(first), 1)),
-        0x90..=0xAE | 0xB1..=0xBF | 0xCE | 0xCF => Some((short_pair(first, second), 2)),
-        0xD0..=0xEF => Some((short_branch(first, second, third), 3)),
-        _ => None,
+        0xD0.. => short_branch(first, second, third),
+        0x90.. => short_pair(first, second),
+        _ => short_byte(first),
     }
 }
 
@@ -77,16 +94,16 @@ pub(crate) fn short_byte(first: u8) -> ShortLine
     ensures valid { IsLine (line_of result) }
 {
     match first {
-        0x01..=0x0F => ShortLine::LocalLabel(ShortLabel::new(first - 0x01)),
-        0x20..=0x2F => ShortLine::Register(
-            RegisterFunction::RecallRegister,
-            ShortRegister::new(first - 0x20),
-        ),
-        0x30..=0x3F => ShortLine::Register(
+        0x40.. => ShortLine::Plain(function(first)),
+        0x30.. => ShortLine::Register(
             RegisterFunction::StoreRegister,
             ShortRegister::new(first - 0x30),
         ),
-        _ => ShortLine::Plain(function(first)),
+        0x20.. => ShortLine::Register(
+            RegisterFunction::RecallRegister,
+            ShortRegister::new(first - 0x20),
+        ),
+        _ => ShortLine::LocalLabel(ShortLabel::new(first - 0x01)),
     }
 }
 

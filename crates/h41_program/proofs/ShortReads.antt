@@ -1,13 +1,14 @@
 -- A short line of the bytes that were read is that of memory.
 use Rattle.std.proofs.Common.{◌≡◌, ◌≢◌, ℕ, suc, ◌+◌, ◌-◌, ◌<◌, ◌≤◌, List, [], ◌∷◌, ◌++◌, map, min, length, take, drop, Ok, Result}
-use Rattle.std.proofs.Common.{true, refl, sym, ap, ◌∙◌, subst, arith}
+use Rattle.std.proofs.Common.{true, refl, sym, ap, ◌∙◌, subst, arith, inl, inr}
 use Rattle.std.specs.Prelude.{slice_index, slice_range}
 use Rattle.std.specs.List.{range_with_len}
 use Rattle.std.proofs.lemmas.List.{length-take}
 use Rattle.std.proofs.lemmas.List.FromFn.{take-map-range_with_len}
 use Rattle.h41_codes.specs.ByteGrammar.{spelling, Begins, GoesOn, IsWhole}
 use Rattle.h41_codes.specs.ByteLaws.{IsNumber, NullBegins, NumberBegins, OneLine}
-use Rattle.h41_codes.specs.ShortLines.{BeginsNoShort, line_of}
+use Rattle.h41_codes.specs.Heads.{IsShort}
+use Rattle.h41_codes.specs.ShortLines.{BeginsNoShort, BeginsShorts, line_of}
 use Rattle.h41_codes.specs.declared.faults.BrokenProgram.{BrokenProgram}
 use Rattle.h41_codes.specs.declared.line.Line.{Line}
 use Rattle.h41_codes.specs.declared.line.Line.TheVariants.{Null}
@@ -22,7 +23,7 @@ use Rattle.h41_program.proofs.Memory.{Looked, looked_first}
 use Rattle.h41_program.proofs.PlacesFound.{begins_own}
 use Rattle.h41_program.proofs.PositionsRead.{both_found}
 use Rattle.h41_program.proofs.ShortLines.{BeginsNoNumber, seen_narrow}
-use Rattle.h41_program.proofs.Windows.{begins_count, begins_least, drop-map-range}
+use Rattle.h41_program.proofs.Windows.{begins_least, drop-map-range}
 use Rattle.h41_ram.specs.RegisterMap.{RegisterMap, is_sound}
 
 -- the first of the bytes that were read
@@ -101,11 +102,11 @@ module _ (first : ℕ) (more : List ℕ) (line : ShortLine) (size : ℕ) (begins
       no_number line ((numbers (line_of line) [] begins.spells.valid).0
       (subst (λ (bytes : List ℕ). GoesOn (bytes ++ [])) spelled (from, to)))
 
-pub size_most : (bytes : List ℕ) (line : ShortLine) (size : ℕ) → Begins bytes (line_of line) size → (1 ≤ size) × (size ≤ 3)
-size_most bytes line size begins = (
-  begins_least bytes (line_of line) size begins,
-  omega (arith, three line, begins_count bytes (line_of line) size begins),
-)
+-- how many bytes a short line can have
+pub size_of : (first size : ℕ) → IsShort first size → (1 ≤ size) × (size ≤ 3)
+size_of first size (inl one) = (omega (arith, one.0), omega (arith, one.0))
+size_of first size (inr (inl two)) = (omega (arith, two.0), omega (arith, two.0))
+size_of first size (inr (inr three)) = (omega (arith, three.0), omega (arith, three.0))
 
 -- a short line that was found, and the next position
 pub short_found :
@@ -159,42 +160,38 @@ module _ (one : OneLine) (memory : RegisterMap) (at last first second third : �
       (begins_no_number first (second ∷ third ∷ []) line size begins numbers) own)
       (line_of line) size (at + size) refl refl
 
-  -- a short line of the bytes up to the final ones is that of the three
-  among : (line : ShortLine) (size : ℕ) → Begins (slice_range (program_bytes memory) at (final_position memory)) (line_of line) size
-      → Begins bytes (line_of line) size × (at + size ≤ last)
-  among line size begins =
+module _ (memory : RegisterMap) (at last first : ℕ) (last_is : last ≡ final_position memory) (count : last + 3 ≡ byte_count memory)
+    (before : at < last) (is : first ≡ program_byte memory at) where
+  abbrev final : ℕ
+  final = final_position memory
+
+  abbrev behind_first : List ℕ
+  behind_first = map (program_byte memory) (range_with_len (at + 1) (final - at - 1))
+
+  -- the bytes up to the final ones, the first of them in front
+  first_in_front : slice_range (program_bytes memory) at final ≡ first ∷ behind_first
+  first_in_front =
       let f = program_byte memory in
       let n = byte_count memory in
-      let final = final_position memory in
-      let all = program_bytes memory in
-      let inside = begins.inside in
-      let most : size ≤ final - at = omega (arith, inside, length-take (final - at) (drop at all)) in
-      let few : size ≤ 3 = omega (
-        arith,
-        three line,
-        begins_count (slice_range all at final) (line_of line) size begins,
-      ) in
-      let slice : slice_range all at final ≡ map f (range_with_len at (final - at)) =
+      let some : final - at ≡ suc (final - at - 1) = omega (arith, before, last_is) in
       ap (take (final - at)) (drop-map-range f n at (omega (arith, before, count)))
-      ∙ take-map-range_with_len f at (n - at) (final - at) (omega (arith, last_is, count)) in
-      let same : take size bytes ≡ take size (slice_range all at final) =
-      taken size few ∙ sym (ap (take size) slice ∙ take-map-range_with_len f at (final - at) size most) in (
-        record {
-          inside = few;
-          spells = record { valid = begins.spells.valid; same = same ∙ begins.spells.same };
-          whole = whole line (drop size bytes);
-        },
-        omega (arith, most, last_is, before),
-      )
+      ∙ take-map-range_with_len f at (n - at) (final - at) (omega (arith, last_is, count))
+      ∙ ap (λ (k : ℕ). map f (range_with_len at k)) some
+      ∙ ap (λ (byte : ℕ). byte ∷ behind_first) (sym is)
 
-  pub no_short : BeginsNoShort bytes → HasNoShort memory at
-  no_short none line size begins = none line size (among line size begins).0
+  begins_with_first : (line : ShortLine) (size : ℕ) → Begins (slice_range (program_bytes memory) at final) (line_of line) size
+      → Begins (first ∷ behind_first) (line_of line) size
+  begins_with_first line size begins = subst (λ (bytes : List ℕ). Begins bytes (line_of line) size) first_in_front begins
 
-  pub no_room : (line : ShortLine) (size : ℕ) → Begins bytes (line_of line) size → last < at + size → HasNoShort memory at
-  no_room line size begins over other long begins_other =
-      let found = among other long begins_other in
-      let same = (one bytes (line_of line) (line_of other) size long begins found.0).1 in
-      omega (arith, over, found.1, same)
+  pub no_head : ((rest : List ℕ) → BeginsNoShort (first ∷ rest)) → HasNoShort memory at
+  no_head none line size begins = none behind_first line size (begins_with_first line size begins)
+
+  pub no_room : (size : ℕ) → BeginsShorts first size → last < at + size → HasNoShort memory at
+  no_room size sized over line long begins =
+      let inside = begins.inside in
+      let most : long ≤ final - at = omega (arith, inside, length-take (final - at) (drop at (program_bytes memory))) in
+      let same = sized behind_first line long (begins_with_first line long begins) in
+      omega (arith, over, most, same, last_is)
 
 -- none stands at the final bytes or behind them
 pub none_at_end : (memory : RegisterMap) (at : ℕ) → final_position memory ≤ at → HasNoShort memory at

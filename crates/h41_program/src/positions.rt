@@ -8,7 +8,7 @@ ghost use Rattle.h41_ram.specs.RegisterMap.{is_sound};
 
 use crate::laws::one_list;
 use crate::numbering::number_from;
-use crate::reading::{Found, first_from, position_behind};
+use crate::reading::{Found, first_from, position_behind, short_line};
 use crate::refusal::ProgramRefusal;
 use crate::searches::start_of;
 use h41_codes::Line;
@@ -21,6 +21,10 @@ pub fn next<const REGS: usize>(ram: &Ram<REGS>, at: u16) -> Result<u16, ProgramR
     requires { IsTrue (is_sound ram.now.registers) }
     ensures { AnswersNext ram.now.registers at result }
 {
+    // Most lines are short, and such a line is read in fewer steps.
+    if let Some((_line, behind)) = short_line(ram, at) {
+        return Ok(behind);
+    }
     match first_from(ram, at) {
         Some(first) => Ok(position_behind(ram, first)),
         None => Err(ProgramRefusal::BrokenProgram),

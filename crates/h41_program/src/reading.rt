@@ -22,7 +22,8 @@ use crate::refusal::ProgramRefusal;
 use arrayvec::ArrayVec;
 use h41_codes::laws::{byte_round_trip, first_bytes, line_or_none};
 use h41_codes::{
-    Line, ShortLine, decode, is_one_byte, one_byte_line, short_line as short_line_of, two_byte_line,
+    Line, ShortLine, decode, is_one_byte, one_byte_line, short_line as short_line_of, short_size,
+    two_byte_line,
 };
 use h41_digits::{Reg, eight_bytes, number_byte};
 use h41_ram::{MAIN_START, Ram};
@@ -86,12 +87,12 @@ pub fn final_position<const REGS: usize>(ram: &Ram<REGS>) -> u16
     (ram.curtain() - ram.end_register()) * REGISTER_BYTES - END_BYTES
 }
 
-/// How many registers of program memory end in front of a position. In 32 bits, whose upper half is zero, it is told in fewer steps.
+/// How many registers of program memory end in front of a position: its seventh, told by a product, in fewer steps than a division.
 #[inline(always)]
 fn registers_before(position: u16) -> u16
     ensures { result ≡ position / 7 }
 {
-    (u32::from(position) / 7) as u16
+    (u64::from(position) * 74_899 / 0x8_0000) as u16
 }
 
 /// How many bytes of a position's register stand in front of it.
@@ -99,7 +100,7 @@ fn registers_before(position: u16) -> u16
 fn bytes_before(position: u16) -> u16
     ensures { result ≡ position % 7 }
 {
-    (u32::from(position) % 7) as u16
+    position - REGISTER_BYTES * registers_before(position)
 }
 
 /// The register that has the byte at a position of program memory; at its end the one below it.
@@ -546,17 +547,69 @@ pub fn short_line<const REGS: usize>(ram: &Ram<REGS>, at: u16) -> Option<(ShortL
     }
     let bytes = bytes_from(ram, at);
     let first = number_byte(bytes, 7);
-    let second = number_byte(bytes, 6);
-    let third = number_byte(bytes, 5);
-    match short_line_of(first, second, third) {
-        Some((line, size)) => {
-            let behind = at + size;
-            if behind > last {
-                return None;
+    match short_size(first) {
+        Some(size) => match behind_short(ram, at, last, bytes, size) {
+            Some(next) => {
+                let second = number_byte(bytes, 6);
+                let third = number_byte(bytes, 5);
+                Some((short_line_of(first, second, third), next))
             }
-            let byte = number_byte(bytes, 7 - usize::from(size));
-            Some((line, position_by(ram, behind, byte)))
-        }
+            None => None,
+        },
         None => None,
     }
+}
+
+/// The position of the line behind a short one, of so many bytes, or the byte behind it where no line follows; `None` where the last
+/// bytes begin within it. Each size has machine code of its own, in which it is a constant.
+#[inline(always)]
+fn behind_short<const REGS: usize>(
+    ram: &Ram<REGS>,
+    at: u16,
+    last: u16,
+    bytes: u64,
+    size: u16,
+) -> Option<u16>
+    requires sound { IsTrue (is_sound ram.now.registers) }
+    requires count { last + 3 ≡ byte_count ram.now.registers }
+    requires before { at < last }
+    requires bound { last < 65000 }
+    requires bytes { HoldsBytes ram.now.registers at bytes }
+    requires few { size ≤ 3 }
+    ensures some { IfSome result (λ next. (at + size ≤ last)
+        × PositionFrom ram.now.registers (at + size) next) }
+    ensures none { IfNone result (last < at + size) }
+{
+    match size {
+        1 => behind_bytes(ram, at, last, bytes, 1),
+        2 => behind_bytes(ram, at, last, bytes, 2),
+        _ => behind_bytes(ram, at, last, bytes, size),
+    }
+}
+
+/// The same of so many bytes.
+#[inline(always)]
+fn behind_bytes<const REGS: usize>(
+    ram: &Ram<REGS>,
+    at: u16,
+    last: u16,
+    bytes: u64,
+    size: u16,
+) -> Option<u16>
+    requires sound { IsTrue (is_sound ram.now.registers) }
+    requires count { last + 3 ≡ byte_count ram.now.registers }
+    requires before { at < last }
+    requires bound { last < 65000 }
+    requires bytes { HoldsBytes ram.now.registers at bytes }
+    requires few { size ≤ 3 }
+    ensures some { IfSome result (λ next. (at + size ≤ last)
+        × PositionFrom ram.now.registers (at + size) next) }
+    ensures none { IfNone result (last < at + size) }
+{
+    let behind = at + size;
+    if behind > last {
+        return None;
+    }
+    let byte = number_byte(bytes, 7 - usize::from(size));
+    Some(position_by(ram, behind, byte))
 }

@@ -1,6 +1,6 @@
 //! What register c and the register of .END. say of memory, kept so that no line reads them anew.
 
-ghost use Rattle.std.specs.Prelude.{◌≡◌, ◌<◌, ◌&&◌, false, true, nat_le, nat_lt};
+ghost use Rattle.std.specs.Prelude.{◌≡◌, ◌<◌, ◌≤◌, ◌&&◌, false, true, nat_le, nat_lt};
 ghost use Rattle.h41_ram.specs.RegisterMap as spec;
 ghost use Rattle.h41_ram.specs.private.KeptParts as kept;
 
@@ -55,6 +55,19 @@ impl Parts {
     {
         if self.end <= address && address < self.curtain {
             self.touched = true;
+        }
+    }
+
+    /// The same of a status register. Where memory is sound the end is above these, and nothing is asked for.
+    #[inline(always)]
+    pub fn touch_status(&mut self, address: u16)
+        requires status { address < 16 }
+        requires above { self.old.sound ≡ true → 16 ≤ self.old.end }
+        ensures { self.new ≡ kept.with_touched self.old
+            (nat_le self.old.end address && nat_lt address self.old.curtain) }
+    {
+        if !self.sound {
+            self.touch(address);
         }
     }
 

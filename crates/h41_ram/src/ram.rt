@@ -145,7 +145,7 @@ impl<const REGS: usize> Ram<REGS> {
         if index == C {
             self.write_c(register);
         } else if index < STATUS_REGISTERS {
-            self.parts.touch(address);
+            self.parts.touch_status(address);
             self.status[index] = register;
         } else if index >= MAIN_START {
             self.write_main(address, register);
@@ -276,7 +276,7 @@ impl<const REGS: usize> Ram<REGS> {
         ensures written { self.new ≡ state.with_flag_written self.old flag on }
         ensures mark { KeepsMark self.old self.new }
     {
-        self.parts.touch(D as u16);
+        self.parts.touch_status(D as u16);
         self.status[D] = with_bit(self.status[D], LAST_FLAG - flag, on);
     }
 
@@ -297,10 +297,10 @@ impl<const REGS: usize> Ram<REGS> {
         ensures written { self.new ≡ state.with_alpha_written self.old text }
         ensures mark { KeepsMark self.old self.new }
     {
-        self.parts.touch(M as u16);
-        self.parts.touch(N as u16);
-        self.parts.touch(O as u16);
-        self.parts.touch(P as u16);
+        self.parts.touch_status(M as u16);
+        self.parts.touch_status(N as u16);
+        self.parts.touch_status(O as u16);
+        self.parts.touch_status(P as u16);
         let p = self.status[P];
         self.status[M] = alpha::seven_bytes(text, 17);
         self.status[N] = alpha::seven_bytes(text, 10);

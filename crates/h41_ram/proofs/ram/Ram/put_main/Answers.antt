@@ -1,4 +1,4 @@
-use Rattle.std.proofs.Common.{rules, ◌-◌}
+use Rattle.std.proofs.Common.{rules}
 use Rattle.h41_ram.proofs.ram.Ram.put_main.Goals as goal
 use Rattle.h41_ram.proofs.ram.Ram.put_main.Goals.{then-index-from, else-index-from}
 

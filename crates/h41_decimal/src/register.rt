@@ -39,13 +39,12 @@ const PACKED_PAIRS: [u8; 100] = [
 pub fn read(register: Reg) -> Option<Ten>
     ensures { option_map units result ≡ worth (holding_of register) }
 {
-    match (
-        decimal_digits(register, 3, 10),
-        decimal_digits(register, 0, 3),
-    ) {
-        (Some(mantissa), Some(exponent)) => number(mantissa, exponent, register.get(13)),
-        _ => None,
+    if register.to_u64() == 0 {
+        return Some(Ten::Zero);
     }
+    let mantissa = decimal_digits(register, 3, 10)?;
+    let exponent = decimal_digits(register, 0, 3)?;
+    number(mantissa, exponent, register.get(13))
 }
 
 /// The number of so many decimal digits from a place up, or nothing where one of them is above 9.
@@ -92,20 +91,15 @@ fn number(mantissa: u64, exponent: u64, sign: u8) -> Option<Ten>
     requires exponent { exponent < 10 ^ 3 }
     ensures { option_map units result ≡ parts_worth (Some mantissa) (Some exponent) sign }
 {
-    if mantissa == 0 && exponent == 0 && sign == 0 {
-        return Some(Ten::Zero);
+    if mantissa < 1_000_000_000 {
+        let is_zero = mantissa == 0 && exponent == 0 && sign == 0;
+        return if is_zero { Some(Ten::Zero) } else { None };
     }
-    match (sign_of(sign), steps_of(exponent)) {
-        (Some(sign), Some(biased)) => {
-            if mantissa < 1_000_000_000 {
-                return None;
-            }
-            let mantissa = Mantissa { digits: mantissa };
-            let exponent = Exponent { biased };
-            Some(Ten::Nonzero(sign, Magnitude { mantissa, exponent }))
-        }
-        _ => None,
-    }
+    let sign = sign_of(sign)?;
+    let biased = steps_of(exponent)?;
+    let mantissa = Mantissa { digits: mantissa };
+    let exponent = Exponent { biased };
+    Some(Ten::Nonzero(sign, Magnitude { mantissa, exponent }))
 }
 
 /// The sign that a digit stands for.

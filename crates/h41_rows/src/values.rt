@@ -102,6 +102,7 @@ fn of_register(
 
 /// The register of a value of the numbers at two addresses. It is AlphaData where one holds none; DataError for a quotient by
 /// zero; OutOfRange above exponent 99, unless flag 24 is set, which has the greatest number with the sign instead.
+#[inline(always)]
 pub fn compute_of_two<const REGS: usize>(
     ram: &Ram<REGS>,
     value: ValueOfTwo,

@@ -5,7 +5,6 @@ ghost use Rattle.h41_focal.specs.BriefOutcomes.{end_told};
 ghost use Rattle.h41_focal.specs.LabelledMachine.{Keeps, machine_of};
 ghost use Rattle.h41_focal.specs.private.Carrying.{TakesBriefly};
 ghost use Rattle.h41_codes.specs.declared.line.Line.TheVariants.{Plain};
-ghost use Rattle.h41_focal.specs.declared.origin.Origin.TheVariants.{Program};
 ghost use Rattle.h41_ram.specs.RegisterMap.{is_sound};
 ghost use Rattle.h41_rows.specs.RowMarks.{LeavesMark};
 
@@ -23,7 +22,6 @@ use crate::stack_lines::{clear_registers, do_nothing, move_stack};
 use crate::works::{FunctionWork, work_of};
 use h41_codes::Function;
 use h41_pages::Pages;
-use h41_positions::Position;
 
 /// A function is carried out; 13 where it is left out.
 #[inline(never)]
@@ -62,45 +60,29 @@ pub fn plain<const REGS: usize>(
     }
 }
 
-/// The same of a program's line, whose next stands at a position: what programs do most is done at once, and there is nothing to
-/// tell of it; else `told` tells how it ended.
+/// The same: what programs do most is done at once, and where it was done there is nothing to tell of it; else `told` tells how it
+/// ended.
 #[inline(always)]
 pub fn plain_at_once<const REGS: usize>(
     machine: &mut Machine<REGS>,
     pages: &Pages,
-    next: Position,
+    origin: Origin,
     function: Function,
     told: &mut Result<BriefOutcome, FocalRefusal>,
 ) -> bool
     requires { IsTrue (is_sound machine.old.ram.registers) }
-    ensures taken { TakesBriefly pages.now (Program next) (Plain function)
+    ensures taken { TakesBriefly pages.now origin (Plain function)
         (machine_of machine.old) (machine_of machine.new) (end_told result told.new) }
     ensures unchanged { OnErr (end_told result told.new) (machine.new ≡ machine.old) }
     ensures keeps { Keeps machine.old machine.new }
     ensures left { LeavesMark machine.old.ram machine.new.ram }
 {
     match work_of(function) {
-        Some(work) => match work {
-            FunctionWork::OfYAndX(value) => {
-                is_done(Ok(of_y_and_x(machine, Origin::Program(next), value)), told)
-            }
-            FunctionWork::OfX(value) => {
-                is_done(Ok(of_x(machine, Origin::Program(next), value)), told)
-            }
-            FunctionWork::Ask(test) => {
-                is_done(ask(machine, pages, Origin::Program(next), test), told)
-            }
-            FunctionWork::Move(movement) => {
-                is_done(
-                    Ok(move_stack(machine, Origin::Program(next), movement)),
-                    told,
-                )
-            }
-            FunctionWork::Return => {
-                is_done(Ok(go_back(machine, pages, Origin::Program(next))), told)
-            }
-            _ => is_done(plain(machine, pages, Origin::Program(next), function), told),
-        },
-        None => is_done(Err(FocalRefusal::NotInProfile), told),
+        Some(FunctionWork::OfYAndX(value)) => is_done(Ok(of_y_and_x(machine, origin, value)), told),
+        Some(FunctionWork::Move(movement)) => is_done(
+            Ok(move_stack(machine, origin, movement)),
+            told,
+        ),
+        _ => is_done(plain(machine, pages, origin, function), told),
     }
 }

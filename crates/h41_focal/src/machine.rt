@@ -118,12 +118,9 @@ impl<const REGS: usize> Machine<REGS> {
         ensures clear { self.new.ram.touched ≡ false }
         ensures right { AreRight self.new }
     {
+        kept_answers_stay_right();
         match short_standing(self, pages) {
-            Some((line, next)) => {
-                kept_answers_stay_right();
-                self.begin();
-                carry_short(self, pages, next, line, told)
-            }
+            Some((line, next)) => carry_short(self, pages, Origin::Program(next), line, told),
             None => is_done(self.step_long(pages), told),
         }
     }

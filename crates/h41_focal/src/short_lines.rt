@@ -1,10 +1,9 @@
 //! Short lines are carried out without room for a text.
 
-ghost use Rattle.std.specs.Prelude.{◌≡◌, IfNone, IfSome, Ok, OnErr, IsTrue};
+ghost use Rattle.std.specs.Prelude.{◌≡◌, false, IfNone, IfSome, Ok, OnErr, IsTrue};
 ghost use Rattle.h41_codes.specs.ShortLines.{line_of};
 ghost use Rattle.h41_focal.specs.BriefOutcomes.{end_told};
 ghost use Rattle.h41_focal.specs.LabelledMachine.{machine_of};
-ghost use Rattle.h41_focal.specs.declared.origin.Origin.TheVariants.{Program};
 ghost use Rattle.h41_focal.specs.LineStep.{Stands};
 ghost use Rattle.h41_focal.specs.private.Carrying.{StandsNoNumber, StandsNoShort, StandsNumber};
 ghost use Rattle.h41_focal.specs.private.Carrying.{TakesBriefly};
@@ -32,18 +31,20 @@ use h41_positions::{Position, short_line};
 use h41_ram::Ram;
 
 /// The short line that stands at the position itself, and the position of the next, as `standing` answers them; `None` also where
-/// `standing` has to tell more.
+/// `standing` has to tell more, and where the mark of memory is set.
 #[inline(always)]
 pub fn short_standing<const REGS: usize>(
     machine: &Machine<REGS>,
     pages: &Pages,
 ) -> Option<(ShortLine, Position)>
+    ensures clear { IfSome result (λ found. machine.now.ram.touched ≡ false) }
     ensures some { IfSome result
         (λ found. Stands pages.now (machine_of machine.now) (Ok (line_of found.0, found.1))) }
-    ensures none { IfNone result (StandsNoShort pages.now (machine_of machine.now)) }
+    ensures none { IfNone result
+        (machine.now.ram.touched ≡ false → StandsNoShort pages.now (machine_of machine.now)) }
 {
     let Machine { ram, focal } = machine;
-    if !ram.is_sound() {
+    if !ram.is_sound() || ram.program_touched() {
         return None;
     }
     short_line(ram, pages, focal.position)
@@ -70,59 +71,51 @@ pub fn number_standing<const REGS: usize>(machine: &Machine<REGS>) -> Option<(Te
     }
 }
 
-/// A short line of a program is carried out, whose next stands at a position. Where it was done and there is nothing to tell of it,
-/// that is the answer; else `told` tells how it ended, but for the texts of an outcome: 13 where it is left out.
+/// A short line is carried out. Where it was done and there is nothing to tell of it, that is the answer; else `told` tells how it
+/// ended, but for the texts of an outcome: 13 where it is left out.
 #[inline(always)]
 pub fn carry_short<const REGS: usize>(
     machine: &mut Machine<REGS>,
     pages: &Pages,
-    next: Position,
+    origin: Origin,
     line: ShortLine,
     told: &mut Result<BriefOutcome, FocalRefusal>,
 ) -> bool
     requires sound { IsTrue (is_sound machine.old.ram.registers) }
     requires right { IsRight machine.old.focal.labels machine.old.ram.registers }
-    ensures taken { TakesBriefly pages.now (Program next) (line_of line)
+    ensures taken { TakesBriefly pages.now origin (line_of line)
         (machine_of machine.old) (machine_of machine.new) (end_told result told.new) }
     ensures unchanged { OnErr (end_told result told.new) (machine.new ≡ machine.old) }
-    ensures kept { AsksOf (Program next) (line_of line) machine.old machine.new }
+    ensures kept { AsksOf origin (line_of line) machine.old machine.new }
     ensures mark { KeepsMark machine.old.ram machine.new.ram }
     ensures left { LeavesMark machine.old.ram machine.new.ram }
 {
     match line {
-        ShortLine::LocalLabel(_) => is_done(Ok(be_silent(machine, Origin::Program(next))), told),
-        ShortLine::Register(function, register) => {
-            is_done(
-                short(machine, Origin::Program(next), function, register),
-                told,
-            )
-        }
-        ShortLine::Plain(function) => plain_at_once(machine, pages, next, function, told),
-        ShortLine::WithOperand(function, operand) => {
-            is_done(
-                with_operand(machine, pages, Origin::Program(next), function, &operand),
-                told,
-            )
-        }
+        ShortLine::LocalLabel(_) => is_done(Ok(be_silent(machine, origin)), told),
+        ShortLine::Register(function, register) => is_done(
+            short(machine, origin, function, register),
+            told,
+        ),
+        ShortLine::Plain(function) => plain_at_once(machine, pages, origin, function, told),
+        ShortLine::WithOperand(function, operand) => is_done(
+            with_operand(machine, pages, origin, function, &operand),
+            told,
+        ),
         ShortLine::Module(_, _) => is_done(Ok(BriefOutcome::Elsewhere), told),
-        ShortLine::BranchIndirect(branch, register) => {
-            is_done(
-                indirect(machine, pages, Origin::Program(next), branch, register),
-                told,
-            )
-        }
+        ShortLine::BranchIndirect(branch, register) => is_done(
+            indirect(machine, pages, origin, branch, register),
+            told,
+        ),
         ShortLine::ShortGoTo(label, _) => {
             let label = Parameter::new(label.number());
             is_done(
-                Ok(to_label(machine, pages, Origin::Program(next), Branch::GoTo, label)),
+                Ok(to_label(machine, pages, origin, Branch::GoTo, label)),
                 told,
             )
         }
-        ShortLine::BranchTo(branch, _, _, label) => {
-            is_done(
-                Ok(to_label(machine, pages, Origin::Program(next), branch, label)),
-                told,
-            )
-        }
+        ShortLine::BranchTo(branch, _, _, label) => is_done(
+            Ok(to_label(machine, pages, origin, branch, label)),
+            told,
+        ),
     }
 }

@@ -1,4 +1,4 @@
-use Rattle.std.proofs.Common.{IfNone, IfSome, Ok, ap, rules, subst}
+use Rattle.std.proofs.Common.{IfNone, IfSome, None, Ok, Option, Some, ap, rules, subst}
 use Rattle.h41_codes.specs.ShortLines.{line_of}
 use Rattle.h41_focal.proofs.LinesTaken.{no_short_stands, short_stands}
 use Rattle.h41_focal.specs.private.Carrying.{StandsNoShort}
@@ -13,8 +13,13 @@ returns-clause-some g c =
     (ap machine_of c.machine.view_is)
     (short_stands c.args.pages.now machine.memory machine.focal.position c.short_line.result (search rules) (search rules))
 
+unless : {A : Type 0} (found : Option A) (P Q : Type 0) → IfNone found P → IfNone found (Q → P)
+unless None P Q none = λ q. none
+unless (Some x) P Q none = none
+
 pub returns-clause-none : goal.returns-clause-none
 returns-clause-none g c =
     let machine = machine_with c.machine.inside.ram.registers c.machine.inside.focal.state in
-    subst (λ (of : Machine). IfNone c.short_line.result (StandsNoShort c.args.pages.now of)) (ap machine_of c.machine.view_is)
-    (no_short_stands c.args.pages.now machine c.short_line.result (search rules))
+    unless c.short_line.result (StandsNoShort c.args.pages.now (machine_of c.args.machine.now)) _
+    (subst (λ (of : Machine). IfNone c.short_line.result (StandsNoShort c.args.pages.now of)) (ap machine_of c.machine.view_is)
+    (no_short_stands c.args.pages.now machine c.short_line.result (search rules)))

@@ -2,11 +2,12 @@
 
 ghost use Rattle.std.specs.Prelude.{◌≡◌, ℕ, ◌+◌, ◌*◌, ◌^◌, ◌<◌, ◌≤◌, IfSome, Some, None};
 ghost use Rattle.std.specs.Prelude.{slice_index};
-ghost use Rattle.h41_decimal.specs.private.PackedDigits.{decimal_of, hundreds_of, word_of_digits};
+ghost use Rattle.h41_decimal.specs.private.PackedDigits.{decimal_of, hundreds_of, steps_told};
+ghost use Rattle.h41_decimal.specs.private.PackedDigits.{word_of_digits};
 ghost use Rattle.h41_decimal.specs.Signs.{with_sign};
 ghost use Rattle.std.specs.Option.{option_map};
 ghost use Rattle.h41_decimal.specs.Units.{size, units};
-ghost use Rattle.h41_decimal.specs.Holding.{decimal_in, sign_in, steps_in, parts_worth, holding_of};
+ghost use Rattle.h41_decimal.specs.Holding.{decimal_in, sign_in, steps_in, holding_of};
 ghost use Rattle.h41_decimal.specs.Holding.{worth, Number};
 
 use crate::parts::{Exponent, Magnitude, Mantissa};
@@ -34,7 +35,7 @@ const PACKED_PAIRS: [u8; 100] = [
     0x96, 0x97, 0x98, 0x99,
 ];
 
-/// The number that a register holds, or nothing where it holds none.
+/// The number that a register holds, or nothing where it holds none. Zero is all zeros, so that no other mantissa begins with one.
 #[inline(always)]
 pub fn read(register: Reg) -> Option<Ten>
     ensures { option_map units result ≡ worth (holding_of register) }
@@ -43,8 +44,14 @@ pub fn read(register: Reg) -> Option<Ten>
         return Some(Ten::Zero);
     }
     let mantissa = decimal_digits(register, 3, 10)?;
-    let exponent = decimal_digits(register, 0, 3)?;
-    number(mantissa, exponent, register.get(13))
+    if mantissa < 1_000_000_000 {
+        return None;
+    }
+    let sign = sign_of(register.get(13))?;
+    let biased = steps(register)?;
+    let mantissa = Mantissa { digits: mantissa };
+    let exponent = Exponent { biased };
+    Some(Ten::Nonzero(sign, Magnitude { mantissa, exponent }))
 }
 
 /// The number of so many decimal digits from a place up, or nothing where one of them is above 9.
@@ -84,24 +91,6 @@ fn hundreds(bytes: u64) -> u64
     low + 10_000 * middle + 100_000_000 * (bytes / 0x1_0000_0000)
 }
 
-/// The number of a mantissa, an exponent as its three digits are written, and the digit of the sign.
-#[inline(always)]
-fn number(mantissa: u64, exponent: u64, sign: u8) -> Option<Ten>
-    requires mantissa { mantissa < 10 ^ 10 }
-    requires exponent { exponent < 10 ^ 3 }
-    ensures { option_map units result ≡ parts_worth (Some mantissa) (Some exponent) sign }
-{
-    if mantissa < 1_000_000_000 {
-        let is_zero = mantissa == 0 && exponent == 0 && sign == 0;
-        return if is_zero { Some(Ten::Zero) } else { None };
-    }
-    let sign = sign_of(sign)?;
-    let biased = steps_of(exponent)?;
-    let mantissa = Mantissa { digits: mantissa };
-    let exponent = Exponent { biased };
-    Some(Ten::Nonzero(sign, Magnitude { mantissa, exponent }))
-}
-
 /// The sign that a digit stands for.
 #[inline(always)]
 fn sign_of(digit: u8) -> Option<Sign>
@@ -114,19 +103,22 @@ fn sign_of(digit: u8) -> Option<Sign>
     }
 }
 
-/// The exponent that three digits stand for, counted from -99.
+/// The exponent that the last three digits stand for, counted from -99.
 #[inline(always)]
-fn steps_of(exponent: u64) -> Option<u32>
-    requires { exponent < 10 ^ 3 }
-    ensures value { result ≡ steps_in exponent }
+fn steps(register: Reg) -> Option<u32>
+    ensures value { result ≡ steps_told (decimal_in register 0 3) }
     ensures bound { IfSome result (λ steps. steps ≤ 198) }
 {
-    if exponent <= 99 {
-        Some((exponent + 99) as u32)
-    } else if exponent >= 901 {
-        Some((exponent - 901) as u32)
-    } else {
-        None
+    let tens = register.get(1);
+    let ones = register.get(0);
+    if ones > 9 || tens > 9 {
+        return None;
+    }
+    let size = u32::from(10 * tens + ones);
+    match register.get(2) {
+        0 => Some(size + 99),
+        9 if size > 0 => Some(size - 1),
+        _ => None,
     }
 }
 

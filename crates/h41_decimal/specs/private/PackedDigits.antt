@@ -2,6 +2,7 @@
 use Rattle.std.specs.Prelude.{ℕ, zero, suc, ◌+◌, ◌*◌, ◌/◌, ◌%◌, Option, Some, None, nat_le}
 use Rattle.std.specs.Prelude.{if◌then◌else◌}
 use Rattle.std.specs.Option.{option_map}
+use Rattle.h41_decimal.specs.Holding.{steps_in}
 
 -- so many of them, the lowest in the lowest bits
 abbrev pub word_of_digits : ℕ → ℕ → ℕ
@@ -20,3 +21,8 @@ decimal_of (suc count) digits =
 abbrev pub hundreds_of : ℕ → ℕ → ℕ
 hundreds_of zero bytes = 0
 hundreds_of (suc count) bytes = bytes % 256 + 100 * hundreds_of count (bytes / 256)
+
+-- the exponent of three digits that may be told, counted from -99
+abbrev pub steps_told : Option ℕ → Option ℕ
+steps_told (Some exponent) = steps_in exponent
+steps_told None = None

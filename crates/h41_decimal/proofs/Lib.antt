@@ -5,6 +5,7 @@ pub mod Signed
 pub mod Differences
 pub mod Tens
 pub mod Steps
+pub mod Tables
 pub mod Registers
 pub mod Determined
 pub mod Floors

@@ -36,22 +36,6 @@ pub no_digit_behind : (count digits : ℕ) → decimal_of count (digits / 16) �
 no_digit_behind count digits none =
     none_either (nat_le (digits % 16) 9) (λ rest. digits % 16 + 10 * rest) (decimal_of count (digits / 16)) none
 
--- digits behind the last are zeros
-decimal_of-zero : (count : ℕ) → decimal_of count 0 ≡ Some 0
-decimal_of-zero zero = refl
-decimal_of-zero (suc count) = ap (option_map (λ rest. 0 + 10 * rest)) (decimal_of-zero count)
-
-pub decimal_of-longer : (more few digits : ℕ) → few ≤ more → digits < 16 ^ few → decimal_of more digits ≡ decimal_of few digits
-decimal_of-longer zero zero digits fits small = refl
-decimal_of-longer zero (suc few) digits fits small = absurd (omega arith)
-decimal_of-longer (suc more) zero digits fits small =
-    let none : digits ≡ 0 = omega arith in
-    ap (decimal_of (suc more)) none ∙ decimal_of-zero (suc more)
-decimal_of-longer (suc more) (suc few) digits fits small =
-    let rest_small : digits / 16 < 16 ^ few = omega (arith, pow-succ' 16 few) in
-    ap (λ others. if nat_le (digits % 16) 9 then option_map (λ rest. digits % 16 + 10 * rest) others else None)
-    (decimal_of-longer more few (digits / 16) (omega arith) rest_small)
-
 -- digits that were packed
 decimal_of-packed : (count number : ℕ) → number < 10 ^ count → decimal_of count (word_of_digits count number) ≡ Some number
 decimal_of-packed zero number small = ap Some (omega (arith, small))

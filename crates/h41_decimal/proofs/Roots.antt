@@ -1,45 +1,18 @@
--- Square roots of whole numbers, by Newton's method.
-use Rattle.std.proofs.Common.{◌≡◌, ℕ, zero, suc, ◌+◌, ◌-◌, ◌*◌, ◌/◌, ◌%◌, ◌^◌, ◌<◌, ◌≤◌, ⊎_elim, arith}
-use Rattle.std.proofs.Math.Nat.{mul-le-mul, pow-le-pow_right, le_of_mul-le-mul_right, lt-div-mul-add}
-use Rattle.std.proofs.lemmas.Nat.{div_below}
+-- Square roots of whole numbers.
+use Rattle.std.proofs.Common.{◌≡◌, ℕ, zero, suc, ◌+◌, ◌-◌, ◌*◌, ◌%◌, ◌^◌, ◌<◌, ◌≤◌, ⊎_elim, arith}
+use Rattle.std.proofs.Math.Nat.{mul-le-mul, pow-le-pow_right, le_of_mul-le-mul_right}
 use Rattle.std.proofs.lemmas.Bool.{cases_lt}
 
--- the mean of two numbers is not below the root of their product
-mean_ordered : (a k : ℕ) → 4 * (a * (a + k)) ≤ (a + (a + k)) * (a + (a + k))
-mean_ordered a k = omega arith
-
-mean_square : (a b : ℕ) → 4 * (a * b) ≤ (a + b) * (a + b)
-mean_square a b =
+-- the root of a number of 11 or 12 digits has six
+pub six_digits : (n s : ℕ) → 10 ^ 10 ≤ n → n < (s + 1) * (s + 1) → 10 ^ 5 ≤ s
+six_digits n s size above =
     ⊎_elim
-    (λ (less : a < b).
-    let e : a + (b - a) ≡ b = omega arith in
-    rw e at (mean_ordered a (b - a)))
-    (λ (enough : b ≤ a).
-    let e : b + (a - b) ≡ a = omega arith in
-    let h : 4 * (b * a) ≤ (b + a) * (b + a) = rw e at (mean_ordered b (a - b)) in
-    omega arith)
-    (cases_lt a b)
-
--- so a step of Newton's method does not lead below the root
-pub step_above : (n x : ℕ) → 0 < x → n < ((x + n / x) / 2 + 1) * ((x + n / x) / 2 + 1)
-step_above n x some =
-    let q = n / x in
-    let y = (x + q) / 2 in
-    let high : n < q * x + x = lt-div-mul-add some in
-    let product : 4 * (x * (q + 1)) ≤ (x + (q + 1)) * (x + (q + 1)) = mean_square x (q + 1) in
-    let twice : x + (q + 1) ≤ 2 * (y + 1) = omega arith in
-    let square : (x + (q + 1)) * (x + (q + 1)) ≤ (2 * (y + 1)) * (2 * (y + 1)) = mul-le-mul twice twice in
-    quarter n x q (y + 1) high product square
-  where
-    quarter : (n x q y : ℕ) → n < q * x + x → 4 * (x * (q + 1)) ≤ (x + (q + 1)) * (x + (q + 1))
-        → (x + (q + 1)) * (x + (q + 1)) ≤ (2 * y) * (2 * y) → n < y * y
-    quarter n x q y high product square = omega arith
-
--- from above the root it leads down
-pub step_falls : (n x : ℕ) → 0 < x → n < x * x → (x + n / x) / 2 < x
-step_falls n x some above =
-    let less : n / x < x = div_below n x x some above in
-    omega arith
+    (λ (less : s < 10 ^ 5).
+    let next : s + 1 ≤ 10 ^ 5 = omega arith in
+    let square : (s + 1) * (s + 1) ≤ 10 ^ 5 * 10 ^ 5 = mul-le-mul next next in
+    absurd (omega arith))
+    (λ (enough : 10 ^ 5 ≤ s). enough)
+    (cases_lt s (10 ^ 5))
 
 -- five digits more of a root s, of what its square lacks: where they are too high, one less is not
 pub more_below : (n s d e : ℕ) → s * s + d ≡ n → d ≤ 2 * s → 10 ^ 5 ≤ s → e * (2 * s) ≤ d * 10 ^ 5

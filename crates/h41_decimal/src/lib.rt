@@ -4,6 +4,7 @@
 mod entry;
 pub mod fault;
 pub mod laws;
+mod likely;
 mod modulo;
 pub mod parts;
 pub mod places;

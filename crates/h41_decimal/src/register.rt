@@ -35,7 +35,24 @@ const PACKED_PAIRS: [u8; 100] = [
     0x96, 0x97, 0x98, 0x99,
 ];
 
-/// The number that a register holds, or nothing where it holds none. Zero is all zeros, so that no other mantissa begins with one.
+/// The two decimal digits that stand in each byte as a number, and 255 for a byte of which a half is above 9.
+const UNPACKED_PAIRS: [u8; 256] = [
+    0, 1, 2, 3, 4, 5, 6, 7, 8, 9, 255, 255, 255, 255, 255, 255, 10, 11, 12, 13, 14, 15, 16, 17, 18,
+    19, 255, 255, 255, 255, 255, 255, 20, 21, 22, 23, 24, 25, 26, 27, 28, 29, 255, 255, 255, 255,
+    255, 255, 30, 31, 32, 33, 34, 35, 36, 37, 38, 39, 255, 255, 255, 255, 255, 255, 40, 41, 42, 43,
+    44, 45, 46, 47, 48, 49, 255, 255, 255, 255, 255, 255, 50, 51, 52, 53, 54, 55, 56, 57, 58, 59,
+    255, 255, 255, 255, 255, 255, 60, 61, 62, 63, 64, 65, 66, 67, 68, 69, 255, 255, 255, 255, 255,
+    255, 70, 71, 72, 73, 74, 75, 76, 77, 78, 79, 255, 255, 255, 255, 255, 255, 80, 81, 82, 83, 84,
+    85, 86, 87, 88, 89, 255, 255, 255, 255, 255, 255, 90, 91, 92, 93, 94, 95, 96, 97, 98, 99, 255,
+    255, 255, 255, 255, 255, 255, 255, 255, 255, 255, 255, 255, 255, 255, 255, 255, 255, 255, 255,
+    255, 255, 255, 255, 255, 255, 255, 255, 255, 255, 255, 255, 255, 255, 255, 255, 255, 255, 255,
+    255, 255, 255, 255, 255, 255, 255, 255, 255, 255, 255, 255, 255, 255, 255, 255, 255, 255, 255,
+    255, 255, 255, 255, 255, 255, 255, 255, 255, 255, 255, 255, 255, 255, 255, 255, 255, 255, 255,
+    255, 255, 255, 255, 255, 255, 255, 255, 255, 255, 255, 255, 255, 255, 255, 255, 255, 255, 255,
+    255, 255, 255, 255, 255, 255,
+];
+
+/// The number that a register holds, or nothing where it holds none. Zero is all zeros, and no other mantissa begins with a zero.
 #[inline(always)]
 pub fn read(register: Reg) -> Option<Ten>
     ensures { option_map units result ≡ worth (holding_of register) }
@@ -43,27 +60,24 @@ pub fn read(register: Reg) -> Option<Ten>
     if register.to_u64() == 0 {
         return Some(Ten::Zero);
     }
-    let mantissa = decimal_digits(register, 3, 10)?;
-    if mantissa < 1_000_000_000 {
+    let digits = mantissa_digits(register)?;
+    if digits < 1_000_000_000 {
         return None;
     }
     let sign = sign_of(register.get(13))?;
     let biased = steps(register)?;
-    let mantissa = Mantissa { digits: mantissa };
+    let mantissa = Mantissa { digits };
     let exponent = Exponent { biased };
     Some(Ten::Nonzero(sign, Magnitude { mantissa, exponent }))
 }
 
-/// The number of so many decimal digits from a place up, or nothing where one of them is above 9.
+/// The ten digits of a register's mantissa as a number, or nothing where one of them is above 9.
 #[inline(always)]
-fn decimal_digits(register: Reg, place: usize, count: usize) -> Option<u64>
-    requires places { place + count ≤ 14 }
-    requires some { 0 < count }
-    requires few { count ≤ 10 }
-    ensures value { result ≡ decimal_in register place count }
-    ensures bound { IfSome result (λ number. number < 10 ^ count) }
+fn mantissa_digits(register: Reg) -> Option<u64>
+    ensures value { result ≡ decimal_in register 3 10 }
+    ensures bound { IfSome result (λ number. number < 10 ^ 10) }
 {
-    unpacked(register.number(place, place + count - 1))
+    unpacked(register.number(3, 12))
 }
 
 /// The number of ten decimal digits in four bits each, or nothing where one of them is above 9.
@@ -109,17 +123,22 @@ fn steps(register: Reg) -> Option<u32>
     ensures value { result ≡ steps_told (decimal_in register 0 3) }
     ensures bound { IfSome result (λ steps. steps ≤ 198) }
 {
-    let tens = register.get(1);
-    let ones = register.get(0);
-    if ones > 9 || tens > 9 {
-        return None;
-    }
-    let size = u32::from(10 * tens + ones);
+    let size = unpacked_pair(register.byte(0))?;
     match register.get(2) {
-        0 => Some(size + 99),
-        9 if size > 0 => Some(size - 1),
+        0 => Some(u32::from(size) + 99),
+        9 if size > 0 => Some(u32::from(size) - 1),
         _ => None,
     }
+}
+
+/// The number whose two decimal digits stand in a byte, or nothing where one of them is above 9.
+#[inline(always)]
+fn unpacked_pair(byte: u8) -> Option<u8>
+    ensures value { result ≡ decimal_of 2 byte }
+    ensures bound { IfSome result (λ number. number < 100) }
+{
+    let number = UNPACKED_PAIRS[usize::from(byte)];
+    if number < 100 { Some(number) } else { None }
 }
 
 /// The register that holds a number.

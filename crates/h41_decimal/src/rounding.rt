@@ -44,6 +44,7 @@ pub fn power_of_ten(power: u32) -> u64
 }
 
 /// A number without its last digits, so many of them, 0 to 10. It divides by constants, since that is quicker.
+#[inline(always)]
 pub fn without_last(number: u64, digits: u32) -> u64
     requires { digits ≤ 10 }
     ensures { result ≡ number / 10 ^ digits }

@@ -8,6 +8,7 @@ ghost use Rattle.h41_decimal.specs.NearestDecimal.{IsRounded, Nearest, Fraction,
 ghost use Rattle.h41_decimal.specs.Operations.{RoundsTo};
 
 use crate::fault::DecimalFault;
+use crate::likely;
 use crate::parts::Magnitude;
 use crate::rounding::{UNIT_SCALE, power_of_ten, round_whole, without_last};
 use crate::sign::Sign;
@@ -51,10 +52,38 @@ fn product_cut(x: Magnitude, y: Magnitude) -> u64
 pub fn divide(sign: Sign, x: Magnitude, y: Magnitude) -> Result<Ten, DecimalFault>
     ensures { IsRounded sign (Fraction (size x * size y * one) (size y * size y)) result }
 {
-    let dividend = x.mantissa.digits * 1_000_000_000;
-    let divisor = y.mantissa.digits;
-    let quotient = dividend / divisor * 100 + dividend % divisor * 100 / divisor;
+    let quotient = quotient_cut(x.mantissa.digits, y.mantissa.digits);
     round_whole(sign, quotient, x.steps() + 225 - y.steps())
+}
+
+/// 10^11 times a number of up to ten digits divided by one of ten, cut to a whole number: the likely one where its product says so.
+#[inline(always)]
+fn quotient_cut(number: u64, divisor: u64) -> u64
+    requires few { number < 10 ^ 10 }
+    requires long { 10 ^ 9 ≤ divisor }
+    requires few_by { divisor < 10 ^ 10 }
+    ensures { result ≡ number * 10 ^ 11 / divisor }
+{
+    let likely = likely::quotient(number, divisor);
+    let product = u128::from(likely) * u128::from(divisor);
+    let whole = u128::from(number) * 100_000_000_000;
+    if product <= whole && whole - product < u128::from(divisor) {
+        likely
+    } else {
+        quotient_by_parts(number, divisor)
+    }
+}
+
+/// The same quotient, of which its first digits and its last two are found apart.
+#[inline(never)]
+fn quotient_by_parts(number: u64, divisor: u64) -> u64
+    requires few { number < 10 ^ 10 }
+    requires long { 10 ^ 9 ≤ divisor }
+    requires few_by { divisor < 10 ^ 10 }
+    ensures { result ≡ number * 10 ^ 11 / divisor }
+{
+    let dividend = number * 1_000_000_000;
+    dividend / divisor * 100 + dividend % divisor * 100 / divisor
 }
 
 /// The square root of a size. It is taken of a whole number of 21 or 22 digits, at an even power of ten.
@@ -67,8 +96,7 @@ pub fn root(x: Magnitude) -> Result<Ten, DecimalFault>
     round_whole(Sign::Plus, root, UNIT_SCALE + (steps + 98 - filled) / 2)
 }
 
-/// The square root of 10^10 times a number of 11 or 12 digits, cut to a whole number: the root of the number itself has six
-/// of its digits, and one step of Newton's method gives five more, at most one too high.
+/// The square root of 10^10 times a number of 11 or 12 digits, cut to a whole number: the likely one where its square says so.
 fn eleven_digit_root(number: u64) -> u64
     requires at_least { 10 ^ 10 ≤ number }
     requires below { number < 10 ^ 12 }
@@ -76,7 +104,27 @@ fn eleven_digit_root(number: u64) -> u64
     ensures next { number * 10 ^ 10 < (result + 1) * (result + 1) }
     ensures long { 10 ^ 10 ≤ result }
 {
-    let six = six_digit_root(number);
+    let likely = likely::root(number);
+    let squared = u128::from(likely) * u128::from(likely);
+    let whole = u128::from(number) * 10_000_000_000;
+    if squared <= whole && whole - squared <= 2 * u128::from(likely) {
+        likely
+    } else {
+        root_by_parts(number)
+    }
+}
+
+/// The same root: that of the number itself has six of its digits, and one step of Newton's method gives five more, at most one
+/// too high.
+#[inline(never)]
+fn root_by_parts(number: u64) -> u64
+    requires at_least { 10 ^ 10 ≤ number }
+    requires below { number < 10 ^ 12 }
+    ensures square { result * result ≤ number * 10 ^ 10 }
+    ensures next { number * 10 ^ 10 < (result + 1) * (result + 1) }
+    ensures long { 10 ^ 10 ≤ result }
+{
+    let six = number.isqrt();
     let five = (number - six * six) * 100_000 / (2 * six);
     let root = six * 100_000 + five;
     if u128::from(root) * u128::from(root) > u128::from(number) * 10_000_000_000 {
@@ -84,37 +132,6 @@ fn eleven_digit_root(number: u64) -> u64
     } else {
         root
     }
-}
-
-/// The square root of a number of 11 or 12 digits, cut to a whole number: by Newton's method, from above.
-fn six_digit_root(number: u64) -> u64
-    requires at_least { 10 ^ 10 ≤ number }
-    requires below { number < 10 ^ 12 }
-    ensures square { result * result ≤ number }
-    ensures next { number < (result + 1) * (result + 1) }
-    ensures six { (10 ^ 5 ≤ result) × (result < 10 ^ 6) }
-{
-    let mut root = if number < 100_000_000_000 {
-        nearer_root(number, 180_000)
-    } else {
-        nearer_root(number, 560_000)
-    };
-    while root * root > number {
-        root = nearer_root(number, root);
-    }
-    root
-}
-
-/// One step of Newton's method, from a number to one that is not below the root.
-fn nearer_root(number: u64, root: u64) -> u64
-    requires some { 0 < root }
-    requires few { root < 10 ^ 12 }
-    requires below { number < 10 ^ 12 }
-    ensures mean { result ≡ (root + number / root) / 2 }
-    ensures above { number < (result + 1) * (result + 1) }
-    ensures falls { number < root * root → result < root }
-{
-    (root + number / root) / 2
 }
 
 /// The sum of two sizes, the first of which has no lower exponent than the second.

@@ -38,6 +38,7 @@ pub fn of_y_and_x<const REGS: usize>(
 }
 
 /// X takes a value of X, and LAST X what X held.
+#[inline(always)]
 pub fn of_x<const REGS: usize>(
     machine: &mut Machine<REGS>,
     origin: Origin,

@@ -79,6 +79,7 @@ pub fn plain_at_once<const REGS: usize>(
 {
     match work_of(function) {
         Some(FunctionWork::OfYAndX(value)) => is_done(Ok(of_y_and_x(machine, origin, value)), told),
+        Some(FunctionWork::OfX(value)) => is_done(Ok(of_x(machine, origin, value)), told),
         Some(FunctionWork::Move(movement)) => is_done(
             Ok(move_stack(machine, origin, movement)),
             told,

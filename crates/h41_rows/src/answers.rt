@@ -100,9 +100,12 @@ pub fn sign_of_one(value: ValueOfOne, number: Ten) -> Sign
 pub fn answer_of_two(value: ValueOfTwo, first: Ten, second: Ten) -> Result<Ten, DecimalFault>
     ensures { AnswersTwo value first second result }
 {
+    let added = match value {
+        ValueOfTwo::Difference => second.negated(),
+        _ => second,
+    };
     match value {
-        ValueOfTwo::Sum => first.add(second),
-        ValueOfTwo::Difference => first.sub(second),
+        ValueOfTwo::Sum | ValueOfTwo::Difference => first.add(added),
         ValueOfTwo::Product => first.mul(second),
         ValueOfTwo::Quotient => first.div(second),
         ValueOfTwo::Remainder => first.modulo(second),

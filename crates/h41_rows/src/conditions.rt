@@ -2,11 +2,9 @@
 
 ghost use Rattle.std.specs.Prelude.{◌≡◌, int_le, int_lt};
 ghost use Rattle.std.specs.Option.{option_map};
-ghost use Rattle.std.specs.Str.{bytes_eq};
 ghost use Rattle.h41_decimal.specs.Holding.{holding_of, worth};
 ghost use Rattle.h41_decimal.specs.Units.{units};
 ghost use Rattle.h41_ram.specs.NamedRegisters.{status_of};
-ghost use Rattle.h41_ram.specs.RegisterMap.{zeros};
 ghost use Rattle.h41_ram.specs.declared.status.StatusRegister.TheVariants as names;
 ghost use Rattle.h41_rows.specs.private.Comparisons.{answer_of_comparison};
 ghost use Rattle.h41_rows.specs.Computing.{Tells, condition_of};
@@ -46,42 +44,54 @@ pub fn asks<const REGS: usize>(ram: &Ram<REGS>, test: Test) -> Result<bool, Line
     ensures { Tells ram.now.registers (condition_of test) result }
 {
     match test {
-        Test::XEqualsY => Ok(x_is(ram, ram.status_register(StatusRegister::Y))),
-        Test::XDiffersFromY => Ok(!x_is(ram, ram.status_register(StatusRegister::Y))),
-        Test::XLessThanY => below(number_in_x(ram), number_in_y(ram)),
-        Test::XGreaterThanY => below(number_in_y(ram), number_in_x(ram)),
-        Test::XAtMostY => at_most(number_in_x(ram), number_in_y(ram)),
-        Test::XZero => Ok(x_is(ram, Reg::zero())),
-        Test::XNotZero => Ok(!x_is(ram, Reg::zero())),
-        Test::XPositive => below(Some(Ten::Zero), number_in_x(ram)),
-        Test::XNegative => below(number_in_x(ram), Some(Ten::Zero)),
-        Test::XAtMostZero => at_most(number_in_x(ram), Some(Ten::Zero)),
+        Test::XEqualsY => Ok(x(ram) == y(ram)),
+        Test::XDiffersFromY => Ok(x(ram) != y(ram)),
+        Test::XLessThanY => below(x(ram), y(ram)),
+        Test::XGreaterThanY => below(y(ram), x(ram)),
+        Test::XAtMostY => at_most(x(ram), y(ram)),
+        Test::XZero => Ok(x(ram) == Reg::zero()),
+        Test::XNotZero => Ok(x(ram) != Reg::zero()),
+        Test::XPositive => below(Reg::zero(), x(ram)),
+        Test::XNegative => below(x(ram), Reg::zero()),
+        Test::XAtMostZero => at_most(x(ram), Reg::zero()),
     }
 }
 
-/// Whether X holds the same digits as a register.
-fn x_is<const REGS: usize>(ram: &Ram<REGS>, register: Reg) -> bool
-    ensures { result ≡ bytes_eq (status_of ram.now.registers names.X) register }
+/// The register X.
+#[inline(always)]
+fn x<const REGS: usize>(ram: &Ram<REGS>) -> Reg
+    ensures { result ≡ status_of ram.now.registers names.X }
 {
-    ram.status_register(StatusRegister::X) == register
+    ram.status_register(StatusRegister::X)
 }
 
-/// The number in X, or nothing where it holds none.
-fn number_in_x<const REGS: usize>(ram: &Ram<REGS>) -> Option<Ten>
-    ensures { option_map units result ≡ worth (holding_of (status_of ram.now.registers names.X)) }
+/// The register Y.
+#[inline(always)]
+fn y<const REGS: usize>(ram: &Ram<REGS>) -> Reg
+    ensures { result ≡ status_of ram.now.registers names.Y }
 {
-    Ten::from_reg(ram.status_register(StatusRegister::X))
+    ram.status_register(StatusRegister::Y)
 }
 
-/// The number in Y, or nothing where it holds none.
-fn number_in_y<const REGS: usize>(ram: &Ram<REGS>) -> Option<Ten>
-    ensures { option_map units result ≡ worth (holding_of (status_of ram.now.registers names.Y)) }
+/// Whether the number in a register is below that in another, or that one of them holds none. All sizes of memory share this code.
+#[inline(never)]
+fn below(x: Reg, y: Reg) -> Result<bool, LineFault>
+    ensures { result ≡ answer_of_comparison int_lt (worth (holding_of x)) (worth (holding_of y)) }
 {
-    Ten::from_reg(ram.status_register(StatusRegister::Y))
+    numbers_below(Ten::from_reg(x), Ten::from_reg(y))
+}
+
+/// Whether the number in a register is at most that in another, or that one of them holds none. All sizes of memory share this code.
+#[inline(never)]
+fn at_most(x: Reg, y: Reg) -> Result<bool, LineFault>
+    ensures { result ≡ answer_of_comparison int_le (worth (holding_of x)) (worth (holding_of y)) }
+{
+    numbers_at_most(Ten::from_reg(x), Ten::from_reg(y))
 }
 
 /// Whether a number is below another, or that one of them is none.
-fn below(x: Option<Ten>, y: Option<Ten>) -> Result<bool, LineFault>
+#[inline(always)]
+fn numbers_below(x: Option<Ten>, y: Option<Ten>) -> Result<bool, LineFault>
     ensures { result ≡ answer_of_comparison int_lt (option_map units x) (option_map units y) }
 {
     match (x, y) {
@@ -91,7 +101,8 @@ fn below(x: Option<Ten>, y: Option<Ten>) -> Result<bool, LineFault>
 }
 
 /// Whether a number is at most another, or that one of them is none.
-fn at_most(x: Option<Ten>, y: Option<Ten>) -> Result<bool, LineFault>
+#[inline(always)]
+fn numbers_at_most(x: Option<Ten>, y: Option<Ten>) -> Result<bool, LineFault>
     ensures { result ≡ answer_of_comparison int_le (option_map units x) (option_map units y) }
 {
     match (x, y) {

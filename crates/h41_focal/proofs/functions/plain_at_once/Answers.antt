@@ -1,7 +1,7 @@
 use Rattle.h41_focal.proofs.LinesTaken.{plain_taken}
 use Rattle.h41_focal.specs.BriefOutcomes.{end_told}
 use Rattle.h41_focal.specs.LabelledMachine.{machine_of}
-use Rattle.h41_focal.specs.declared.works.FunctionWork.TheVariants.{Move, OfYAndX}
+use Rattle.h41_focal.specs.declared.works.FunctionWork.TheVariants.{Move, OfX, OfYAndX}
 use Rattle.h41_focal.proofs.functions.plain_at_once.Goals as goal
 
 pub returns-in-Some-OfYAndX-clause-taken : goal.returns-in-Some-OfYAndX-clause-taken
@@ -18,3 +18,11 @@ returns-in-Some-Move-clause-taken g c =
     (end_told c.is_done-in-Some-Move.result c.is_done-in-Some-Move.new.told)
     (let row = c.work_of.ensures in rw (c.in-Some-Move.is, c.in-Some-Move.field-0-is) at row)
     (rw c.is_done-in-Some-Move.ensures (c.move_stack.ensures.done 0 c.args.pages.now))
+
+pub returns-in-Some-OfX-clause-taken : goal.returns-in-Some-OfX-clause-taken
+returns-in-Some-OfX-clause-taken g c =
+    plain_taken c.args.pages.now c.args.origin c.args.function (OfX c.in-Some-OfX.value)
+    (machine_of c.args.machine.now) (machine_of c.of_x.new.machine)
+    (end_told c.is_done-in-Some-OfX.result c.is_done-in-Some-OfX.new.told)
+    (let row = c.work_of.ensures in rw (c.in-Some-OfX.is, c.in-Some-OfX.field-0-is) at row)
+    (rw c.is_done-in-Some-OfX.ensures (c.of_x.ensures.done 0 c.args.pages.now))

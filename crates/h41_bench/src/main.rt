@@ -4,11 +4,11 @@
 ghost use Rattle.std.specs.Prelude.{◌≡◌, ◌≢◌, ◌∷◌, ◌≤◌, true, IfOk, IfSome, IsSome};
 ghost use Rattle.std.specs.Prelude.{codes, drop, map, string_bytes};
 ghost use Rattle.h41_bench.specs.ProgramWords.{behind_name};
-ghost use Rattle.h41_jobs.specs.CommandLine.{asks_help, asks_version, file_to_run, is_mistake};
-ghost use Rattle.h41_jobs.specs.Ending.{status_of};
+ghost use Rattle.h41_arguments.specs.CommandLine.{asks_help, asks_version, file_to_run, is_mistake};
+ghost use Rattle.h41_arguments.specs.Ending.{status_of};
 ghost use Rattle.h41_jobs.specs.Statuses.{EndsJobOf, EndsTask, IsOrFailed, IsStatus, IsTaskStatus};
 
-use h41_jobs::{Ending, Fault, FromRead, Job, ToWrite, read_words, serve, tell};
+use h41_jobs::{Ending, Fault, FromRead, Job, ToWrite, read_words, serve, tell, text_of};
 use std::alloc::{AllocError, Global};
 use std::env;
 use std::fs::File;
@@ -86,7 +86,7 @@ fn named(alloc: Global, words: &[String]) -> Result<Vec<&str>, AllocError>
 fn end(rt: &HostRuntime, ending: &Ending) -> u8
     ensures { IsOrFailed (status_of ending.now) result }
 {
-    let text = ending.text();
+    let text = text_of(ending);
     let printed = match ending {
         Ending::Help(_) => print!(rt; "{text}"),
         Ending::Mistake(_) => eprint!(rt; "{text}"),

@@ -1,8 +1,4 @@
-pub mod BenchCommand
-pub mod CommandLine
-pub mod Ending
 pub mod Inputs
-pub mod MemorySizes
 pub mod Outputs
 pub mod Statuses
 pub mod Tasks

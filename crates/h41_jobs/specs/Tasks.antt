@@ -20,13 +20,13 @@ use Rattle.h41_ends.specs.InputLines.{bytes_within}
 use Rattle.h41_commands.specs.PageBlocks.{SourceMakes}
 use Rattle.h41_deck.specs.Refusals.{refusal_line}
 use Rattle.h41_dis.specs.Spelling.{spell}
-use Rattle.h41_jobs.specs.declared.arguments.Job.{Job}
-use Rattle.h41_jobs.specs.declared.arguments.Task.{Task}
-use Rattle.h41_jobs.specs.declared.arguments.Task.TheVariants as tasks
+use Rattle.h41_arguments.specs.declared.arguments.Job.{Job}
+use Rattle.h41_arguments.specs.declared.arguments.Task.{Task}
+use Rattle.h41_arguments.specs.declared.arguments.Task.TheVariants as tasks
 use Rattle.h41_jobs.specs.declared.ended.Answer.{Answer}
 use Rattle.h41_jobs.specs.declared.ended.Ended.{Ended}
 use Rattle.h41_jobs.specs.declared.ended.Ended.TheVariants.{Accepted, Refused, WrongWord}
-use Rattle.h41_jobs.specs.MemorySizes.{registers_of}
+use Rattle.h41_arguments.specs.MemorySizes.{registers_of}
 use Rattle.h41_jobs.specs.WordTexts.{WritesWords, word_lines, wrong_word}
 
 -- what a source gives at an origin, where it isn't too long: the words that it spells, or its

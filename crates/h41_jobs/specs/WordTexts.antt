@@ -4,7 +4,7 @@ use Rattle.std.specs.Prelude.{◌≡◌, ℕ, Bool, ◌==◌, ◌||◌, List, �
 use Rattle.std.specs.Prelude.{codes, not, Option, Some, is_none}
 use Rattle.std.specs.List.{position_from, slice_split}
 use Rattle.h41_digits.specs.Register.{hexadecimal_text}
-use Rattle.h41_lines.specs.Numbers.{hexadecimal, number_up_to}
+use Rattle.h41_lines.specs.Numbers.{number_up_to}
 
 -- a word's line: three hexadecimal digits, in upper case
 abbrev pub word_line : ℕ → List ℕ
@@ -34,7 +34,3 @@ WritesWords text words = map word_value (parts_of text) ≡ map (λ word. Some w
 -- the first part of a text that writes no word, counted from 1
 abbrev pub wrong_word : List ℕ → Option ℕ
 wrong_word text = position_from (λ part. is_none (word_value part)) 1 (parts_of text)
-
--- the address that an origin's digits write: there are four of them
-abbrev pub origin_value : List ℕ → Option ℕ
-origin_value digits = hexadecimal 4 4 digits

@@ -2,7 +2,7 @@
 
 ghost use Rattle.std.specs.Prelude.{◌≡◌, ◌≤◌, IfOk, length};
 ghost use Rattle.h41_ends.specs.Ends.{most_bytes};
-ghost use Rattle.h41_jobs.specs.declared.arguments.Task.TheVariants as tasks;
+ghost use Rattle.h41_arguments.specs.declared.arguments.Task.TheVariants as tasks;
 ghost use Rattle.h41_jobs.specs.Tasks.{HasAnswer};
 ghost use Rattle.h41_jobs.specs.WordTexts.{word_line, word_lines};
 

@@ -1,10 +1,9 @@
-//! The jobs of the HP-41 bench: a deck is run, a source is assembled, words are listed; and the words of a command line that
-//! ask for one.
+//! The jobs of the HP-41 bench: a deck is run, a source is assembled, words are listed.
 #![tactic(auto)]
 
-mod arguments;
 mod assemble;
 mod ended;
+mod ending;
 mod input;
 mod list;
 mod memory;
@@ -12,7 +11,7 @@ mod numbers;
 mod output;
 mod serving;
 
-pub use arguments::{Ending, Job, Task, read_words};
+pub use ending::text_of;
+pub use h41_arguments::{Ending, Job, MemorySize, Task, read_words};
 pub use h41_deck::{Fault, FromRead, Sink, Source, ToWrite};
-pub use memory::MemorySize;
 pub use serving::{serve, tell};

@@ -2,7 +2,7 @@
 
 ghost use Rattle.std.specs.Prelude.{◌≡◌, ◌≤◌, IfOk, length};
 ghost use Rattle.h41_ends.specs.Ends.{most_bytes};
-ghost use Rattle.h41_jobs.specs.declared.arguments.Task.TheVariants as tasks;
+ghost use Rattle.h41_arguments.specs.declared.arguments.Task.TheVariants as tasks;
 ghost use Rattle.h41_jobs.specs.Tasks.{HasAnswer, ReadsAs, words_or_number};
 ghost use Rattle.h41_jobs.specs.WordTexts.{is_white_space};
 

@@ -1,40 +1,12 @@
-//! The sizes that the memory of a run may have.
+//! Runs a deck with the memory that a size has.
 
 ghost use Rattle.std.specs.Prelude.{◌≡◌, ◌≢◌, true, false, Err, IfOk, OnOk};
 ghost use Rattle.h41_deck.specs.Deck.{EndsKnown, LeavesDeck, PassedOn, WritesDeck};
-ghost use Rattle.h41_jobs.specs.MemorySizes.{registers_of, size_written};
+ghost use Rattle.h41_arguments.specs.MemorySizes.{registers_of};
 
+use h41_arguments::MemorySize;
 use h41_deck::{Fault, Outcome, Sink, Source, run_deck};
 use std::alloc::Global;
-
-/// The calculator that a run's deck is for, by its main memory.
-#[derive(Clone, Copy, Debug, PartialEq, Eq)]
-pub enum MemorySize {
-    /// An HP-41C with no memory module: 64 registers.
-    BareC,
-    /// An HP-41C with one: 128.
-    OneModule,
-    /// With two: 192.
-    TwoModules,
-    /// With three: 256.
-    ThreeModules,
-    /// An HP-41CV, or an HP-41C with four modules: 320.
-    Cv,
-}
-
-/// The size that a text writes: the number of its registers, in exactly these digits.
-pub fn written_size(text: &str) -> Option<MemorySize>
-    ensures { result ≡ size_written text.now }
-{
-    match text {
-        "64" => Some(MemorySize::BareC),
-        "128" => Some(MemorySize::OneModule),
-        "192" => Some(MemorySize::TwoModules),
-        "256" => Some(MemorySize::ThreeModules),
-        "320" => Some(MemorySize::Cv),
-        _ => None,
-    }
-}
 
 /// Runs a deck on a bench whose memory has this size, as `run_deck` does; its contract is proved there, once for all sizes.
 pub fn run_with<R: Source, W: Sink>(

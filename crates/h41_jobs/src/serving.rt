@@ -10,13 +10,13 @@ ghost use Rattle.h41_jobs.specs.Tasks.{JobBegun, JobLeavesFront, JobLeavesUnread
 ghost use Rattle.h41_jobs.specs.Tasks.{MayEnd, OkWritesText, Tells, TellsWord};
 ghost use Rattle.h41_jobs.specs.Tasks.{NotRead, mistake_line};
 
-use crate::arguments::{Job, Task};
 use crate::assemble::assembly;
 use crate::ended::{Ended, mistake_line};
 use crate::input::read_input;
 use crate::list::listing;
 use crate::memory::run_with;
 use crate::output::{write_answer, write_text};
+use h41_arguments::{Job, Task};
 use h41_deck::{Fault, Sink, Source, WriteFault};
 use std::alloc::Global;
 

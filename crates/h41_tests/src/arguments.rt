@@ -1,7 +1,7 @@
 //! Rows of command lines.
 
 use crate::judge::wants;
-use h41_jobs::{MemorySize, Task, read_words};
+use h41_jobs::{MemorySize, Task, read_words, text_of};
 use std::alloc::Global;
 use std::process::Abort;
 use std::test::Fail;
@@ -121,7 +121,7 @@ fn ends<'a>(rt: &impl Abort, alloc: Global, words: &'a [&'a str], status: u8) {
 fn tells<'a>(rt: &impl Abort, alloc: Global, words: &'a [&'a str], status: u8, part: &str) {
     let holds = match read_words(alloc, words) {
         Ok(_) => false,
-        Err(ending) => ending.status() == status && ending.text().contains(part),
+        Err(ending) => ending.status() == status && text_of(&ending).contains(part),
     };
     assert!(rt; holds, "at {words:?}");
 }

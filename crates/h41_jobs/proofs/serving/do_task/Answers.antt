@@ -1,7 +1,7 @@
 use Rattle.std.proofs.Common.{◌≡◌, Err, rules, sym, ◌∙◌}
 use Rattle.std.proofs.lemmas.Result.{err_from_is_err_and}
 use Rattle.h41_deck.specs.declared.fault.Fault.TheVariants.{ReadFault, WriteFault}
-use Rattle.h41_jobs.specs.declared.arguments.Task.TheVariants as tasks
+use Rattle.h41_arguments.specs.declared.arguments.Task.TheVariants as tasks
 use Rattle.h41_jobs.specs.Inputs.{IsUnread}
 use Rattle.h41_jobs.specs.Tasks.{HasText}
 use Rattle.h41_jobs.proofs.DeckLemmas.{leaves_begun, leaves_front, leaves_unread, why_deck}

@@ -1,10 +1,10 @@
 use Rattle.std.proofs.Common.{◌≡◌, codes, Some, None, ap, sym, option_map, ◌∙◌}
 use Rattle.std.specs.Prelude.{option_and_then}
 use Rattle.clap.specs.Words.{first_of, found_of, rows_of, subcommand_rows_of}
-use Rattle.h41_jobs.specs.BenchCommand.{job_in, task_asked}
-use Rattle.h41_jobs.specs.Ending.{parts_of}
-use Rattle.h41_jobs.proofs.CommandLemmas.{met_row, named_rows}
-use Rattle.h41_jobs.proofs.arguments.job_of.Goals as goal
+use Rattle.h41_arguments.specs.BenchCommand.{job_in, task_asked}
+use Rattle.h41_arguments.specs.Ending.{parts_of}
+use Rattle.h41_arguments.proofs.CommandLemmas.{met_row, named_rows}
+use Rattle.h41_arguments.proofs.arguments.job_of.Goals as goal
 
 pub returns : goal.returns
 returns c =

@@ -1,30 +1,22 @@
 -- What the words of a command line are answered with: a job, or how the program ends.
-use Rattle.std.specs.Prelude.{◌≡◌, ◌≢◌, ◌⊎◌, ℕ, List, [], Option, MatchOption, string_bytes, Result}
+use Rattle.std.specs.Prelude.{◌≡◌, ◌≢◌, ◌⊎◌, ℕ, List, [], Option, MatchOption, Result}
 use Rattle.std.specs.Prelude.{MatchResult, IfOk, IsErrAnd}
 use Rattle.clap.specs.Words.{fault_of}
-use Rattle.h41_jobs.specs.BenchCommand.{bench_app, job_asked}
+use Rattle.h41_arguments.specs.BenchCommand.{bench_app, job_asked}
 use Rattle.clap.specs.declared.error.kind.ErrorKind.{ErrorKind}
 use Rattle.clap.specs.declared.error.kind.ErrorKind.TheVariants as kinds
-use Rattle.h41_jobs.specs.declared.arguments.Ending.{Ending}
-use Rattle.h41_jobs.specs.declared.arguments.Ending.TheVariants as endings
-use Rattle.h41_jobs.specs.declared.arguments.Job.{Job}
-use Rattle.h41_jobs.specs.declared.arguments.Task.{Task}
-use Rattle.h41_jobs.specs.declared.arguments.Task.TheVariants as tasks
-use Rattle.h41_jobs.specs.declared.memory.MemorySize.{MemorySize}
-use Rattle.h41_jobs.specs.declared.memory.MemorySize.TheVariants as sizes
-use Rattle.h41_deck.specs.declared.refusal.Refusal.TheVariants.{OutOfMemory}
-use Rattle.h41_deck.specs.Refusals.{heading}
+use Rattle.h41_arguments.specs.declared.arguments.Ending.{Ending}
+use Rattle.h41_arguments.specs.declared.arguments.Ending.TheVariants as endings
+use Rattle.h41_arguments.specs.declared.arguments.Job.{Job}
+use Rattle.h41_arguments.specs.declared.arguments.Task.{Task}
+use Rattle.h41_arguments.specs.declared.arguments.Task.TheVariants as tasks
+use Rattle.h41_arguments.specs.declared.memory.MemorySize.{MemorySize}
+use Rattle.h41_arguments.specs.declared.memory.MemorySize.TheVariants as sizes
 
 abbrev pub status_of : Ending → ℕ
 status_of (endings.Help text) = 0
 status_of (endings.Mistake text) = 2
 status_of endings.OutOfMemory = 3
-
--- the text
-abbrev pub text_of : Ending → List ℕ
-text_of (endings.Help text) = string_bytes text
-text_of (endings.Mistake text) = string_bytes text
-text_of endings.OutOfMemory = heading OutOfMemory
 
 -- the status, where memory did not run out
 abbrev pub EndsWith : ℕ → Ending → Type 0

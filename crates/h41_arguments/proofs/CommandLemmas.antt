@@ -19,22 +19,22 @@ use Rattle.clap.specs.declared.parser.matches.ArgMatches.{ArgMatches}
 use Rattle.clap.specs.declared.parser.matches.ArgMatches.TheViews.{out-ArgMatches, out-SubCommand}
 use Rattle.clap.proofs.OnLiterals.{clap_on_literals}
 use Rattle.clap.proofs.WalkLemmas.{both}
-use Rattle.h41_jobs.specs.BenchCommand.{bench_app, command_in, job_asked, job_in, origin_asked}
-use Rattle.h41_jobs.specs.declared.arguments.Task.{Task}
-use Rattle.h41_jobs.specs.declared.arguments.Task.TheVariants as tasks
-use Rattle.h41_jobs.specs.declared.memory.MemorySize.{MemorySize}
-use Rattle.h41_jobs.specs.declared.memory.MemorySize.TheVariants as sizes
-use Rattle.h41_jobs.specs.declared.arguments.Ending.{Ending}
-use Rattle.h41_jobs.specs.declared.arguments.Ending.TheVariants as endings
-use Rattle.h41_jobs.specs.declared.arguments.Job.{Job}
-use Rattle.h41_jobs.specs.Ending.{AsksFor, AsksForNoRun, AsksToRun, GivesJob, parts_of}
-use Rattle.h41_jobs.specs.CommandLine.{asks_help, asks_version, has_wrong_files, is_command, is_help_flag, is_mistake}
-use Rattle.h41_jobs.specs.CommandLine.{give_memory, is_flag, is_last_flag, is_memory_flag, file_to_run}
-use Rattle.h41_jobs.proofs.WordTurns.{nothing_left, last_flag, is_last, at, flag_turn, plain_turn}
-use Rattle.h41_jobs.proofs.WordTurns.{walk_split}
-use Rattle.h41_jobs.proofs.CommandWalks.{top, names, leaf, top_refuses, taken, first_plain, second_plain, stops_at}
-use Rattle.h41_jobs.proofs.CommandWalks.{command_fault, rows_below, command_met, below_fault, CommandName, run_name}
-use Rattle.h41_jobs.proofs.CommandWalks.{asm_name, dis_name, name_text}
+use Rattle.h41_arguments.specs.BenchCommand.{bench_app, command_in, job_asked, job_in, origin_asked}
+use Rattle.h41_arguments.specs.declared.arguments.Task.{Task}
+use Rattle.h41_arguments.specs.declared.arguments.Task.TheVariants as tasks
+use Rattle.h41_arguments.specs.declared.memory.MemorySize.{MemorySize}
+use Rattle.h41_arguments.specs.declared.memory.MemorySize.TheVariants as sizes
+use Rattle.h41_arguments.specs.declared.arguments.Ending.{Ending}
+use Rattle.h41_arguments.specs.declared.arguments.Ending.TheVariants as endings
+use Rattle.h41_arguments.specs.declared.arguments.Job.{Job}
+use Rattle.h41_arguments.specs.Ending.{AsksFor, AsksForNoRun, AsksToRun, GivesJob, parts_of}
+use Rattle.h41_arguments.specs.CommandLine.{asks_help, asks_version, has_wrong_files, is_command, is_help_flag, is_mistake}
+use Rattle.h41_arguments.specs.CommandLine.{give_memory, is_flag, is_last_flag, is_memory_flag, file_to_run}
+use Rattle.h41_arguments.proofs.WordTurns.{nothing_left, last_flag, is_last, at, flag_turn, plain_turn}
+use Rattle.h41_arguments.proofs.WordTurns.{walk_split}
+use Rattle.h41_arguments.proofs.CommandWalks.{top, names, leaf, top_refuses, taken, first_plain, second_plain, stops_at}
+use Rattle.h41_arguments.proofs.CommandWalks.{command_fault, rows_below, command_met, below_fault, CommandName, run_name}
+use Rattle.h41_arguments.proofs.CommandWalks.{asm_name, dis_name, name_text}
 
 -- ---- words that a parse finds wrong
 

@@ -1,13 +1,13 @@
 use Rattle.std.proofs.Common.{inl, inr, codes, map, List, ℕ}
 use Rattle.clap.specs.declared.error.kind.ErrorKind.TheVariants as kind
-use Rattle.h41_jobs.specs.declared.arguments.Task.TheVariants as tasks
-use Rattle.h41_jobs.specs.CommandLine.{file_for, file_to_run}
-use Rattle.h41_jobs.specs.Ending.{GivesJob}
-use Rattle.h41_jobs.specs.BenchCommand.{job_asked}
-use Rattle.h41_jobs.proofs.CommandWalks.{asm_name, dis_name, file_meets, run_name}
-use Rattle.h41_jobs.proofs.CommandLemmas.{asked_of, failed_by, failed_memory, failed_mistake, gives_these, helps, if_none}
-use Rattle.h41_jobs.proofs.CommandLemmas.{if_some, mistakes, not_taken, runs_file, runs_none, runs_out, versions}
-use Rattle.h41_jobs.proofs.arguments.read_words.Goals as goal
+use Rattle.h41_arguments.specs.declared.arguments.Task.TheVariants as tasks
+use Rattle.h41_arguments.specs.CommandLine.{file_for, file_to_run}
+use Rattle.h41_arguments.specs.Ending.{GivesJob}
+use Rattle.h41_arguments.specs.BenchCommand.{job_asked}
+use Rattle.h41_arguments.proofs.CommandWalks.{asm_name, dis_name, file_meets, run_name}
+use Rattle.h41_arguments.proofs.CommandLemmas.{asked_of, failed_by, failed_memory, failed_mistake, gives_these, helps, if_none}
+use Rattle.h41_arguments.proofs.CommandLemmas.{if_some, mistakes, not_taken, runs_file, runs_none, runs_out, versions}
+use Rattle.h41_arguments.proofs.arguments.read_words.Goals as goal
 
 pub returns-in-Ok-clause-run : goal.returns-in-Ok-clause-run
 returns-in-Ok-clause-run c =

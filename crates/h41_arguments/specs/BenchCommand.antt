@@ -9,12 +9,12 @@ use Rattle.clap.specs.declared.builder.command.Command.{Command}
 use Rattle.clap.specs.declared.builder.command.Command.TheViews.{out-Command}
 use Rattle.clap.specs.declared.parser.matches.ArgMatches.{ArgMatches}
 use Rattle.clap.specs.declared.builder.action.ArgAction.TheVariants.{Set}
-use Rattle.h41_jobs.specs.declared.arguments.Task.{Task}
-use Rattle.h41_jobs.specs.declared.arguments.Task.TheVariants as tasks
-use Rattle.h41_jobs.specs.declared.memory.MemorySize.{MemorySize}
-use Rattle.h41_jobs.specs.declared.memory.MemorySize.TheVariants as sizes
-use Rattle.h41_jobs.specs.MemorySizes.{size_written}
-use Rattle.h41_jobs.specs.WordTexts.{origin_value}
+use Rattle.h41_lines.specs.Numbers.{hexadecimal}
+use Rattle.h41_arguments.specs.declared.arguments.Task.{Task}
+use Rattle.h41_arguments.specs.declared.arguments.Task.TheVariants as tasks
+use Rattle.h41_arguments.specs.declared.memory.MemorySize.{MemorySize}
+use Rattle.h41_arguments.specs.declared.memory.MemorySize.TheVariants as sizes
+use Rattle.h41_arguments.specs.MemorySizes.{size_written}
 
 abbrev pub file_rule : Rule
 file_rule = record (new_rule (codes "FILE")) { required = true; action = Some Set }
@@ -74,6 +74,10 @@ memory_asked (Some text) = size_written text
 -- the value of `--memory` in what a parse read of a command, where there is one
 abbrev pub memory_in : ArgMatches → Option Text
 memory_in command = first_of (codes "memory") (rows_of (found_of command))
+
+-- the address that an origin's digits write: there are four of them
+abbrev pub origin_value : List ℕ → Option ℕ
+origin_value digits = hexadecimal 4 4 digits
 
 -- the address that a value of `--origin` gives: 8000 where there is none
 abbrev pub origin_asked : Option Text → Option ℕ

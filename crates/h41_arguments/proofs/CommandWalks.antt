@@ -15,14 +15,14 @@ use Rattle.clap.specs.Faults.{entered_fault}
 use Rattle.clap.specs.declared.error.kind.ErrorKind.TheVariants as kind
 use Rattle.clap.proofs.FaultLemmas.{stopped_fault}
 use Rattle.clap.proofs.WalkLemmas.{walk_stopped}
-use Rattle.h41_jobs.specs.BenchCommand.{bench_app, job_asked, job_in, memory_rule, origin_app, run_app}
-use Rattle.h41_jobs.specs.declared.arguments.Task.{Task}
-use Rattle.h41_jobs.specs.declared.arguments.Task.TheVariants as tasks
-use Rattle.h41_jobs.specs.declared.memory.MemorySize.TheVariants as sizes
-use Rattle.h41_jobs.specs.CommandLine.{give_memory, is_flag, is_last_flag, is_memory_flag, only_file, file_for}
-use Rattle.h41_jobs.proofs.WordTurns.{nothing_left, help, version, NamesUnknown, Refuses, RefusesAll, refuses_either}
-use Rattle.h41_jobs.proofs.WordTurns.{last_flag, is_last, at}
-use Rattle.h41_jobs.proofs.WordTurns.{flag_turn, plain_turn, walk_split}
+use Rattle.h41_arguments.specs.BenchCommand.{bench_app, job_asked, job_in, memory_rule, origin_app, run_app}
+use Rattle.h41_arguments.specs.declared.arguments.Task.{Task}
+use Rattle.h41_arguments.specs.declared.arguments.Task.TheVariants as tasks
+use Rattle.h41_arguments.specs.declared.memory.MemorySize.TheVariants as sizes
+use Rattle.h41_arguments.specs.CommandLine.{give_memory, is_flag, is_last_flag, is_memory_flag, only_file, file_for}
+use Rattle.h41_arguments.proofs.WordTurns.{nothing_left, help, version, NamesUnknown, Refuses, RefusesAll, refuses_either}
+use Rattle.h41_arguments.proofs.WordTurns.{last_flag, is_last, at}
+use Rattle.h41_arguments.proofs.WordTurns.{flag_turn, plain_turn, walk_split}
 
 -- ---- the three commands
 

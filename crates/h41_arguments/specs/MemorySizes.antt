@@ -1,8 +1,8 @@
 -- The sizes that the memory of a run may have, and how a command line names them.
 use Rattle.std.specs.Prelude.{ℕ, List, Option, Some, None, codes, if◌then◌else◌}
 use Rattle.std.specs.Str.{bytes_eq}
-use Rattle.h41_jobs.specs.declared.memory.MemorySize.{MemorySize}
-use Rattle.h41_jobs.specs.declared.memory.MemorySize.TheVariants as sizes
+use Rattle.h41_arguments.specs.declared.memory.MemorySize.{MemorySize}
+use Rattle.h41_arguments.specs.declared.memory.MemorySize.TheVariants as sizes
 
 -- how many registers of main memory there are: 64 in a bare HP-41C, 64 more with each of up to
 -- three modules, and 320 in an HP-41CV

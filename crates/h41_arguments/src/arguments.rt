@@ -6,21 +6,19 @@ ghost use Rattle.clap.specs.Words.{FailsBy, HasMatchesOf, app_of, fault_of, firs
 ghost use Rattle.clap.specs.Words.{kind_of, rows_of, rule_of};
 ghost use Rattle.clap.specs.Words.{subcommand_rows_of};
 ghost use Rattle.clap.specs.declared.error.kind.ErrorKind.TheVariants as kind;
-ghost use Rattle.h41_jobs.specs.BenchCommand.{bench_app, file_rule, has_globals, job_in};
-ghost use Rattle.h41_jobs.specs.BenchCommand.{memory_asked, memory_in, option_app};
-ghost use Rattle.h41_jobs.specs.BenchCommand.{origin_app, origin_asked, origin_in, origin_rule};
-ghost use Rattle.h41_jobs.specs.BenchCommand.{option_rule, run_app, task_asked};
-ghost use Rattle.h41_jobs.specs.CommandLine.{asks_help, asks_version, asm_file, dis_file};
-ghost use Rattle.h41_jobs.specs.CommandLine.{file_to_run, give_memory, is_mistake};
-ghost use Rattle.h41_jobs.specs.Ending.{AsksForNoRun, AsksTo, AsksToRun, EndsAtOnce, EndsWith};
-ghost use Rattle.h41_jobs.specs.Ending.{GivesJob, GivesJobOf, IsNoHelp, parts_of, status_of};
-ghost use Rattle.h41_jobs.specs.Ending.{text_of};
+ghost use Rattle.h41_arguments.specs.BenchCommand.{bench_app, file_rule, has_globals, job_in};
+ghost use Rattle.h41_arguments.specs.BenchCommand.{memory_asked, memory_in, option_app};
+ghost use Rattle.h41_arguments.specs.BenchCommand.{origin_app, origin_asked, origin_in};
+ghost use Rattle.h41_arguments.specs.BenchCommand.{origin_rule, option_rule, run_app, task_asked};
+ghost use Rattle.h41_arguments.specs.CommandLine.{asks_help, asks_version, asm_file, dis_file};
+ghost use Rattle.h41_arguments.specs.CommandLine.{file_to_run, give_memory, is_mistake};
+ghost use Rattle.h41_arguments.specs.Ending.{AsksForNoRun, AsksTo, AsksToRun, EndsAtOnce, EndsWith};
+ghost use Rattle.h41_arguments.specs.Ending.{GivesJob, GivesJobOf, IsNoHelp, parts_of, status_of};
 
 use crate::memory::{MemorySize, written_size};
-use crate::numbers::origin_value;
+use crate::origin::origin_value;
 use clap::error::ErrorKind;
 use clap::{Arg, ArgAction, ArgMatches, Command, Error};
-use h41_deck::Refusal;
 use std::alloc::{AllocError, Global};
 
 /// What a job does with its file.
@@ -61,17 +59,6 @@ impl Ending {
             Ending::Help(_) => 0,
             Ending::Mistake(_) => 2,
             Ending::OutOfMemory => 3,
-        }
-    }
-
-    /// The text that the program prints. Where memory is refused, it is the fault's line without its end.
-    pub fn text(&self) -> &str
-        ensures { result.now ≡ text_of self.now }
-    {
-        match self {
-            Ending::Help(text) => text.as_str(),
-            Ending::Mistake(text) => text.as_str(),
-            Ending::OutOfMemory => Refusal::OutOfMemory.heading(),
         }
     }
 }

@@ -5,7 +5,7 @@ use Rattle.clap.specs.Simple.{app_of_fields}
 use Rattle.clap.specs.declared.builder.command.Command.{Command}
 use Rattle.clap.specs.declared.builder.command.Command.TheOpen.{Command-F}
 use Rattle.clap.specs.declared.builder.command.Command.TheViews.{out-Command}
-use Rattle.h41_jobs.proofs.arguments.option_command.Goals as goal
+use Rattle.h41_arguments.proofs.arguments.option_command.Goals as goal
 
 abbrev globals : Command-F Command → Bool
 globals fields = fields.has_globals

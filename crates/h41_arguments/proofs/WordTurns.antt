@@ -21,7 +21,7 @@ use Rattle.clap.specs.declared.error.kind.ErrorKind.{ErrorKind}
 use Rattle.clap.specs.declared.error.kind.ErrorKind.TheVariants as kind
 use Rattle.clap.proofs.FaultLemmas.{fault_ends}
 use Rattle.clap.proofs.WalkLemmas.{both, bundle_ends}
-use Rattle.h41_jobs.specs.CommandLine.{is_flag, is_last_flag}
+use Rattle.h41_arguments.specs.CommandLine.{is_flag, is_last_flag}
 
 -- ---- one word
 

@@ -2,8 +2,8 @@ use Rattle.std.proofs.Common.{ap, ap₂, codes, true, ◌≡◌, ◌∙◌}
 use Rattle.std.proofs.lemmas.Result.{IfOk-weaker}
 use Rattle.clap.specs.Words.{App, app_of, new_app, with_subcommand}
 use Rattle.clap.specs.Simple.{app_of_fields}
-use Rattle.h41_jobs.specs.BenchCommand.{empty_bench}
-use Rattle.h41_jobs.proofs.arguments.bench.Goals as goal
+use Rattle.h41_arguments.specs.BenchCommand.{empty_bench}
+use Rattle.h41_arguments.proofs.arguments.bench.Goals as goal
 
 -- the command with its version alone
 abbrev versioned : App

@@ -1,0 +1,4 @@
+pub mod BenchCommand
+pub mod CommandLine
+pub mod Ending
+pub mod MemorySizes

@@ -1,0 +1,9 @@
+//! The command line of the HP-41 bench: the words that ask for a job, and how the program ends where they ask for none.
+#![tactic(auto)]
+
+mod arguments;
+mod memory;
+mod origin;
+
+pub use arguments::{Ending, Job, Task, read_words};
+pub use memory::MemorySize;

@@ -39,16 +39,17 @@ class Crate:
         """A sum of all that its proof rests on."""
         return hashlib.sha256(repr([kit(), *(crate.sums() for crate in [*self.below, self])]).encode()).hexdigest()
 
-    def is_proved(self):
-        """Whether ./bench prove has proved it as it stands. This saves time and decides nothing: before rt builds the program it
-        proves what is not."""
+    def is_proved(self, stamp):
+        """Whether ./bench prove has proved it as it stands. This tells what is likely left and decides nothing: rt knows what it has
+        proved."""
         try:
             with open(f"{self.folder}/out/proved", encoding="utf-8") as file:
-                return os.path.isfile(f"{self.folder}/out/rlib/stamp") and file.read() == self.stamp()
+                return file.read() == stamp
         except OSError:
             return False
 
     def has_been_proved(self, stamp):
+        os.makedirs(f"{self.folder}/out", exist_ok=True)
         with open(f"{self.folder}/out/proved", "w", encoding="utf-8") as file:
             file.write(stamp)
 

@@ -19,7 +19,7 @@ class Crate:
         self.name, self.below, self.row, self.folder = name, below, row, f"{TOP}/crates/{name}"
         self.lines = sum(text.count(b"\n") for path, text in self.texts() if path.endswith(".rt"))
         # The seconds of one core that its proof is likely to take, by its lines and those that are loaded for it.
-        self.work = 15.5 + 0.104 * self.lines + 0.0044 * sum(crate.lines for crate in below)
+        self.work = 12.8 + 0.086 * self.lines + 0.0036 * sum(crate.lines for crate in below)
         # The work of the longest chain of crates from it up to the program.
         self.chain = self.work
 

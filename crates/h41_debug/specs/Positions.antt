@@ -1,11 +1,11 @@
 -- Where the calculator is, and its text. The form is this project's choice.
-use Rattle.std.specs.Prelude.{ℕ, ◌/◌, ◌%◌, List, ◌++◌, codes}
+use Rattle.std.specs.Prelude.{ℕ, List, ◌++◌, codes}
 use Rattle.h41_breakpoints.specs.declared.location.Location.{Location}
 use Rattle.h41_breakpoints.specs.declared.location.Location.TheVariants.{Line, Word}
 use Rattle.h41_digits.specs.Register.{hexadecimal_text}
-use Rattle.h41_lines.specs.Characters.{two_digits}
 use Rattle.h41_debug.specs.Bench.{BenchState}
 use Rattle.h41_positions.specs.declared.position.Position.TheVariants.{Memory, Page}
+use Rattle.h41_views.specs.ProgramListing.{byte_digits}
 use Rattle.h41_xrom.specs.Calculator.{CalculatorState}
 use Rattle.h41_xrom.specs.declared.calculator.Mode.{Mode}
 use Rattle.h41_xrom.specs.declared.calculator.Mode.TheVariants as modes
@@ -19,10 +19,6 @@ location_in s (modes.Micro caller) = Word s.nut.processor.pc
 
 abbrev pub location_of : CalculatorState → Location
 location_of s = location_in s s.mode
-
--- a byte of program memory by its last four decimal digits
-abbrev pub byte_digits : ℕ → List ℕ
-byte_digits byte = two_digits (byte / 100 % 100) ++ two_digits (byte % 100)
 
 -- a location by four digits, and that of a page's line by a letter before them
 abbrev pub location_digits : Location → List ℕ

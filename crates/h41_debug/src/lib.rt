@@ -8,6 +8,5 @@ mod run;
 mod trace;
 
 pub use bench::Bench;
-pub use position::byte_digits;
 pub use run::Stop;
 pub use trace::TRACE_CAPACITY;

@@ -6,8 +6,9 @@ ghost use Rattle.h41_debug.specs.Positions as spec;
 use crate::bench::Bench;
 use arrayvec::ArrayString;
 use h41_breakpoints::Location;
-use h41_lines::characters::{address_digits, two_digits};
+use h41_lines::characters::address_digits;
 use h41_positions::Position;
+use h41_views::byte_digits;
 use h41_xrom::Mode;
 
 /// The most bytes of a mode, a blank, and `P` with four digits.
@@ -54,15 +55,5 @@ fn location_digits(location: Location) -> ArrayString<5>
             }
         },
     }
-    digits
-}
-
-/// The last four decimal digits of the index of a byte of program memory.
-pub fn byte_digits(byte: u16) -> ArrayString<4>
-    ensures { result.bytes ≡ spec.byte_digits byte }
-{
-    let mut digits = ArrayString::new();
-    digits.push_str(two_digits((byte / 100 % 100) as u8).as_str());
-    digits.push_str(two_digits((byte % 100) as u8).as_str());
     digits
 }

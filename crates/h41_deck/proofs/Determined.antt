@@ -23,7 +23,7 @@ use Rattle.h41_deck.specs.declared.refusal.Refusal.TheVariants.{Calculator}
 use Rattle.h41_deck.specs.Answers.{Answer, ends_by, printed_text, says_and_ends, says_or_ends}
 use Rattle.h41_deck.specs.Deck.{AnswersInTurn, DeckDeterminesOutcome, DeckDeterminesText, EndedTextIsDetermined, FirstTextIsFront}
 use Rattle.h41_deck.specs.Deck.{outcome_of}
-use Rattle.h41_deck.specs.ProgramListing.{listed_line}
+use Rattle.h41_views.specs.ProgramListing.{listed_line}
 use Rattle.h41_deck.specs.Replies.{Calls, ItemReply, LoadsBytes, PlugsWords, Reply}
 use Rattle.h41_deck.specs.Runs.{run_answer}
 use Rattle.h41_deck.specs.Views.{Shows, line_of}

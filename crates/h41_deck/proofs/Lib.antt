@@ -3,10 +3,6 @@ pub mod Commanded
 pub mod DeckFaults
 pub mod DeckReading
 pub mod Determined
-pub mod FlagTexts
-pub mod ImageLines
 pub mod Plugging
-pub mod ProgramWalks
-pub mod Ranges
 pub mod Running
 pub mod ShortLines

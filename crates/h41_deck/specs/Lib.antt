@@ -4,9 +4,7 @@ pub mod Blocks
 pub mod Deck
 pub mod Faults
 pub mod Listings
-pub mod PageViews
 pub mod Pages
-pub mod ProgramListing
 pub mod Refusals
 pub mod Replies
 pub mod Runs

@@ -30,12 +30,8 @@ use std::alloc::{AllocError, Global};
 /// The most bytes of a line that is put together before it is written.
 const SHORT_LINE: usize = 23;
 
-mod functions;
 mod image;
 mod listing;
-mod memory;
-mod processor;
-mod program;
 pub(crate) mod running;
 mod view;
 

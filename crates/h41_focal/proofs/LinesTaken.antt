@@ -22,7 +22,7 @@ use Rattle.h41_focal.specs.declared.uses.FlagUse.{FlagUse}
 use Rattle.h41_focal.specs.declared.uses.RegisterUse.{RegisterUse}
 use Rattle.h41_focal.specs.declared.works.FunctionWork.{FunctionWork}
 use Rattle.h41_decimal.specs.declared.ten.Ten.{Ten}
-use Rattle.h41_numbers.specs.MemoryNumbers.{HasNumber}
+use Rattle.h41_plain_numbers.specs.MemoryNumbers.{HasNumber}
 use Rattle.h41_pages.specs.PageMap.{PageMap}
 use Rattle.h41_positions.proofs.PageAnswers.{both_here}
 use Rattle.h41_positions.specs.Positions.{ShortLineAt}

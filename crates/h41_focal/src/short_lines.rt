@@ -25,8 +25,8 @@ use crate::refusal::FocalRefusal;
 use crate::stack_lines::be_silent;
 use h41_codes::{Branch, Parameter, ShortLine};
 use h41_decimal::Ten;
-use h41_numbers::plain_number;
 use h41_pages::Pages;
+use h41_plain_numbers::plain_number;
 use h41_positions::{Position, short_line};
 use h41_ram::Ram;
 

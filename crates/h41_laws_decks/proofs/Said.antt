@@ -14,7 +14,7 @@ use Rattle.h41_commands.specs.declared.commands.View.TheVariants as views
 use Rattle.h41_commands.specs.declared.refusal.LineRefusal.{LineRefusal}
 use Rattle.h41_commands.specs.declared.refusal.LineRefusal.TheVariants.{Source}
 use Rattle.h41_program.specs.ProgramLaws.{ListsAreDetermined, OneList}
-use Rattle.h41_deck.specs.ProgramListing.{listed_line}
+use Rattle.h41_views.specs.ProgramListing.{listed_line}
 use Rattle.h41_deck.specs.Views.{line_of}
 use Rattle.h41_laws_numbers.specs.HasOne.{HasOne}
 use Rattle.h41_laws_calculator.specs.CalculatorAnswers.{DisplayHasOneText}

@@ -1,4 +1,3 @@
-pub mod MemoryNumbers
 pub mod NumberLaws
 pub mod NumberLines
 pub mod private

@@ -3,9 +3,7 @@
 
 pub mod laws;
 mod number;
-mod plain;
 mod signs;
 
 pub use number::number_of;
-pub use plain::plain_number;
 pub use signs::{sign_of_difference, sign_of_product, sign_of_sum};

@@ -1,19 +1,12 @@
 //! The image of a page's bank, as `show image` prints it.
 
-ghost use Rattle.std.specs.Prelude.{◌≡◌, ◌<◌, ◌≤◌, ◌+◌, ◌*◌, ◌++◌, IfOk, OnOk, length, take, drop};
-ghost use Rattle.h41_pages.specs.Images.{image_size};
-ghost use Rattle.h41_deck.specs.PageViews as spec;
+ghost use Rattle.std.specs.Prelude.{IfOk};
 ghost use Rattle.h41_deck.specs.Writing.{IsImageShown};
 
 use crate::refusal::Refusal;
-use h41_lines::characters::byte_digits;
 use h41_pages::{ImageRefusal, Pages};
+use h41_views::image_text;
 use std::alloc::{AllocError, Global};
-
-/// How many lines an image has, and how many bytes a line.
-const LINES: usize = 256;
-
-const LINE_BYTES: usize = 32;
 
 /// The lines of the image at a page's bank, or why it is not shown: 1 or 3. 21 where memory is refused.
 pub fn image_shown(
@@ -31,28 +24,4 @@ pub fn image_shown(
             other => Ok(Err(Refusal::from(other))),
         },
     }
-}
-
-/// The lines of an image's bytes, 32 bytes each.
-fn image_text(alloc: Global, bytes: &[u8]) -> Result<Vec<u8>, AllocError>
-    requires { length bytes.now ≡ image_size }
-    ensures { IfOk result (λ text. text.items ≡ spec.image_text bytes.now) }
-{
-    let mut text = Vec::new(alloc);
-    for line in 0..LINES {
-        let start = LINE_BYTES * line;
-        let row = &bytes[start..start + LINE_BYTES];
-        push_line(&mut text, row)?;
-    }
-    Ok(text)
-}
-
-/// Appends bytes as one line.
-fn push_line(text: &mut Vec<u8>, bytes: &[u8]) -> Result<(), AllocError>
-    ensures { OnOk result (text.new.items ≡ text.old.items ++ spec.bytes_line bytes.now) }
-{
-    for byte in bytes {
-        text.extend_from_slice(byte_digits(*byte).as_str().as_bytes())?;
-    }
-    text.extend_from_slice(b"\n")
 }

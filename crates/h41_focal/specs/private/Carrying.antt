@@ -45,7 +45,7 @@ use Rattle.h41_focal.specs.declared.uses.FlagUse.{FlagUse}
 use Rattle.h41_focal.specs.declared.uses.FlagUse.TheVariants.{AskAndClear}
 use Rattle.h41_focal.specs.declared.uses.RegisterUse.{RegisterUse}
 use Rattle.h41_pages.specs.PageMap.{PageMap}
-use Rattle.h41_numbers.specs.MemoryNumbers.{HasNoNumber}
+use Rattle.h41_plain_numbers.specs.MemoryNumbers.{HasNoNumber}
 use Rattle.h41_positions.specs.Positions.{NextAt, ShortLineAt}
 use Rattle.h41_positions.specs.declared.position.Position.TheVariants.{Memory}
 use Rattle.h41_positions.specs.declared.position.Position.{Position}

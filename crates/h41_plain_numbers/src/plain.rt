@@ -1,0 +1,155 @@
+//! Number lines of program memory that are digits and a radix mark alone, read in one pass.
+
+ghost use Rattle.std.specs.Prelude.{◌≡◌, ◌<◌, ◌≤◌, ◌+◌, ◌^◌, IfNone, IfSome, IsTrue};
+ghost use Rattle.h41_codes.specs.Heads.{IsIn};
+ghost use Rattle.h41_plain_numbers.specs.MemoryNumbers.{HasNoNumber, HasNumber};
+ghost use Rattle.h41_plain_numbers.specs.private.PlainReading.{EndsNowhere, EndsPlain};
+ghost use Rattle.h41_plain_numbers.specs.private.PlainReading.{IsTypedPlain, with_code};
+ghost use Rattle.h41_program.specs.ProgramBytes.{byte_count};
+ghost use Rattle.h41_ram.specs.RegisterMap.{is_sound};
+
+use h41_codes::laws::{byte_round_trip, first_bytes};
+use h41_decimal::{Exponent, Sign, Ten};
+use h41_numbers::laws::plain_texts_are_typed;
+use h41_program::{ByteReader, final_position, position_by};
+use h41_ram::Ram;
+
+/// How many digits count.
+const MANTISSA_DIGITS: u8 = 10;
+
+/// The byte of the radix mark; those of the digits stand before it.
+const RADIX_MARK: u8 = 0x1A;
+
+/// The most bytes of a number, and the one behind them.
+const NUMBER_AND_NEXT: u16 = 17;
+
+/// The exponent 0, counted from -99.
+const EXPONENT_BIAS: u32 = 99;
+
+/// The digits of a number line so far.
+#[derive(Clone, Copy)]
+struct PlainDigits {
+    /// The digits as one whole number.
+    number: u64,
+    /// How many they are.
+    count: u8,
+    /// How many of them stand behind the radix mark.
+    places: u8,
+    /// Whether the radix mark was there.
+    marked: bool,
+}
+
+impl PlainDigits {
+    /// With one more digit, or the radix mark, by its code.
+    #[inline(always)]
+    fn read(self, code: u8) -> Self
+        requires code { IsIn 0x10 0x1B code }
+        requires room { code < 0x1A → self.count < 10 }
+        requires few { self.count ≤ 10 }
+        requires below { self.number < 10 ^ self.count }
+        requires places { self.places ≤ self.count }
+        ensures digits { result ≡ with_code self code }
+        ensures more { result.count ≤ self.count + 1 }
+        ensures few { result.count ≤ 10 }
+        ensures below { result.number < 10 ^ result.count }
+        ensures places { result.places ≤ result.count }
+    {
+        if code < RADIX_MARK {
+            PlainDigits {
+                number: 10 * self.number + u64::from(code - 0x10),
+                count: self.count + 1,
+                places: if self.marked {
+                    self.places + 1
+                } else {
+                    self.places
+                },
+                marked: self.marked,
+            }
+        } else {
+            PlainDigits {
+                number: self.number,
+                count: self.count,
+                places: self.places,
+                marked: true,
+            }
+        }
+    }
+
+    /// The number of the digits.
+    #[inline(always)]
+    fn ten(self) -> Ten
+        requires { self.places ≤ 10 }
+        ensures { IsTypedPlain self.number self.places result }
+    {
+        let exponent = Exponent {
+            biased: EXPONENT_BIAS,
+        };
+        Ten::typed(Sign::Plus, self.number, self.places, exponent)
+    }
+}
+
+/// The number of the number line that stands at a position itself, and the position of the next line, or of the byte behind it where
+/// no line follows: digits and radix marks alone, one to ten digits, and behind them a byte in front of the last ones that goes on
+/// in no number. `None` just where no such line stands there.
+#[inline(never)]
+pub fn plain_number<const REGS: usize>(ram: &Ram<REGS>, at: u16) -> Option<(Ten, u16)>
+    requires { IsTrue (is_sound ram.now.registers) }
+    ensures some { IfSome result (λ found. HasNumber ram.now.registers at found.0 found.1) }
+    ensures none { IfNone result (HasNoNumber ram.now.registers at) }
+{
+    byte_round_trip();
+    first_bytes();
+    plain_texts_are_typed();
+    let last = final_position(ram);
+    if at >= last {
+        return None;
+    }
+    match plain_digits(ram, at, last) {
+        Some((digits, behind, byte)) => {
+            let number = digits.ten();
+            Some((number, position_by(ram, behind, byte)))
+        }
+        None => None,
+    }
+}
+
+/// The digits of the number line that stands at a position, in front of the last bytes; the position behind it and its byte.
+#[inline(always)]
+fn plain_digits<const REGS: usize>(
+    ram: &Ram<REGS>,
+    at: u16,
+    last: u16,
+) -> Option<(PlainDigits, u16, u8)>
+    requires from { at < last }
+    requires last { last < byte_count ram.now.registers }
+    requires bound { last < 65000 }
+    requires sound { IsTrue (is_sound ram.now.registers) }
+    ensures some { IfSome result
+        (λ found. EndsPlain ram.now.registers at last found.0 found.1 found.2) }
+    ensures none { IfNone result (EndsNowhere ram.now.registers at last) }
+{
+    let mut digits = PlainDigits {
+        number: 0,
+        count: 0,
+        places: 0,
+        marked: false,
+    };
+    let mut reader = ByteReader::at(ram, at);
+    for position in at..last.min(at + NUMBER_AND_NEXT) {
+        let byte = reader.read(ram, position);
+        if byte < 0x10 || byte > 0x1C {
+            if digits.count == 0 {
+                return None;
+            }
+            return Some((digits, position, byte));
+        }
+        if byte > RADIX_MARK {
+            return None;
+        }
+        if digits.count == MANTISSA_DIGITS && byte < RADIX_MARK {
+            return None;
+        }
+        digits = digits.read(byte);
+    }
+    None
+}

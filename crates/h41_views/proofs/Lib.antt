@@ -1,0 +1,4 @@
+pub mod FlagTexts
+pub mod ImageLines
+pub mod ProgramWalks
+pub mod Ranges

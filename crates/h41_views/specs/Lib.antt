@@ -1,0 +1,3 @@
+pub mod PageViews
+pub mod ProgramListing
+pub mod Views

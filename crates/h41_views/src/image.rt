@@ -1,0 +1,37 @@
+//! The image of a page's bank, as `show image` prints it.
+
+ghost use Rattle.std.specs.Prelude.{◌≡◌, ◌<◌, ◌≤◌, ◌+◌, ◌*◌, ◌++◌, IfOk, OnOk, length, take, drop};
+ghost use Rattle.h41_pages.specs.Images.{image_size};
+ghost use Rattle.h41_views.specs.PageViews as spec;
+
+use h41_lines::characters::byte_digits;
+use std::alloc::{AllocError, Global};
+
+/// How many lines an image has, and how many bytes a line.
+const LINES: usize = 256;
+
+const LINE_BYTES: usize = 32;
+
+/// The lines of an image's bytes, 32 bytes each. 21 where memory is refused.
+pub fn image_text(alloc: Global, bytes: &[u8]) -> Result<Vec<u8>, AllocError>
+    requires { length bytes.now ≡ image_size }
+    ensures { IfOk result (λ text. text.items ≡ spec.image_text bytes.now) }
+{
+    let mut text = Vec::new(alloc);
+    for line in 0..LINES {
+        let start = LINE_BYTES * line;
+        let row = &bytes[start..start + LINE_BYTES];
+        push_line(&mut text, row)?;
+    }
+    Ok(text)
+}
+
+/// Appends bytes as one line.
+fn push_line(text: &mut Vec<u8>, bytes: &[u8]) -> Result<(), AllocError>
+    ensures { OnOk result (text.new.items ≡ text.old.items ++ spec.bytes_line bytes.now) }
+{
+    for byte in bytes {
+        text.extend_from_slice(byte_digits(*byte).as_str().as_bytes())?;
+    }
+    text.extend_from_slice(b"\n")
+}

@@ -1,0 +1,65 @@
+//! Program memory, as `show lines` prints it.
+
+ghost use Rattle.std.specs.Prelude.{◌≡◌, ◌<◌, ◌++◌, IfOk, OnOk, IsTrue};
+ghost use Rattle.h41_ram.specs.RegisterMap.{is_sound};
+ghost use Rattle.h41_program.specs.Lines as lines;
+ghost use Rattle.h41_views.specs.ProgramListing as spec;
+
+use arrayvec::ArrayString;
+use h41_lines::characters::two_digits;
+use h41_program::{ListedLine, first_from, is_final_end};
+use h41_ram::Ram;
+use h41_text::write_line;
+use std::alloc::{AllocError, Global};
+
+/// The lines of memory from the first on, each with its position and its text; memory that is not sound has none. 21 where
+/// memory is refused.
+pub fn program_text<const REGS: usize>(
+    alloc: Global,
+    ram: &Ram<REGS>,
+) -> Result<Vec<u8>, AllocError>
+    ensures { IfOk result (λ listing. spec.ListsProgram ram.now.registers listing.items) }
+{
+    let mut listing = Vec::new(alloc);
+    if !ram.is_sound() {
+        return Ok(listing);
+    }
+    let mut at = 0;
+    while let Some(found) = first_from(ram, at) {
+        push_line(&mut listing, &found.listed)?;
+        if is_last(&found.listed) {
+            return Ok(listing);
+        }
+        at = found.behind;
+    }
+    Ok(listing)
+}
+
+/// Whether a line is the last of program memory, `.END.`.
+fn is_last(listed: &ListedLine) -> bool
+    ensures { result ≡ lines.is_final_end listed.now.line }
+{
+    is_final_end(listed.line)
+}
+
+/// Appends a line by its position and its text.
+#[tactic(auto, unfolding(crate::specs::ProgramListing::listed_line))]
+fn push_line(listing: &mut Vec<u8>, listed: &ListedLine) -> Result<(), AllocError>
+    requires { listed.now.position < 10000 }
+    ensures { OnOk result (listing.new.items ≡ listing.old.items ++ spec.listed_line listed.now) }
+{
+    listing.extend_from_slice(byte_digits(listed.position).as_str().as_bytes())?;
+    listing.extend_from_slice(b" ")?;
+    listing.extend_from_slice(write_line(listed.line).as_str().as_bytes())?;
+    listing.extend_from_slice(b"\n")
+}
+
+/// The last four decimal digits of the index of a byte of program memory.
+pub fn byte_digits(byte: u16) -> ArrayString<4>
+    ensures { result.bytes ≡ spec.byte_digits byte }
+{
+    let mut digits = ArrayString::new();
+    digits.push_str(two_digits((byte / 100 % 100) as u8).as_str());
+    digits.push_str(two_digits((byte % 100) as u8).as_str());
+    digits
+}

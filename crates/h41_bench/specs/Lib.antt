@@ -1,1 +1,2 @@
 pub mod ProgramWords
+pub mod Statuses

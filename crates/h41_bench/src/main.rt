@@ -6,9 +6,11 @@ ghost use Rattle.std.specs.Prelude.{codes, drop, map, string_bytes};
 ghost use Rattle.h41_bench.specs.ProgramWords.{behind_name};
 ghost use Rattle.h41_arguments.specs.CommandLine.{asks_help, asks_version, file_to_run, is_mistake};
 ghost use Rattle.h41_arguments.specs.Ending.{status_of};
-ghost use Rattle.h41_jobs.specs.Statuses.{EndsJobOf, EndsTask, IsOrFailed, IsStatus, IsTaskStatus};
+ghost use Rattle.h41_bench.specs.Statuses.{EndsJobOf, IsOrFailed};
+ghost use Rattle.h41_deck.specs.Statuses.{EndsTask, IsStatus, IsTaskStatus};
 
-use h41_jobs::{Ending, Fault, FromRead, Job, ToWrite, read_words, serve, tell, text_of};
+use h41_deck::{Fault, FromRead, ToWrite, serve, tell};
+use h41_jobs::{Ending, Job, read_words, text_of};
 use std::alloc::{AllocError, Global};
 use std::env;
 use std::fs::File;

@@ -8,9 +8,9 @@ use Rattle.std.proofs.KnownBytes.{Appends-kept, Appends-nil, Appends-trans}
 use Rattle.std.proofs.Math.Seq.{take-append-add}
 use Rattle.std.proofs.lemmas.List.{append-nil, take_all}
 use Rattle.std.proofs.lemmas.Grind.{flat_map-append}
-use Rattle.h41_deck.specs.declared.fault.CommandFault.{CommandFault}
-use Rattle.h41_deck.specs.declared.fault.CommandFault.TheVariants as command
-use Rattle.h41_deck.specs.declared.fault.Fault.TheVariants.{OutOfMemory, ReadFault, WriteFault}
+use Rattle.h41_refusals.specs.declared.fault.CommandFault.{CommandFault}
+use Rattle.h41_refusals.specs.declared.fault.CommandFault.TheVariants as command
+use Rattle.h41_refusals.specs.declared.fault.Fault.TheVariants.{OutOfMemory, ReadFault, WriteFault}
 use Rattle.h41_deck.specs.declared.replies.Outcome.{Outcome}
 use Rattle.h41_deck.specs.declared.replies.Outcome.TheVariants.{Accepted, Refused}
 use Rattle.h41_commands.specs.Items.{Spelled, commands}
@@ -20,7 +20,7 @@ use Rattle.h41_deck.specs.AnsweredItems.{outcome_and}
 use Rattle.h41_deck.specs.Answers.{Answer, printed_text}
 use Rattle.h41_deck.specs.Deck.{AnswersInTurn, FirstReplies, LeavesOf, MayBeRefused, commands_ended, outcome_of}
 use Rattle.h41_deck.specs.Replies.{item_takes_memory}
-use Rattle.h41_deck.specs.Faults.{of_command}
+use Rattle.h41_refusals.specs.Faults.{of_command}
 use Rattle.h41_deck.specs.Writing.{Leaves, Replies, RepliesInPart, outcome_in}
 
 -- What a deck has told so far: its answers to the items that are done, which are written and of which the outcome tells, and

@@ -23,12 +23,12 @@ use Rattle.h41_commands.specs.declared.refusal.LineRefusal.{LineRefusal}
 use Rattle.h41_commands.specs.Items.{Spelled, with_values}
 use Rattle.h41_debug.specs.Bench.{BenchState}
 use Rattle.h41_ends.specs.Ends.{AppendsPart}
-use Rattle.h41_deck.specs.declared.refusal.Refusal.{Refusal}
-use Rattle.h41_deck.specs.declared.refusal.Refusal.TheVariants.{Line}
+use Rattle.h41_refusals.specs.declared.refusal.Refusal.{Refusal}
+use Rattle.h41_refusals.specs.declared.refusal.Refusal.TheVariants.{Line}
 use Rattle.h41_deck.specs.declared.replies.Outcome.{Outcome}
 use Rattle.h41_deck.specs.Answers.{ending_line, ends_by, printed_text, says_or_ends}
 use Rattle.h41_pages.specs.PageMap.{PageMap}
-use Rattle.h41_deck.specs.declared.fault.CommandFault.{CommandFault}
+use Rattle.h41_refusals.specs.declared.fault.CommandFault.{CommandFault}
 use Rattle.h41_deck.specs.Listings.{listing_at}
 use Rattle.h41_deck.specs.Blocks.{LoadsTaken, PlugsTaken}
 use Rattle.h41_deck.specs.Replies.{LoadsBlock, LoadsBytes, Plugs, Reply}

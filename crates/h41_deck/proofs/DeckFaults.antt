@@ -22,12 +22,12 @@ use Rattle.h41_ends.proofs.InputReading.{consumes-both, consumes-nothing}
 use Rattle.h41_lines.specs.Lines.{lines}
 use Rattle.h41_deck.specs.Answers.{printed_text}
 use Rattle.h41_deck.specs.Deck.{AnswersInTurn, Deck, DeckEnds, FaultLeaves, WritesText}
-use Rattle.h41_deck.specs.Faults.{of_command, of_item, of_line}
+use Rattle.h41_refusals.specs.Faults.{of_command, of_item, of_line}
 use Rattle.h41_deck.specs.Replies.{item_takes_memory}
 use Rattle.h41_deck.specs.Writing.{Leaves}
-use Rattle.h41_deck.specs.declared.fault.CommandFault.{CommandFault}
-use Rattle.h41_deck.specs.declared.fault.CommandFault.TheVariants as command
-use Rattle.h41_deck.specs.declared.fault.Fault.TheVariants.{OutOfMemory, ReadFault, WriteFault}
+use Rattle.h41_refusals.specs.declared.fault.CommandFault.{CommandFault}
+use Rattle.h41_refusals.specs.declared.fault.CommandFault.TheVariants as command
+use Rattle.h41_refusals.specs.declared.fault.Fault.TheVariants.{OutOfMemory, ReadFault, WriteFault}
 use Rattle.h41_deck.specs.declared.replies.Outcome.{Outcome}
 use Rattle.h41_deck.proofs.AnswersInTurn.{Told, done_answered, leaves_all, leaves_at, leaves_ended, leaves_unpassed, told_kept, told_none}
 use Rattle.h41_deck.proofs.DeckReading.{Begins, IsWholeDeck, ReadSoFar, begins_block, begins_done, begins_more, deck_is, ended_done}

@@ -6,3 +6,5 @@ pub mod Determined
 pub mod Plugging
 pub mod Running
 pub mod ShortLines
+pub mod TaskFaults
+pub mod TaskInputs

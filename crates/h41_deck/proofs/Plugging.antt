@@ -11,7 +11,7 @@ use Rattle.h41_commands.specs.Blocks.{page_of_words}
 use Rattle.h41_debug.specs.Bench.{BenchState, with_calculator}
 use Rattle.h41_xrom.specs.Calculator.{CalculatorState, RefusesPage, TakesPage, with_page}
 use Rattle.h41_deck.specs.Answers.{ends_by}
-use Rattle.h41_deck.specs.Pages.{of_plug, page_refusal}
+use Rattle.h41_refusals.specs.Pages.{of_plug, page_refusal}
 use Rattle.h41_deck.specs.Replies.{PlugsWords, block_refusal, state_unless, with_words}
 
 -- what `resize` makes of a page's words

@@ -13,8 +13,8 @@ use Rattle.h41_debug.specs.declared.run.Stop.{Stop}
 use Rattle.h41_ends.specs.Ends.{AppendsPart}
 use Rattle.h41_xrom.specs.Calculator.{RefusesStep, Step}
 use Rattle.h41_xrom.specs.declared.refusal.CalculatorRefusal.{CalculatorRefusal}
-use Rattle.h41_deck.specs.declared.refusal.Refusal.{Refusal}
-use Rattle.h41_deck.specs.declared.refusal.Refusal.TheVariants.{Calculator}
+use Rattle.h41_refusals.specs.declared.refusal.Refusal.{Refusal}
+use Rattle.h41_refusals.specs.declared.refusal.Refusal.TheVariants.{Calculator}
 use Rattle.h41_deck.specs.Answers.{Answer, ending_line, printed_text, says_and_ends}
 use Rattle.h41_deck.specs.Runs.{run_answer, ran_text, stop_refusal}
 use Rattle.h41_deck.specs.Writing.{RepliesInPart, SaysText, IsTraceLine}

@@ -9,7 +9,7 @@ use Rattle.h41_commands.specs.declared.commands.PlainKind.{PlainKind}
 use Rattle.h41_commands.specs.declared.item.Item.{Item}
 use Rattle.h41_commands.specs.Entries.{what_is_spelled}
 use Rattle.h41_debug.specs.Bench.{BenchState}
-use Rattle.h41_deck.specs.declared.fault.CommandFault.{CommandFault}
+use Rattle.h41_refusals.specs.declared.fault.CommandFault.{CommandFault}
 use Rattle.h41_deck.specs.declared.replies.Outcome.{Outcome}
 use Rattle.h41_deck.specs.declared.replies.Outcome.TheVariants.{Accepted, Refused}
 use Rattle.h41_deck.specs.Replies.{item_takes_memory}

@@ -1,7 +1,7 @@
 -- What a command answers, and how it is printed. The language is this project's own.
 use Rattle.std.specs.Prelude.{ℕ, List, [], ◌++◌, Option, Some, None, Result, Ok, Err}
-use Rattle.h41_deck.specs.declared.refusal.Refusal.{Refusal}
-use Rattle.h41_deck.specs.Refusals.{refusal_line}
+use Rattle.h41_refusals.specs.declared.refusal.Refusal.{Refusal}
+use Rattle.h41_refusals.specs.Refusals.{refusal_line}
 
 -- What a command answers: a text, and then its refusal, where it is refused.
 pub record Answer : Type 0 where

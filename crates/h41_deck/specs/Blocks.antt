@@ -7,7 +7,7 @@ use Rattle.h41_commands.specs.declared.commands.PageKind.{PageKind}
 use Rattle.h41_commands.specs.declared.commands.ProgramKind.{ProgramKind}
 use Rattle.h41_commands.specs.Blocks.{TakenBlock, judgement}
 use Rattle.h41_debug.specs.Bench.{BenchState}
-use Rattle.h41_deck.specs.declared.refusal.Refusal.{Refusal}
+use Rattle.h41_refusals.specs.declared.refusal.Refusal.{Refusal}
 use Rattle.h41_deck.specs.Answers.{ends_by}
 use Rattle.h41_deck.specs.Replies.{LoadsBlock, Plugs, PlugsWords}
 

@@ -9,8 +9,8 @@ use Rattle.h41_deck.specs.declared.replies.Outcome.{Outcome}
 use Rattle.h41_deck.specs.declared.replies.Outcome.TheVariants.{Accepted, Refused}
 use Rattle.h41_ends.specs.declared.source.Source as sources
 use Rattle.h41_ends.specs.declared.sink.Sink as sinks
-use Rattle.h41_deck.specs.declared.fault.Fault.{Fault}
-use Rattle.h41_deck.specs.declared.fault.Fault.TheVariants.{OutOfMemory, ReadFault, WriteFault}
+use Rattle.h41_refusals.specs.declared.fault.Fault.{Fault}
+use Rattle.h41_refusals.specs.declared.fault.Fault.TheVariants.{OutOfMemory, ReadFault, WriteFault}
 use Rattle.h41_commands.specs.Items.{Spelled, commands, opens_first, without_open_block}
 use Rattle.h41_lines.specs.Lines.{ended_lines, lines}
 use Rattle.h41_debug.specs.Bench.{BenchState, start}

@@ -2,11 +2,10 @@ pub mod AnsweredItems
 pub mod Answers
 pub mod Blocks
 pub mod Deck
-pub mod Faults
 pub mod Listings
-pub mod Pages
-pub mod Refusals
 pub mod Replies
 pub mod Runs
+pub mod Statuses
+pub mod Tasks
 pub mod Views
 pub mod Writing

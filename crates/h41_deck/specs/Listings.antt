@@ -4,10 +4,10 @@ use Rattle.std.specs.Bool.{then_some}
 use Rattle.std.specs.Option.{option_or}
 use Rattle.h41_dis.specs.Spelling.{listing_text}
 use Rattle.h41_pages.specs.PageMap.{PageMap, fetch_refusal, words_from}
-use Rattle.h41_deck.specs.declared.refusal.Refusal.{Refusal}
+use Rattle.h41_refusals.specs.declared.refusal.Refusal.{Refusal}
 use Rattle.h41_commands.specs.declared.refusal.LineRefusal.TheVariants.{BadImage}
-use Rattle.h41_deck.specs.declared.refusal.Refusal.TheVariants.{Line}
-use Rattle.h41_deck.specs.Pages.{of_fetch}
+use Rattle.h41_refusals.specs.declared.refusal.Refusal.TheVariants.{Line}
+use Rattle.h41_refusals.specs.Pages.{of_fetch}
 use Rattle.h41_deck.specs.Answers.{text_unless}
 
 -- why words are not listed: 8 or 9 as the first of them is not fetched, 4 where they leave its page

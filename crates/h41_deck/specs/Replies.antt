@@ -25,12 +25,12 @@ use Rattle.h41_xrom.specs.declared.refusal.CalculatorRefusal.{CalculatorRefusal}
 use Rattle.h41_xrom.specs.Calculator.{CalculatorState, with_page, without_page, after_reset}
 use Rattle.h41_xrom.specs.Calculator.{call_refusal, after_call}
 use Rattle.h41_xrom.specs.Programs.{Becomes, Loads, size_makes}
-use Rattle.h41_deck.specs.declared.refusal.Refusal.{Refusal}
-use Rattle.h41_deck.specs.declared.refusal.Refusal.TheVariants.{BreakFull, Calculator, Line}
-use Rattle.h41_deck.specs.declared.refusal.Refusal.TheVariants.{NoBreak}
+use Rattle.h41_refusals.specs.declared.refusal.Refusal.{Refusal}
+use Rattle.h41_refusals.specs.declared.refusal.Refusal.TheVariants.{BreakFull, Calculator, Line}
+use Rattle.h41_refusals.specs.declared.refusal.Refusal.TheVariants.{NoBreak}
 use Rattle.h41_deck.specs.Answers.{Answer, ends_by, says_and_ends, says_or_ends}
 use Rattle.h41_deck.specs.Listings.{listing_at}
-use Rattle.h41_deck.specs.Pages.{page_refusal, unplug_refusal}
+use Rattle.h41_refusals.specs.Pages.{page_refusal, unplug_refusal}
 use Rattle.h41_deck.specs.Runs.{run_answer}
 use Rattle.h41_deck.specs.Views.{Shows}
 

@@ -3,8 +3,8 @@ use Rattle.std.specs.Prelude.{ℕ, List, ◌++◌, codes, Option, Some, None}
 use Rattle.std.specs.Fmt.{decimal}
 use Rattle.h41_debug.specs.declared.run.Stop.{Stop}
 use Rattle.h41_debug.specs.declared.run.Stop.TheVariants.{Break, Idle, Limit, Refused}
-use Rattle.h41_deck.specs.declared.refusal.Refusal.{Refusal}
-use Rattle.h41_deck.specs.declared.refusal.Refusal.TheVariants.{Calculator}
+use Rattle.h41_refusals.specs.declared.refusal.Refusal.{Refusal}
+use Rattle.h41_refusals.specs.declared.refusal.Refusal.TheVariants.{Calculator}
 use Rattle.h41_deck.specs.Answers.{Answer, says_and_ends}
 
 -- why a run stopped, in a word, and the refusal where that is why

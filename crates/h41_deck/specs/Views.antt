@@ -6,13 +6,13 @@ use Rattle.h41_commands.specs.declared.commands.View.TheVariants.{Cpu, Register,
 use Rattle.h41_commands.specs.declared.commands.View.TheVariants.{Alpha, Display, Position, Lines}
 use Rattle.h41_commands.specs.declared.commands.View.TheVariants.{Image, Functions}
 use Rattle.h41_pages.specs.PageMap.{PageMap}
-use Rattle.h41_deck.specs.declared.refusal.Refusal.{Refusal}
+use Rattle.h41_refusals.specs.declared.refusal.Refusal.{Refusal}
 use Rattle.h41_debug.specs.Bench.{BenchState}
 use Rattle.h41_debug.specs.Positions.{position_text}
 use Rattle.h41_show.specs.RegisterText.{alpha_text}
 use Rattle.h41_xrom.specs.Display.{ShowsDisplay}
 use Rattle.h41_deck.specs.Answers.{text_unless}
-use Rattle.h41_deck.specs.Pages.{image_refusal}
+use Rattle.h41_refusals.specs.Pages.{image_refusal}
 use Rattle.h41_views.specs.PageViews.{functions_text, image_at_text}
 use Rattle.h41_views.specs.ProgramListing.{ListsProgram}
 use Rattle.h41_views.specs.Views.{flags_line, processor_text, register_line, stack_text}

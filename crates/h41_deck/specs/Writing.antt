@@ -15,11 +15,11 @@ use Rattle.h41_ends.specs.Ends.{AppendsPart}
 use Rattle.h41_ends.specs.declared.fault.WriteFault as fault
 use Rattle.h41_pages.specs.PageMap.{PageMap}
 use Rattle.h41_commands.specs.declared.commands.View.{View}
-use Rattle.h41_deck.specs.declared.fault.CommandFault.{CommandFault}
-use Rattle.h41_deck.specs.declared.fault.CommandFault.TheVariants.{OutOfMemory, WriteFault}
+use Rattle.h41_refusals.specs.declared.fault.CommandFault.{CommandFault}
+use Rattle.h41_refusals.specs.declared.fault.CommandFault.TheVariants.{OutOfMemory, WriteFault}
 use Rattle.h41_deck.specs.declared.replies.Outcome.{Outcome}
 use Rattle.h41_deck.specs.declared.replies.Outcome.TheVariants.{Accepted, Refused}
-use Rattle.h41_deck.specs.declared.refusal.Refusal.{Refusal}
+use Rattle.h41_refusals.specs.declared.refusal.Refusal.{Refusal}
 use Rattle.h41_deck.specs.Answers.{Answer, printed_text}
 use Rattle.h41_deck.specs.Listings.{listing_at}
 use Rattle.h41_deck.specs.Replies.{ItemReply}

@@ -3,12 +3,12 @@
 ghost use Rattle.std.specs.Prelude.{◌≡◌, ◌≢◌, ◌≤◌, Err, IfOk, OnOk, true, false};
 ghost use Rattle.h41_deck.specs.Deck.{EndsKnown, LeavesDeck, PassedOn, WritesDeck};
 
-use crate::fault::Fault;
 use crate::lines::{answer, answer_line};
 use crate::replies::Outcome;
 use h41_commands::{read_block, read_first_line};
 use h41_debug::Bench;
 use h41_ends::{InputLines, Sink, Source, flush};
+use h41_refusals::Fault;
 use std::alloc::Global;
 
 /// Reads a deck line by line, carries its commands out on a bench with `REGS` registers of main memory, 64 to 320, and writes what

@@ -1,15 +1,14 @@
-//! The deck language of the HP-41 bench: the replies to a deck's commands in turn.
+//! The deck language of the HP-41 bench: the replies to a deck's commands in turn; and the jobs of the bench, of which a deck is one.
 #![tactic(auto)]
 
 mod deck;
-mod fault;
 pub mod laws;
 mod lines;
-mod refusal;
+mod memory;
 mod replies;
+mod serving;
 
 pub use deck::run_deck;
-pub use fault::{CommandFault, Fault};
 pub use h41_breakpoints::{BreakFull, Location, NoBreak};
 pub use h41_commands::{
     Block, BlockKind, Command, LineRefusal, PageKind, PressedKeys, ProgramKind, View, parse,
@@ -19,6 +18,7 @@ pub use h41_ends::{
     FromRead, InputFault, ReadInput, Sink, Source, ToWrite, WriteFault, flush, read_whole,
     write_whole,
 };
+pub use h41_refusals::{CommandFault, Detail, Fault, Refusal};
 pub use h41_xrom::{Calculator, CalculatorRefusal, Caller, Mode};
-pub use refusal::{Detail, Refusal};
 pub use replies::{Outcome, apply};
+pub use serving::{serve, tell};

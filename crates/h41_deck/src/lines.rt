@@ -17,10 +17,8 @@ ghost use Rattle.h41_deck.specs.AnsweredItems.{AnswersWritten, plain_takes_memor
 ghost use Rattle.h41_deck.specs.Answers.{ending_line};
 ghost use Rattle.h41_deck.specs.Replies.{item_takes_memory};
 ghost use Rattle.h41_deck.specs.Writing.{EndsAs};
-ghost use Rattle.h41_deck.specs.declared.refusal.Refusal.TheVariants as refusals;
+ghost use Rattle.h41_refusals.specs.declared.refusal.Refusal.TheVariants as refusals;
 
-use crate::fault::CommandFault;
-use crate::refusal::Refusal;
 use crate::replies::running::{run, set_break, unbreak};
 use crate::replies::{Outcome, apply, end, reset, show, step, unplug};
 use h41_commands::{
@@ -30,6 +28,7 @@ use h41_commands::{
 use h41_debug::Bench;
 use h41_ends::{Sink, WriteFault, write_whole};
 use h41_lines::words::LineWords;
+use h41_refusals::{CommandFault, Refusal};
 use std::alloc::Global;
 
 /// Answers a line that opens no block.

@@ -8,15 +8,13 @@ ghost use Rattle.h41_commands.specs.declared.commands.Command.TheVariants as com
 ghost use Rattle.h41_ends.specs.Ends.{Writes};
 ghost use Rattle.h41_pages.specs.Addresses.{page_size};
 ghost use Rattle.h41_deck.specs.Answers.{ending_line, ends_by};
-ghost use Rattle.h41_deck.specs.Refusals.{refusal_line};
+ghost use Rattle.h41_refusals.specs.Refusals.{refusal_line};
 ghost use Rattle.h41_deck.specs.Views.{line_of};
 ghost use Rattle.h41_deck.specs.Blocks.{LoadsTaken, PlugsTaken, PlugsWordsOf};
 ghost use Rattle.h41_deck.specs.Replies.{LoadsBytes, Reply, takes_memory};
 ghost use Rattle.h41_deck.specs.Writing.{Acts, SaysAlone, Says, EndsAs, IsAccepted, IsRefusalOf};
 ghost use Rattle.h41_deck.specs.Writing.{made_text};
 
-use crate::fault::CommandFault;
-use crate::refusal::Refusal;
 use crate::replies::listing::listed;
 use crate::replies::running::{run, set_break, trace, unbreak};
 use crate::replies::view::shown;
@@ -24,7 +22,9 @@ use arrayvec::ArrayString;
 use h41_commands::{Block, Command, PAGE_WORDS, PressedKeys, View};
 use h41_debug::Bench;
 use h41_ends::{Sink, WriteFault, write_whole};
+use h41_jobs::Ended;
 use h41_pages::PlugRefusal;
+use h41_refusals::{CommandFault, Refusal};
 use std::alloc::{AllocError, Global};
 
 /// The most bytes of a line that is put together before it is written.
@@ -46,6 +46,7 @@ pub enum Outcome {
 
 impl Outcome {
     ghost use Rattle.h41_deck.specs.AnsweredItems.{outcome_and};
+    ghost use Rattle.h41_deck.specs.Tasks.{ended_of_deck};
 
     /// How a deck ends that goes on so.
     pub(crate) fn and(self, next: Self) -> Self
@@ -54,6 +55,16 @@ impl Outcome {
         match self {
             Outcome::Accepted => next,
             Outcome::Refused => Outcome::Refused,
+        }
+    }
+
+    /// How a job ends whose deck ends so.
+    pub(crate) fn ended(self) -> Ended
+        ensures { result ≡ ended_of_deck self }
+    {
+        match self {
+            Outcome::Accepted => Ended::Accepted,
+            Outcome::Refused => Ended::Refused,
         }
     }
 }

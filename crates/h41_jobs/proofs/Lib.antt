@@ -1,3 +1,2 @@
-pub mod DeckLemmas
 pub mod InputLemmas
 pub mod WordLemmas

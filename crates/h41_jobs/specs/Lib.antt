@@ -1,5 +1,5 @@
+pub mod Endings
 pub mod Inputs
 pub mod Outputs
-pub mod Statuses
-pub mod Tasks
+pub mod Texts
 pub mod WordTexts

@@ -2,15 +2,14 @@
 
 ghost use Rattle.std.specs.Prelude.{◌≡◌, ◌≤◌, IfOk, length};
 ghost use Rattle.h41_ends.specs.Ends.{most_bytes};
-ghost use Rattle.h41_arguments.specs.declared.arguments.Task.TheVariants as tasks;
-ghost use Rattle.h41_jobs.specs.Tasks.{HasAnswer};
+ghost use Rattle.h41_jobs.specs.Texts.{AnswersSource};
 ghost use Rattle.h41_jobs.specs.WordTexts.{word_line, word_lines};
 
 use crate::ended::{Answer, Ended};
 use h41_asm::{AssembleError, assemble};
 use h41_commands::LineRefusal;
-use h41_deck::Refusal;
 use h41_digits::glyph;
+use h41_refusals::Refusal;
 use h41_words::Word;
 use std::alloc::{AllocError, Global};
 
@@ -18,7 +17,7 @@ use std::alloc::{AllocError, Global};
 /// nothing else. Refuses only memory.
 pub fn assembly(alloc: Global, source: &[u8], origin: u16) -> Result<Answer, AllocError>
     requires { length source.now ≤ most_bytes }
-    ensures { IfOk result (HasAnswer (tasks.Assemble origin) source.now) }
+    ensures { IfOk result (AnswersSource origin source.now) }
 {
     match assemble(alloc, source, origin) {
         Ok(words) => Ok(Answer {

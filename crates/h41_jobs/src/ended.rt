@@ -1,10 +1,9 @@
 //! How a job ends.
 
 ghost use Rattle.std.specs.Prelude.{◌≡◌, ◌++◌, ◌≤◌, length};
-ghost use Rattle.h41_jobs.specs.Tasks.{mistake_line};
+ghost use Rattle.h41_jobs.specs.Texts.{mistake_line};
 
 use arrayvec::ArrayString;
-use h41_deck::Outcome;
 use itoa::Buffer;
 
 /// The most bytes of the line that tells a wrong word: 51 without the word's number, which has up to 20 digits.
@@ -26,20 +25,6 @@ pub enum Ended {
 pub struct Answer {
     pub text: Vec<u8>,
     pub ended: Ended,
-}
-
-impl From<Outcome> for Ended {
-    ghost use Rattle.std.specs.Prelude.{◌≡◌};
-    ghost use Rattle.h41_jobs.specs.Tasks.{ended_of_deck};
-
-    ghost from_gives = { λ outcome own. own ≡ ended_of_deck outcome };
-
-    fn from(outcome: Outcome) -> Self {
-        match outcome {
-            Outcome::Accepted => Ended::Accepted,
-            Outcome::Refused => Ended::Refused,
-        }
-    }
 }
 
 /// The line that tells a wrong word by its number.

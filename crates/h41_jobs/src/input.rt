@@ -4,7 +4,8 @@ ghost use Rattle.std.specs.Prelude.{◌≡◌, ◌≢◌, ◌≤◌, true, false
 ghost use Rattle.h41_ends.specs.Ends.{most_bytes};
 ghost use Rattle.h41_jobs.specs.Inputs.{IsUnread, IsWhole};
 
-use h41_deck::{Fault, Source, read_whole};
+use h41_ends::{Source, read_whole};
+use h41_refusals::Fault;
 use std::alloc::Global;
 
 /// All bytes of an input.

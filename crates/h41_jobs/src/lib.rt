@@ -1,4 +1,5 @@
-//! The jobs of the HP-41 bench: a deck is run, a source is assembled, words are listed.
+//! What the bench makes of an input that is read whole: a source is assembled, words are listed; and what a job prints and how it
+//! ends.
 #![tactic(auto)]
 
 mod assemble;
@@ -6,12 +7,13 @@ mod ended;
 mod ending;
 mod input;
 mod list;
-mod memory;
 mod numbers;
 mod output;
-mod serving;
 
+pub use assemble::assembly;
+pub use ended::{Answer, Ended, mistake_line};
 pub use ending::text_of;
 pub use h41_arguments::{Ending, Job, MemorySize, Task, read_words};
-pub use h41_deck::{Fault, FromRead, Sink, Source, ToWrite};
-pub use serving::{serve, tell};
+pub use input::read_input;
+pub use list::listing;
+pub use output::{write_answer, write_text};

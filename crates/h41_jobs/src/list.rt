@@ -2,8 +2,7 @@
 
 ghost use Rattle.std.specs.Prelude.{◌≡◌, ◌≤◌, IfOk, length};
 ghost use Rattle.h41_ends.specs.Ends.{most_bytes};
-ghost use Rattle.h41_arguments.specs.declared.arguments.Task.TheVariants as tasks;
-ghost use Rattle.h41_jobs.specs.Tasks.{HasAnswer, ReadsAs, words_or_number};
+ghost use Rattle.h41_jobs.specs.Texts.{AnswersList, ReadsAs, words_or_number};
 ghost use Rattle.h41_jobs.specs.WordTexts.{is_white_space};
 
 use crate::ended::{Answer, Ended};
@@ -16,7 +15,7 @@ use std::alloc::{AllocError, Global};
 /// Refuses only memory.
 pub fn listing(alloc: Global, text: &[u8], origin: u16) -> Result<Answer, AllocError>
     requires { length text.now ≤ most_bytes }
-    ensures { IfOk result (HasAnswer (tasks.List origin) text.now) }
+    ensures { IfOk result (AnswersList text.now) }
 {
     match words_in(alloc, text)? {
         Ok(words) => Ok(Answer {

@@ -5,7 +5,7 @@ ghost use Rattle.h41_ends.specs.Ends.{Appended};
 ghost use Rattle.h41_jobs.specs.Outputs.{AppendsFront};
 
 use crate::ended::{Answer, Ended};
-use h41_deck::{Sink, WriteFault, flush, write_whole};
+use h41_ends::{Sink, WriteFault, flush, write_whole};
 
 /// Writes a text whole, and flushes it.
 ///

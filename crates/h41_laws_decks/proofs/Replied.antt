@@ -15,7 +15,7 @@ use Rattle.h41_xrom.specs.declared.refusal.CalculatorRefusal.{CalculatorRefusal}
 use Rattle.h41_deck.specs.Answers.{Answer, ends_by, says_and_ends, says_or_ends}
 use Rattle.h41_deck.specs.Replies.{Calls, LoadsBytes, PlugsWords}
 use Rattle.h41_deck.specs.Runs.{run_answer}
-use Rattle.h41_deck.specs.declared.refusal.Refusal.TheVariants.{Calculator}
+use Rattle.h41_refusals.specs.declared.refusal.Refusal.TheVariants.{Calculator}
 use Rattle.h41_laws_numbers.specs.HasOne.{HasOne}
 use Rattle.h41_laws_calculator.specs.CalculatorAnswers.{LoadHasOneOutcome, SizeHasOneOutcome}
 use Rattle.h41_laws_runs.specs.BenchOutcomes.{RunHasOneOutcome, StepsHaveOneOutcome, TraceHasOneOutcome}

@@ -4,8 +4,8 @@
 use crate::ends::Long;
 use crate::judge::wants;
 use crate::watched::{Once, Reader, Writer};
-use h41_deck::{Fault, Outcome, run_deck};
-use h41_jobs::{Job, MemorySize, Task, serve};
+use h41_deck::{Fault, Outcome, run_deck, serve};
+use h41_jobs::{Job, MemorySize, Task};
 use std::alloc::{AllocError, Global};
 use std::cell::Cell;
 use std::process::Abort;

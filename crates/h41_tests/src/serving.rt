@@ -3,7 +3,8 @@
 use crate::decks::{DECK, TEXT};
 use crate::ends::{reader, writer};
 use crate::judge::wants;
-use h41_jobs::{Job, MemorySize, Task, serve};
+use h41_deck::serve;
+use h41_jobs::{Job, MemorySize, Task};
 use std::alloc::Global;
 use std::process::Abort;
 

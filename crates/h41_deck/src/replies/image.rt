@@ -3,8 +3,8 @@
 ghost use Rattle.std.specs.Prelude.{IfOk};
 ghost use Rattle.h41_deck.specs.Writing.{IsImageShown};
 
-use crate::refusal::Refusal;
 use h41_pages::{ImageRefusal, Pages};
+use h41_refusals::Refusal;
 use h41_views::image_text;
 use std::alloc::{AllocError, Global};
 

@@ -5,10 +5,10 @@ ghost use Rattle.std.specs.Result.{result_err};
 ghost use Rattle.h41_deck.specs.Listings as spec;
 ghost use Rattle.h41_deck.specs.Writing.{IsListed};
 
-use crate::refusal::Refusal;
 use h41_commands::LineRefusal;
 use h41_dis::listing;
 use h41_pages::Pages;
+use h41_refusals::Refusal;
 use h41_words::Word;
 use std::alloc::{AllocError, Global};
 

@@ -7,12 +7,12 @@ ghost use Rattle.h41_deck.specs.Replies.{Reply};
 ghost use Rattle.h41_deck.specs.Runs as spec;
 ghost use Rattle.h41_deck.specs.Writing.{RunsAlone, IsTraceLine, TracesAlone};
 
-use crate::refusal::Refusal;
 use arrayvec::ArrayString;
 use h41_breakpoints::Location;
 use h41_debug::laws::steps_are_traced;
 use h41_debug::{Bench, Stop, TRACE_CAPACITY};
 use h41_ends::{Sink, WriteFault, write_whole};
+use h41_refusals::Refusal;
 use itoa::Buffer;
 
 /// The most bytes of what `run` prints: `ran`, ten digits, `Refused`, two blanks and LF.

@@ -4,10 +4,10 @@ ghost use Rattle.std.specs.Prelude.{◌≡◌, ◌++◌, IfOk};
 ghost use Rattle.h41_deck.specs.Views.{line_of};
 ghost use Rattle.h41_deck.specs.Writing.{IsShown};
 
-use crate::refusal::Refusal;
 use crate::replies::image::image_shown;
 use h41_commands::View;
 use h41_debug::Bench;
+use h41_refusals::Refusal;
 use h41_show::alpha_text;
 use h41_views::{
     flags_text, functions_text, processor_text, program_text, register_text, stack_text,

@@ -1,8 +1,8 @@
 use Rattle.std.proofs.Common.{◌≡◌, Ok, Err, ap, refl, ◌∙◌}
 use Rattle.h41_commands.specs.declared.refusal.LineRefusal.TheVariants.{Source}
-use Rattle.h41_deck.specs.declared.refusal.Refusal.TheVariants.{Line}
-use Rattle.h41_deck.specs.Refusals.{refusal_line}
-use Rattle.h41_jobs.specs.Tasks.{SourceAssemblesTo}
+use Rattle.h41_refusals.specs.declared.refusal.Refusal.TheVariants.{Line}
+use Rattle.h41_refusals.specs.Refusals.{refusal_line}
+use Rattle.h41_jobs.specs.Texts.{SourceAssemblesTo}
 use Rattle.h41_jobs.specs.WordTexts.{word_lines}
 use Rattle.h41_jobs.proofs.InputLemmas.{source_refused}
 use Rattle.h41_jobs.proofs.assemble.assembly.Goals as goal

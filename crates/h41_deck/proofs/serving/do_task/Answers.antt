@@ -1,12 +1,12 @@
 use Rattle.std.proofs.Common.{◌≡◌, Err, rules, sym, ◌∙◌}
 use Rattle.std.proofs.lemmas.Result.{err_from_is_err_and}
-use Rattle.h41_deck.specs.declared.fault.Fault.TheVariants.{ReadFault, WriteFault}
+use Rattle.h41_refusals.specs.declared.fault.Fault.TheVariants.{ReadFault, WriteFault}
 use Rattle.h41_arguments.specs.declared.arguments.Task.TheVariants as tasks
 use Rattle.h41_jobs.specs.Inputs.{IsUnread}
-use Rattle.h41_jobs.specs.Tasks.{HasText}
-use Rattle.h41_jobs.proofs.DeckLemmas.{leaves_begun, leaves_front, leaves_unread, why_deck}
-use Rattle.h41_jobs.proofs.InputLemmas.{whole_front, whole_text, why_unread}
-use Rattle.h41_jobs.proofs.serving.do_task.Goals as goal
+use Rattle.h41_deck.specs.Tasks.{HasText}
+use Rattle.h41_deck.proofs.TaskFaults.{leaves_begun, leaves_front, leaves_unread, why_deck}
+use Rattle.h41_deck.proofs.TaskInputs.{whole_front, whole_text, why_unread}
+use Rattle.h41_deck.proofs.serving.do_task.Goals as goal
 
 pub returns-in_err-source-in-Assemble-clause-read : goal.returns-in_err-source-in-Assemble-clause-read
 returns-in_err-source-in-Assemble-clause-read g c = λ is.

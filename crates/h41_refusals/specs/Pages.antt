@@ -12,9 +12,10 @@ use Rattle.h41_pages.specs.Images as images_of
 use Rattle.h41_pages.specs.PageMap as pages
 use Rattle.h41_commands.specs.declared.refusal.LineRefusal.TheVariants.{BadImage}
 use Rattle.h41_xrom.specs.declared.refusal.CalculatorRefusal.TheVariants.{Word}
-use Rattle.h41_deck.specs.declared.refusal.Refusal.{Refusal}
-use Rattle.h41_deck.specs.declared.refusal.Refusal.TheVariants.{NoSuchPage, Occupied, NotPlugged}
-use Rattle.h41_deck.specs.declared.refusal.Refusal.TheVariants.{Calculator, Line, OutOfMemory}
+use Rattle.h41_refusals.specs.declared.refusal.Refusal.{Refusal}
+use Rattle.h41_refusals.specs.declared.refusal.Refusal.TheVariants.{NoSuchPage, Occupied}
+use Rattle.h41_refusals.specs.declared.refusal.Refusal.TheVariants.{NotPlugged}
+use Rattle.h41_refusals.specs.declared.refusal.Refusal.TheVariants.{Calculator, Line, OutOfMemory}
 
 -- a page's refusal to be plugged
 abbrev pub of_plug : plug.PlugRefusal → Refusal

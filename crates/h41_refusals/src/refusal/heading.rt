@@ -1,7 +1,7 @@
 //! The number and the name of each refusal.
 
 ghost use Rattle.std.specs.Prelude.{◌≡◌, ◌≤◌, length};
-ghost use Rattle.h41_deck.specs.Refusals as spec;
+ghost use Rattle.h41_refusals.specs.Refusals as spec;
 
 use crate::refusal::Refusal;
 use h41_asm::SourceFault;
@@ -12,7 +12,7 @@ use h41_xrom::CalculatorRefusal;
 
 impl Refusal {
     ghost use Rattle.std.specs.Prelude.{◌≡◌, ◌≤◌, length};
-    ghost use Rattle.h41_deck.specs.Refusals.{heading};
+    ghost use Rattle.h41_refusals.specs.Refusals.{heading};
 
     /// `! NN Name`.
     pub fn heading(self) -> &'static str

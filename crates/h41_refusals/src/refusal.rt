@@ -41,7 +41,7 @@ pub enum Refusal {
 
 impl From<CalculatorRefusal> for Refusal {
     ghost use Rattle.std.specs.Prelude.{◌≡◌};
-    ghost use Rattle.h41_deck.specs.declared.refusal.Refusal.TheVariants.{Calculator};
+    ghost use Rattle.h41_refusals.specs.declared.refusal.Refusal.TheVariants.{Calculator};
 
     ghost from_gives = { λ refusal own. own ≡ Calculator refusal };
 
@@ -52,7 +52,7 @@ impl From<CalculatorRefusal> for Refusal {
 
 impl From<LineRefusal> for Refusal {
     ghost use Rattle.std.specs.Prelude.{◌≡◌};
-    ghost use Rattle.h41_deck.specs.declared.refusal.Refusal.TheVariants.{Line};
+    ghost use Rattle.h41_refusals.specs.declared.refusal.Refusal.TheVariants.{Line};
 
     ghost from_gives = { λ refusal own. own ≡ Line refusal };
 
@@ -63,7 +63,7 @@ impl From<LineRefusal> for Refusal {
 
 impl From<PlugRefusal> for Refusal {
     ghost use Rattle.std.specs.Prelude.{◌≡◌};
-    ghost use Rattle.h41_deck.specs.Pages.{of_plug};
+    ghost use Rattle.h41_refusals.specs.Pages.{of_plug};
 
     ghost from_gives = { λ refusal own. own ≡ of_plug refusal };
 
@@ -79,7 +79,7 @@ impl From<PlugRefusal> for Refusal {
 
 impl From<UnplugRefusal> for Refusal {
     ghost use Rattle.std.specs.Prelude.{◌≡◌};
-    ghost use Rattle.h41_deck.specs.Pages.{of_unplug};
+    ghost use Rattle.h41_refusals.specs.Pages.{of_unplug};
 
     ghost from_gives = { λ refusal own. own ≡ of_unplug refusal };
 
@@ -93,7 +93,7 @@ impl From<UnplugRefusal> for Refusal {
 
 impl From<ImageRefusal> for Refusal {
     ghost use Rattle.std.specs.Prelude.{◌≡◌};
-    ghost use Rattle.h41_deck.specs.Pages.{of_image};
+    ghost use Rattle.h41_refusals.specs.Pages.{of_image};
 
     ghost from_gives = { λ refusal own. own ≡ of_image refusal };
 
@@ -108,7 +108,7 @@ impl From<ImageRefusal> for Refusal {
 
 impl From<FetchRefusal> for Refusal {
     ghost use Rattle.std.specs.Prelude.{◌≡◌};
-    ghost use Rattle.h41_deck.specs.Pages.{of_fetch};
+    ghost use Rattle.h41_refusals.specs.Pages.{of_fetch};
 
     ghost from_gives = { λ refusal own. own ≡ of_fetch refusal };
 

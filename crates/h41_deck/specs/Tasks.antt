@@ -1,75 +1,25 @@
 -- What a job makes of its input: the text that it prints, how it ends, and what is said where it
 -- goes wrong.
-use Rattle.std.specs.Global.{Global}
-use Rattle.std.specs.Prelude.{◌≡◌, ◌≢◌, ◌⊎◌, ℕ, ◌<◌, ◌≤◌, Bool, true, false, Vec, List, [], ◌++◌}
-use Rattle.std.specs.Prelude.{length}
-use Rattle.std.specs.Prelude.{take, codes, Option, Some, IfSome, Result, Ok, Err, IfErr, IfOk, OnOk}
-use Rattle.std.specs.Fmt.{decimal}
+use Rattle.std.specs.Prelude.{◌≡◌, ◌≢◌, ◌⊎◌, ℕ, ◌<◌, Bool, true, false, List, [], length, take}
+use Rattle.std.specs.Prelude.{Option, IfSome, Result, Err, IfErr, IfOk, OnOk}
 use Rattle.std.specs.Io.KnownBytes.{Appends, Consumes, Keeps}
 use Rattle.h41_ends.specs.declared.sink.Sink as sinks
 use Rattle.h41_ends.specs.declared.source.Source as sources
-use Rattle.h41_deck.specs.declared.fault.Fault.{Fault}
-use Rattle.h41_deck.specs.declared.fault.Fault.TheVariants.{ReadFault, WriteFault}
-use Rattle.h41_commands.specs.declared.refusal.LineRefusal.{LineRefusal}
-use Rattle.h41_deck.specs.declared.refusal.Refusal.TheVariants.{Line}
+use Rattle.h41_refusals.specs.declared.fault.Fault.{Fault}
+use Rattle.h41_refusals.specs.declared.fault.Fault.TheVariants.{ReadFault, WriteFault}
 use Rattle.h41_deck.specs.declared.replies.Outcome.{Outcome}
 use Rattle.h41_deck.specs.declared.replies.Outcome.TheVariants as outcomes
 use Rattle.h41_deck.specs.Deck as decks
 use Rattle.h41_ends.specs.Ends.{Appended, most_bytes}
 use Rattle.h41_ends.specs.InputLines.{bytes_within}
-use Rattle.h41_commands.specs.PageBlocks.{SourceMakes}
-use Rattle.h41_deck.specs.Refusals.{refusal_line}
-use Rattle.h41_dis.specs.Spelling.{spell}
 use Rattle.h41_arguments.specs.declared.arguments.Job.{Job}
 use Rattle.h41_arguments.specs.declared.arguments.Task.{Task}
 use Rattle.h41_arguments.specs.declared.arguments.Task.TheVariants as tasks
-use Rattle.h41_jobs.specs.declared.ended.Answer.{Answer}
+use Rattle.h41_arguments.specs.MemorySizes.{registers_of}
 use Rattle.h41_jobs.specs.declared.ended.Ended.{Ended}
 use Rattle.h41_jobs.specs.declared.ended.Ended.TheVariants.{Accepted, Refused, WrongWord}
-use Rattle.h41_arguments.specs.MemorySizes.{registers_of}
-use Rattle.h41_jobs.specs.WordTexts.{WritesWords, word_lines, wrong_word}
-
--- what a source gives at an origin, where it isn't too long: the words that it spells, or its
--- refusal
-pub record SourceAssemblesTo (origin : ℕ) (source : List ℕ)
-    (given : Result (List ℕ) LineRefusal) : Type 0 where
-  pub bound : length source ≤ most_bytes
-  pub gives : SourceMakes source origin given
-
--- the words' lines, or the refusal's
-abbrev pub given_text : Result (List ℕ) LineRefusal → List ℕ
-given_text (Ok words) = word_lines words
-given_text (Err refusal) = refusal_line (Line refusal)
-
-abbrev pub AssemblyText : ℕ → List ℕ → List ℕ → Type 0
-AssemblyText origin source text =
-    (given : Result (List ℕ) LineRefusal)
-    × SourceAssemblesTo origin source given
-    × (text ≡ given_text given)
-
--- what a text of words says: the words that it writes, or the number of its first part that is none
-abbrev pub ReadsAs : List ℕ → Result (List ℕ) ℕ → Type 0
-ReadsAs text (Ok words) = WritesWords text words
-ReadsAs text (Err number) = wrong_word text ≡ Some number
-
--- what code made of it
-abbrev pub words_or_number : Result (Vec ℕ Global) ℕ → Result (List ℕ) ℕ
-words_or_number (Ok words) = Ok words.items
-words_or_number (Err number) = Err number
-
--- where it isn't too long
-pub record ListReadsAs (text : List ℕ) (said : Result (List ℕ) ℕ) : Type 0 where
-  pub bound : length text ≤ most_bytes
-  pub says : ReadsAs text said
-
--- the listing of the words, and nothing where one is wrong
-abbrev pub list_text : Result (List ℕ) ℕ → List ℕ
-list_text (Ok words) = spell words
-list_text (Err number) = []
-
-abbrev pub ListingText : List ℕ → List ℕ → Type 0
-ListingText input text =
-    (said : Result (List ℕ) ℕ) × ListReadsAs input said × (text ≡ list_text said)
+use Rattle.h41_jobs.specs.Texts.{AssemblyEnds, AssemblyText, HasNoWrongWord, IsNotRefused}
+use Rattle.h41_jobs.specs.Texts.{ListingEnds, ListingText, mistake_line}
 
 -- the text that a task prints of an input; the listing of words is the same at each origin
 abbrev pub HasText : Task → List ℕ → List ℕ → Type 0
@@ -106,18 +56,10 @@ abbrev pub JobWritesText : {R W : Type 0} → ℕ → Job → sources.Ghosts R �
 JobWritesText status job source sink before old new =
     status ≢ 3 → WritesTaskText job.task (source.remaining before) sink.contents old new
 
--- how a deck, a source and a text of words end
+-- how a deck ends
 abbrev pub ended_of_deck : Outcome → Ended
 ended_of_deck outcomes.Accepted = Accepted
 ended_of_deck outcomes.Refused = Refused
-
-abbrev pub ended_of_source : Result (List ℕ) LineRefusal → Ended
-ended_of_source (Ok words) = Accepted
-ended_of_source (Err refusal) = Refused
-
-abbrev pub ended_of_list : Result (List ℕ) ℕ → Ended
-ended_of_list (Ok words) = Accepted
-ended_of_list (Err number) = WrongWord number
 
 -- how a task ends over an input
 abbrev pub TaskEnds : Task → Ended → List ℕ → Type 0
@@ -125,36 +67,14 @@ TaskEnds (tasks.Run size) ended input =
     (outcome : Outcome)
     × decks.DeckEnds (registers_of size) input outcome
     × (ended ≡ ended_of_deck outcome)
-TaskEnds (tasks.Assemble origin) ended input =
-    (given : Result (List ℕ) LineRefusal)
-    × SourceAssemblesTo origin input given
-    × (ended ≡ ended_of_source given)
-TaskEnds (tasks.List origin) ended input =
-    (said : Result (List ℕ) ℕ) × ListReadsAs input said × (ended ≡ ended_of_list said)
-
--- a deck and a source have no wrong word
-abbrev pub HasNoWrongWord : Ended → Type 0
-HasNoWrongWord Accepted = Unit {0}
-HasNoWrongWord Refused = Unit {0}
-HasNoWrongWord (WrongWord number) = ⊥
-
--- a list of words is never refused
-abbrev pub IsNotRefused : Ended → Type 0
-IsNotRefused Accepted = Unit {0}
-IsNotRefused Refused = ⊥
-IsNotRefused (WrongWord number) = Unit {0}
+TaskEnds (tasks.Assemble origin) ended input = AssemblyEnds origin ended input
+TaskEnds (tasks.List origin) ended input = ListingEnds ended input
 
 -- how a task may end
 abbrev pub MayEnd : Task → Ended → Type 0
 MayEnd (tasks.Run size) = HasNoWrongWord
 MayEnd (tasks.Assemble origin) = HasNoWrongWord
 MayEnd (tasks.List origin) = IsNotRefused
-
--- what is printed of an input, and how the task ends by it
-pub record HasAnswer (task : Task) (input : List ℕ) (answer : Answer) : Type 0 where
-  pub text : HasText task input answer.text.items
-  pub ends : TaskEnds task answer.ended input
-  pub kind : MayEnd task answer.ended
 
 -- an input that is too long, of which nothing is printed
 pub record IsTooLong (input text : List ℕ) : Type 0 where
@@ -304,11 +224,6 @@ abbrev pub JobLeavesFront : {R W : Type 0} → ℕ → Job → sources.Ghosts R 
 JobLeavesFront status job source sink before after old new =
     status ≡ 3 → sink.failed new ≡ true
     → LeavesFront job.task source sink before after old new
-
--- the text that tells a wrong word by its number
-abbrev pub mistake_line : ℕ → List ℕ
-mistake_line number =
-    codes "error: word " ++ (decimal number ++ codes " is not a hexadecimal number up to 3FF\n")
 
 -- where the end for faults did not fail, the number of the wrong word is told, and nothing else
 abbrev pub TellsMistake : {E : Type 0} → Task → Option (List ℕ) → sinks.Ghosts E → E → E → Type 0

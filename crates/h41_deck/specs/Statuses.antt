@@ -1,22 +1,16 @@
 -- The statuses that the program ends with, and what they tell.
-use Rattle.std.specs.Prelude.{◌≡◌, ◌≢◌, ◌⊎◌, ℕ, Bool, true, false, List, [], MatchOption}
-use Rattle.std.specs.Prelude.{string_bytes}
+use Rattle.std.specs.Prelude.{◌≡◌, ◌≢◌, ◌⊎◌, ℕ, Bool, true, false, List}
 use Rattle.h41_ends.specs.declared.sink.Sink as sinks
 use Rattle.h41_ends.specs.declared.source.Source as sources
-use Rattle.h41_deck.specs.declared.fault.Fault.{Fault}
-use Rattle.h41_deck.specs.declared.fault.Fault.TheVariants.{ReadFault, WriteFault}
-use Rattle.h41_deck.specs.declared.refusal.Refusal.TheVariants.{OutOfMemory}
-use Rattle.h41_deck.specs.Refusals.{heading, of_fault, refusal_line}
-use Rattle.h41_arguments.specs.declared.arguments.Ending.{Ending}
-use Rattle.h41_arguments.specs.declared.arguments.Ending.TheVariants as endings
+use Rattle.h41_refusals.specs.declared.fault.Fault.{Fault}
+use Rattle.h41_refusals.specs.declared.fault.Fault.TheVariants.{ReadFault, WriteFault}
+use Rattle.h41_refusals.specs.Refusals.{of_fault, refusal_line}
 use Rattle.h41_arguments.specs.declared.arguments.Job.{Job}
 use Rattle.h41_arguments.specs.declared.arguments.Task.{Task}
 use Rattle.h41_arguments.specs.declared.arguments.Task.TheVariants as tasks
 use Rattle.h41_jobs.specs.declared.ended.Ended.{Ended}
 use Rattle.h41_jobs.specs.declared.ended.Ended.TheVariants.{Accepted, Refused, WrongWord}
-use Rattle.clap.specs.Words.{fault_of}
-use Rattle.h41_arguments.specs.BenchCommand.{bench_app, job_asked}
-use Rattle.h41_jobs.specs.Tasks.{FailedOrTooLong, TaskEnds, Tells}
+use Rattle.h41_deck.specs.Tasks.{FailedOrTooLong, TaskEnds, Tells}
 
 -- the status of a deck or a source that was begun: 0, 1 or 3
 abbrev pub IsStatus : ℕ → Type 0
@@ -31,17 +25,6 @@ abbrev pub IsTaskStatus : Task → ℕ → Type 0
 IsTaskStatus (tasks.Run size) = IsStatus
 IsTaskStatus (tasks.Assemble origin) = IsStatus
 IsTaskStatus (tasks.List origin) = IsListStatus
-
--- this status, or 3 where memory or an end failed
-abbrev pub IsOrFailed : ℕ → ℕ → Type 0
-IsOrFailed status result = (result ≡ status) ⊎ (result ≡ 3)
-
--- where a parse takes the words, a status of the task that it meets, or 2 or 3 where its size of
--- memory or its origin is wrong
-abbrev pub EndsJobOf : List (List ℕ) → ℕ → Type 0
-EndsJobOf words status =
-    fault_of bench_app words ≡ []
-    → MatchOption (job_asked words) (IsOrFailed 2 status) (λ parts. IsTaskStatus parts.0 status)
 
 -- the status that tells how a job ended
 abbrev pub status_of_ended : Ended → ℕ
@@ -60,12 +43,6 @@ EndsJob job status input = EndsTask job.task status input
 -- the line that tells a fault
 abbrev pub fault_line : Fault → List ℕ
 fault_line fault = refusal_line (of_fault fault)
-
--- the text of a way to end at once
-abbrev pub text_of : Ending → List ℕ
-text_of (endings.Help text) = string_bytes text
-text_of (endings.Mistake text) = string_bytes text
-text_of endings.OutOfMemory = heading OutOfMemory
 
 -- where a mark is set at the end, something failed, and this is the status of that
 abbrev pub TellsMark : ℕ → Bool → Type 0

@@ -1,11 +1,11 @@
 -- What a deck leaves at a fault, as what a task leaves.
 use Rattle.std.proofs.Common.{inl, inr, ◌≡◌, ◌≢◌, ◌⊎◌, ℕ, true, refl}
 use Rattle.h41_deck.specs.Deck as decks
-use Rattle.h41_deck.specs.declared.fault.Fault.{Fault}
-use Rattle.h41_deck.specs.declared.fault.Fault.TheVariants.{OutOfMemory, ReadFault, WriteFault}
+use Rattle.h41_refusals.specs.declared.fault.Fault.{Fault}
+use Rattle.h41_refusals.specs.declared.fault.Fault.TheVariants.{OutOfMemory, ReadFault, WriteFault}
 use Rattle.h41_ends.specs.declared.sink.Sink as sinks
 use Rattle.h41_ends.specs.declared.source.Source as sources
-use Rattle.h41_jobs.specs.Tasks.{LeavesTooLong, WritesFrontOfRead, WritesOfRead}
+use Rattle.h41_deck.specs.Tasks.{LeavesTooLong, WritesFrontOfRead, WritesOfRead}
 
 module _ {R W : Type 0} {registers : ℕ} (source : sources.Ghosts R) (sink : sinks.Ghosts W) (before after : R) (old new : W) where
   pub leaves_begun : (fault : Fault) → decks.FaultLeaves registers fault source sink before after old new → fault ≢ WriteFault

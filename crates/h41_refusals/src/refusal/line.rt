@@ -2,7 +2,7 @@
 
 ghost use Rattle.std.specs.Prelude.{◌≡◌, ◌≤◌, ◌<◌, ◌++◌};
 ghost use Rattle.arrayvec.specs.ArrayString.{array_string_len};
-ghost use Rattle.h41_deck.specs.Refusals.{detail_text, word_detail};
+ghost use Rattle.h41_refusals.specs.Refusals.{detail_text, word_detail};
 
 use crate::refusal::Refusal;
 use arrayvec::ArrayString;
@@ -26,7 +26,7 @@ pub enum Detail {
 
 impl Refusal {
     ghost use Rattle.std.specs.Prelude.{◌≡◌};
-    ghost use Rattle.h41_deck.specs.Refusals.{detail, refusal_line};
+    ghost use Rattle.h41_refusals.specs.Refusals.{detail, refusal_line};
 
     /// The line that prints it, with its end: `! NN Name`, and a blank and the address in four hexadecimal digits or the line's
     /// number, where it tells one. It takes no memory, so that a refusal can be told whatever else fails.

@@ -1,9 +1,9 @@
 //! What ends a deck before its last command: the faults of memory, reading and writing.
 
 ghost use Rattle.std.specs.Prelude.{◌≡◌, ◌≤◌, length};
-ghost use Rattle.h41_deck.specs.Refusals.{of_fault, heading};
-ghost use Rattle.h41_deck.specs.declared.fault.CommandFault.TheVariants as command;
-ghost use Rattle.h41_deck.specs.declared.fault.Fault.TheVariants as deck;
+ghost use Rattle.h41_refusals.specs.Refusals.{of_fault, heading};
+ghost use Rattle.h41_refusals.specs.declared.fault.CommandFault.TheVariants as command;
+ghost use Rattle.h41_refusals.specs.declared.fault.Fault.TheVariants as deck;
 
 use crate::refusal::Refusal;
 use h41_commands::ItemFault;
@@ -47,7 +47,7 @@ impl Fault {
 
 impl fmt::Display for Fault {
     ghost use Rattle.std.specs.Prelude.{Some};
-    ghost use Rattle.h41_deck.specs.Refusals.{of_fault, heading};
+    ghost use Rattle.h41_refusals.specs.Refusals.{of_fault, heading};
 
     ghost output = { λ fault. Some (heading (of_fault fault)) };
 
@@ -92,7 +92,7 @@ impl From<WriteFault> for Fault {
 
 impl From<InputFault> for Fault {
     ghost use Rattle.std.specs.Prelude.{◌≡◌};
-    ghost use Rattle.h41_deck.specs.Faults.{of_input};
+    ghost use Rattle.h41_refusals.specs.Faults.{of_input};
 
     ghost from_gives = { λ fault own. own ≡ of_input fault };
 
@@ -106,7 +106,7 @@ impl From<InputFault> for Fault {
 
 impl From<ItemFault> for Fault {
     ghost use Rattle.std.specs.Prelude.{◌≡◌};
-    ghost use Rattle.h41_deck.specs.Faults.{of_item};
+    ghost use Rattle.h41_refusals.specs.Faults.{of_item};
 
     ghost from_gives = { λ fault own. own ≡ of_item fault };
 
@@ -121,7 +121,7 @@ impl From<ItemFault> for Fault {
 
 impl From<LineReadFault> for Fault {
     ghost use Rattle.std.specs.Prelude.{◌≡◌};
-    ghost use Rattle.h41_deck.specs.Faults.{of_line};
+    ghost use Rattle.h41_refusals.specs.Faults.{of_line};
 
     ghost from_gives = { λ fault own. own ≡ of_line fault };
 
@@ -135,7 +135,7 @@ impl From<LineReadFault> for Fault {
 
 impl From<CommandFault> for Fault {
     ghost use Rattle.std.specs.Prelude.{◌≡◌};
-    ghost use Rattle.h41_deck.specs.Faults.{of_command};
+    ghost use Rattle.h41_refusals.specs.Faults.{of_command};
 
     ghost from_gives = { λ fault own. own ≡ of_command fault };
 

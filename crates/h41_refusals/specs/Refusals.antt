@@ -22,15 +22,16 @@ use Rattle.h41_xrom.specs.declared.refusal.CalculatorRefusal.{CalculatorRefusal}
 use Rattle.h41_xrom.specs.declared.refusal.CalculatorRefusal.TheVariants.{Word, NotInProfile}
 use Rattle.h41_xrom.specs.declared.refusal.CalculatorRefusal.TheVariants.{Program, MemoryLost}
 use Rattle.h41_xrom.specs.declared.refusal.CalculatorRefusal.TheVariants.{KeyNotHeld, Busy}
-use Rattle.h41_deck.specs.declared.refusal.line.Detail.{Detail}
-use Rattle.h41_deck.specs.declared.refusal.line.Detail.TheVariants as details
-use Rattle.h41_deck.specs.declared.refusal.Refusal.{Refusal}
-use Rattle.h41_deck.specs.declared.refusal.Refusal.TheVariants.{NoSuchPage, Occupied, NotPlugged}
-use Rattle.h41_deck.specs.declared.refusal.Refusal.TheVariants.{Calculator, Line, BreakFull}
-use Rattle.h41_deck.specs.declared.refusal.Refusal.TheVariants.{NoBreak, OutOfMemory, ReadFault}
-use Rattle.h41_deck.specs.declared.refusal.Refusal.TheVariants.{WriteFault}
-use Rattle.h41_deck.specs.declared.fault.Fault.{Fault}
-use Rattle.h41_deck.specs.declared.fault.Fault.TheVariants as faults
+use Rattle.h41_refusals.specs.declared.refusal.line.Detail.{Detail}
+use Rattle.h41_refusals.specs.declared.refusal.line.Detail.TheVariants as details
+use Rattle.h41_refusals.specs.declared.refusal.Refusal.{Refusal}
+use Rattle.h41_refusals.specs.declared.refusal.Refusal.TheVariants.{NoSuchPage, Occupied}
+use Rattle.h41_refusals.specs.declared.refusal.Refusal.TheVariants.{NotPlugged}
+use Rattle.h41_refusals.specs.declared.refusal.Refusal.TheVariants.{Calculator, Line, BreakFull}
+use Rattle.h41_refusals.specs.declared.refusal.Refusal.TheVariants.{NoBreak, OutOfMemory, ReadFault}
+use Rattle.h41_refusals.specs.declared.refusal.Refusal.TheVariants.{WriteFault}
+use Rattle.h41_refusals.specs.declared.fault.Fault.{Fault}
+use Rattle.h41_refusals.specs.declared.fault.Fault.TheVariants as faults
 
 -- each refusal's number and name: a word's
 abbrev pub word_name : word.WordRefusal → List ℕ

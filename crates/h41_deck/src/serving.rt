@@ -3,21 +3,19 @@
 ghost use Rattle.std.specs.Prelude.{◌≡◌, ◌≢◌, ◌≤◌, true, false, Err, OnOk, OnErr, IfOk, IfSome};
 ghost use Rattle.std.specs.Io.KnownBytes.{Keeps};
 ghost use Rattle.h41_ends.specs.Ends.{Appended};
-ghost use Rattle.h41_jobs.specs.Statuses.{EndsJob, IsTaskStatus, TellsFault, TellsMark, fault_line};
-ghost use Rattle.h41_jobs.specs.Tasks.{Ends, ErrLeavesBegun, ErrLeavesFront, ErrLeavesUnread};
-ghost use Rattle.h41_jobs.specs.Tasks.{ErrPassedOn, JobPassedOn};
-ghost use Rattle.h41_jobs.specs.Tasks.{JobBegun, JobLeavesFront, JobLeavesUnread, JobWritesText};
-ghost use Rattle.h41_jobs.specs.Tasks.{MayEnd, OkWritesText, Tells, TellsWord};
-ghost use Rattle.h41_jobs.specs.Tasks.{NotRead, mistake_line};
+ghost use Rattle.h41_deck.specs.Statuses.{EndsJob, IsTaskStatus, TellsFault, TellsMark, fault_line};
+ghost use Rattle.h41_deck.specs.Tasks.{Ends, ErrLeavesBegun, ErrLeavesFront, ErrLeavesUnread};
+ghost use Rattle.h41_deck.specs.Tasks.{ErrPassedOn, JobPassedOn};
+ghost use Rattle.h41_deck.specs.Tasks.{JobBegun, JobLeavesFront, JobLeavesUnread, JobWritesText};
+ghost use Rattle.h41_deck.specs.Tasks.{MayEnd, OkWritesText, Tells, TellsWord};
+ghost use Rattle.h41_deck.specs.Tasks.{NotRead};
+ghost use Rattle.h41_jobs.specs.Texts.{mistake_line};
 
-use crate::assemble::assembly;
-use crate::ended::{Ended, mistake_line};
-use crate::input::read_input;
-use crate::list::listing;
 use crate::memory::run_with;
-use crate::output::{write_answer, write_text};
 use h41_arguments::{Job, Task};
-use h41_deck::{Fault, Sink, Source, WriteFault};
+use h41_ends::{Sink, Source, WriteFault};
+use h41_jobs::{Ended, assembly, listing, mistake_line, read_input, write_answer, write_text};
+use h41_refusals::Fault;
 use std::alloc::Global;
 
 /// The status of a job that was carried out and printed no refusal.
@@ -108,7 +106,7 @@ fn do_task<R: Source, W: Sink>(
     ensures writer { result ≢ Err Fault.WriteFault → W.failed writer.new ≡ false }
 {
     match task {
-        Task::Run { memory } => Ok(Ended::from(run_with(alloc, memory, reader, writer)?)),
+        Task::Run { memory } => Ok(run_with(alloc, memory, reader, writer)?.ended()),
         Task::Assemble { origin } => {
             let source = read_input(alloc, reader)?;
             let answer = assembly(alloc, &source, origin)?;

@@ -1,0 +1,12 @@
+-- What the program prints where it ends at once.
+use Rattle.std.specs.Prelude.{ℕ, List, string_bytes}
+use Rattle.h41_refusals.specs.declared.refusal.Refusal.TheVariants.{OutOfMemory}
+use Rattle.h41_refusals.specs.Refusals.{heading}
+use Rattle.h41_arguments.specs.declared.arguments.Ending.{Ending}
+use Rattle.h41_arguments.specs.declared.arguments.Ending.TheVariants as endings
+
+-- the text of a way to end at once
+abbrev pub text_of : Ending → List ℕ
+text_of (endings.Help text) = string_bytes text
+text_of (endings.Mistake text) = string_bytes text
+text_of endings.OutOfMemory = heading OutOfMemory

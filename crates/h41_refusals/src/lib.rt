@@ -1,0 +1,8 @@
+//! Why the bench refuses a command, and what ends a deck: each refusal with its number, its name and its line.
+#![tactic(auto)]
+
+mod fault;
+mod refusal;
+
+pub use fault::{CommandFault, Fault};
+pub use refusal::{Detail, Refusal};

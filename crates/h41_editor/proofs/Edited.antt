@@ -4,7 +4,7 @@ use Rattle.h41_codes.specs.declared.line.Line.{Line}
 use Rattle.h41_editor.specs.Changes.{Changed, Deletes, Inserts, InsertsAt, Replaces, shown_in_front, with_line_shown}
 use Rattle.h41_editor.specs.NumberedLines.{HasNumbered}
 use Rattle.h41_editor.specs.declared.numbered.NumberedLine.{NumberedLine}
-use Rattle.h41_focal.specs.LineStep.{FocalState, Machine}
+use Rattle.h41_positions.specs.FocalState.{FocalState, Machine}
 use Rattle.h41_pages.specs.PageMap.{PageMap}
 use Rattle.h41_program.specs.Edits.{EditGives, Edits, StandsBefore, StandsNew, with_inserted, with_replaced, without_deleted}
 use Rattle.h41_program.specs.Lines.{is_final_end}
@@ -100,7 +100,7 @@ pub line_replaced :
     → from.focal.position ≡ Memory at
     → Edits from.memory new (with_replaced line) at (Ok tt)
     → StandsNew from.memory at new position
-    → after ≡ with_line_shown (Memory position) from.focal
+    → after ≡ with_line_shown (Memory position) machine.focal
     → Replaces line machine (Ok (record { memory = new; focal = after }))
 line_replaced line from machine new after at position is byte edits stands shown =
     rw (shown, ← is, byte) (Ok (new, tt), edit_made from.memory new (with_replaced line) at edits, (position, stands, refl))
@@ -124,7 +124,7 @@ pub line_deleted :
     → from.focal.position ≡ Memory at
     → Edits from.memory new without_deleted at (Ok tt)
     → StandsBefore from.memory at new front
-    → left ≡ shown_in_front from new front
+    → left ≡ shown_in_front machine new front
     → Deletes pages machine (Ok left)
 line_deleted pages from machine left new first at front is behind there inner byte edits stands shown =
     rw (shown, ← is, behind) (

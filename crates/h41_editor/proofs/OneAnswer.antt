@@ -13,7 +13,7 @@ use Rattle.h41_editor.specs.Moves.{ShowsStart, is_last, returns_kept, shown_end}
 use Rattle.h41_editor.specs.NumberedLines.{Numbers, with_number}
 use Rattle.h41_editor.specs.ProgramText.{ShowsLine, line_00_text, text_of, unknown_text}
 use Rattle.h41_editor.specs.declared.numbered.NumberedLine.{NumberedLine}
-use Rattle.h41_focal.specs.LineStep.{Machine, at_line_00, at_line}
+use Rattle.h41_positions.specs.FocalState.{Machine, at_line_00, at_line}
 use Rattle.h41_pages.specs.PageMap.{PageMap}
 use Rattle.h41_program.specs.Edits.{EditGives, PlacesAreDetermined, before_end, close_behind, position_behind, position_in_front}
 use Rattle.h41_program.specs.Edits.{with_inserted, with_replaced, without_deleted}

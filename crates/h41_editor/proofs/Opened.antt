@@ -1,12 +1,11 @@
--- What is read of a machine, and of what lines work on in it, is the machine's.
-use Rattle.std.proofs.Common.{◌≡◌, ◌∙◌}
-use Rattle.h41_focal.specs.LineStep.{FocalState, Machine}
+-- What is read of what lines work on, opened, is what is read of it with memory.
+use Rattle.std.proofs.Common.{◌≡◌}
+use Rattle.h41_positions.specs.FocalState.{machine_with}
+use Rattle.h41_positions.specs.LabelledMachine.{LabelledFocal}
 use Rattle.h41_ram.specs.RegisterMap.{RegisterMap}
 
-pub read_of :
-    (memory ram : RegisterMap) (seen focal : FocalState) (machine : Machine)
-    → memory ≡ ram
-    → seen ≡ focal
-    → ◌≡◌ {A = Machine} (record { memory = ram; focal = focal }) machine
-    → ◌≡◌ {A = Machine} (record { memory = memory; focal = seen }) machine
-read_of memory ram seen focal machine kept same is = (λ i. record { memory = kept i; focal = same i }) ∙ is
+pub opened :
+    (memory : RegisterMap) (inside focal : LabelledFocal)
+    → inside ≡ focal
+    → machine_with memory inside.state ≡ machine_with memory focal.state
+opened memory inside focal is = λ i. machine_with memory (is i).state

@@ -4,7 +4,7 @@ use Rattle.h41_editor.specs.Changes.{InsertsAt}
 use Rattle.h41_editor.specs.Moves.{ShowsBefore, ShowsEnd, ShowsNext, is_last}
 use Rattle.h41_editor.specs.NumberedLines.{HasNumbered}
 use Rattle.h41_editor.specs.declared.numbered.NumberedLine.{NumberedLine}
-use Rattle.h41_focal.specs.LineStep.{Machine, at_line}
+use Rattle.h41_positions.specs.FocalState.{Machine, at_line}
 use Rattle.h41_pages.specs.PageMap.{PageMap}
 use Rattle.h41_positions.specs.Positions.{LineAt, LineBefore, NextAt}
 use Rattle.h41_positions.specs.declared.position.PlacedLine.{PlacedLine}

@@ -7,7 +7,7 @@ use Rattle.h41_codes.specs.declared.line.Line.{Line}
 use Rattle.h41_editor.specs.Moves.{is_last}
 use Rattle.h41_editor.specs.NumberedLines.{HasNumbered}
 use Rattle.h41_editor.specs.declared.numbered.NumberedLine.{NumberedLine}
-use Rattle.h41_focal.specs.LineStep.{FocalState, Machine, at_position, halted_at}
+use Rattle.h41_positions.specs.FocalState.{FocalState, Machine, at_position, halted_at}
 use Rattle.h41_pages.specs.PageMap.{PageMap}
 use Rattle.h41_program.specs.Edits.{EditGives, StandsBefore, StandsNew, with_inserted}
 use Rattle.h41_program.specs.Edits.{with_replaced, without_deleted}

@@ -5,7 +5,7 @@ use Rattle.std.specs.Prelude.{◌≡◌, ℕ, Bool, true, ◌||◌, List, [], Ma
 use Rattle.std.specs.Prelude.{Result, Ok, Err}
 use Rattle.h41_editor.specs.NumberedLines.{HasNumbered}
 use Rattle.h41_editor.specs.declared.numbered.NumberedLine.{NumberedLine}
-use Rattle.h41_focal.specs.LineStep.{Machine, at_line_00, at_line}
+use Rattle.h41_positions.specs.FocalState.{Machine, at_line_00, at_line}
 use Rattle.h41_pages.specs.PageMap.{PageMap}
 use Rattle.h41_program.specs.Edits.{before_end, close_behind}
 use Rattle.h41_program.specs.LastProgram.{open_in}

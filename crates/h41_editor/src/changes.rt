@@ -1,47 +1,51 @@
 //! Lines inserted, replaced and deleted by keys.
 ghost use Rattle.std.specs.Prelude.{◌≡◌, IfErr, IfOk, IsTrue, OnErr};
-ghost use Rattle.h41_focal.specs.LabelledMachine.{Keeps, machine_of};
 ghost use Rattle.h41_editor.specs.Changes.{Deletes, Inserts, InsertsAt, Replaces, with_line_shown};
 ghost use Rattle.h41_editor.specs.Moves.{made_as};
 ghost use Rattle.h41_editor.specs.private.Placing.{HasNoNext};
-ghost use Rattle.h41_program.specs.Lines.{is_inner};
+ghost use Rattle.h41_positions.specs.FocalState.{machine_with};
 ghost use Rattle.h41_positions.specs.declared.position.Position.TheVariants.{Memory};
+ghost use Rattle.h41_program.specs.Lines.{is_inner};
+ghost use Rattle.h41_ram.specs.RamState.{KeepsMark};
 ghost use Rattle.h41_ram.specs.RegisterMap.{is_sound};
 
 use crate::moves::is_last;
 use crate::numbered::numbered_line;
 use h41_codes::Line;
-use h41_focal::{Focal, Machine};
 use h41_pages::Pages;
 use h41_positions::laws::positions_are_read;
-use h41_positions::{PlacedLine, Position, line_at, next, start_of};
+use h41_positions::{Focal, PlacedLine, Position, line_at, next, start_of};
 use h41_program::{InFront, ProgramRefusal, delete, insert, is_final_end, replace};
+use h41_ram::Ram;
 
 /// A line, neither a null nor `.END.`, is inserted behind the shown one, in front of it where that is an END or `.END.`, and at line
 /// 00 in front of the program's first line. It is shown, and nothing is left to return to. 14 where the program has no line at
 /// the position and where the list of lines does not reach `.END.`, 16 where there is no room; nothing is changed then. In a page 14.
 pub fn insert_line<const REGS: usize>(
-    machine: &mut Machine<REGS>,
+    ram: &mut Ram<REGS>,
     pages: &Pages,
+    focal: &mut Focal,
     line: Line,
 ) -> Result<(), ProgramRefusal>
-    requires sound { IsTrue (is_sound machine.old.ram.registers) }
+    requires sound { IsTrue (is_sound ram.old.registers) }
     requires inner { IsTrue (is_inner line) }
-    ensures line { Inserts pages.now line
-        (machine_of machine.old) (made_as (machine_of machine.new) result) }
-    ensures unchanged { OnErr result (machine_of machine.new ≡ machine_of machine.old) }
-    ensures sound { IsTrue (is_sound machine.new.ram.registers) }
-    ensures keeps { Keeps machine.old machine.new }
+    ensures line { Inserts pages.now line (machine_with ram.old.registers focal.old.state)
+        (made_as (machine_with ram.new.registers focal.new.state) result) }
+    ensures unchanged { OnErr result (machine_with ram.new.registers focal.new.state
+        ≡ machine_with ram.old.registers focal.old.state) }
+    ensures sound { IsTrue (is_sound ram.new.registers) }
+    ensures mark { KeepsMark ram.old ram.new }
+    ensures labels { focal.new.labels ≡ focal.old.labels }
 {
     positions_are_read();
-    let before = match numbered_line(machine, pages) {
-        Some(shown) => place_for_line(machine, pages, &shown.placed)?,
+    let before = match numbered_line(ram, pages, focal) {
+        Some(shown) => place_for_line(ram, pages, focal, &shown.placed)?,
         None => return Err(ProgramRefusal::BrokenProgram),
     };
     match before {
         Position::Memory(before) => {
-            let byte = insert(&mut machine.ram, before, line)?;
-            show_line(&mut machine.focal, byte);
+            let byte = insert(ram, before, line)?;
+            show_line(focal, byte);
             Ok(())
         }
         Position::Page(_) => Err(ProgramRefusal::BrokenProgram),
@@ -50,20 +54,23 @@ pub fn insert_line<const REGS: usize>(
 
 /// Where a line is inserted.
 fn place_for_line<const REGS: usize>(
-    machine: &Machine<REGS>,
+    ram: &Ram<REGS>,
     pages: &Pages,
+    focal: &Focal,
     shown: &PlacedLine,
 ) -> Result<Position, ProgramRefusal>
-    requires { IsTrue (is_sound machine.now.ram.registers) }
-    ensures place { IfOk result (InsertsAt pages.now (machine_of machine.now) shown.now) }
-    ensures none { IfErr result (HasNoNext pages.now (machine_of machine.now)) }
+    requires { IsTrue (is_sound ram.now.registers) }
+    ensures place { IfOk result
+        (InsertsAt pages.now (machine_with ram.now.registers focal.now.state) shown.now) }
+    ensures none { IfErr result
+        (HasNoNext pages.now (machine_with ram.now.registers focal.now.state)) }
 {
-    if machine.focal.is_at_line_00 {
-        Ok(start_of(&machine.ram, pages, machine.focal.position))
+    if focal.is_at_line_00 {
+        Ok(start_of(ram, pages, focal.position))
     } else if is_last(shown) {
         Ok(shown.position)
     } else {
-        next(&machine.ram, pages, machine.focal.position)
+        next(ram, pages, focal.position)
     }
 }
 
@@ -71,21 +78,24 @@ fn place_for_line<const REGS: usize>(
 /// list of lines has none at the position or does not reach `.END.`, 16 where there is no room; nothing is changed then. In a page
 /// 14.
 pub fn replace_line<const REGS: usize>(
-    machine: &mut Machine<REGS>,
+    ram: &mut Ram<REGS>,
+    focal: &mut Focal,
     line: Line,
 ) -> Result<(), ProgramRefusal>
-    requires sound { IsTrue (is_sound machine.old.ram.registers) }
+    requires sound { IsTrue (is_sound ram.old.registers) }
     requires inner { IsTrue (is_inner line) }
-    ensures line { Replaces line (machine_of machine.old)
-        (made_as (machine_of machine.new) result) }
-    ensures unchanged { OnErr result (machine_of machine.new ≡ machine_of machine.old) }
-    ensures sound { IsTrue (is_sound machine.new.ram.registers) }
-    ensures keeps { Keeps machine.old machine.new }
+    ensures line { Replaces line (machine_with ram.old.registers focal.old.state)
+        (made_as (machine_with ram.new.registers focal.new.state) result) }
+    ensures unchanged { OnErr result (machine_with ram.new.registers focal.new.state
+        ≡ machine_with ram.old.registers focal.old.state) }
+    ensures sound { IsTrue (is_sound ram.new.registers) }
+    ensures mark { KeepsMark ram.old ram.new }
+    ensures labels { focal.new.labels ≡ focal.old.labels }
 {
-    match machine.focal.position {
+    match focal.position {
         Position::Memory(at) => {
-            let byte = replace(&mut machine.ram, at, line)?;
-            show_line(&mut machine.focal, byte);
+            let byte = replace(ram, at, line)?;
+            show_line(focal, byte);
             Ok(())
         }
         Position::Page(_) => Err(ProgramRefusal::BrokenProgram),
@@ -96,25 +106,28 @@ pub fn replace_line<const REGS: usize>(
 /// At line 00 and at `.END.` nothing is changed. 14 where no line can be read at the position, where the list of lines has none there
 /// or does not reach `.END.`, 16 where there is no room; nothing is changed then. In a page each other line is 14.
 pub fn delete_line<const REGS: usize>(
-    machine: &mut Machine<REGS>,
+    ram: &mut Ram<REGS>,
     pages: &Pages,
+    focal: &mut Focal,
 ) -> Result<(), ProgramRefusal>
-    requires { IsTrue (is_sound machine.old.ram.registers) }
-    ensures line { Deletes pages.now
-        (machine_of machine.old) (made_as (machine_of machine.new) result) }
-    ensures unchanged { OnErr result (machine_of machine.new ≡ machine_of machine.old) }
-    ensures sound { IsTrue (is_sound machine.new.ram.registers) }
-    ensures keeps { Keeps machine.old machine.new }
+    requires { IsTrue (is_sound ram.old.registers) }
+    ensures line { Deletes pages.now (machine_with ram.old.registers focal.old.state)
+        (made_as (machine_with ram.new.registers focal.new.state) result) }
+    ensures unchanged { OnErr result (machine_with ram.new.registers focal.new.state
+        ≡ machine_with ram.old.registers focal.old.state) }
+    ensures sound { IsTrue (is_sound ram.new.registers) }
+    ensures mark { KeepsMark ram.old ram.new }
+    ensures labels { focal.new.labels ≡ focal.old.labels }
 {
-    let position = machine.focal.position;
-    if machine.focal.is_at_line_00 || is_final_end(line_at(&machine.ram, pages, position)?.line) {
+    let position = focal.position;
+    if focal.is_at_line_00 || is_final_end(line_at(ram, pages, position)?.line) {
         return Ok(());
     }
     match position {
         Position::Memory(at) => {
-            match delete(&mut machine.ram, at)? {
-                InFront::Line(byte) => show_line(&mut machine.focal, byte),
-                InFront::Start(start) => machine.focal.halt_at(Position::Memory(start)),
+            match delete(ram, at)? {
+                InFront::Line(byte) => show_line(focal, byte),
+                InFront::Start(start) => focal.halt_at(Position::Memory(start)),
             }
             Ok(())
         }

@@ -1,12 +1,11 @@
 //! The line that a position stands for, with its number.
 ghost use Rattle.std.specs.Prelude.{IsTrue};
-ghost use Rattle.h41_focal.specs.LabelledMachine.{machine_of};
 ghost use Rattle.h41_editor.specs.NumberedLines.{HasNumbered};
 ghost use Rattle.h41_ram.specs.RegisterMap.{is_sound};
 
-use h41_focal::Machine;
 use h41_pages::Pages;
-use h41_positions::{PlacedLine, line_at, line_number};
+use h41_positions::{Focal, PlacedLine, line_at, line_number};
+use h41_ram::Ram;
 
 /// A line of a program with its number there.
 #[derive(Clone, Copy, Debug, PartialEq, Eq)]
@@ -20,16 +19,16 @@ pub struct NumberedLine {
 /// The line that the position stands for: the first from there on. `None` where no line can be read there, and where its program
 /// has none there, as within a line.
 pub fn numbered_line<const REGS: usize>(
-    machine: &Machine<REGS>,
+    ram: &Ram<REGS>,
     pages: &Pages,
+    focal: &Focal,
 ) -> Option<NumberedLine>
-    requires { IsTrue (is_sound machine.now.ram.registers) }
-    ensures { HasNumbered pages.now machine.now.ram.registers
-        machine.now.focal.state.position result }
+    requires { IsTrue (is_sound ram.now.registers) }
+    ensures { HasNumbered pages.now ram.now.registers focal.now.state.position result }
 {
-    match line_at(&machine.ram, pages, machine.focal.position) {
+    match line_at(ram, pages, focal.position) {
         Ok(placed) => {
-            let number = line_number(&machine.ram, pages, placed.position)?;
+            let number = line_number(ram, pages, placed.position)?;
             Some(NumberedLine { placed, number })
         }
         Err(_) => None,

@@ -1,13 +1,13 @@
 //! What the display shows in program mode.
 ghost use Rattle.std.specs.Prelude.{◌≡◌, ◌≤◌, ◌++◌, length, IsTrue};
-ghost use Rattle.h41_focal.specs.LabelledMachine.{machine_of};
 ghost use Rattle.h41_editor.specs.ProgramText as spec;
+ghost use Rattle.h41_positions.specs.FocalState.{machine_with};
 ghost use Rattle.h41_ram.specs.RegisterMap.{is_sound};
 
 use crate::numbered::{NumberedLine, numbered_line};
 use arrayvec::ArrayString;
-use h41_focal::Machine;
 use h41_pages::Pages;
+use h41_positions::Focal;
 use h41_ram::Ram;
 use h41_text::write_line;
 use itoa::Buffer;
@@ -21,17 +21,19 @@ const MAIN_START: u16 = 0x0C0;
 /// The line that the position shows: its number, of two digits at least, and its text; `00 REG n` at line 00, with the number of
 /// registers that are left for programs; `?` where its program has no line there, and where memory is not sound.
 pub fn program_text<const REGS: usize>(
-    machine: &Machine<REGS>,
+    ram: &Ram<REGS>,
     pages: &Pages,
+    focal: &Focal,
 ) -> ArrayString<PROGRAM_TEXT_CAPACITY>
-    ensures { spec.ShowsProgram pages.now (machine_of machine.now) result.bytes }
+    ensures { spec.ShowsProgram pages.now
+        (machine_with ram.now.registers focal.now.state) result.bytes }
 {
-    if !machine.ram.is_sound() {
+    if !ram.is_sound() {
         unknown_text()
-    } else if machine.focal.is_at_line_00 {
-        line_00_text(&machine.ram)
+    } else if focal.is_at_line_00 {
+        line_00_text(ram)
     } else {
-        match numbered_line(machine, pages) {
+        match numbered_line(ram, pages, focal) {
             Some(numbered) => numbered_text(&numbered),
             None => unknown_text(),
         }

@@ -6,7 +6,7 @@ use Rattle.h41_codes.specs.declared.line.Operand.{Operand}
 use Rattle.h41_codes.specs.declared.line.Operand.TheVariants.{Direct, Indirect}
 use Rattle.h41_ram.specs.NamedRegisters.{size_of}
 use Rattle.h41_ram.specs.RegisterMap.{RegisterMap, curtain_of, is_sound}
-use Rattle.h41_focal.specs.LabelledMachine.{LabelledMachine}
+use Rattle.h41_positions.specs.LabelledMachine.{LabelledMachine}
 use Rattle.h41_ram.specs.RamState.{RamState, marked_by}
 use Rattle.h41_rows.proofs.MarksLeft.{data_apart, left_by_flag, status_apart}
 use Rattle.h41_rows.specs.Operands.{Address, Meant, RegisterKind, address_of, data_register, meant_as, number_of}

@@ -7,7 +7,8 @@ use Rattle.h41_codes.specs.declared.line.Line.TheVariants as lines
 use Rattle.h41_focal.proofs.Elsewhere.{elsewhere_keeps, fails_here}
 use Rattle.h41_focal.specs.BriefOutcomes.{brief_answer, briefly}
 use Rattle.h41_focal.specs.Destinations.{Manner}
-use Rattle.h41_focal.specs.LineStep.{AppliesTo, CarriesOut, FailsIn, Left, Machine, TakesLine, named_by}
+use Rattle.h41_focal.specs.LineStep.{AppliesTo, CarriesOut, FailsIn, Left, TakesLine, named_by}
+use Rattle.h41_positions.specs.FocalState.{Machine}
 use Rattle.h41_focal.specs.MachineCalls.{left_of}
 use Rattle.h41_focal.specs.Outcomes.{Answer, answer_of, is_elsewhere}
 use Rattle.h41_focal.specs.Outcomes as answers

@@ -7,8 +7,10 @@ use Rattle.h41_focal.specs.Destinations.{Arrives, Destination, Halts, HasNoLabel
 use Rattle.h41_focal.specs.Destinations.{Typed}
 use Rattle.h41_focal.specs.private.Carrying.{TakesAs, manner_of}
 use Rattle.h41_focal.specs.MachineCalls.{KeepsElsewhere}
-use Rattle.h41_focal.specs.LineStep.{AppliesTo, AppliesWith, CarriesOut, Ends, FailsIn, Left, Machine, TakesLine, answer_of_showing}
-use Rattle.h41_focal.specs.LineStep.{at_line, error_flag, left_by_fault, left_done, left_failed, named_by, with_fault_caught}
+use Rattle.h41_focal.specs.LineStep.{AppliesTo, AppliesWith, CarriesOut, Ends, FailsIn, Left, TakesLine, answer_of_showing}
+use Rattle.h41_positions.specs.FocalState.{Machine}
+use Rattle.h41_focal.specs.LineStep.{error_flag, left_by_fault, left_done, left_failed, named_by, with_fault_caught}
+use Rattle.h41_positions.specs.FocalState.{at_line}
 use Rattle.h41_focal.specs.Outcomes.{Answer, is_elsewhere}
 use Rattle.h41_focal.specs.declared.origin.Origin.{Origin}
 use Rattle.h41_focal.specs.declared.outcome.LineOutcome.{LineOutcome}

@@ -8,7 +8,8 @@ use Rattle.h41_focal.specs.BriefOutcomes.{briefly}
 use Rattle.h41_focal.specs.Outcomes as answers
 use Rattle.h41_focal.specs.Destinations as destinations
 use Rattle.h41_rows.specs.LineRows as lines
-use Rattle.h41_focal.specs.LineStep.{FailsIn, Machine, at_halt}
+use Rattle.h41_focal.specs.LineStep.{FailsIn}
+use Rattle.h41_positions.specs.FocalState.{Machine, at_halt}
 use Rattle.h41_focal.specs.private.Works.{row_of_work}
 use Rattle.h41_rows.specs.declared.fault.LineFault.TheVariants.{Nonexistent}
 use Rattle.h41_focal.specs.declared.origin.Origin.{Origin}

@@ -1,7 +1,7 @@
 -- Kept answers that were right are right behind a line.
 use Rattle.std.proofs.Common.{Bool, true, false, rules, sym, subst}
 use Rattle.std.specs.Prelude.{IsFalse, IsTrue, List, Option}
-use Rattle.h41_focal.specs.LabelledMachine.{AreRight, Keeps, LabelledMachine}
+use Rattle.h41_positions.specs.LabelledMachine.{AreRight, Keeps, LabelledMachine}
 use Rattle.h41_labels.specs.KeptAnswers.{IsRight, KeepsSearch}
 use Rattle.h41_labels.specs.KeptLaws.{RightnessDepends, SearchesStayRight}
 use Rattle.h41_labels.specs.declared.search.KeptAnswer.{KeptAnswer}

@@ -11,7 +11,8 @@ use Rattle.h41_codes.specs.declared.short_lines.ShortLine.{ShortLine}
 use Rattle.h41_codes.specs.ShortLines.{line_of}
 use Rattle.h41_focal.specs.private.Carrying.{CarriesFound, CarriesRow, StandsNoShort, StandsNumber, TakesBriefly}
 use Rattle.h41_focal.specs.private.Carrying.{UsesAddress, UsesDigits, UsesFlag}
-use Rattle.h41_focal.specs.LineStep.{Machine, StandsAt, lift_behind}
+use Rattle.h41_focal.specs.LineStep.{StandsAt, lift_behind}
+use Rattle.h41_positions.specs.FocalState.{Machine}
 use Rattle.h41_focal.specs.private.Works.{digits_use_row, flag_use_row, highest_of, register_use_row, row_of_work}
 use Rattle.h41_focal.specs.declared.origin.Origin.{Origin}
 use Rattle.h41_focal.specs.declared.outcome.BriefOutcome.{BriefOutcome}

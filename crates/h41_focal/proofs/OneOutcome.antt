@@ -11,7 +11,8 @@ use Rattle.h41_focal.specs.Destinations.{Seeks, Stays}
 use Rattle.h41_focal.specs.Destinations.{Stepped, StepsFrom, Tells, Typed, TypedFrom, found_at, lost_name, typed_at}
 use Rattle.h41_focal.specs.LineLaws.{EnteringIsDetermined, FailureIsDetermined, PassingIsDetermined, StepIsDetermined, TypedIsDetermined}
 use Rattle.h41_focal.specs.LineLaws.{TypedFailureIsDetermined}
-use Rattle.h41_focal.specs.LineStep.{Applies, AppliesTo, AppliesWith, CarriesOut, ComputesIn, Ends, FailsIn, FailsWith, Left, Machine}
+use Rattle.h41_focal.specs.LineStep.{Applies, AppliesTo, AppliesWith, CarriesOut, ComputesIn, Ends, FailsIn, FailsWith, Left}
+use Rattle.h41_positions.specs.FocalState.{Machine}
 use Rattle.h41_focal.specs.LineStep.{EntersWith, PassesWith, Stands, StandsAt, StepsAs, TakesLine, Works, answer_of_showing, line_as}
 use Rattle.h41_focal.specs.LineStep.{named_by}
 use Rattle.h41_focal.specs.LineStep.{with_row}

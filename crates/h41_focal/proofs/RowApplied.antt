@@ -3,7 +3,8 @@ use Rattle.std.proofs.Common.{◌≡◌, ℕ, List, Ok, Err, Result, refl, subst
 use Rattle.h41_focal.specs.private.Carrying.{FailsAs, Leaves, on_to_next, manner_of, nowhere}
 use Rattle.h41_focal.specs.BriefOutcomes.{brief_answer}
 use Rattle.h41_focal.specs.Destinations as destinations
-use Rattle.h41_focal.specs.LineStep.{Applies, FocalState, Left, Machine, Works, answer_of_showing, machine_with}
+use Rattle.h41_focal.specs.LineStep.{Applies, Left, Works, answer_of_showing}
+use Rattle.h41_positions.specs.FocalState.{FocalState, Machine, machine_with}
 use Rattle.h41_rows.specs.RowEffects.{memory_after}
 use Rattle.h41_rows.specs.Rows.{LineRow}
 use Rattle.h41_rows.specs.Rows as rows

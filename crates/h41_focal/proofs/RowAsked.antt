@@ -10,7 +10,8 @@ use Rattle.h41_rows.specs.Counters.{Way}
 use Rattle.h41_focal.specs.Destinations as destinations
 use Rattle.h41_focal.specs.Destinations.{Destination, Arrives, Asks, HasNoLine, Stays, StepsFrom, Tells}
 use Rattle.h41_rows.specs.LineRows.{loop}
-use Rattle.h41_focal.specs.LineStep.{Applies, Machine, Works}
+use Rattle.h41_focal.specs.LineStep.{Applies, Works}
+use Rattle.h41_positions.specs.FocalState.{Machine}
 use Rattle.h41_rows.specs.Places.{Named, are_numbers, register_in}
 use Rattle.h41_rows.specs.RowEffects.{holds_in}
 use Rattle.h41_rows.specs.Rows.{Condition, LineRow}

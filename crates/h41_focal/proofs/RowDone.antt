@@ -6,7 +6,8 @@ use Rattle.h41_focal.specs.private.Carrying.{Leaves, on_to_next, ending_of, nowh
 use Rattle.h41_focal.specs.BriefOutcomes.{brief_answer}
 use Rattle.h41_rows.specs.Computing.{WorksOn, value_of_two}
 use Rattle.h41_rows.specs.LineRows.{text_row}
-use Rattle.h41_focal.specs.LineStep.{FocalState, Machine, Works, answer_of_showing, machine_with}
+use Rattle.h41_focal.specs.LineStep.{Works, answer_of_showing}
+use Rattle.h41_positions.specs.FocalState.{FocalState, Machine, machine_with}
 use Rattle.h41_rows.specs.Places.{Named, X}
 use Rattle.h41_rows.specs.RowEffects.{memory_after, with_alpha_change}
 use Rattle.h41_rows.specs.Rows.{LineRow, Appends, Becomes}

@@ -9,9 +9,11 @@ use Rattle.h41_focal.proofs.OneOutcome.{same_line, typed_determined}
 use Rattle.h41_focal.specs.Destinations.{Arrives, Destination, Stays, StepsFrom, Stepped, Typed, TypedFrom}
 use Rattle.h41_focal.specs.LineLaws.{AreAlike, GoesToNext, IsAt, NextIsHere, StepsInTurn, SteppedCanBeTyped, TypedAsStepped}
 use Rattle.h41_focal.specs.LineLaws.{TypedIsDetermined, TypesInTurn}
-use Rattle.h41_focal.specs.LineStep.{Applies, AppliesTo, AppliesWith, CarriesOut, Ends, FailsIn, FocalState, Left, Machine, Stands, StepsAs}
+use Rattle.h41_focal.specs.LineStep.{Applies, AppliesTo, AppliesWith, CarriesOut, Ends, FailsIn, Left, Stands, StepsAs}
+use Rattle.h41_positions.specs.FocalState.{FocalState, Machine}
 use Rattle.h41_focal.specs.LineStep.{StepsLine, TakesLine, TypesLine, answer_of_showing, with_fault_caught, left_done}
-use Rattle.h41_focal.specs.LineStep.{error_flag, left_by_fault, left_failed, named_by, at_line}
+use Rattle.h41_focal.specs.LineStep.{error_flag, left_by_fault, left_failed, named_by}
+use Rattle.h41_positions.specs.FocalState.{at_line}
 use Rattle.h41_focal.specs.LineStep.{with_row}
 use Rattle.h41_focal.specs.Outcomes.{is_elsewhere}
 use Rattle.h41_focal.specs.declared.refusal.FocalRefusal.{FocalRefusal}

@@ -1,7 +1,8 @@
 -- What a line leaves for the calculator to do, without the texts that it shows: these are made from
 -- memory as the line left it.
 use Rattle.std.specs.Prelude.{Bool, true, false, IsTrue, None, Result, Ok, Err}
-use Rattle.h41_focal.specs.LineStep.{Left, Machine, StepsLine}
+use Rattle.h41_focal.specs.LineStep.{Left, StepsLine}
+use Rattle.h41_positions.specs.FocalState.{Machine}
 use Rattle.h41_focal.specs.Outcomes.{Answer, is_elsewhere}
 use Rattle.h41_focal.specs.Outcomes as answers
 use Rattle.h41_focal.specs.declared.outcome.BriefOutcome.{BriefOutcome}

@@ -1,6 +1,6 @@
 -- Laws of kept answers, over a machine.
 use Rattle.std.specs.Prelude.{Option}
-use Rattle.h41_focal.specs.LabelledMachine.{AreRight, Keeps, LabelledMachine}
+use Rattle.h41_positions.specs.LabelledMachine.{AreRight, Keeps, LabelledMachine}
 use Rattle.h41_labels.specs.KeptAnswers.{IsRight, KeepsSearch}
 use Rattle.h41_labels.specs.declared.search.Search.{Search}
 use Rattle.h41_ram.specs.RamState.{KeepsMark}

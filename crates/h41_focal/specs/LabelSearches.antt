@@ -1,28 +1,24 @@
 -- Which search for a label a line asks for, and what is kept behind it.
-use Rattle.std.specs.Prelude.{◌≡◌, ℕ, List, MatchBool, None, Option, Some, if◌then◌else◌}
+use Rattle.std.specs.Prelude.{◌≡◌, List, MatchBool, None, Option, Some, if◌then◌else◌}
 use Rattle.std.specs.Prelude.{Result, Ok, Err}
 use Rattle.h41_codes.specs.declared.functions.Function.{Function}
 use Rattle.h41_codes.specs.declared.line.Line.{Line}
 use Rattle.h41_codes.specs.declared.line.Line.TheVariants as lines
-use Rattle.h41_focal.specs.LabelledMachine.{LabelledMachine, begun_labels, machine_of}
-use Rattle.h41_focal.specs.LineStep.{Machine, Stands, line_as}
+use Rattle.h41_positions.specs.LabelledMachine.{LabelledMachine, begun_labels, local_search}
+use Rattle.h41_positions.specs.LabelledMachine.{machine_of}
+use Rattle.h41_focal.specs.LineStep.{Stands, line_as}
+use Rattle.h41_positions.specs.FocalState.{Machine}
 use Rattle.h41_focal.specs.declared.refusal.FocalRefusal.{FocalRefusal}
 use Rattle.h41_labels.specs.KeptAnswers.{KeepsSearch}
 use Rattle.h41_labels.specs.declared.search.KeptAnswer.{KeptAnswer}
 use Rattle.h41_labels.specs.declared.search.Search.{Search}
-use Rattle.h41_labels.specs.declared.search.Search.TheVariants.{Global, Local}
+use Rattle.h41_labels.specs.declared.search.Search.TheVariants.{Global}
 use Rattle.h41_pages.specs.PageMap.{PageMap}
 use Rattle.h41_positions.specs.declared.position.Position.{Position}
-use Rattle.h41_positions.specs.declared.position.Position.TheVariants.{Memory, Page}
 use Rattle.h41_ram.specs.RegisterMap.{RegisterMap, is_sound}
 use Rattle.h41_rows.specs.Operands.{Count, Meant, Name, meant_of}
 use Rattle.h41_rows.specs.Profile.{is_left_out}
 use Rattle.h41_rows.specs.declared.fault.LineFault.{LineFault}
-
--- a search for LBL n, from a position on; none that is kept in a page
-abbrev pub local_search : Position → ℕ → Option Search
-local_search (Memory byte) label = Some (Local byte label)
-local_search (Page address) label = None
 
 -- the search for what a register holds: a label's number, or a name; a fault has none
 abbrev pub search_for : Position → Result Meant LineFault → Option Search

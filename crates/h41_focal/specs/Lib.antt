@@ -2,7 +2,6 @@ pub mod BriefOutcomes
 pub mod Destinations
 pub mod LabelLaws
 pub mod LabelSearches
-pub mod LabelledMachine
 pub mod LineLaws
 pub mod LineStep
 pub mod MachineCalls

@@ -3,7 +3,8 @@
 use Rattle.std.specs.Prelude.{◌≡◌, ℕ, IfOk, IsTrue, Option, Result, Ok, Err}
 use Rattle.h41_codes.specs.declared.functions.Function.{Function}
 use Rattle.h41_codes.specs.declared.line.Line.{Line}
-use Rattle.h41_focal.specs.LineStep.{EntersLine, FailsLine, Left, Machine, PassesLine, StepsLine}
+use Rattle.h41_focal.specs.LineStep.{EntersLine, FailsLine, Left, PassesLine, StepsLine}
+use Rattle.h41_positions.specs.FocalState.{Machine}
 use Rattle.h41_focal.specs.LineStep.{TypesLine}
 use Rattle.h41_focal.specs.LineStep as steps
 use Rattle.h41_focal.specs.Outcomes.{answer_of, is_elsewhere}

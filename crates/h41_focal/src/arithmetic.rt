@@ -1,7 +1,7 @@
 //! Functions that compute.
 
 ghost use Rattle.std.specs.Prelude.{ℕ};
-ghost use Rattle.h41_focal.specs.LabelledMachine.{Keeps, machine_of};
+ghost use Rattle.h41_positions.specs.LabelledMachine.{Keeps, machine_of};
 ghost use Rattle.h41_focal.specs.private.Carrying.{DoesWork};
 ghost use Rattle.h41_focal.specs.declared.works.FunctionWork.TheVariants.{ChangeSign, OfX, OfYAndX};
 ghost use Rattle.h41_focal.specs.declared.works.FunctionWork.TheVariants.{Percent, Square};

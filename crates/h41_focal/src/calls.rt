@@ -2,17 +2,17 @@
 
 ghost use Rattle.std.specs.Prelude.{◌≡◌, false, None, Some, OnErr};
 ghost use Rattle.h41_focal.specs.LabelSearches.{StepKeeps, TypingKeeps};
-ghost use Rattle.h41_focal.specs.LabelledMachine.{AreRight, begun_ram, labelled_with};
-ghost use Rattle.h41_focal.specs.LineStep.{machine_with};
+ghost use Rattle.h41_positions.specs.LabelledMachine.{AreRight, begun_ram, labelled_with};
+ghost use Rattle.h41_positions.specs.FocalState.{machine_with};
 ghost use Rattle.h41_focal.specs.MachineCalls.{KeepsElsewhere, Steps, Types};
 ghost use Rattle.h41_ram.specs.RamState.{KeepsMark};
 
-use crate::focal::Focal;
 use crate::machine::Machine;
 use crate::outcome::LineOutcome;
 use crate::refusal::FocalRefusal;
 use h41_codes::{Function, Line};
 use h41_pages::Pages;
+use h41_positions::Focal;
 use h41_ram::Ram;
 use std::mem::replace;
 

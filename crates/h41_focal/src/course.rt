@@ -1,19 +1,18 @@
 //! Where a line goes once its work is done, or where it cannot be done.
 
 ghost use Rattle.std.specs.Prelude.{◌≡◌};
-ghost use Rattle.h41_focal.specs.LabelledMachine.{Keeps, machine_of};
+ghost use Rattle.h41_positions.specs.LabelledMachine.{Keeps, machine_of};
 ghost use Rattle.h41_focal.specs.private.Carrying.{FailsAs, behind_line, fault_outcome};
 ghost use Rattle.h41_focal.specs.private.Carrying.{on_to_next};
 ghost use Rattle.h41_rows.specs.declared.fault.LineFault.{LineFault};
 ghost use Rattle.h41_rows.specs.Rows.{AsItWas, On};
 ghost use Rattle.h41_rows.specs.RowMarks.{LeavesMark};
 
-use crate::focal::Focal;
 use crate::machine::Machine;
 use crate::origin::Origin;
 use crate::outcome::BriefOutcome;
 use h41_codes::Line;
-use h41_positions::Position;
+use h41_positions::{Focal, Position};
 use h41_ram::flags::ERROR_IGNORE;
 use h41_rows::LineFault;
 

@@ -1,7 +1,7 @@
 //! Lines that work on the display, and those that stop the program.
 
 ghost use Rattle.std.specs.Prelude.{ℕ};
-ghost use Rattle.h41_focal.specs.LabelledMachine.{Keeps, machine_of};
+ghost use Rattle.h41_positions.specs.LabelledMachine.{Keeps, machine_of};
 ghost use Rattle.h41_focal.specs.private.Carrying.{DoesWork};
 ghost use Rattle.h41_focal.specs.declared.works.FunctionWork.TheVariants.{Display};
 ghost use Rattle.h41_rows.specs.RowMarks.{LeavesMark};

@@ -1,7 +1,7 @@
 //! Lines of a flag: it is set or cleared, or asked.
 
 ghost use Rattle.std.specs.Prelude.{◌≡◌, ℕ, ◌<◌, OnErr, IsTrue};
-ghost use Rattle.h41_focal.specs.LabelledMachine.{Keeps, machine_of};
+ghost use Rattle.h41_positions.specs.LabelledMachine.{Keeps, machine_of};
 ghost use Rattle.h41_focal.specs.private.Carrying.{CarriesFlag, ClearsFlag};
 ghost use Rattle.h41_rows.specs.RowEffects.{agrees};
 ghost use Rattle.h41_focal.specs.declared.uses.FlagUse.TheVariants.{Ask};

@@ -1,8 +1,8 @@
 //! Labels, subroutines and returns.
 
 ghost use Rattle.std.specs.Prelude.{◌≡◌, ℕ, IsTrue, Some};
-ghost use Rattle.h41_focal.specs.LabelSearches.{local_search};
-ghost use Rattle.h41_focal.specs.LabelledMachine.{Keeps, machine_of};
+ghost use Rattle.h41_positions.specs.LabelledMachine.{local_search};
+ghost use Rattle.h41_positions.specs.LabelledMachine.{Keeps, machine_of};
 ghost use Rattle.h41_focal.specs.private.Arrivals.{ReturnsFrom, answer_at, focal_at};
 ghost use Rattle.h41_focal.specs.private.Carrying.{GoesBack, GoesToLabel, GoesToName};
 ghost use Rattle.h41_focal.specs.private.Searching.{AsksFrom};
@@ -14,14 +14,13 @@ ghost use Rattle.h41_ram.specs.RegisterMap.{is_sound};
 ghost use Rattle.h41_rows.specs.RowMarks.{LeavesMark};
 
 use crate::course::fail;
-use crate::focal::Focal;
 use crate::machine::Machine;
 use crate::origin::Origin;
 use crate::outcome::BriefOutcome;
 use arrayvec::ArrayVec;
 use h41_codes::{Branch, Parameter, Text};
 use h41_pages::Pages;
-use h41_positions::{Position, start_of};
+use h41_positions::{Focal, Position, start_of};
 use h41_rows::LineFault;
 
 /// A line goes to a local label, looked for behind a line of the program, and from the position on for a typed one; `NONEXISTENT`

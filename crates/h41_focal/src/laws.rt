@@ -7,8 +7,8 @@ ghost use Rattle.h41_focal.specs.LineLaws.{PassingIsDetermined};
 ghost use Rattle.h41_focal.specs.LineLaws.{StepIsDetermined, SteppedCanBeTyped, TypedAsStepped};
 ghost use Rattle.h41_focal.specs.LineLaws.{TypedFailureIsDetermined, TypedIsDetermined};
 
-use crate::focal::Focal;
 use h41_labels::laws::{answers_stay_right, kept_answers_depend_on_the_program};
+use h41_positions::Focal;
 use h41_positions::laws::positions_are_read;
 use h41_program::laws::searches_are_determined;
 use h41_rows::laws::values_are_determined;

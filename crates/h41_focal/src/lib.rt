@@ -9,7 +9,6 @@ mod calls;
 mod course;
 mod display_lines;
 mod flag_lines;
-mod focal;
 mod functions;
 mod labels;
 pub mod laws;
@@ -30,7 +29,7 @@ mod uses;
 mod works;
 
 pub use calls::{key_line, step_as, step_line};
-pub use focal::{Focal, RETURNS};
+pub use h41_positions::{Focal, RETURNS};
 pub use h41_rows::LineFault;
 pub use machine::Machine;
 pub use outcome::{BriefOutcome, DisplayText, LineOutcome};

@@ -3,7 +3,7 @@
 ghost use Rattle.std.specs.Prelude.{◌≡◌, ℕ, Ok, OnErr, IsTrue};
 ghost use Rattle.h41_codes.specs.declared.line.Line.TheVariants.{BranchIndirect, Named};
 ghost use Rattle.h41_focal.specs.LabelSearches.{search_for};
-ghost use Rattle.h41_focal.specs.LabelledMachine.{Keeps, machine_of};
+ghost use Rattle.h41_positions.specs.LabelledMachine.{Keeps, machine_of};
 ghost use Rattle.h41_focal.specs.LineStep.{Stands};
 ghost use Rattle.h41_focal.specs.private.Carrying.{GoesToTarget};
 ghost use Rattle.h41_focal.specs.private.Carrying.{TakesAs, TakesBriefly};

@@ -1,7 +1,7 @@
 //! Lines that count by a register, and go on past the next line once the loop is over.
 
 ghost use Rattle.std.specs.Prelude.{IsTrue, ◌≡◌, OnErr};
-ghost use Rattle.h41_focal.specs.LabelledMachine.{Keeps, machine_of};
+ghost use Rattle.h41_positions.specs.LabelledMachine.{Keeps, machine_of};
 ghost use Rattle.h41_focal.specs.private.Carrying.{DoesUse};
 ghost use Rattle.h41_focal.specs.declared.uses.RegisterUse.TheVariants.{CountDown, CountUp};
 ghost use Rattle.h41_ram.specs.RegisterMap.{is_sound};

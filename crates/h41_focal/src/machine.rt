@@ -6,9 +6,10 @@ ghost use Rattle.h41_focal.specs.declared.outcome.BriefOutcome.TheVariants.{Else
 ghost use Rattle.h41_focal.specs.MachineCalls.{Enters, Fails, FailsTyped, KeepsElsewhere, Passes};
 ghost use Rattle.h41_focal.specs.MachineCalls.{Steps, Types};
 ghost use Rattle.h41_focal.specs.LabelSearches.{StepKeeps, TypingKeeps};
-ghost use Rattle.h41_focal.specs.LabelledMachine.{AreRight, Keeps, begun_ram, labelled_with};
-ghost use Rattle.h41_focal.specs.LabelledMachine.{machine_of, with_line_begun};
-ghost use Rattle.h41_focal.specs.LineStep.{machine_with, start, with_program_run};
+ghost use Rattle.h41_positions.specs.LabelledMachine.{AreRight, Keeps, begun_ram, labelled_with};
+ghost use Rattle.h41_positions.specs.LabelledMachine.{machine_of, with_line_begun};
+ghost use Rattle.h41_focal.specs.LineStep.{with_program_run};
+ghost use Rattle.h41_positions.specs.FocalState.{machine_with, start};
 ghost use Rattle.h41_focal.specs.private.BriefSteps.{StepsMachine};
 ghost use Rattle.h41_labels.specs.KeptAnswers.{IsRight};
 ghost use Rattle.h41_positions.specs.declared.position.Position.TheVariants.{Page};
@@ -16,7 +17,6 @@ ghost use Rattle.h41_ram.specs.RamState.{KeepsMark};
 ghost use Rattle.h41_ram.specs.RegisterMap as registers;
 
 use crate::course::{fail, go_behind};
-use crate::focal::Focal;
 use crate::labels::arrive;
 use crate::laws::kept_answers_stay_right;
 use crate::lines::{carry_briefly, carry_out, standing};
@@ -27,7 +27,7 @@ use crate::short_lines::{carry_short, number_standing, short_standing};
 use crate::stack_lines::number_line;
 use h41_codes::{Branch, Function, Line};
 use h41_pages::Pages;
-use h41_positions::Position;
+use h41_positions::{Focal, Position};
 use h41_ram::Ram;
 use h41_rows::{LineFault, number_register};
 use std::marker::Model;
@@ -42,7 +42,7 @@ pub struct Machine<const REGS: usize> {
 }
 
 impl<const REGS: usize> Model for Machine<REGS> {
-    ghost use Rattle.h41_focal.specs.LabelledMachine.{LabelledMachine};
+    ghost use Rattle.h41_positions.specs.LabelledMachine.{LabelledMachine};
 
     ghost Value = { LabelledMachine };
 
@@ -73,7 +73,7 @@ impl<const REGS: usize> Machine<REGS> {
         ensures right { IsRight self.new.focal.labels self.new.ram.registers }
     {
         if self.ram.program_touched() {
-            self.focal.labels.forget();
+            self.focal.forget_labels();
             self.ram.clear_touched();
         }
     }

@@ -1,7 +1,7 @@
 //! Lines that set the unit of angles and the display format.
 
 ghost use Rattle.std.specs.Prelude.{◌<◌, ℕ};
-ghost use Rattle.h41_focal.specs.LabelledMachine.{Keeps, machine_of};
+ghost use Rattle.h41_positions.specs.LabelledMachine.{Keeps, machine_of};
 ghost use Rattle.h41_focal.specs.private.Carrying.{DoesWork, LeavesDigits};
 ghost use Rattle.h41_focal.specs.declared.works.FunctionWork.TheVariants.{Angles};
 ghost use Rattle.h41_rows.specs.RowMarks.{LeavesMark};

@@ -1,7 +1,7 @@
 //! Functions with an operand.
 
 ghost use Rattle.std.specs.Prelude.{◌≡◌, false, OnErr, IsTrue};
-ghost use Rattle.h41_focal.specs.LabelledMachine.{Keeps, machine_of};
+ghost use Rattle.h41_positions.specs.LabelledMachine.{Keeps, machine_of};
 ghost use Rattle.h41_focal.specs.private.Carrying.{TakenBy, UsesDigits, UsesFlag};
 ghost use Rattle.h41_focal.specs.private.Carrying.{UsesAddress};
 ghost use Rattle.h41_pages.specs.PageMap.{PageMap};

@@ -1,6 +1,6 @@
 //! Lines that work on a register.
 
-ghost use Rattle.h41_focal.specs.LabelledMachine.{Keeps, machine_of};
+ghost use Rattle.h41_positions.specs.LabelledMachine.{Keeps, machine_of};
 ghost use Rattle.h41_focal.specs.private.Carrying.{UsesAt};
 ghost use Rattle.h41_focal.specs.declared.uses.RegisterUse.TheVariants.{Combine, Exchange, Recall};
 ghost use Rattle.h41_focal.specs.declared.uses.RegisterUse.TheVariants.{RecallAlpha, Store};

@@ -3,7 +3,7 @@
 ghost use Rattle.std.specs.Prelude.{◌≡◌, false, IfNone, IfSome, Ok, OnErr, IsTrue};
 ghost use Rattle.h41_codes.specs.ShortLines.{line_of};
 ghost use Rattle.h41_focal.specs.BriefOutcomes.{end_told};
-ghost use Rattle.h41_focal.specs.LabelledMachine.{machine_of};
+ghost use Rattle.h41_positions.specs.LabelledMachine.{machine_of};
 ghost use Rattle.h41_focal.specs.LineStep.{Stands};
 ghost use Rattle.h41_focal.specs.private.Carrying.{StandsNoNumber, StandsNoShort, StandsNumber};
 ghost use Rattle.h41_focal.specs.private.Carrying.{TakesBriefly};

@@ -3,7 +3,7 @@
 ghost use Rattle.std.specs.Prelude.{◌≡◌, ℕ, List};
 ghost use Rattle.h41_codes.specs.declared.characters.Character.{Character};
 ghost use Rattle.h41_codes.specs.declared.line.Line.TheVariants as lines;
-ghost use Rattle.h41_focal.specs.LabelledMachine.{Keeps, machine_of};
+ghost use Rattle.h41_positions.specs.LabelledMachine.{Keeps, machine_of};
 ghost use Rattle.h41_focal.specs.private.Carrying.{DoesLine, DoesWork, LeavesRow};
 ghost use Rattle.h41_focal.specs.private.Carrying.{on_to_next};
 ghost use Rattle.h41_rows.specs.Computing.{IsAlways};
@@ -17,12 +17,12 @@ ghost use Rattle.h41_rows.specs.RowMarks.{LeavesMark};
 
 use crate::addresses::{LAST_X, Y};
 use crate::course::{go_on, go_on_lifting};
-use crate::focal::Focal;
 use crate::machine::Machine;
 use crate::origin::Origin;
 use crate::outcome::BriefOutcome;
 use crate::works::Movement;
 use h41_digits::Reg;
+use h41_positions::Focal;
 use h41_ram::{Ram, StatusRegister};
 use h41_rows::{
     bring_in, bring_in_from, clear_data, clear_stack, enter, exchange, pi, roll_down, roll_up, zero,

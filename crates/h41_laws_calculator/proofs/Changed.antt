@@ -7,7 +7,7 @@ use Rattle.h41_editor.specs.EditorLaws.{ChangeIsDetermined}
 use Rattle.h41_editor.specs.Moves.{is_last}
 use Rattle.h41_editor.specs.NumberedLines.{HasNumbered, Numbers}
 use Rattle.h41_editor.specs.declared.numbered.NumberedLine.{NumberedLine}
-use Rattle.h41_focal.specs.LineStep.{Machine}
+use Rattle.h41_positions.specs.FocalState.{Machine}
 use Rattle.h41_pages.specs.PageMap.{PageMap}
 use Rattle.h41_positions.specs.PositionLaws.{LinesHaveNext}
 use Rattle.h41_positions.specs.Positions.{LineAt, NextAt, NumberAt, StartOf}

@@ -13,7 +13,7 @@ use Rattle.h41_decimal.specs.declared.sign.Sign.{Sign}
 use Rattle.h41_decimal.specs.declared.ten.Ten.{Ten}
 use Rattle.h41_editor.specs.Changes.{Deletes, Inserts, Replaces}
 use Rattle.h41_editor.specs.Moves.{GoesToEnd, ShowsBefore, ShowsNext}
-use Rattle.h41_focal.specs.LineStep.{Machine}
+use Rattle.h41_positions.specs.FocalState.{Machine}
 use Rattle.h41_keys.specs.Keyboard.{row_of}
 use Rattle.h41_keys.specs.KeyPress.{presses, while_in_microcode, while_running}
 use Rattle.h41_keys.specs.declared.action.Action.{Action}

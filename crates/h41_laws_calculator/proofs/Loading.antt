@@ -4,7 +4,7 @@ use Rattle.std.proofs.Common.{Err, MatchOption, refl, ap, ◌∙◌}
 use Rattle.std.specs.Prelude.{◌++◌}
 use Rattle.std.specs.Result.{result_err, result_unwrap_or}
 use Rattle.h41_editor.specs.ProgramText.{ShowsProgram}
-use Rattle.h41_focal.specs.LineStep.{Machine}
+use Rattle.h41_positions.specs.FocalState.{Machine}
 use Rattle.h41_keys.specs.declared.input.TypedEntry.{TypedEntry}
 use Rattle.h41_keys.specs.declared.prompt.Prompt.{Prompt}
 use Rattle.h41_pages.specs.PageMap.{PageMap}

@@ -8,7 +8,7 @@ use Rattle.h41_editor.specs.Moves.{ShowsStart, is_last, shown_end}
 use Rattle.h41_editor.specs.NumberedLines.{HasNumbered, Numbers, with_number}
 use Rattle.h41_editor.specs.ProgramText.{ShowsLine, ShowsProgram, line_00_text, text_of, unknown_text}
 use Rattle.h41_editor.specs.declared.numbered.NumberedLine.{NumberedLine}
-use Rattle.h41_focal.specs.LineStep.{Machine, at_line}
+use Rattle.h41_positions.specs.FocalState.{Machine, at_line}
 use Rattle.h41_pages.specs.PageMap.{PageMap}
 use Rattle.h41_positions.specs.PositionLaws.{LinesHaveNext}
 use Rattle.h41_positions.specs.Positions.{EndOf, LineAt, LineBefore, NextAt, NumberAt, StartOf}

@@ -1,6 +1,6 @@
 -- How a line ends exists, where it may call what memory does not have.
 use Rattle.std.specs.Prelude.{ℕ, List}
-use Rattle.h41_focal.specs.LineStep.{Machine}
+use Rattle.h41_positions.specs.FocalState.{Machine}
 use Rattle.h41_pages.specs.PageMap.{PageMap}
 use Rattle.h41_xrom.specs.Lines.{CarriesLine, IsNamed}
 use Rattle.h41_xrom.specs.declared.lines.LineSource.{LineSource}

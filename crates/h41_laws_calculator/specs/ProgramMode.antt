@@ -1,7 +1,7 @@
 -- What keys do in program mode exists.
 use Rattle.std.specs.Prelude.{IsTrue, Result}
 use Rattle.h41_codes.specs.declared.line.Line.{Line}
-use Rattle.h41_focal.specs.LineStep.{Machine}
+use Rattle.h41_positions.specs.FocalState.{Machine}
 use Rattle.h41_program.specs.ProgramLaws.{IsInner}
 use Rattle.h41_program.specs.declared.refusal.ProgramRefusal.{ProgramRefusal}
 use Rattle.h41_ram.specs.RegisterMap.{is_sound}

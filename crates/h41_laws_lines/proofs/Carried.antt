@@ -9,7 +9,8 @@ use Rattle.h41_focal.specs.LineLaws.{EnteringIsDetermined, FailureIsDetermined, 
 use Rattle.h41_focal.specs.LineLaws.{TypedFailureIsDetermined}
 use Rattle.h41_focal.specs.LineLaws.{TypedIsDetermined}
 use Rattle.h41_focal.specs.LineStep.{Applies, AppliesTo, AppliesWith, CarriesOut, ComputesIn, Ends, FailsIn, FailsLine, FailsTyped}
-use Rattle.h41_focal.specs.LineStep.{EntersLine, EntersWith, FailsWith, Machine, PassesLine, PassesWith, Stands, StandsAt, StepsAs}
+use Rattle.h41_focal.specs.LineStep.{EntersLine, EntersWith, FailsWith, PassesLine, PassesWith, Stands, StandsAt, StepsAs}
+use Rattle.h41_positions.specs.FocalState.{Machine}
 use Rattle.h41_focal.specs.LineStep.{StepsLine, TakesLine}
 use Rattle.h41_focal.specs.LineStep.{TypesLine, Works, answer_of_showing, left_by_fault, line_as, named_by, with_line_passed}
 use Rattle.h41_focal.specs.LineStep.{with_program_called, with_row}

@@ -2,7 +2,8 @@
 use Rattle.std.specs.Prelude.{ℕ, Option}
 use Rattle.h41_codes.specs.declared.functions.Function.{Function}
 use Rattle.h41_codes.specs.declared.line.Line.{Line}
-use Rattle.h41_focal.specs.LineStep.{EntersLine, FailsLine, FailsTyped, Machine, PassesLine}
+use Rattle.h41_focal.specs.LineStep.{EntersLine, FailsLine, FailsTyped, PassesLine}
+use Rattle.h41_positions.specs.FocalState.{Machine}
 use Rattle.h41_focal.specs.LineStep.{StepsLine, TypesLine}
 use Rattle.h41_pages.specs.PageMap.{PageMap}
 use Rattle.h41_rows.specs.declared.fault.LineFault.{LineFault}

@@ -6,7 +6,7 @@ use Rattle.h41_editor.specs.Changes.{ShowsFront, ShowsNew, shown_in_front}
 use Rattle.h41_editor.specs.Moves.{EndsBy, GoesToEnd, ShowsAt, ShowsBefore, ShowsBeforeLine, ShowsBehind, ShowsEnd, ShowsInFront, ShowsNext}
 use Rattle.h41_editor.specs.Moves.{ShowsStart, is_last, shown_end}
 use Rattle.h41_editor.specs.declared.numbered.NumberedLine.{NumberedLine}
-use Rattle.h41_focal.specs.LineStep.{Machine, at_line}
+use Rattle.h41_positions.specs.FocalState.{Machine, at_line}
 use Rattle.h41_pages.specs.PageMap.{PageMap}
 use Rattle.h41_positions.specs.Positions.{LineAt, NextAt}
 use Rattle.h41_positions.specs.declared.position.PlacedLine.{PlacedLine}

@@ -12,8 +12,10 @@ use Rattle.h41_digits.specs.Register.{IsRegister}
 use Rattle.h41_focal.specs.Destinations.{Arrives, Destination, Halts, HasNoLabel, HasNoLine, Manner, Runs, Seeks, Stays, Stepped, Tells}
 use Rattle.h41_focal.specs.Destinations.{Typed}
 use Rattle.h41_focal.specs.LineStep.{Applies, AppliesTo, AppliesWith, CarriesOut, ComputesIn, EntersWith, Ends, FailsIn}
-use Rattle.h41_focal.specs.LineStep.{FailsWith, Left, Machine, PassesWith, Stands, StepsAs, StepsLine}
-use Rattle.h41_focal.specs.LineStep.{TakesLine, TypesLine, Works, answer_of_showing, at_line, error_flag, left_by_fault, left_done}
+use Rattle.h41_focal.specs.LineStep.{FailsWith, Left, PassesWith, Stands, StepsAs, StepsLine}
+use Rattle.h41_positions.specs.FocalState.{Machine}
+use Rattle.h41_focal.specs.LineStep.{TakesLine, TypesLine, Works, answer_of_showing, error_flag, left_by_fault, left_done}
+use Rattle.h41_positions.specs.FocalState.{at_line}
 use Rattle.h41_focal.specs.LineStep.{left_failed, line_as, named_by, with_fault_caught, with_row}
 use Rattle.h41_focal.specs.Outcomes.{Answer}
 use Rattle.h41_focal.specs.Outcomes as answers

@@ -12,7 +12,7 @@ use Rattle.h41_codes.specs.declared.line.Line.TheVariants as lines
 use Rattle.h41_digits.specs.Register.{IsRegister}
 use Rattle.h41_editor.specs.Changes.{Deletes, Inserts, Replaces}
 use Rattle.h41_editor.specs.Moves.{GoesToEnd, ShowsBefore, ShowsNext}
-use Rattle.h41_focal.specs.LineStep.{Machine}
+use Rattle.h41_positions.specs.FocalState.{Machine}
 use Rattle.h41_focal.specs.declared.refusal.FocalRefusal.{FocalRefusal}
 use Rattle.h41_keys.specs.Keyboard.{code_of}
 use Rattle.h41_keys.specs.declared.action.Action.{Action}

@@ -1,3 +1,5 @@
+pub mod FocalState
+pub mod LabelledMachine
 pub mod PageLines
 pub mod PositionLaws
 pub mod Positions

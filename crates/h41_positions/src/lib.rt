@@ -1,12 +1,15 @@
-//! Positions of keystroke programs, in memory and in plugged pages: the line that stands at one, and what is found from there.
+//! Positions of keystroke programs, in memory and in plugged pages: the line that stands at one, and what is found from there; and
+//! the position of the lines that are carried out, with those to return to.
 #![tactic(auto)]
 
+mod focal;
 pub mod laws;
 mod page_lines;
 mod page_programs;
 mod position;
 mod positions;
 
+pub use focal::{Focal, RETURNS};
 pub use position::{PlacedLine, Position};
 pub use positions::{
     end_of, line_and_next, line_at, line_before, line_in_page, line_number, local, next,

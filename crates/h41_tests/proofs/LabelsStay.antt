@@ -1,7 +1,7 @@
 -- Kept labels stay right where memory keeps its mark.
 use Rattle.std.proofs.Common.{◌≡◌, refl, subst, sym}
 use Rattle.h41_focal.specs.LabelLaws.{KeepingStaysRight}
-use Rattle.h41_focal.specs.LabelledMachine.{AreRight, Keeps, LabelledMachine, labelled_with}
+use Rattle.h41_positions.specs.LabelledMachine.{AreRight, Keeps, LabelledMachine, labelled_with}
 use Rattle.h41_ram.specs.RamState.{KeepsMark, RamState}
 
 -- with memory changed alone

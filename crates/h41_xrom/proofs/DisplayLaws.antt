@@ -2,7 +2,7 @@
 use Rattle.std.proofs.Common.{◌≡◌, ℕ, Bool, true, false, List, [], Option, Some, None, sym, ap, ◌∙◌}
 use Rattle.std.specs.Prelude.{◌++◌, MatchBool}
 use Rattle.h41_editor.specs.EditorLaws.{TextIsDetermined}
-use Rattle.h41_focal.specs.LineStep.{Machine}
+use Rattle.h41_positions.specs.FocalState.{Machine}
 use Rattle.h41_keys.specs.declared.input.TypedEntry.{TypedEntry}
 use Rattle.h41_keys.specs.declared.prompt.Prompt.{Prompt}
 use Rattle.h41_pages.specs.PageMap.{PageMap}

@@ -13,7 +13,7 @@ use Rattle.h41_editor.specs.EditorLaws.{ChangeIsDetermined, MoveIsDetermined}
 use Rattle.h41_editor.specs.Moves.{GoesToEnd, ShowsBefore, ShowsNext}
 use Rattle.h41_focal.specs.LineLaws.{EnteringIsDetermined, FailureIsDetermined, PassingIsDetermined, StepIsDetermined}
 use Rattle.h41_focal.specs.LineLaws.{TypedIsDetermined}
-use Rattle.h41_focal.specs.LineStep.{Machine}
+use Rattle.h41_positions.specs.FocalState.{Machine}
 use Rattle.h41_keys.specs.declared.action.Action.{Action}
 use Rattle.h41_keys.specs.declared.action.Action.TheVariants as actions
 use Rattle.h41_keys.specs.declared.input.Flags.{Flags}

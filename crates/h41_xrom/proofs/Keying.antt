@@ -1,6 +1,6 @@
 -- What a key that has a meaning leaves, by the effect of its action.
 use Rattle.std.proofs.Common.{◌≡◌, Some, None, Result, Ok, Err, refl, sym, subst, ap, ◌∙◌}
-use Rattle.h41_focal.specs.LineStep.{Machine}
+use Rattle.h41_positions.specs.FocalState.{Machine}
 use Rattle.h41_keys.specs.declared.action.Action.{Action}
 use Rattle.h41_keys.specs.declared.input.Input.{Input}
 use Rattle.h41_keys.specs.declared.key.Key.{Key}

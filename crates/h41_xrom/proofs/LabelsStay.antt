@@ -2,7 +2,7 @@
 use Rattle.std.proofs.Common.{◌≡◌, List, refl, subst, sym}
 use Rattle.std.specs.Prelude.{IsFalse}
 use Rattle.h41_focal.specs.LabelLaws.{KeepingStaysRight}
-use Rattle.h41_focal.specs.LabelledMachine.{AreRight, LabelledMachine, labelled_with}
+use Rattle.h41_positions.specs.LabelledMachine.{AreRight, LabelledFocal, LabelledMachine, labelled_with}
 use Rattle.h41_labels.specs.KeptAnswers.{IsRight}
 use Rattle.h41_labels.specs.declared.search.KeptAnswer.{KeptAnswer}
 use Rattle.h41_ram.specs.RamState.{KeepsMark, RamState}
@@ -19,4 +19,11 @@ pub right_with : KeepingStaysRight → (old from : LabelledMachine) (ram : RamSt
     → KeepsMark from.ram ram → labels ≡ from.focal.labels → AreRight old → IsFalse ram.touched → IsRight labels ram.registers
 right_with keeping old from ram labels is mark same right =
     keeping from (record { ram = ram; focal = record from.focal { labels = labels } }) (record { mark = mark; labels = same })
+    (subst (λ (machine : LabelledMachine). AreRight machine) (sym is) right)
+
+-- and with what lines work on, whose labels are the same
+pub right_beside : KeepingStaysRight → (old from : LabelledMachine) (ram : RamState) (focal : LabelledFocal) → from ≡ old
+    → KeepsMark from.ram ram → focal.labels ≡ from.focal.labels → AreRight old → AreRight (labelled_with ram focal)
+right_beside keeping old from ram focal is mark same right =
+    keeping from (labelled_with ram focal) (record { mark = mark; labels = same })
     (subst (λ (machine : LabelledMachine). AreRight machine) (sym is) right)

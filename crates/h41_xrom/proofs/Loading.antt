@@ -1,6 +1,6 @@
 -- What a load and a new size leave, by the answer of program memory.
 use Rattle.std.proofs.Common.{◌≡◌, ℕ, List, Some, None, Result, Ok, Err, refl, sym, ap, subst, ◌∙◌}
-use Rattle.h41_focal.specs.LineStep.{FocalState, halted_at}
+use Rattle.h41_positions.specs.FocalState.{FocalState, halted_at}
 use Rattle.h41_positions.specs.declared.position.Position.TheVariants.{Memory}
 use Rattle.h41_program.specs.declared.refusal.ProgramRefusal as program
 use Rattle.h41_program.specs.Edits as edits

@@ -1,6 +1,6 @@
 -- Where the shown line stands, as the keyboard needs to know it.
 use Rattle.std.proofs.Common.{◌≡◌, ℕ, Bool, true, false, ◌||◌, [], Err, refl, sym, ap, subst, ◌∙◌}
-use Rattle.h41_focal.specs.LineStep.{Machine}
+use Rattle.h41_positions.specs.FocalState.{Machine}
 use Rattle.h41_keys.specs.declared.input.Place.TheVariants as places
 use Rattle.h41_pages.specs.PageMap.{PageMap}
 use Rattle.h41_positions.specs.declared.position.Position.{Position}

@@ -7,7 +7,8 @@ use Rattle.h41_codes.specs.declared.line.Line.TheVariants.{Plain}
 use Rattle.h41_focal.specs.LineLaws.{EnteringIsDetermined, FailureIsDetermined, PassingIsDetermined, StepIsDetermined}
 use Rattle.h41_focal.specs.LineLaws.{TypedIsDetermined}
 use Rattle.h41_focal.specs.Destinations.{Typed}
-use Rattle.h41_focal.specs.LineStep.{FailsIn, Left, Machine, line_as}
+use Rattle.h41_focal.specs.LineStep.{FailsIn, Left, line_as}
+use Rattle.h41_positions.specs.FocalState.{Machine}
 use Rattle.h41_focal.specs.Outcomes.{Answer}
 use Rattle.h41_focal.specs.Outcomes as answers
 use Rattle.h41_focal.specs.declared.refusal.FocalRefusal.{FocalRefusal}

@@ -1,7 +1,8 @@
 -- A step over a line, by what carried it out.
 use Rattle.std.proofs.Common.{◌≡◌, Some, None, Option, Result, Ok, Err, refl, subst, ap, ◌∙◌}
 use Rattle.h41_focal.specs.BriefOutcomes.{brief_answer, briefly}
-use Rattle.h41_focal.specs.LineStep.{Machine, StepsLine}
+use Rattle.h41_focal.specs.LineStep.{StepsLine}
+use Rattle.h41_positions.specs.FocalState.{Machine}
 use Rattle.h41_focal.specs.Outcomes.{Answer}
 use Rattle.h41_focal.specs.declared.outcome.BriefOutcome.{BriefOutcome}
 use Rattle.h41_focal.specs.declared.outcome.BriefOutcome.TheVariants as briefs

@@ -4,7 +4,8 @@ use Rattle.std.proofs.lemmas.List.Elements.{All-head, All-tail}
 use Rattle.h41_codes.specs.declared.line.Line.{Line}
 use Rattle.h41_focal.specs.LineLaws.{AreAlike, GoesToNext, IsAt, NextIsHere, StepsInTurn}
 use Rattle.h41_focal.specs.LineLaws as lines
-use Rattle.h41_focal.specs.LineStep.{Left, Machine, StepsLine}
+use Rattle.h41_focal.specs.LineStep.{Left, StepsLine}
+use Rattle.h41_positions.specs.FocalState.{Machine}
 use Rattle.h41_focal.specs.Outcomes.{Answer, is_elsewhere}
 use Rattle.h41_focal.specs.Outcomes as answers
 use Rattle.h41_focal.specs.declared.refusal.FocalRefusal.{FocalRefusal}

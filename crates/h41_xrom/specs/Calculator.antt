@@ -7,8 +7,8 @@ use Rattle.std.specs.Option.{option_or}
 use Rattle.std.specs.Result.{result_err}
 use Rattle.h41_nut.specs.declared.refusal.WordRefusal.TheVariants as words
 use Rattle.h41_pages.specs.declared.refusal.PlugRefusal.{PlugRefusal}
-use Rattle.h41_focal.specs.LineStep as focal
-use Rattle.h41_focal.specs.LineStep.{FocalState, Machine}
+use Rattle.h41_positions.specs.FocalState as focal
+use Rattle.h41_positions.specs.FocalState.{FocalState, Machine}
 use Rattle.h41_focal.specs.Outcomes.{Answer}
 use Rattle.h41_focal.specs.Outcomes as answers
 use Rattle.h41_focal.specs.declared.refusal.FocalRefusal.{FocalRefusal}

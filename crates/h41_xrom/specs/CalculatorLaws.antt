@@ -2,7 +2,7 @@
 use Rattle.std.specs.Prelude.{◌≡◌, ℕ, Bool, true, false, All, IsTrue, List, [], ◌∷◌, Option}
 use Rattle.h41_codes.specs.declared.line.Line.{Line}
 use Rattle.h41_focal.specs.LineLaws.{AreAlike, GoesToNext, IsAt, TypesInTurn}
-use Rattle.h41_focal.specs.LineStep.{Machine}
+use Rattle.h41_positions.specs.FocalState.{Machine}
 use Rattle.h41_keys.specs.declared.key.Key.{Key}
 use Rattle.h41_xrom.specs.declared.refusal.CalculatorRefusal.{CalculatorRefusal}
 use Rattle.h41_xrom.specs.Calculator.{CalculatorState, RefusesStep, Step, machine_of}

@@ -4,7 +4,7 @@ use Rattle.std.specs.Prelude.{None}
 use Rattle.h41_codes.specs.declared.characters.Character.{Character}
 use Rattle.h41_codes.specs.declared.line.Line.TheVariants.{Number}
 use Rattle.h41_editor.specs.ProgramText.{ShowsProgram}
-use Rattle.h41_focal.specs.LineStep.{Machine}
+use Rattle.h41_positions.specs.FocalState.{Machine}
 use Rattle.h41_keys.specs.Prompts.{prompt_text}
 use Rattle.h41_keys.specs.declared.input.TypedEntry.{TypedEntry}
 use Rattle.h41_keys.specs.declared.input.TypedEntry.TheVariants as entries

@@ -3,7 +3,8 @@
 -- are asked before the calculator's own functions.
 use Rattle.std.specs.Prelude.{◌≡◌, ℕ, List, MatchBool, Option, Some, None, Result, Ok, Err}
 use Rattle.h41_codes.specs.declared.functions.Function.{Function}
-use Rattle.h41_focal.specs.LineStep.{EntersLine, FailsLine, FailsTyped, Left, Machine, PassesLine}
+use Rattle.h41_focal.specs.LineStep.{EntersLine, FailsLine, FailsTyped, Left, PassesLine}
+use Rattle.h41_positions.specs.FocalState.{Machine}
 use Rattle.h41_focal.specs.LineStep.{StepsLine, TypesLine, left_done, line_as, with_program_run}
 use Rattle.h41_focal.specs.Outcomes.{Answer}
 use Rattle.h41_focal.specs.Outcomes as answers

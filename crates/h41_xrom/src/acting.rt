@@ -1,7 +1,7 @@
 //! What a key's action makes of memory and of what lines work on.
 
 ghost use Rattle.std.specs.Prelude.{◌≡◌, OnErr};
-ghost use Rattle.h41_focal.specs.LabelledMachine.{AreRight, machine_of};
+ghost use Rattle.h41_positions.specs.LabelledMachine.{AreRight, machine_of};
 ghost use Rattle.h41_xrom.specs.KeyActions.{Acts, Carries};
 ghost use Rattle.h41_xrom.specs.private.PrivateCalls.{IsActed, edited_as, effect_as};
 
@@ -54,18 +54,17 @@ pub fn act<const REGS: usize>(
         Action::Nothing => Ok(KeyEffect::Nothing),
         Action::Stop => Ok(KeyEffect::Stops),
         Action::Run => Ok(KeyEffect::Starts),
-        Action::Step if program_mode => edited(show_next(machine, pages)),
+        Action::Step if program_mode => edited(show_next(&machine.ram, pages, &mut machine.focal)),
         Action::Step => carried(machine, pages, &LineSource::Program),
-        Action::StepBack => edited(show_before(machine, pages)),
-        Action::GoToEnd => edited(go_to_end(machine)),
+        Action::StepBack => edited(show_before(&machine.ram, pages, &mut machine.focal)),
+        Action::GoToEnd => edited(go_to_end(&mut machine.ram, &mut machine.focal)),
         Action::CarryOut(line) => carried(machine, pages, &LineSource::Keys(line)),
-        Action::Insert(line) => edited(insert_line(
-            machine,
-            pages,
-            stored_line(machine, pages, line),
-        )),
-        Action::Replace(line) => edited(replace_line(machine, line)),
-        Action::Delete => edited(delete_line(machine, pages)),
+        Action::Insert(line) => {
+            let stored = stored_line(machine, pages, line);
+            edited(insert_line(&mut machine.ram, pages, &mut machine.focal, stored))
+        }
+        Action::Replace(line) => edited(replace_line(&mut machine.ram, &mut machine.focal, line)),
+        Action::Delete => edited(delete_line(&mut machine.ram, pages, &mut machine.focal)),
         Action::EndNumber => carried(machine, pages, &LineSource::Keys(CLEAR_X)),
         Action::BeginNumber(number) => Ok(begin_number(machine, &number)),
         Action::ChangeNumber(number) => Ok(change_number(machine, &number)),

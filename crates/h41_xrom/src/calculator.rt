@@ -3,9 +3,9 @@
 ghost use Rattle.std.specs.Prelude.{◌≡◌, ◌≢◌, ◌≤◌, None, IfOk, IfErr, OnOk, OnErr, length};
 ghost use Rattle.std.specs.Prelude.{option_map};
 ghost use Rattle.std.specs.Result.{result_err};
-ghost use Rattle.h41_focal.specs.LabelledMachine as labelled;
-ghost use Rattle.h41_focal.specs.LineStep as focal;
-ghost use Rattle.h41_focal.specs.LineStep.{machine_with};
+ghost use Rattle.h41_positions.specs.LabelledMachine as labelled;
+ghost use Rattle.h41_positions.specs.FocalState as focal;
+ghost use Rattle.h41_positions.specs.FocalState.{machine_with};
 ghost use Rattle.h41_ram.specs.RegisterMap as registers;
 ghost use Rattle.h41_pages.specs.PageMap.{unplug_refusal};
 ghost use Rattle.h41_xrom.specs.Calculator.{RefusesLine, RefusesPage, RefusesStep, RefusesStepIn};
@@ -101,7 +101,7 @@ pub struct Calculator<const REGS: usize> {
 
 impl<const REGS: usize> Model for Calculator<REGS> {
     ghost use Rattle.std.specs.Prelude.{option_map};
-    ghost use Rattle.h41_focal.specs.LabelledMachine.{AreRight};
+    ghost use Rattle.h41_positions.specs.LabelledMachine.{AreRight};
     ghost use Rattle.h41_nut.specs.WordStep.{nut_of};
     ghost use Rattle.h41_xrom.specs.Calculator.{CalculatorState};
 

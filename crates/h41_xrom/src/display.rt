@@ -1,7 +1,7 @@
 //! What the display shows.
 
 ghost use Rattle.std.specs.Prelude.{◌≡◌, ◌≤◌, length};
-ghost use Rattle.h41_focal.specs.LabelledMachine.{machine_of};
+ghost use Rattle.h41_positions.specs.LabelledMachine.{machine_of};
 ghost use Rattle.h41_xrom.specs.Display as spec;
 ghost use Rattle.h41_xrom.specs.Display.{ShowsDisplay};
 
@@ -69,7 +69,7 @@ fn shown_line<const REGS: usize>(
     ensures { spec.ShowsShownLine pages.now (machine_of machine.now) entry result.bytes }
 {
     let mut text = ArrayString::new();
-    text.push_str(program_text(machine, pages).as_str());
+    text.push_str(program_text(&machine.ram, pages, &machine.focal).as_str());
     text.push_str(cursor_of(entry));
     text
 }

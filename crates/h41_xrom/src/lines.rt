@@ -1,7 +1,7 @@
 //! A line that calls what memory does not have.
 
 ghost use Rattle.std.specs.Prelude.{◌≡◌, None, Some, OnErr};
-ghost use Rattle.h41_focal.specs.LabelledMachine.{AreRight, machine_of};
+ghost use Rattle.h41_positions.specs.LabelledMachine.{AreRight, machine_of};
 ghost use Rattle.h41_focal.specs.MachineCalls.{KeepsElsewhere, carried_as, passed_as};
 ghost use Rattle.h41_xrom.specs.Lines.{BeginsEntry, CallsEntry, CarriesFrom, CarriesLine};
 ghost use Rattle.h41_xrom.specs.Lines.{EntersFrom, Fails, FailsFrom, IsNamed, PassesFrom, Seeks};

@@ -1,7 +1,7 @@
 //! Where the shown line stands, as the keyboard needs to know it.
 
 ghost use Rattle.std.specs.Prelude.{◌≡◌};
-ghost use Rattle.h41_focal.specs.LabelledMachine.{machine_of};
+ghost use Rattle.h41_positions.specs.LabelledMachine.{machine_of};
 ghost use Rattle.h41_xrom.specs.KeyActions.{IsPlace};
 ghost use Rattle.h41_xrom.specs.private.PrivateCalls.{IsFinalAt, PutsEnd};
 

@@ -1,7 +1,7 @@
 //! The line that is stored where one was typed in program mode.
 
 ghost use Rattle.std.specs.Prelude.{IfSome, IsTrue};
-ghost use Rattle.h41_focal.specs.LabelledMachine.{machine_of};
+ghost use Rattle.h41_positions.specs.LabelledMachine.{machine_of};
 ghost use Rattle.h41_program.specs.Lines.{is_inner};
 ghost use Rattle.h41_ram.specs.RegisterMap.{is_sound};
 ghost use Rattle.h41_xrom.specs.KeyActions.{IsStoredAs};

@@ -1,7 +1,7 @@
 //! What numbers and letters that are typed make of memory. Nothing more is to be done then.
 
 ghost use Rattle.std.specs.Prelude.{◌≡◌, [], ◌∷◌, ◌++◌, take, Ok};
-ghost use Rattle.h41_focal.specs.LabelledMachine.{Keeps, machine_of};
+ghost use Rattle.h41_positions.specs.LabelledMachine.{Keeps, machine_of};
 ghost use Rattle.h41_ram.specs.RegisterMap.{alpha_of};
 ghost use Rattle.h41_xrom.specs.KeyActions.{BeginsNumber, ChangesNumber, Leaves};
 ghost use Rattle.h41_xrom.specs.KeyActions.{with_alpha_toggled, with_letters, with_text};

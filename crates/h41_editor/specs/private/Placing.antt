@@ -1,6 +1,6 @@
 -- What the function that places a line promises where there is none to place it behind.
 use Rattle.std.specs.Prelude.{Err}
-use Rattle.h41_focal.specs.LineStep.{Machine}
+use Rattle.h41_positions.specs.FocalState.{Machine}
 use Rattle.h41_pages.specs.PageMap.{PageMap}
 use Rattle.h41_positions.specs.Positions.{NextAt}
 use Rattle.h41_program.specs.declared.refusal.ProgramRefusal.{ProgramRefusal}

@@ -3,8 +3,8 @@ use Rattle.std.specs.Prelude.{◌≡◌, List, [], ◌∷◌, reverse}
 use Rattle.h41_codes.specs.declared.functions.Branch.{Branch}
 use Rattle.h41_codes.specs.declared.functions.Branch.TheVariants.{GoTo, Execute}
 use Rattle.h41_focal.specs.Destinations.{with_return}
-use Rattle.h41_focal.specs.LineStep.{FocalState, Machine, at_position, at_halt, at_line}
-use Rattle.h41_focal.specs.LineStep.{with_returns}
+use Rattle.h41_positions.specs.FocalState.{FocalState, Machine, at_position, at_halt, at_line}
+use Rattle.h41_positions.specs.FocalState.{with_returns}
 use Rattle.h41_focal.specs.declared.origin.Origin.{Origin}
 use Rattle.h41_focal.specs.declared.origin.Origin.TheVariants.{Program, Typed}
 use Rattle.h41_focal.specs.declared.outcome.BriefOutcome.{BriefOutcome}

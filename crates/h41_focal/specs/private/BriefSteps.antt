@@ -2,7 +2,7 @@
 use Rattle.std.specs.Prelude.{◌≡◌, false, None, Result, Ok, OnErr}
 use Rattle.h41_focal.specs.BriefOutcomes.{StepsBriefly}
 use Rattle.h41_focal.specs.LabelSearches.{StepKeeps}
-use Rattle.h41_focal.specs.LabelledMachine.{AreRight, LabelledMachine, begun_ram, machine_of}
+use Rattle.h41_positions.specs.LabelledMachine.{AreRight, LabelledMachine, begun_ram, machine_of}
 use Rattle.h41_focal.specs.declared.outcome.BriefOutcome.{BriefOutcome}
 use Rattle.h41_focal.specs.declared.outcome.BriefOutcome.TheVariants.{Elsewhere}
 use Rattle.h41_focal.specs.declared.refusal.FocalRefusal.{FocalRefusal}

@@ -16,8 +16,10 @@ use Rattle.h41_focal.specs.Destinations.{Manner}
 use Rattle.h41_focal.specs.Destinations as destinations
 use Rattle.h41_focal.specs.BriefOutcomes.{briefly, briefly_as}
 use Rattle.h41_focal.specs.MachineCalls.{carried_as}
-use Rattle.h41_focal.specs.LineStep.{Applies, FailsIn, FocalState, Left, Machine, Stands}
-use Rattle.h41_focal.specs.LineStep.{TakesLine, at_position, lift_behind}
+use Rattle.h41_focal.specs.LineStep.{Applies, FailsIn, Left, Stands}
+use Rattle.h41_positions.specs.FocalState.{FocalState, Machine}
+use Rattle.h41_focal.specs.LineStep.{TakesLine, lift_behind}
+use Rattle.h41_positions.specs.FocalState.{at_position}
 use Rattle.h41_rows.specs.Operands.{Address, Count, DigitKind, FlagKind, Meant, Name, NoOperand}
 use Rattle.h41_rows.specs.Operands.{RegisterKind, meant_as, meant_of}
 use Rattle.h41_focal.specs.Outcomes.{Answer}

@@ -1,7 +1,7 @@
 -- What private functions promise one another of the searches for labels that lines make.
 use Rattle.std.specs.Prelude.{Option}
 use Rattle.h41_codes.specs.declared.line.Line.{Line}
-use Rattle.h41_focal.specs.LabelledMachine.{LabelledMachine}
+use Rattle.h41_positions.specs.LabelledMachine.{LabelledMachine}
 use Rattle.h41_focal.specs.LabelSearches.{search_of}
 use Rattle.h41_focal.specs.declared.origin.Origin.{Origin}
 use Rattle.h41_focal.specs.private.Arrivals.{from_of}

@@ -22,7 +22,7 @@ struct Kept {
 }
 
 impl Model for Kept {
-    ghost use Rattle.h41_focal.specs.LabelledMachine.{AreRight, LabelledMachine};
+    ghost use Rattle.h41_positions.specs.LabelledMachine.{AreRight, LabelledMachine};
 
     ghost Value = { LabelledMachine };
 

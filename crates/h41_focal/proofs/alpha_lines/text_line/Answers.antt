@@ -1,5 +1,5 @@
 use Rattle.std.proofs.Common.{ap}
-use Rattle.h41_focal.specs.LabelledMachine.{machine_of}
+use Rattle.h41_positions.specs.LabelledMachine.{machine_of}
 use Rattle.h41_focal.proofs.RowDone.{text_done}
 use Rattle.h41_focal.proofs.alpha_lines.text_line.Goals as goal
 

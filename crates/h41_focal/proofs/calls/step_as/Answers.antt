@@ -1,7 +1,7 @@
 use Rattle.std.proofs.Common.{ap, subst, sym, Some}
 use Rattle.h41_focal.specs.LabelSearches.{StepKeeps}
-use Rattle.h41_focal.specs.LabelledMachine.{LabelledMachine, labelled_with, machine_of}
-use Rattle.h41_focal.specs.LineStep.{Machine, machine_with}
+use Rattle.h41_positions.specs.LabelledMachine.{LabelledMachine, labelled_with, machine_of}
+use Rattle.h41_positions.specs.FocalState.{Machine, machine_with}
 use Rattle.h41_focal.specs.MachineCalls.{Steps}
 use Rattle.h41_focal.proofs.calls.step_as.Goals as goal
 

@@ -1,5 +1,5 @@
 use Rattle.h41_focal.proofs.LinesTaken.{plain_taken}
-use Rattle.h41_focal.specs.LabelledMachine.{machine_of}
+use Rattle.h41_positions.specs.LabelledMachine.{machine_of}
 use Rattle.h41_focal.proofs.functions.plain.Goals as goal
 use Rattle.std.proofs.Common.{Ok}
 

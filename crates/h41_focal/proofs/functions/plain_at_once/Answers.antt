@@ -1,6 +1,6 @@
 use Rattle.h41_focal.proofs.LinesTaken.{plain_taken}
 use Rattle.h41_focal.specs.BriefOutcomes.{end_told}
-use Rattle.h41_focal.specs.LabelledMachine.{machine_of}
+use Rattle.h41_positions.specs.LabelledMachine.{machine_of}
 use Rattle.h41_focal.specs.declared.works.FunctionWork.TheVariants.{Move, OfX, OfYAndX}
 use Rattle.h41_focal.proofs.functions.plain_at_once.Goals as goal
 

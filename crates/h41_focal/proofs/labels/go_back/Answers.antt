@@ -1,7 +1,7 @@
 use Rattle.std.proofs.Common.{ap}
-use Rattle.h41_focal.specs.LabelledMachine.{machine_of}
+use Rattle.h41_positions.specs.LabelledMachine.{machine_of}
 use Rattle.h41_focal.proofs.LabelsMet.{goes_back, goes_to_line_00}
-use Rattle.h41_focal.specs.LineStep.{machine_with}
+use Rattle.h41_positions.specs.FocalState.{machine_with}
 use Rattle.h41_focal.specs.declared.machine.Machine.TheInside.{Inside}
 use Rattle.h41_focal.proofs.labels.go_back.Goals as goal
 

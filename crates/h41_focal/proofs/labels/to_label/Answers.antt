@@ -1,10 +1,10 @@
 use Rattle.std.proofs.Common.{◌≡◌, ap, None, rules, subst, ◌∙◌}
 use Rattle.h41_focal.proofs.RowApplied.{opened_row}
-use Rattle.h41_focal.specs.LabelledMachine.{LabelledMachine, machine_of}
-use Rattle.h41_focal.specs.LabelSearches.{local_search}
+use Rattle.h41_positions.specs.LabelledMachine.{LabelledMachine, machine_of}
+use Rattle.h41_positions.specs.LabelledMachine.{local_search}
 use Rattle.h41_focal.specs.private.Arrivals.{from_of}
 use Rattle.h41_focal.specs.private.Carrying.{FailsAs}
-use Rattle.h41_focal.specs.LineStep.{Machine, machine_with}
+use Rattle.h41_positions.specs.FocalState.{Machine, machine_with}
 use Rattle.h41_labels.specs.KeptAnswers.{KeepsSearch}
 use Rattle.h41_positions.specs.Positions.{LocalFrom}
 use Rattle.h41_rows.specs.LineRows.{to_label}

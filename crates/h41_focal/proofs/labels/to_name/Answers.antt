@@ -1,11 +1,11 @@
 use Rattle.std.proofs.Common.{◌≡◌, ap, None, Some, subst, sym, ◌∙◌}
 use Rattle.h41_codes.specs.declared.functions.Branch.TheVariants.{Execute}
 use Rattle.h41_focal.specs.declared.outcome.BriefOutcome.TheVariants as briefs
-use Rattle.h41_focal.specs.LabelledMachine.{LabelledMachine, machine_of}
+use Rattle.h41_positions.specs.LabelledMachine.{LabelledMachine, machine_of}
 use Rattle.h41_focal.proofs.Briefly.{failure_calling}
 use Rattle.h41_focal.proofs.RowApplied.{opened_row}
 use Rattle.h41_focal.specs.private.Carrying.{FailsAs, LeavesCalling}
-use Rattle.h41_focal.specs.LineStep.{Machine, machine_with}
+use Rattle.h41_positions.specs.FocalState.{Machine, machine_with}
 use Rattle.h41_labels.specs.KeptAnswers.{KeepsSearch}
 use Rattle.h41_labels.specs.declared.search.Search.TheVariants.{Global}
 use Rattle.h41_program.specs.ProgramLines.{AnswersOf}

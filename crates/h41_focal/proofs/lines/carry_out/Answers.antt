@@ -1,9 +1,9 @@
 use Rattle.std.proofs.Common.{ap, rules, ◌∙◌}
 use Rattle.std.proofs.lemmas.Result.{err_from_is_err_and}
-use Rattle.h41_focal.specs.LabelledMachine.{machine_of}
+use Rattle.h41_positions.specs.LabelledMachine.{machine_of}
 use Rattle.h41_focal.proofs.Briefly.{outcome_taken, taken_is_held}
 use Rattle.h41_focal.specs.BriefOutcomes.{brief_answer}
-use Rattle.h41_focal.specs.LineStep.{Machine}
+use Rattle.h41_positions.specs.FocalState.{Machine}
 use Rattle.h41_focal.specs.private.Carrying.{called_by}
 use Rattle.h41_focal.proofs.lines.carry_out.Goals as goal
 

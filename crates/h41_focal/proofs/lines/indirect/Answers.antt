@@ -1,8 +1,8 @@
 use Rattle.std.proofs.Common.{ap, ◌≡◌, false, Ok, Result, rules, subst}
 use Rattle.h41_codes.specs.declared.line.Line.TheVariants.{BranchIndirect}
-use Rattle.h41_focal.specs.LabelledMachine.{machine_of}
+use Rattle.h41_positions.specs.LabelledMachine.{machine_of}
 use Rattle.h41_focal.proofs.Briefly.{target_taken}
-use Rattle.h41_focal.specs.LineStep.{Machine}
+use Rattle.h41_positions.specs.FocalState.{Machine}
 use Rattle.h41_rows.specs.Computing.{meant_by}
 use Rattle.h41_rows.specs.Operands.{Meant, meant_of}
 use Rattle.h41_rows.specs.Profile.{is_parameter_left_out}

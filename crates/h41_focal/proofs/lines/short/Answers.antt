@@ -2,7 +2,7 @@ use Rattle.std.proofs.Common.{Ok, subst, sym, ◌∙◌}
 use Rattle.h41_codes.specs.declared.functions.RegisterFunction.TheVariants.{RecallRegister, StoreRegister}
 use Rattle.h41_focal.proofs.Apart.{IsAt, data_found}
 use Rattle.h41_focal.proofs.LinesTaken.{short_taken}
-use Rattle.h41_focal.specs.LabelledMachine.{LabelledMachine, machine_of}
+use Rattle.h41_positions.specs.LabelledMachine.{LabelledMachine, machine_of}
 use Rattle.h41_rows.specs.Operands.{data_register}
 use Rattle.h41_focal.proofs.lines.short.Goals as goal
 

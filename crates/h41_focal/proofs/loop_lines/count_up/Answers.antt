@@ -1,6 +1,6 @@
 use Rattle.std.proofs.Common.{ap, refl}
 use Rattle.std.proofs.lemmas.Result.{err_from_is_err_and}
-use Rattle.h41_focal.specs.LabelledMachine.{machine_of}
+use Rattle.h41_positions.specs.LabelledMachine.{machine_of}
 use Rattle.h41_focal.proofs.RowApplied.{opened_row, row_failed}
 use Rattle.h41_focal.proofs.RowAsked.{loop_leads, loop_refused, loop_works}
 use Rattle.h41_rows.specs.Counters.{Up}

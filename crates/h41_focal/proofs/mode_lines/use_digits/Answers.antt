@@ -1,5 +1,5 @@
 use Rattle.std.proofs.Common.{ap, refl}
-use Rattle.h41_focal.specs.LabelledMachine.{machine_of}
+use Rattle.h41_positions.specs.LabelledMachine.{machine_of}
 use Rattle.h41_focal.proofs.RowDone.{row_done}
 use Rattle.h41_focal.specs.private.Works.{digits_use_row}
 use Rattle.h41_focal.specs.declared.uses.DigitsUse.TheVariants as digits

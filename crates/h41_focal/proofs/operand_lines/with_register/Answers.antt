@@ -1,6 +1,6 @@
 use Rattle.std.proofs.Common.{◌≡◌, Ok, Result, subst}
 use Rattle.h41_focal.proofs.Apart.{register_found}
-use Rattle.h41_focal.specs.LabelledMachine.{LabelledMachine}
+use Rattle.h41_positions.specs.LabelledMachine.{LabelledMachine}
 use Rattle.h41_rows.specs.Operands.{Address, Meant, RegisterKind, meant_as}
 use Rattle.h41_rows.specs.declared.fault.LineFault.{LineFault}
 use Rattle.h41_focal.proofs.operand_lines.with_register.Goals as goal

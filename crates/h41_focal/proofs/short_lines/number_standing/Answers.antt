@@ -1,8 +1,8 @@
 use Rattle.std.proofs.Common.{ap, rules, subst}
 use Rattle.h41_focal.proofs.LinesTaken.{number_stands}
 use Rattle.h41_focal.proofs.short_lines.number_standing.Goals as goal
-use Rattle.h41_focal.specs.LabelledMachine.{machine_of}
-use Rattle.h41_focal.specs.LineStep.{Machine, machine_with}
+use Rattle.h41_positions.specs.LabelledMachine.{machine_of}
+use Rattle.h41_positions.specs.FocalState.{Machine, machine_with}
 use Rattle.h41_focal.specs.private.Carrying.{StandsNumber}
 use Rattle.h41_positions.specs.declared.position.Position.TheVariants.{Memory}
 

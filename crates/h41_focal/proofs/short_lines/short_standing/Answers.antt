@@ -3,8 +3,9 @@ use Rattle.h41_codes.specs.ShortLines.{line_of}
 use Rattle.h41_focal.proofs.LinesTaken.{no_short_stands, short_stands}
 use Rattle.h41_focal.specs.private.Carrying.{StandsNoShort}
 use Rattle.h41_focal.proofs.short_lines.short_standing.Goals as goal
-use Rattle.h41_focal.specs.LabelledMachine.{machine_of}
-use Rattle.h41_focal.specs.LineStep.{Machine, Stands, machine_with}
+use Rattle.h41_positions.specs.LabelledMachine.{machine_of}
+use Rattle.h41_focal.specs.LineStep.{Stands}
+use Rattle.h41_positions.specs.FocalState.{Machine, machine_with}
 
 pub returns-clause-some : goal.returns-clause-some
 returns-clause-some g c =

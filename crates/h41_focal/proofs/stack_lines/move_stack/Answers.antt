@@ -1,9 +1,10 @@
 use Rattle.std.proofs.Common.{◌≡◌, ℕ, ap, refl, ◌∙◌}
-use Rattle.h41_focal.specs.LabelledMachine.{machine_of}
+use Rattle.h41_positions.specs.LabelledMachine.{machine_of}
 use Rattle.h41_focal.specs.declared.machine.Machine.TheInside.{Inside}
 use Rattle.h41_focal.proofs.RowDone.{row_done}
 use Rattle.h41_focal.proofs.stack_lines.move_stack.Goals as goal
-use Rattle.h41_focal.specs.LineStep.{answer_of_showing, machine_with}
+use Rattle.h41_focal.specs.LineStep.{answer_of_showing}
+use Rattle.h41_positions.specs.FocalState.{machine_with}
 use Rattle.h41_focal.specs.Outcomes as answers
 use Rattle.h41_rows.specs.Rows as rows
 use Rattle.h41_focal.specs.private.Works.{move_row}

@@ -1,8 +1,8 @@
 use Rattle.std.proofs.Common.{ap, refl, ◌∙◌}
 use Rattle.h41_codes.specs.declared.line.Line.TheVariants as lines
-use Rattle.h41_focal.specs.LabelledMachine.{machine_of}
+use Rattle.h41_positions.specs.LabelledMachine.{machine_of}
 use Rattle.h41_focal.specs.declared.machine.Machine.TheInside.{Inside}
-use Rattle.h41_focal.specs.LineStep.{machine_with}
+use Rattle.h41_positions.specs.FocalState.{machine_with}
 use Rattle.h41_focal.proofs.RowDone.{row_done}
 use Rattle.h41_focal.proofs.stack_lines.number_line.Goals as goal
 use Rattle.h41_rows.specs.LineRows.{row_of}

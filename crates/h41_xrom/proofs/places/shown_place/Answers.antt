@@ -1,6 +1,6 @@
 use Rattle.std.proofs.Common.{ap, ◌∙◌}
-use Rattle.h41_focal.specs.LabelledMachine.{machine_of}
-use Rattle.h41_focal.specs.LineStep.{machine_with}
+use Rattle.h41_positions.specs.LabelledMachine.{machine_of}
+use Rattle.h41_positions.specs.FocalState.{machine_with}
 use Rattle.h41_xrom.proofs.ShownPlace.{kept_at, kept_by, place_there}
 use Rattle.h41_xrom.proofs.places.shown_place.Goals.{then-machine, else-machine}
 use Rattle.h41_xrom.proofs.places.shown_place.Goals as goal

@@ -1,6 +1,6 @@
 use Rattle.std.proofs.Common.{Ok, ap, ◌∙◌}
-use Rattle.h41_focal.specs.LabelledMachine.{machine_of}
-use Rattle.h41_focal.specs.LineStep.{Machine}
+use Rattle.h41_positions.specs.LabelledMachine.{machine_of}
+use Rattle.h41_positions.specs.FocalState.{Machine}
 use Rattle.h41_ram.specs.RegisterMap.{RegisterMap}
 use Rattle.h41_xrom.specs.KeyActions.{Leaves, with_number_changed}
 use Rattle.h41_xrom.proofs.typing.change_number.Goals as goal

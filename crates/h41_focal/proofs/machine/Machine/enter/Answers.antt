@@ -1,7 +1,8 @@
 use Rattle.std.proofs.Common.{◌≡◌, Ok, Err, ap, refl, subst}
 use Rattle.std.proofs.lemmas.Result.{err_from_is_err_and}
-use Rattle.h41_focal.specs.LabelledMachine.{machine_of}
-use Rattle.h41_focal.specs.LineStep.{Machine, machine_with, with_program_called}
+use Rattle.h41_positions.specs.LabelledMachine.{machine_of}
+use Rattle.h41_focal.specs.LineStep.{with_program_called}
+use Rattle.h41_positions.specs.FocalState.{Machine, machine_with}
 use Rattle.h41_focal.proofs.machine.Machine.enter.Goals as goal
 use Rattle.h41_positions.specs.declared.position.Position.TheVariants.{Page}
 

@@ -1,6 +1,7 @@
 use Rattle.std.proofs.Common.{◌≡◌, ap, refl, subst}
-use Rattle.h41_focal.specs.LabelledMachine.{machine_of}
-use Rattle.h41_focal.specs.LineStep.{Machine, machine_with, with_program_run}
+use Rattle.h41_positions.specs.LabelledMachine.{machine_of}
+use Rattle.h41_focal.specs.LineStep.{with_program_run}
+use Rattle.h41_positions.specs.FocalState.{Machine, machine_with}
 use Rattle.h41_focal.proofs.machine.Machine.enter_typed.Goals as goal
 use Rattle.h41_positions.specs.declared.position.Position.TheVariants.{Page}
 

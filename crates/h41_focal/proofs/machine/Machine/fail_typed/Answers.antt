@@ -1,9 +1,9 @@
 use Rattle.std.proofs.Common.{◌≡◌, true, ap, rules, ◌∙◌}
-use Rattle.h41_focal.specs.LabelledMachine.{machine_of}
+use Rattle.h41_positions.specs.LabelledMachine.{machine_of}
 use Rattle.h41_focal.proofs.Briefly.{same_left}
 use Rattle.h41_focal.proofs.machine.Machine.fail_typed.Goals as goal
 use Rattle.h41_focal.specs.BriefOutcomes.{brief_answer}
-use Rattle.h41_focal.specs.LineStep.{Machine}
+use Rattle.h41_positions.specs.FocalState.{Machine}
 use Rattle.h41_ram.specs.RegisterMap.{is_sound}
 
 pub returns-clause-line : goal.returns-clause-line

@@ -1,6 +1,6 @@
 use Rattle.std.proofs.Common.{ap, subst}
-use Rattle.h41_focal.specs.LabelledMachine.{machine_of}
-use Rattle.h41_focal.specs.LineStep.{Machine}
+use Rattle.h41_positions.specs.LabelledMachine.{machine_of}
+use Rattle.h41_positions.specs.FocalState.{Machine}
 use Rattle.h41_focal.specs.MachineCalls.{KeepsElsewhere}
 use Rattle.h41_focal.proofs.Elsewhere.{kept_elsewhere}
 use Rattle.h41_focal.proofs.machine.Machine.key.Goals as goal

@@ -1,7 +1,8 @@
 use Rattle.std.proofs.Common.{ap, refl, subst, Ok, Err, Some}
 use Rattle.std.proofs.lemmas.Result.{err_from_is_err_and}
-use Rattle.h41_focal.specs.LabelledMachine.{machine_of}
-use Rattle.h41_focal.specs.LineStep.{Machine, StepsLine}
+use Rattle.h41_positions.specs.LabelledMachine.{machine_of}
+use Rattle.h41_focal.specs.LineStep.{StepsLine}
+use Rattle.h41_positions.specs.FocalState.{Machine}
 use Rattle.h41_focal.specs.MachineCalls.{Steps}
 use Rattle.h41_focal.proofs.machine.Machine.step_as.Goals as goal
 

@@ -3,7 +3,7 @@ use Rattle.h41_codes.specs.ShortLines.{line_of}
 use Rattle.h41_focal.proofs.Briefly.{call_changes_nothing, calls_elsewhere}
 use Rattle.h41_focal.proofs.machine.Machine.step_briefly.Goals as goal
 use Rattle.h41_focal.specs.BriefOutcomes.{end_told}
-use Rattle.h41_focal.specs.LabelledMachine.{machine_of}
+use Rattle.h41_positions.specs.LabelledMachine.{machine_of}
 use Rattle.h41_focal.specs.private.Carrying.{called_by}
 use Rattle.h41_focal.specs.declared.origin.Origin.TheVariants.{Program}
 

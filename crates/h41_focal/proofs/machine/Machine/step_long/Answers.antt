@@ -1,8 +1,9 @@
 use Rattle.std.proofs.Common.{◌≡◌, ap, subst, sym, Ok, None, rules, ◌∙◌}
 use Rattle.h41_codes.specs.declared.line.Line.TheVariants.{Number}
 use Rattle.h41_focal.specs.BriefOutcomes.{StepsBriefly}
-use Rattle.h41_focal.specs.LabelledMachine.{LabelledMachine, machine_of}
-use Rattle.h41_focal.specs.LineStep.{Machine, Stands}
+use Rattle.h41_positions.specs.LabelledMachine.{LabelledMachine, machine_of}
+use Rattle.h41_focal.specs.LineStep.{Stands}
+use Rattle.h41_positions.specs.FocalState.{Machine}
 use Rattle.h41_focal.proofs.Briefly.{call_changes_nothing, calls_elsewhere}
 use Rattle.h41_focal.proofs.machine.Machine.step_long.Goals as goal
 use Rattle.h41_focal.specs.private.Carrying.{called_by}

@@ -1,8 +1,9 @@
 use Rattle.std.proofs.Common.{◌≡◌, ap, subst, Ok, Err, None, refl, rules}
 use Rattle.std.proofs.lemmas.Result.{err_from_is_err_and}
 use Rattle.h41_focal.specs.BriefOutcomes.{StepsBriefly}
-use Rattle.h41_focal.specs.LabelledMachine.{machine_of}
-use Rattle.h41_focal.specs.LineStep.{Machine, StepsLine}
+use Rattle.h41_positions.specs.LabelledMachine.{machine_of}
+use Rattle.h41_focal.specs.LineStep.{StepsLine}
+use Rattle.h41_positions.specs.FocalState.{Machine}
 use Rattle.h41_focal.proofs.Briefly.{call_changes_nothing, calls_elsewhere}
 use Rattle.h41_focal.proofs.machine.Machine.step_whole.Goals as goal
 use Rattle.h41_focal.specs.private.Carrying.{called_by, nowhere}

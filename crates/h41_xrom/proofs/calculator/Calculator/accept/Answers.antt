@@ -1,6 +1,6 @@
 use Rattle.std.proofs.Common.{ap, rules, ◌∙◌}
 use Rattle.std.proofs.lemmas.Result.{err_from_is_err_and}
-use Rattle.h41_focal.specs.LabelledMachine.{machine_of}
+use Rattle.h41_positions.specs.LabelledMachine.{machine_of}
 use Rattle.h41_xrom.proofs.Accepted.{acted_when}
 use Rattle.h41_xrom.proofs.Keying.{key_done, key_failed, key_lost}
 use Rattle.h41_xrom.specs.private.PrivateCalls.{after_effect}

@@ -1,5 +1,5 @@
 use Rattle.std.proofs.Common.{Some, ap, ◌∙◌}
-use Rattle.h41_focal.specs.LabelledMachine.{machine_of}
+use Rattle.h41_positions.specs.LabelledMachine.{machine_of}
 use Rattle.h41_xrom.proofs.Stepping.{line_accepted, line_left, line_refused}
 use Rattle.h41_xrom.specs.private.PrivateCalls.{after_end}
 use Rattle.h41_xrom.proofs.calculator.Calculator.call_by_line.Goals as goal

@@ -1,6 +1,6 @@
 use Rattle.std.proofs.Common.{◌≡◌, ◌∙◌, ap, subst, sym, Bool, true, List, ℕ}
 use Rattle.std.specs.Prelude.{MatchBool}
-use Rattle.h41_focal.specs.LineStep.{Machine}
+use Rattle.h41_positions.specs.FocalState.{Machine}
 use Rattle.h41_keys.specs.declared.input.Input.{Input}
 use Rattle.h41_pages.specs.PageMap.{PageMap}
 use Rattle.h41_xrom.specs.Calculator.{CalculatorState, machine_of}

@@ -1,7 +1,7 @@
 use Rattle.std.proofs.Common.{Some, Ok, ap, subst, ◌∙◌}
 use Rattle.std.specs.Prelude.{OnOk}
 use Rattle.std.specs.Result.{result_err}
-use Rattle.h41_focal.specs.LabelledMachine.{machine_of}
+use Rattle.h41_positions.specs.LabelledMachine.{machine_of}
 use Rattle.h41_focal.specs.declared.outcome.BriefOutcome.TheVariants as briefs
 use Rattle.h41_xrom.proofs.Stepping.{brief_accepted, brief_left, brief_refused, nothing_called}
 use Rattle.h41_xrom.specs.Calculator.{CalculatorState, RefusesLine, StepsByLine}

@@ -1,5 +1,5 @@
 use Rattle.std.proofs.Common.{ap}
-use Rattle.h41_focal.specs.LabelledMachine.{LabelledFocal}
+use Rattle.h41_positions.specs.LabelledMachine.{LabelledFocal}
 use Rattle.h41_xrom.specs.declared.calculator.Calculator.TheInside.{Inside}
 use Rattle.h41_xrom.proofs.LabelsStay.{right_over, right_with}
 use Rattle.h41_xrom.proofs.calculator.Calculator.step_word.Goals as goal

@@ -1,17 +1,18 @@
 //! What lines work on, beside memory.
 ghost use Rattle.std.specs.Prelude.{◌≡◌, [], IsTrue, Some};
-ghost use Rattle.h41_focal.specs.LabelSearches.{local_search};
-ghost use Rattle.h41_focal.specs.LineStep.{at_line_00, at_position, halted_at, start};
+ghost use Rattle.h41_positions.specs.LabelledMachine.{local_search};
+ghost use Rattle.h41_positions.specs.FocalState.{at_line_00, at_position, halted_at, start};
 ghost use Rattle.h41_labels.specs.KeptAnswers.{Finds, IsRight, KeepsSearch};
 ghost use Rattle.h41_labels.specs.declared.search.Search.TheVariants.{Global};
 ghost use Rattle.h41_positions.specs.Positions.{LocalFrom};
 ghost use Rattle.h41_ram.specs.RegisterMap.{is_sound};
 
+use crate::position::Position;
+use crate::positions::local;
 use arrayvec::ArrayVec;
 use h41_codes::{Parameter, Text};
 use h41_labels::LabelCache;
 use h41_pages::Pages;
-use h41_positions::{Position, local};
 use h41_ram::Ram;
 use std::marker::Model;
 
@@ -30,11 +31,11 @@ pub struct Focal {
     /// Whether the stack is lifted when a number comes in.
     pub lift: bool,
     /// The searches for labels that lines made, with their answers.
-    pub(crate) labels: LabelCache,
+    labels: LabelCache,
 }
 
 impl Model for Focal {
-    ghost use Rattle.h41_focal.specs.LabelledMachine.{LabelledFocal};
+    ghost use Rattle.h41_positions.specs.LabelledMachine.{LabelledFocal};
 
     ghost Value = { LabelledFocal };
 
@@ -71,6 +72,14 @@ impl Focal {
         &self.labels
     }
 
+    /// No search is kept any more.
+    pub fn forget_labels(&mut self)
+        ensures labels { self.new.labels ≡ [] }
+        ensures state { self.new.state ≡ self.old.state }
+    {
+        self.labels.forget();
+    }
+
     /// On to the line at a position.
     pub fn go_to(&mut self, position: Position)
         ensures state { self.new.state ≡ at_position position self.old.state }
@@ -100,7 +109,7 @@ impl Focal {
 
     /// Where the local label stands that a position finds: in memory a kept answer, else what the search finds, which is then kept; in
     /// a page what the search finds.
-    pub(crate) fn local<const REGS: usize>(
+    pub fn local<const REGS: usize>(
         &mut self,
         ram: &Ram<REGS>,
         pages: &Pages,
@@ -124,11 +133,7 @@ impl Focal {
     }
 
     /// Where the last label of a name stands in memory: likewise.
-    pub(crate) fn global<const REGS: usize>(
-        &mut self,
-        ram: &Ram<REGS>,
-        name: Text<15>,
-    ) -> Option<u16>
+    pub fn global<const REGS: usize>(&mut self, ram: &Ram<REGS>, name: Text<15>) -> Option<u16>
         requires sound { IsTrue (is_sound ram.now.registers) }
         requires right { IsRight self.old.labels ram.now.registers }
         ensures found { Finds ram.now.registers (Global name) result }

@@ -1,10 +1,14 @@
 -- What a contract sees of a machine in the code: memory with its mark, and beside what lines work
 -- on the answers of the searches for labels that are kept. Lines, by their definition, know neither
 -- mark nor kept answers: what a line finds is what the search finds.
-use Rattle.std.specs.Prelude.{◌≡◌, false, List, [], IsFalse, if◌then◌else◌}
-use Rattle.h41_focal.specs.LineStep.{FocalState, Machine, machine_with}
+use Rattle.std.specs.Prelude.{◌≡◌, ℕ, false, List, [], IsFalse, if◌then◌else◌, Option, Some, None}
+use Rattle.h41_positions.specs.FocalState.{FocalState, Machine, machine_with}
 use Rattle.h41_labels.specs.KeptAnswers.{IsRight}
 use Rattle.h41_labels.specs.declared.search.KeptAnswer.{KeptAnswer}
+use Rattle.h41_labels.specs.declared.search.Search.{Search}
+use Rattle.h41_labels.specs.declared.search.Search.TheVariants.{Local}
+use Rattle.h41_positions.specs.declared.position.Position.{Position}
+use Rattle.h41_positions.specs.declared.position.Position.TheVariants.{Memory, Page}
 use Rattle.h41_ram.specs.RamState.{KeepsMark, RamState}
 
 -- what lines work on beside memory, and the kept answers
@@ -47,3 +51,8 @@ with_line_begun labelled = record {
 pub record Keeps (old new : LabelledMachine) : Type 0 where
   pub mark : KeepsMark old.ram new.ram
   pub labels : new.focal.labels ≡ old.focal.labels
+
+-- a search for LBL n, from a position on; none that is kept in a page
+abbrev pub local_search : Position → ℕ → Option Search
+local_search (Memory byte) label = Some (Local byte label)
+local_search (Page address) label = None

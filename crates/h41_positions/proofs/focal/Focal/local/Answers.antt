@@ -1,8 +1,8 @@
 use Rattle.std.proofs.Common.{◌≡◌, rules, subst, sym}
 use Rattle.std.specs.Option.{option_map}
-use Rattle.h41_focal.proofs.focal.Focal.local.Goals as goal
-use Rattle.h41_focal.proofs.focal.Focal.local.Goals.{in-None, in-Some}
-use Rattle.h41_focal.specs.LabelledMachine.{LabelledFocal}
+use Rattle.h41_positions.proofs.focal.Focal.local.Goals as goal
+use Rattle.h41_positions.proofs.focal.Focal.local.Goals.{in-None, in-Some}
+use Rattle.h41_positions.specs.LabelledMachine.{LabelledFocal}
 use Rattle.h41_labels.specs.KeptAnswers.{IsRight}
 use Rattle.h41_positions.specs.declared.position.Position.TheVariants.{Memory}
 

@@ -1,7 +1,7 @@
 use Rattle.std.proofs.Common.{subst, sym}
-use Rattle.h41_focal.specs.LabelledMachine.{LabelledFocal}
+use Rattle.h41_positions.specs.LabelledMachine.{LabelledFocal}
 use Rattle.h41_labels.specs.KeptAnswers.{IsRight}
-use Rattle.h41_focal.proofs.focal.Focal.global.Goals as goal
+use Rattle.h41_positions.proofs.focal.Focal.global.Goals as goal
 
 pub returns-clause-found : goal.returns-clause-found
 returns-clause-found g c =

@@ -157,6 +157,16 @@ abbrev pub ItemReply : Spelled → BenchState → BenchState → Answer → Type
 ItemReply (Err refusal) s t answer = RefusesLines refusal s t answer
 ItemReply (Ok given) s t answer = Reply given.0 given.1 s t answer
 
+-- the commands without a block that print nothing but why they are refused
+abbrev pub is_silent : Command → Bool
+is_silent (Plug kind page bank writable) = false
+is_silent (Load kind) = false
+is_silent (Run limit) = false
+is_silent (Trace count) = false
+is_silent (commands.List address count) = false
+is_silent (Show view) = false
+is_silent command = true
+
 -- the commands that take memory; the others never end a deck for want of it
 abbrev pub takes_memory : Command → Bool
 takes_memory (Plug kind page bank writable) = true

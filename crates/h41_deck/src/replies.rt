@@ -1,7 +1,7 @@
 //! The replies to commands: what each does to the bench, and what it prints.
 
 ghost use Rattle.std.specs.Prelude.{◌≡◌, ◌≢◌, true, false, Err, IfOk, None, Ok, OnOk, OnErr};
-ghost use Rattle.std.specs.Prelude.{length, vec_len, ◌≤◌, []};
+ghost use Rattle.std.specs.Prelude.{length, vec_len, ◌≤◌, ℕ, List, []};
 ghost use Rattle.h41_commands.specs.Commands.{kind_of};
 ghost use Rattle.h41_commands.specs.Contents.{IsForPage, IsForProgram};
 ghost use Rattle.h41_commands.specs.declared.commands.Command.TheVariants as commands;
@@ -11,7 +11,7 @@ ghost use Rattle.h41_deck.specs.Answers.{ending_line, ends_by};
 ghost use Rattle.h41_refusals.specs.Refusals.{refusal_line};
 ghost use Rattle.h41_deck.specs.Views.{line_of};
 ghost use Rattle.h41_deck.specs.Blocks.{LoadsTaken, PlugsTaken, PlugsWordsOf};
-ghost use Rattle.h41_deck.specs.Replies.{LoadsBytes, Reply, takes_memory};
+ghost use Rattle.h41_deck.specs.Replies.{LoadsBytes, Reply, is_silent, takes_memory};
 ghost use Rattle.h41_deck.specs.Writing.{Acts, SaysAlone, Says, EndsAs, IsAccepted, IsRefusalOf};
 ghost use Rattle.h41_deck.specs.Writing.{made_text};
 
@@ -150,22 +150,33 @@ fn say_alone<W: Sink, const REGS: usize>(
     ensures clear { result ≢ Err CommandFault.WriteFault → W.failed writer.new ≡ false }
 {
     match command {
-        Command::Unplug(page) => Ok(unplug(bench, page)),
-        Command::Size(count) => Ok(size(bench, count)),
-        Command::Reset => Ok(reset(bench)),
-        Command::Call(address) => Ok(call(bench, address)),
-        Command::Key(keys) => Ok(press(bench, &keys)),
-        Command::Step(count) => Ok(step(bench, count)),
         Command::Run(limit) => Ok(run(bench, limit, writer)?),
         Command::Trace(count) => Ok(trace(bench, count, writer)?),
-        Command::Break(location) => Ok(set_break(bench, location)),
-        Command::Unbreak(location) => Ok(unbreak(bench, location)),
         Command::List { address, count } => {
             let listing = listed(alloc, bench.calculator().pages(), address, count)?;
             Ok(say_made(listing, writer)?)
         }
         Command::Show(view) => show(alloc, bench, view, writer),
-        Command::Plug { .. } | Command::Load(_) => unreachable!(),
+        _ => Ok(carry_out(bench, command)),
+    }
+}
+
+/// Carries a command out that prints nothing, or tells why not.
+fn carry_out<const REGS: usize>(bench: &mut Bench<REGS>, command: Command) -> Option<Refusal>
+    requires { is_silent command ≡ true }
+    ensures { (values : List ℕ)
+        → Reply command values bench.old bench.new (ends_by result) }
+{
+    match command {
+        Command::Unplug(page) => unplug(bench, page),
+        Command::Size(count) => size(bench, count),
+        Command::Reset => reset(bench),
+        Command::Call(address) => call(bench, address),
+        Command::Key(keys) => press(bench, &keys),
+        Command::Step(count) => step(bench, count),
+        Command::Break(location) => set_break(bench, location),
+        Command::Unbreak(location) => unbreak(bench, location),
+        _ => unreachable!(),
     }
 }
 

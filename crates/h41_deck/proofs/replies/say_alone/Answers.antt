@@ -13,5 +13,5 @@ returns-in_err-say_made-in-List-clause-text g c =
     c.in_ok-listing-in-List.listing c.in-List.is pages_are c.in_ok-listing-in-List.ensures)
     c.in_err-say_made-in-List.ensures.written)
 
-pub returns-in-Size-clause-text : goal.returns-in-Size-clause-text
-returns-in-Size-clause-text g c = λ values. silent_alone c.args.command values c.args.bench.now _ _ _ (rw c.in-Size.is c.size.ensures)
+pub returns-in_default-clause-text : goal.returns-in_default-clause-text
+returns-in_default-clause-text g c = λ values. silent_alone c.args.command values c.args.bench.now _ _ _ (c.carry_out.ensures values)

@@ -12,11 +12,11 @@ PARTS, ENDINGS = ("src", "specs", "proofs"), (".rt", ".antt")
 
 
 class Crate:
-    """A crate of the repository. `below` are all crates that it stands on, each behind those that it stands on itself, and `row` is
-    its line in crates.txt."""
+    """A crate of the repository. `on` are the libraries that its line in crates.txt names, the kit's too, and `below` all crates that it
+    stands on, each behind those that it stands on itself."""
 
-    def __init__(self, name, below, row):
-        self.name, self.below, self.row, self.folder = name, below, row, f"{TOP}/crates/{name}"
+    def __init__(self, name, below, on):
+        self.name, self.below, self.on, self.folder = name, below, on, f"{TOP}/crates/{name}"
         self.lines = sum(text.count(b"\n") for path, text in self.texts() if path.endswith(".rt"))
         # The seconds of one core that its proof is likely to take, by its lines and those that are loaded for it.
         self.work = 12.8 + 0.086 * self.lines + 0.0036 * sum(crate.lines for crate in below)
@@ -39,20 +39,6 @@ class Crate:
         """A sum of all that its proof rests on."""
         return hashlib.sha256(repr([kit(), *(crate.sums() for crate in [*self.below, self])]).encode()).hexdigest()
 
-    def is_proved(self, stamp):
-        """Whether ./bench prove has proved it as it stands. This tells what is likely left and decides nothing: rt knows what it has
-        proved."""
-        try:
-            with open(f"{self.folder}/out/proved", encoding="utf-8") as file:
-                return file.read() == stamp
-        except OSError:
-            return False
-
-    def has_been_proved(self, stamp):
-        os.makedirs(f"{self.folder}/out", exist_ok=True)
-        with open(f"{self.folder}/out/proved", "w", encoding="utf-8") as file:
-            file.write(stamp)
-
 
 @functools.lru_cache(maxsize=None)
 def kit():
@@ -67,14 +53,13 @@ def crates_of_program():
         for line in file:
             row = line.partition("#")[0].strip()
             if ":" in row:
-                rows[row.split(":")[0].split()[0]] = row
+                rows[row.split(":")[0].split()[0]] = row.partition(":")[2].split()
 
     def add(name):
         if name in rows and name not in crates:
-            others = rows[name].partition(":")[2].split()
-            for other in others:
+            for other in rows[name]:
                 add(other)
-            below = [crate for other in others if other in crates for crate in [*crates[other].below, crates[other]]]
+            below = [crate for other in rows[name] if other in crates for crate in [*crates[other].below, crates[other]]]
             crates[name] = Crate(name, list(dict.fromkeys(below)), rows[name])
 
     add(NAME)

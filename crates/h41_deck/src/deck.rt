@@ -1,6 +1,7 @@
 //! A deck: its commands, answered in turn.
 
 ghost use Rattle.std.specs.Prelude.{◌≡◌, ◌≢◌, ◌≤◌, Err, IfOk, OnOk, true, false};
+ghost use Rattle.h41_debug.specs.Bench.{start};
 ghost use Rattle.h41_deck.specs.Deck.{EndsKnown, LeavesDeck, PassedOn, WritesDeck};
 
 use crate::lines::{answer, answer_line};
@@ -57,7 +58,7 @@ pub fn run_deck<R: Source, W: Sink, const REGS: usize>(
     }
 }
 
-/// Carries out the commands of a deck, and writes what they print.
+/// Carries out the commands of a deck on a new bench, and writes what they print.
 fn answer_deck<R: Source, W: Sink, const REGS: usize>(
     alloc: Global,
     reader: &mut R,
@@ -79,16 +80,42 @@ fn answer_deck<R: Source, W: Sink, const REGS: usize>(
     ensures writer { result ≢ Err Fault.WriteFault → W.failed writer.new ≡ false }
 {
     let mut bench = Bench::<REGS>::new(alloc)?;
+    answer_lines(alloc, &mut bench, reader, writer)
+}
+
+/// Carries them out on a bench that nothing was done with.
+fn answer_lines<R: Source, W: Sink, const REGS: usize>(
+    alloc: Global,
+    bench: &mut Bench<REGS>,
+    reader: &mut R,
+    writer: &mut W,
+) -> Result<Outcome, Fault>
+    requires at_least { 64 ≤ REGS }
+    requires at_most { REGS ≤ 320 }
+    requires new { bench.old ≡ start REGS }
+    requires reader_clear { R.failed reader.old ≡ false }
+    requires writer_clear { W.failed writer.old ≡ false }
+    ensures deck { WritesDeck REGS result (R.remaining reader.old) W.contents
+        writer.old writer.new }
+    ensures outcome { IfOk result (EndsKnown REGS (R.remaining reader.old)) }
+    ensures flushed { OnOk result (W.flushed writer.new ≡ true) }
+    ensures left { LeavesDeck REGS result R.Source W.Sink
+        reader.old reader.new writer.old writer.new }
+    ensures passed { result ≡ Err Fault.ReadFault → W.flushed writer.new ≡ true }
+    ensures write_fault { result ≡ Err Fault.WriteFault → W.failed writer.new ≡ true }
+    ensures reader { result ≢ Err Fault.ReadFault → R.failed reader.new ≡ false }
+    ensures writer { result ≢ Err Fault.WriteFault → W.failed writer.new ≡ false }
+{
     let mut input = InputLines::new();
     let mut outcome = Outcome::Accepted;
     while let Some(first) = read_first_line(&mut input, reader, writer)? {
         if first.kind.opens_block() {
             let item = read_block(alloc, &mut input, reader, writer)?;
-            let answered = answer(alloc, &mut bench, item, writer)?;
+            let answered = answer(alloc, bench, item, writer)?;
             outcome = outcome.and(answered);
             continue;
         }
-        let next = answer_line(alloc, &mut bench, first, input.line(), writer)?;
+        let next = answer_line(alloc, bench, first, input.line(), writer)?;
         outcome = outcome.and(next);
     }
     flush(writer)?;

@@ -3,11 +3,11 @@ use Rattle.h41_commands.specs.Items.{Spelled}
 use Rattle.h41_ends.specs.InputLines.{IsCounted, most_left}
 use Rattle.h41_deck.proofs.AnswersInTurn.{Told}
 use Rattle.h41_deck.proofs.DeckReading.{ReadSoFar}
-use Rattle.h41_deck.proofs.deck.answer_deck.Given as goal
+use Rattle.h41_deck.proofs.deck.answer_lines.Given as goal
 
 -- the items that were read so far are done: what is written is what they print
-abbrev pub invariant-loop-bench : goal.invariant-loop-bench
-invariant-loop-bench g l = record {
+abbrev pub invariant-loop-first : goal.invariant-loop-first
+invariant-loop-first g l = record {
   done : (items : List Spelled)
       × ReadSoFar (g.R.Source.remaining l.fn.reader) (g.R.Source.remaining l.reader) l.input items
       × Told g.row.REGS (g.W.Sink.contents l.fn.writer) (g.W.Sink.contents l.writer) items l.bench l.outcome;
@@ -16,5 +16,5 @@ invariant-loop-bench g l = record {
   counted : IsCounted l.input (g.R.Source.given l.reader);
 }
 
-abbrev pub decreases-loop-bench : goal.decreases-loop-bench
-decreases-loop-bench g l = most_left l.input
+abbrev pub decreases-loop-first : goal.decreases-loop-first
+decreases-loop-first g l = most_left l.input

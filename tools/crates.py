@@ -18,8 +18,9 @@ class Crate:
     def __init__(self, name, below, on):
         self.name, self.below, self.on, self.folder = name, below, on, f"{TOP}/crates/{name}"
         self.lines = sum(text.count(b"\n") for path, text in self.texts() if path.endswith(".rt"))
-        # The seconds of one core that its proof is likely to take, by its lines and those that are loaded for it.
-        self.work = 12.8 + 0.086 * self.lines + 0.0036 * sum(crate.lines for crate in below)
+        # The seconds of one core that its proof is likely to take: those that it took, or else by its lines and those that are loaded for
+        # it.
+        self.work = seconds().get(name) or 12.8 + 0.086 * self.lines + 0.0036 * sum(crate.lines for crate in below)
         # The work of the longest chain of crates from it up to the program.
         self.chain = self.work
 
@@ -38,6 +39,13 @@ class Crate:
     def stamp(self):
         """A sum of all that its proof rests on."""
         return hashlib.sha256(repr([kit(), *(crate.sums() for crate in [*self.below, self])]).encode()).hexdigest()
+
+
+@functools.lru_cache(maxsize=None)
+def seconds():
+    """What proofs took, by the names of their crates."""
+    with open(f"{TOP}/tools/proof-seconds", encoding="utf-8") as file:
+        return {name: int(taken) for name, taken in (line.split() for line in file if not line.startswith("#"))}
 
 
 @functools.lru_cache(maxsize=None)

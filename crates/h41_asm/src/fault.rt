@@ -63,7 +63,7 @@ impl<T: Drop> From<AllocFailed<T>> for AssembleError {
 }
 
 /// Why a statement gave no words.
-#[derive(Clone, Copy, Debug, PartialEq, Eq)]
+#[derive(Clone, Copy)]
 pub(crate) enum SpellError {
     /// What is wrong with it.
     Fault(SourceFault),

@@ -7,7 +7,7 @@ use crate::statement::{Form, Statement};
 use std::alloc::AllocError;
 
 /// A line that has words.
-#[derive(Clone, Copy, Debug)]
+#[derive(Clone, Copy)]
 pub(crate) struct KeptLine {
     /// Its number.
     pub number: usize,

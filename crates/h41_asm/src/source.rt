@@ -10,7 +10,7 @@ use h41_ends::line_end;
 use h41_lines::lines::without_return;
 
 /// A line of a source.
-#[derive(Clone, Copy, Debug)]
+#[derive(Clone, Copy)]
 pub(crate) struct SourceLine<'a> {
     /// The name that it is labelled with.
     pub label: Option<&'a [u8]>,

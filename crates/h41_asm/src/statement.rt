@@ -26,7 +26,7 @@ use h41_words::{
 };
 
 /// What a line says: words, some by an address that a label stands for.
-#[derive(Clone, Copy, Debug)]
+#[derive(Clone, Copy)]
 pub(crate) struct Statement<'a> {
     /// Which words.
     pub form: Form,
@@ -35,7 +35,7 @@ pub(crate) struct Statement<'a> {
 }
 
 /// Where the words of a statement come from.
-#[derive(Clone, Copy, Debug)]
+#[derive(Clone, Copy)]
 pub(crate) enum Form {
     /// No words.
     Nothing,

@@ -3,7 +3,7 @@
 use h41_words::{Condition, LongJumpKind, Operation};
 
 /// What a mnemonic or a directive takes as its one operand.
-#[derive(Clone, Copy, Debug, PartialEq, Eq)]
+#[derive(Clone, Copy)]
 pub(crate) enum Taking {
     /// A field to work on.
     Field(Operation),
@@ -24,7 +24,7 @@ pub(crate) enum Taking {
 }
 
 /// What a function of a module is.
-#[derive(Clone, Copy, Debug, PartialEq, Eq)]
+#[derive(Clone, Copy)]
 pub(crate) enum EntryKind {
     /// Microcode.
     Microcode,
@@ -33,7 +33,7 @@ pub(crate) enum EntryKind {
 }
 
 /// The instructions whose operand is a number.
-#[derive(Clone, Copy, Debug, PartialEq, Eq)]
+#[derive(Clone, Copy)]
 pub(crate) enum Numbered {
     /// `CLRF n`.
     ClearStatus,
@@ -56,7 +56,7 @@ pub(crate) enum Numbered {
 }
 
 /// What the first word of a mnemonic, or a directive, begins. A word of a ROM is told by its number.
-#[derive(Clone, Copy, Debug, PartialEq, Eq)]
+#[derive(Clone, Copy)]
 pub(crate) enum Opening {
     /// An instruction that has no operand, with its word.
     Single(u16),

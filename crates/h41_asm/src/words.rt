@@ -7,7 +7,7 @@ ghost use Rattle.h41_asm.specs.SourceLines.{is_blank, part_length, words_of};
 use h41_lines::words::word_start;
 
 /// The words that are left of a line. Blanks and tabs outside quotes part them, and a `;` outside quotes begins a comment.
-#[derive(Clone, Copy, Debug)]
+#[derive(Clone, Copy)]
 pub struct SourceWords<'a> {
     /// The bytes that are left of the line, which begin outside quotes.
     pub rest: &'a [u8],

@@ -8,7 +8,7 @@ use h41_codes::ParameterFunction;
 use h41_rows::ValueOfTwo;
 
 /// What is done with a register.
-#[derive(Clone, Copy, Debug, PartialEq, Eq)]
+#[derive(Clone, Copy)]
 pub enum RegisterUse {
     /// `RCL`.
     Recall,
@@ -31,7 +31,7 @@ pub enum RegisterUse {
 }
 
 /// What is done with a number of digits.
-#[derive(Clone, Copy, Debug, PartialEq, Eq)]
+#[derive(Clone, Copy)]
 pub enum DigitsUse {
     /// `FIX`, `SCI` and `ENG`: whether flags 40 and 41 are set.
     Format(bool, bool),
@@ -40,7 +40,7 @@ pub enum DigitsUse {
 }
 
 /// What is done with a flag.
-#[derive(Clone, Copy, Debug, PartialEq, Eq)]
+#[derive(Clone, Copy)]
 pub enum FlagUse {
     /// `SF` and `CF`.
     Change(bool),
@@ -64,7 +64,7 @@ impl FlagUse {
 }
 
 /// What is done for a function with an operand.
-#[derive(Clone, Copy, Debug, PartialEq, Eq)]
+#[derive(Clone, Copy)]
 pub enum OperandUse {
     /// With a register.
     Register(RegisterUse),

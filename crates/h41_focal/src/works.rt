@@ -9,7 +9,7 @@ use h41_codes::Function;
 use h41_rows::{Test, ValueOfOne, ValueOfTwo};
 
 /// What moves in the stack.
-#[derive(Clone, Copy, Debug, PartialEq, Eq)]
+#[derive(Clone, Copy)]
 pub enum Movement {
     /// `X<>Y`.
     Exchange,
@@ -30,7 +30,7 @@ pub enum Movement {
 }
 
 /// What becomes of ALPHA.
-#[derive(Clone, Copy, Debug, PartialEq, Eq)]
+#[derive(Clone, Copy)]
 pub enum AlphaWork {
     /// `CLA`.
     Clear,
@@ -41,7 +41,7 @@ pub enum AlphaWork {
 }
 
 /// What the display shows, and whether the program goes on.
-#[derive(Clone, Copy, Debug, PartialEq, Eq)]
+#[derive(Clone, Copy)]
 pub enum DisplayWork {
     /// `AVIEW`.
     ViewAlpha,
@@ -56,7 +56,7 @@ pub enum DisplayWork {
 }
 
 /// What is done for a function without an operand.
-#[derive(Clone, Copy, Debug, PartialEq, Eq)]
+#[derive(Clone, Copy)]
 pub enum FunctionWork {
     /// A value of Y and X; the stack drops.
     OfYAndX(ValueOfTwo),

@@ -54,7 +54,7 @@ pub struct Found {
 }
 
 /// Where a line stands, and what it ends: what a walk needs that looks at no line itself.
-#[derive(Clone, Copy, Debug, PartialEq, Eq)]
+#[derive(Clone, Copy)]
 pub struct LinePlace {
     /// The line's own position.
     pub position: u16,

@@ -21,7 +21,7 @@ pub fn processor_text(alloc: Global, cpu: &Cpu, keys: &Keys) -> Result<Vec<u8>, 
 }
 
 /// The processor as it is printed: five lines, each with its end.
-#[derive(Clone, Copy, Debug)]
+#[derive(Clone, Copy)]
 struct Processor<'a> {
     cpu: &'a Cpu,
     keys: &'a Keys,

@@ -112,14 +112,7 @@ fn grown(input: Input, text: &[Character], more: &[Character]) -> Pressed
     requires more { length more.now ≤ number_most }
     ensures { result ≡ press.press_of_number input text.now (text.now ++ more.now) }
 {
-    let count = text.len() + more.len();
-    if count > NUMBER_MOST {
-        return becomes(input, text, text);
-    }
-    let mut cells = [Character::Zero; NUMBER_MOST];
-    cells[..text.len()].copy_from_slice(text);
-    cells[text.len()..count].copy_from_slice(more);
-    becomes(input, text, &cells[..count])
+    spliced(input, text, text, more, &[])
 }
 
 /// A number that is put together from three parts.

@@ -7,7 +7,7 @@ use Rattle.h41_codes.specs.ByteGrammar.{spelling}
 use Rattle.h41_codes.specs.declared.line.Line.{Line}
 use Rattle.h41_program.specs.declared.packer.Packer.{Packer}
 use Rattle.h41_program.specs.Lines.{is_number}
-use Rattle.h41_program.specs.Packing.{last_line, gap, packed_lines, filler, written_end, packing}
+use Rattle.h41_program.specs.Packing.{last_line, gap, packed_lines, filler, filled_up, written_end, packing}
 use Rattle.h41_program.specs.private.Packers.{Packs, Pushes, null_between}
 
 pub last_line-more : (lines : List Line) (line : Line) → last_line (lines ++ line ∷ []) ≡ Some line
@@ -97,12 +97,16 @@ puts old mid new line lines packs parts pushes =
       last = sym (last_line-more lines line);
     }
 
+-- how many bytes there are once they were filled up
+pub length-filled_up : (bytes : List ℕ) → length (filled_up bytes) ≡ length bytes + filler (length bytes) + 3
+length-filled_up bytes =
+    length-append (bytes ++ replicate (filler (length bytes)) 0) written_end
+    ∙ ap (λ n. n + 3) (length-append bytes (replicate (filler (length bytes)) 0)
+    ∙ ap (λ n. length bytes + n) (length-replicate (filler (length bytes)) 0))
+
 -- how many bytes a packing has
 pub length-packing : (lines : List Line) → length (packing lines) ≡ length (packed_lines lines) + filler (length (packed_lines lines)) + 3
-length-packing lines =
-    length-append (packed_lines lines ++ replicate (filler (length (packed_lines lines))) 0) written_end
-    ∙ ap (λ n. n + 3) (length-append (packed_lines lines) (replicate (filler (length (packed_lines lines))) 0)
-    ∙ ap (λ n. length (packed_lines lines) + n) (length-replicate (filler (length (packed_lines lines))) 0))
+length-packing lines = length-filled_up (packed_lines lines)
 
 -- too many bytes have no room
 pub no_room : (count registers : ℕ) → 2237 < count → count + filler count + 3 ≡ registers → 320 < registers / 7

@@ -1,17 +1,20 @@
 -- Whether there is room for lines.
-use Rattle.std.proofs.Common.{◌≡◌, ◌⊎◌, ℕ, ◌+◌, ◌*◌, ◌/◌, ◌<◌, ◌≤◌, true, false, List, length, replicate, ◌++◌, refl, ◌∙◌, ap, arith, inl}
-use Rattle.std.proofs.Common.{inr, Ok, Err}
+use Rattle.std.proofs.Common.{◌≡◌, ◌⊎◌, ℕ, ◌+◌, ◌-◌, ◌*◌, ◌/◌, ◌<◌, ◌≤◌, true, false, List, length, replicate, ◌++◌, refl, ◌∙◌, ap, arith}
+use Rattle.std.proofs.Common.{inl, inr, Ok, Err}
 use Rattle.std.specs.Prelude.{nat_lt}
 use Rattle.std.proofs.lemmas.Bool.{cases_Bool}
 use Rattle.std.proofs.lemmas.Bool.Decides.{nat_tests}
 use Rattle.h41_codes.specs.declared.line.Line.{Line}
-use Rattle.h41_ram.specs.RegisterMap.{RegisterMap, main_start, curtain_of}
+use Rattle.h41_ram.specs.RegisterMap.{RegisterMap, IsMemory, main_start, curtain_of, is_sound}
 use Rattle.h41_program.specs.declared.packer.Packer.{Packer}
 use Rattle.h41_program.specs.declared.refusal.ProgramRefusal.TheVariants.{NoRoom}
-use Rattle.h41_program.specs.Packing.{packed_lines, filler, packing, written_end}
+use Rattle.h41_program.specs.Edits.{memory_with_answer}
+use Rattle.h41_program.specs.Packing.{packed_lines, filler, filled_up, packing, written_end}
 use Rattle.h41_program.specs.private.Packers.{Packs}
-use Rattle.h41_program.specs.Rewriting.{with_program_lines, with_program_bytes}
-use Rattle.h41_program.proofs.Packings.{length-packing}
+use Rattle.h41_program.specs.private.ProgramPlaces.{IsPlace}
+use Rattle.h41_program.specs.Rewriting.{with_program_lines, with_program_bytes, HasOutcome}
+use Rattle.h41_program.proofs.Packings.{length-filled_up, length-packing}
+use Rattle.h41_program.proofs.Sound.{bounds}
 
 -- the test of room
 pub written-none : (memory : RegisterMap) (lines : List Line) → curtain_of memory < main_start + length (packing lines) / 7
@@ -64,3 +67,50 @@ pub filled_packing : (packer : Packer) (lines : List Line) (bytes : List ℕ) �
     → bytes ≡ packer.bytes.items ++ replicate (filler (length packer.bytes.items)) 0 ++ written_end → bytes ≡ packing lines
 filled_packing packer lines bytes packs unmarked same =
     same ∙ ap (λ (items : List ℕ). items ++ replicate (filler (length items)) 0 ++ written_end) (packs.held unmarked)
+
+-- bytes for which there is room in a memory, as it is tested where they are written
+pub record HasRoom (memory : RegisterMap) (registers curtain count : ℕ) : Type 0 where
+  pub memory_is : IsMemory registers memory
+  pub sound : is_sound memory ≡ true
+  pub curtain_is : curtain ≡ curtain_of memory
+  pub few : count + 3 ≤ 7 * (curtain - main_start)
+
+-- where they stand once they were filled up
+place_size : (count size : ℕ) → size ≡ count + filler count + 3 → 7 * (size / 7) ≡ size
+place_size count size all = omega arith
+
+module _ (memory : RegisterMap) (registers curtain : ℕ) (bytes : List ℕ)
+    (room : HasRoom memory registers curtain (length bytes)) (count : ℕ) (counted : count ≡ length (filled_up bytes)) where
+  pub filled_few : count / 7 ≤ curtain - main_start
+  filled_few = few_enough (length bytes) count (curtain - main_start) (counted ∙ length-filled_up bytes) room.few
+
+  pub filled_small : count / 7 ≤ 320
+  filled_small =
+      omega (arith, filled_few, room.curtain_is, (bounds memory room.sound).high, room.memory_is.main, room.memory_is.most)
+
+  pub filled_place : (size : ℕ) → size ≡ count → IsPlace memory size (curtain - count / 7)
+  filled_place size same =
+      let b = bounds memory room.sound in
+      let whole = place_size (length bytes) count (counted ∙ length-filled_up bytes) in
+      let from : main_start ≤ curtain = omega (arith, b.low, b.order, room.curtain_is) in
+      record {
+        size = omega (arith, whole, same, room.curtain_is, filled_few);
+        low = omega (arith, from, filled_few);
+        order = omega (arith, room.curtain_is);
+        inside = b.high;
+        small = omega (arith, room.memory_is.main, room.memory_is.most);
+      }
+
+-- what a writing of a packer's lines gives
+pub gives_written : (memory new : RegisterMap) (packer : Packer) (lines : List Line) (bytes : List ℕ) (room : ℕ)
+    → curtain_of memory ≡ main_start + room → Packs packer lines → packer.full ≡ false → length packer.bytes.items + 3 ≤ 7 * room
+    → new ≡ with_program_bytes memory bytes → bytes ≡ filled_up packer.bytes.items
+    → HasOutcome memory new (Ok (tt {0})) (memory_with_answer (tt {0}) (with_program_lines memory lines))
+gives_written memory new packer lines bytes room curtain packs unmarked few written filled =
+    rw (accepted memory packer lines room curtain packs unmarked few)
+    (refl, written ∙ ap (with_program_bytes memory) (filled_packing packer lines bytes packs unmarked filled))
+
+pub gives_refused : (memory : RegisterMap) (packer : Packer) (lines : List Line) (room : ℕ) → curtain_of memory ≡ main_start + room
+    → room ≤ 320 → Packs packer lines → (packer.full ≡ true) ⊎ (7 * room < length packer.bytes.items + 3)
+    → HasOutcome memory memory (Err NoRoom) (memory_with_answer (tt {0}) (with_program_lines memory lines))
+gives_refused memory packer lines room curtain small packs why = rw (refused memory packer lines room curtain small packs why) (refl, refl)

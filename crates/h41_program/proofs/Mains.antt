@@ -1,9 +1,21 @@
 -- Main memory that was written whole, register after register.
 use Rattle.std.proofs.Common.{◌≡◌, ℕ, ◌+◌, ◌<◌, List, length, map, get_or, sym, ◌∙◌, ap, arith, refl, set}
+use Rattle.std.proofs.Common.{inl, inr, get_or-set_same, get_or-set_other}
+use Rattle.std.proofs.lemmas.Bool.{cases_lt}
 use Rattle.std.specs.List.{range_with_len}
 use Rattle.std.proofs.lemmas.List.{ext_get_or}
 use Rattle.std.proofs.lemmas.List.FromFn.{get_or-map-range_with_len, length-map-range_with_len}
 use Rattle.h41_ram.specs.RegisterMap.{RegisterMap, main_start, c_address, zeros, with_register}
+
+-- one register more was written
+pub one_more : (f : ℕ → List ℕ) (main : List (List ℕ)) (i : ℕ) (register : List ℕ) → i < length main
+    → ((k : ℕ) → k < i → get_or main k zeros ≡ f k) → register ≡ f i → (k : ℕ) → k < i + 1 → get_or (set main i register) k zeros ≡ f k
+one_more f main i register inside below is k within = elim (cases_lt k i) [
+  | inl before ↦ get_or-set_other main i k register zeros (λ same. omega (arith, before, same)) ∙ below k before
+  | inr after ↦
+      let here : k ≡ i = omega (arith, within, after) in
+      ap (λ n. get_or (set main i register) n zeros) here ∙ get_or-set_same main i register zeros inside ∙ is ∙ ap f (sym here)
+]
 
 -- the list of what a function gives at each address
 pub listed_main : (f : ℕ → List ℕ) (old new : List (List ℕ)) → length new ≡ length old

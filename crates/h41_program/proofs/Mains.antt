@@ -1,11 +1,24 @@
 -- Main memory that was written whole, register after register.
-use Rattle.std.proofs.Common.{◌≡◌, ℕ, ◌+◌, ◌<◌, List, length, map, get_or, sym, ◌∙◌, ap, arith, refl, set}
-use Rattle.std.proofs.Common.{inl, inr, get_or-set_same, get_or-set_other}
+use Rattle.std.proofs.Common.{◌≡◌, ℕ, ◌+◌, ◌*◌, ◌<◌, ◌≤◌, List, length, map, get_or, sym, ◌∙◌, ap, arith, refl, set}
+use Rattle.std.proofs.Common.{Fits, w16, w64, inl, inr, get_or-set_same, get_or-set_other}
 use Rattle.std.proofs.lemmas.Bool.{cases_lt}
 use Rattle.std.specs.List.{range_with_len}
 use Rattle.std.proofs.lemmas.List.{ext_get_or}
 use Rattle.std.proofs.lemmas.List.FromFn.{get_or-map-range_with_len, length-map-range_with_len}
-use Rattle.h41_ram.specs.RegisterMap.{RegisterMap, main_start, c_address, zeros, with_register}
+use Rattle.h41_ram.specs.RegisterMap.{RegisterMap, main_start, top_of, c_address, zeros, with_register}
+
+-- an address of main memory fits
+pub fits_index : (n registers : ℕ) → n < registers → registers ≤ 320 → Fits w16 n
+fits_index n registers below most = omega (arith, below, most)
+
+pub fits_address : (n registers : ℕ) → n < registers → registers ≤ 320 → Fits w16 (main_start + n)
+fits_address n registers below most = omega (arith, below, most)
+
+pub fits_offset : (n registers : ℕ) → n < registers → registers ≤ 320 → Fits w64 (n * 8)
+fits_offset n registers below most = omega (arith, below, most)
+
+pub inside_main : (memory : RegisterMap) (n registers : ℕ) → n < registers → length memory.main ≡ registers → main_start + n < top_of memory
+inside_main memory n registers below same = omega (arith, below, same)
 
 -- one register more was written
 pub one_more : (f : ℕ → List ℕ) (main : List (List ℕ)) (i : ℕ) (register : List ℕ) → i < length main

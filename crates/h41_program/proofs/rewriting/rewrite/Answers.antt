@@ -1,8 +1,8 @@
-use Rattle.std.proofs.Common.{◌≡◌, ℕ, ◌+◌, ◌*◌, ◌<◌, ◌≤◌, length, ap, subst, sym, ◌∙◌, arith, rules, Fits, w16, w64}
+use Rattle.std.proofs.Common.{◌≡◌, ℕ, ◌+◌, ◌<◌, length, ap, subst, sym, ◌∙◌, arith, rules}
 use Rattle.h41_ram.specs.RamState.{RamState}
-use Rattle.h41_ram.specs.RegisterMap.{RegisterMap, main_start, top_of, register_at, c_of, with_three_places}
+use Rattle.h41_ram.specs.RegisterMap.{RegisterMap, main_start, register_at, c_of, with_three_places}
 use Rattle.h41_program.specs.Rewriting.{rewritten_register, end_after}
-use Rattle.h41_program.proofs.Mains.{one_more, listed_main, both_written}
+use Rattle.h41_program.proofs.Mains.{fits_index, fits_address, fits_offset, inside_main, one_more, listed_main, both_written}
 use Rattle.h41_program.proofs.rewriting.rewrite.Goals as goal
 
 pub returns-clause-change : goal.returns-clause-change
@@ -22,19 +22,6 @@ returns-clause-change g c =
     both_written memory c.write.new.self.registers c.set_main_memory.new.self.registers c.with_address-c.result
     (with_three_places (c_of memory) 0 (end_after memory bytes)) c.loop-index.register-items _
     (ap (λ (ram : RamState). ram.registers) c.write.ensures.written) main_is c_is main
-
--- an address of main memory fits
-fits_index : (n registers : ℕ) → n < registers → registers ≤ 320 → Fits w16 n
-fits_index n registers below most = omega (arith, below, most)
-
-fits_address : (n registers : ℕ) → n < registers → registers ≤ 320 → Fits w16 (main_start + n)
-fits_address n registers below most = omega (arith, below, most)
-
-fits_offset : (n registers : ℕ) → n < registers → registers ≤ 320 → Fits w64 (n * 8)
-fits_offset n registers below most = omega (arith, below, most)
-
-inside_main : (memory : RegisterMap) (n registers : ℕ) → n < registers → length memory.main ≡ registers → main_start + n < top_of memory
-inside_main memory n registers below same = omega (arith, below, same)
 
 pub offset_bounds-register-items-index : goal.offset_bounds-register-items-index
 offset_bounds-register-items-index g c = fits_offset _ _ c.loop-index-test.true c.requires.memory.most

@@ -19,6 +19,7 @@ pub mod LoadSteps
 pub mod Loads
 pub mod Mains
 pub mod Memory
+pub mod Moves
 pub mod NewLines
 pub mod NullBytes
 pub mod Numbers

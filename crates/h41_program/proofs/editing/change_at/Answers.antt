@@ -1,4 +1,4 @@
-use Rattle.std.proofs.Common.{◌≡◌, refl, sym, ◌∙◌, ap, subst, Ok, Err}
+use Rattle.std.proofs.Common.{◌≡◌, refl, sym, ◌∙◌, ap, subst, Ok, Err, rules}
 use Rattle.std.proofs.lemmas.Result.{err_from_is_err_and}
 use Rattle.h41_program.specs.Edits.{without_answer}
 use Rattle.h41_program.specs.private.EditSteps.{lines_of_change}
@@ -54,3 +54,41 @@ pub returns-clause-sound : goal.returns-clause-sound
 returns-clause-sound g c =
     edit_sound c.args.ram.now.registers c.write.new.ram.registers (lines_of_change c.args.change) c.args.at (Ok tt) c.requires.sound
     (returns-clause-lines g c)
+
+pub returns-in_err-place-clause-sound : goal.returns-in_err-place-clause-sound
+returns-in_err-place-clause-sound g c = c.requires.sound
+
+pub returns-in_err-packed_changed-clause-sound : goal.returns-in_err-packed_changed-clause-sound
+returns-in_err-packed_changed-clause-sound g c = c.requires.sound
+
+pub lines_before-count-requires : goal.lines_before-count-requires
+lines_before-count-requires g c = (search rules, c.requires.sound)
+
+pub packed_changed-requires : goal.packed_changed-requires
+packed_changed-requires g c = (search rules, (c.requires.sound, c.requires.change))
+
+pub write-requires : goal.write-requires
+write-requires g c = (search rules, c.requires.sound)
+
+pub returns-in_err-write-clause-unchanged : goal.returns-in_err-write-clause-unchanged
+returns-in_err-write-clause-unchanged g c =
+    let p = err_from_is_err_and c.from_residual-in_err-write.result c.from_residual-in_err-write.ensures.1 in
+    rw p.1 c.in_err-write.ensures.unchanged
+
+pub returns-in_err-write-clause-mark : goal.returns-in_err-write-clause-mark
+returns-in_err-write-clause-mark g c = c.write.ensures.mark
+
+pub returns-clause-count : goal.returns-clause-count
+returns-clause-count g c =
+    let lines = c.packed_changed.ensures.0 in
+    let from = c.packed_changed.ensures.1 in
+    record {
+      first = c.in_ok-place.field-0;
+      lines = lines;
+      stands = subst (λ r. AnswersFirst c.args.ram.now.registers c.args.at r) c.in_ok-place.was c.line_at.ensures;
+      from = from;
+      is = c.lines_before-count.ensures lines from;
+    }
+
+pub returns-clause-mark : goal.returns-clause-mark
+returns-clause-mark g c = c.write.ensures.mark

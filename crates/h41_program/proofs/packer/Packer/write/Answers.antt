@@ -1,4 +1,4 @@
-use Rattle.std.proofs.Common.{rules, ◌≡◌, ℕ, ◌+◌, ◌-◌, ◌*◌, ◌<◌, ◌≤◌, true, length, ap, ◌∙◌, sym, arith, inl, inr, Fits, w16}
+use Rattle.std.proofs.Common.{rules, ◌≡◌, ℕ, ◌+◌, ◌-◌, ◌*◌, ◌<◌, ◌≤◌, true, length, ap, ◌∙◌, sym, arith, inl, inr, Fits, w16, w64}
 use Rattle.h41_ram.specs.RegisterMap.{RegisterMap, IsMemory, main_start, curtain_of, is_sound}
 use Rattle.h41_program.proofs.Rooms.{HasRoom, filled_few, filled_small, filled_place, gives_written, gives_refused}
 use Rattle.h41_program.proofs.Sound.{bounds}
@@ -30,6 +30,49 @@ has_room : (memory : RegisterMap) (registers curtain from count long : ℕ) → 
     → HasRoom memory registers curtain long
 has_room memory registers curtain from count long is sound same counted read few =
     record { memory_is = is; sound = sound; curtain_is = same; few = few_by count long from curtain counted read few }
+
+-- its parts, as they are read
+module _ (memory : RegisterMap) (registers curtain from : ℕ) (is : IsMemory registers memory) (sound : is_sound memory ≡ true)
+    (same : curtain ≡ curtain_of memory) (read : from ≡ curtain) where
+  curtain_low : main_start ≤ from
+  curtain_low =
+      let b = bounds memory sound in
+      omega (arith, b.low, b.order, same, read)
+
+  bytes_fit : Fits w64 (7 * (from - main_start))
+  bytes_fit =
+      let small = room_small memory registers curtain is sound same in
+      omega (arith, small, read)
+
+  bytes_few : (count long : ℕ) → count ≡ long → count + 3 ≤ 7 * (from - main_start) → long ≤ 2237
+  bytes_few count long counted few =
+      let small = room_small memory registers curtain is sound same in
+      omega (arith, small, read, counted, few)
+
+curtain_small : (memory : RegisterMap) (registers : ℕ) → IsMemory registers memory → is_sound memory ≡ true
+    → curtain_of memory ≤ main_start + 320
+curtain_small memory registers is sound = omega (arith, (bounds memory sound).high, is.main, is.most)
+
+pub overflow_sub-room : goal.overflow_sub-room
+overflow_sub-room g c =
+    let is = c.curtain-curtain.ensures in
+    curtain_low c.args.ram.now.registers _ _ _ is.memory c.requires is.value c.from-room.ensures
+
+pub overflow_mul-room : goal.overflow_mul-room
+overflow_mul-room g c =
+    let is = c.curtain-curtain.ensures in
+    bytes_fit c.args.ram.now.registers _ _ _ is.memory c.requires is.value c.from-room.ensures
+
+pub filled-program-requires : goal.filled-program-requires
+filled-program-requires g c =
+    let is = c.curtain-curtain.ensures in
+    bytes_few c.args.ram.now.registers _ _ _ is.memory c.requires is.value c.from-room.ensures _ _ c.len.ensures.value c.if-len-room.false
+
+pub returns-then-full-clause-small : goal.returns-then-full-clause-small
+returns-then-full-clause-small g c = curtain_small c.args.ram.now.registers _ c.curtain-curtain.ensures.memory c.requires
+
+pub returns-clause-small : goal.returns-clause-small
+returns-clause-small g c = curtain_small c.args.ram.now.registers _ c.curtain-curtain.ensures.memory c.requires
 
 -- what fits
 fits_word : (n : ℕ) → n ≤ 320 → Fits w16 n

@@ -1,5 +1,6 @@
 -- How the loops of all single steps go on.
-use Rattle.std.proofs.Common.{◌≡◌, ◌<◌, ◌≤◌, ℕ, ◌+◌, Bool, true, false, nat_lt, Option, Some, None, refl, sym, ap, subst, ◌∙◌, arith}
+use Rattle.std.proofs.Common.{◌≡◌, ◌<◌, ◌≤◌, ℕ, ◌+◌, Bool, true, false, nat_lt, Option, Some, None, refl, sym, ap}
+use Rattle.std.proofs.Common.{subst, ◌∙◌, arith, Fits, w32}
 use Rattle.std.specs.Prelude.{if◌then◌else◌}
 use Rattle.h41_xrom.specs.declared.calculator.Caller.{Caller}
 use Rattle.h41_xrom.specs.declared.calculator.Mode.{Mode}
@@ -83,3 +84,25 @@ refused_piece limit from made first s t why so_far kept clear below refused stay
       kept = kept;
       ends = (below, clear, refused);
     })
+
+-- a piece of all steps up to one
+pub all_steps : (limit from made until : ℕ) (first t : BenchState)
+    → ((start : BenchState) → MakesSteps limit from start first → MakesSteps limit made start t) → t.breakpoints ≡ first.breakpoints
+    → until ≤ made → made ≤ until → until ≤ limit → from < until → Advances limit from first until t None
+all_steps limit from made until first t so_far kept all most few more = record {
+  most = few;
+  goes_on = subst (λ n. (start : BenchState) → MakesSteps limit from start first → MakesSteps limit n start t)
+      (omega (arith, all, most)) so_far;
+  kept = kept;
+  ends = more;
+}
+
+-- the numbers of steps
+pub same : (n : ℕ) → n ≤ n
+same n = omega arith
+
+pub up_to : (from limit : ℕ) → from < limit → from ≤ limit
+up_to from limit below = omega (arith, below)
+
+pub next_fits : (word until limit : ℕ) → word < until → until ≤ limit → Fits w32 limit → Fits w32 (word + 1)
+next_fits word until limit below most fits = omega (arith, below, most, fits)

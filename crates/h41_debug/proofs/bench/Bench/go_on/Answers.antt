@@ -10,10 +10,10 @@ lines-requires g c =
     let mode = c.mode.ensures ∙ ap (λ (s : CalculatorState). s.mode) c.calculator.ensures in (
       search rules,
       (
-        search rules,
+        c.requires.below,
         (
           subst (λ (m : Mode). runs_function m ≡ false) mode (no_function c.mode.result c.in_default.not-Micro),
-          (search rules, search rules),
+          (c.requires.clear, c.requires.free),
         ),
       ),
     )

@@ -1,10 +1,11 @@
-use Rattle.std.proofs.Common.{◌≡◌, false, Some, None, refl, sym, ap, subst, ◌∙◌}
+use Rattle.std.proofs.Common.{rules, ◌≡◌, false, Some, None, refl, sym, ap, subst, ◌∙◌}
 use Rattle.h41_xrom.specs.declared.calculator.Mode.{Mode}
 use Rattle.h41_xrom.specs.declared.calculator.Mode.TheVariants.{Run}
 use Rattle.h41_xrom.specs.Calculator.{CalculatorState}
 use Rattle.h41_debug.specs.Bench.{BenchState}
 use Rattle.h41_debug.specs.private.Running.{runs_function}
-use Rattle.h41_debug.proofs.Advancing.{clear_in_program, ends_piece, line_refuses, line_steps, one_more, refused_piece}
+use Rattle.h41_debug.proofs.Advancing.{all_steps, clear_in_program, ends_piece, line_refuses, line_steps, next_fits}
+use Rattle.h41_debug.proofs.Advancing.{one_more, refused_piece, same, up_to}
 use Rattle.h41_debug.proofs.bench.Bench.lines.Goals as goal
 
 pub returns-in-Err : goal.returns-in-Err
@@ -51,3 +52,24 @@ loop-made-preserved g c =
       subst (λ (m : Mode). runs_function m ≡ false) (sym mode) refl,
       kept,
     )
+
+pub loop-made-init : goal.loop-made-init
+loop-made-init g c = ((λ start begun. begun), c.requires.clear, c.requires.mode, refl)
+
+pub overflow_add-result : goal.overflow_add-result
+overflow_add-result g c = next_fits _ _ _ c.loop-made-test.true (same _) c.ranges.limit
+
+pub overflow_add-result-in-Some : goal.overflow_add-result-in-Some
+overflow_add-result-in-Some g c = next_fits _ _ _ c.loop-made-test.true (same _) c.ranges.limit
+
+pub stop_at_breakpoint-requires : goal.stop_at_breakpoint-requires
+stop_at_breakpoint-requires g c = (
+  search rules,
+  λ unwatched.
+      rw (ap (λ (at : BenchState). at.breakpoints) c.step_line.ensures.others ∙ c.loop-made.invariant.3) (c.requires.free unwatched),
+)
+
+pub returns : goal.returns
+returns g c =
+    all_steps _ _ _ _ _ _ c.loop-made.invariant.0 c.loop-made.invariant.3 c.loop-made-test.false
+    (c.loop-made.auto.made-end (up_to _ _ c.requires.below)) (same _) c.requires.below

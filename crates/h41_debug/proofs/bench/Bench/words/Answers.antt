@@ -1,4 +1,4 @@
-use Rattle.std.proofs.Common.{◌≡◌, ◌<◌, ◌≤◌, ◌+◌, ℕ, Bool, true, false, if◌then◌else◌, None, arith, refl, sym, ap, subst, ◌∙◌}
+use Rattle.std.proofs.Common.{rules, ◌≡◌, ◌<◌, ◌≤◌, ◌+◌, ◌-◌, ℕ, Bool, true, false, if◌then◌else◌, None, arith, refl, sym, ap, subst, ◌∙◌}
 use Rattle.h41_xrom.specs.declared.calculator.Caller.{Caller}
 use Rattle.h41_xrom.specs.declared.calculator.Mode.TheVariants.{Micro}
 use Rattle.h41_debug.specs.Bench.{BenchState}
@@ -6,7 +6,7 @@ use Rattle.h41_debug.specs.private.Advancing.{MakesSteps}
 use Rattle.h41_debug.specs.private.Running.{stop_behind}
 use Rattle.h41_breakpoints.specs.Breakpoints.{is_set}
 use Rattle.h41_debug.specs.Positions.{location_of}
-use Rattle.h41_debug.proofs.Advancing.{clear_behind, ends_piece, one_more}
+use Rattle.h41_debug.proofs.Advancing.{all_steps, clear_behind, ends_piece, next_fits, one_more, refused_piece, same, up_to}
 use Rattle.h41_breakpoints.proofs.Members.{none_set}
 use Rattle.h41_debug.proofs.bench.Bench.words.Goals as goal
 use Rattle.h41_debug.proofs.bench.Bench.words.Goals.{else-watched-via-then-watched+else-has_breakpoint, else-watched-via-else-watched}
@@ -17,6 +17,15 @@ between : (watched : Bool) (made word limit : ℕ) (t : BenchState) (behind : Bo
     → word + 1 < (if watched then made + 1 else limit) → stop_behind behind t ≡ None
 between true made word limit t behind caller free mode from more = absurd (omega (arith, from, more))
 between false made word limit t behind caller free mode from more = clear_behind behind t caller mode (free refl)
+
+below_limit : (word until limit : ℕ) → word < until → until ≤ limit → word < limit
+below_limit word until limit below most = omega (arith, below, most)
+
+behind_all : (from made until : ℕ) → from ≤ made → made < until → from < until
+behind_all from made until most behind = omega (arith, most, behind)
+
+less_left : (limit made now : ℕ) → made < limit → made < now → limit - now < limit - made
+less_left limit made now below more = omega (arith, below, more)
 
 pub returns-in-Ok-false : goal.returns-in-Ok-false
 returns-in-Ok-false g c =
@@ -66,3 +75,39 @@ loop-made-preserved g c =
       omega (arith, c.loop-made.invariant.4, c.next_look-until.ensures.behind),
       c.next_look-until.ensures.most,
     )
+
+pub loop-made-init : goal.loop-made-init
+loop-made-init g c =
+    ((λ start begun. begun), c.requires.clear, c.requires.mode, refl, same _, up_to _ _ c.requires.below)
+
+pub loop-word-init : goal.loop-word-init
+loop-word-init g c =
+    (c.loop-made.invariant.0, (λ below. c.loop-made.invariant.1), c.loop-made.invariant.2, c.loop-made.invariant.3)
+
+pub overflow_add-result : goal.overflow_add-result
+overflow_add-result g c = next_fits _ _ _ c.loop-word-test.true c.next_look-until.ensures.most c.ranges.limit
+
+pub step_word-requires : goal.step_word-requires
+step_word-requires g c = (search rules, c.loop-word.invariant.2)
+
+pub returns-in-Err : goal.returns-in-Err
+returns-in-Err g c =
+    refused_piece _ _ _ _ _ _ _ c.loop-word.invariant.0 c.loop-word.invariant.3 (c.loop-word.invariant.1 c.loop-word-test.true)
+    (below_limit _ _ _ c.loop-word-test.true c.next_look-until.ensures.most) c.in-Err.ensures.refusal c.in-Err.ensures.unchanged
+
+pub word_location-requires : goal.word_location-requires
+word_location-requires g c = (search rules, rw c.loop-word.invariant.2 refl)
+
+pub returns-then-has_breakpoint : goal.returns-then-has_breakpoint
+returns-then-has_breakpoint g c =
+    all_steps _ _ _ _ _ _ c.loop-word.invariant.0 c.loop-word.invariant.3 c.loop-word-test.false
+    (c.loop-word.auto.word-end (up_to _ _ c.next_look-until.ensures.behind)) c.next_look-until.ensures.most
+    (behind_all _ _ _ c.loop-made.invariant.4 c.next_look-until.ensures.behind)
+
+pub loop-made-smaller : goal.loop-made-smaller
+loop-made-smaller g c = less_left _ _ _ c.loop-made-test.true c.next_look-until.ensures.behind
+
+pub returns : goal.returns
+returns g c =
+    all_steps _ _ _ _ _ _ c.loop-made.invariant.0 c.loop-made.invariant.3 c.loop-made-test.false c.loop-made.invariant.5
+    (same _) c.requires.below

@@ -4,3 +4,4 @@ pub mod FlagBits
 pub mod Marks
 pub mod Named
 pub mod ThreeDigits
+pub mod Writes

@@ -63,7 +63,7 @@ inside names.D = omega arith
 inside names.E = omega arith
 
 -- a write and a read at addresses of status registers
-written_below : (memory : RegisterMap) (address : ℕ) (register : List ℕ) → address < 16
+pub written_below : (memory : RegisterMap) (address : ℕ) (register : List ℕ) → address < 16
     → with_register memory address register ≡ record memory { status = set memory.status address register }
 written_below memory address register below =
     let test : nat_lt address 16 ≡ true = grind (arith, nat_tests) in

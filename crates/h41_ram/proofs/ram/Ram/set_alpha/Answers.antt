@@ -1,22 +1,62 @@
-use Rattle.std.proofs.Common.{◌≡◌, ℕ, ◌<◌, List, [], ◌∷◌, ◌++◌, set, drop, length, get_or, arith, refl, ap, rules}
-use Rattle.std.proofs.lemmas.List.{get_or_default}
-use Rattle.h41_ram.specs.RegisterMap.{RegisterMap, zeros, with_alpha, digits_from, seven_from}
-use Rattle.h41_ram.specs.RamState.{RamState}
+use Rattle.std.proofs.Common.{◌≡◌, ◌⊎◌, inr, ℕ, ◌<◌, ◌≤◌, ◌&&◌, ◌||◌, Bool, false, nat_le, nat_lt}
+use Rattle.std.proofs.Common.{List, [], ◌∷◌, ◌++◌, set, drop, length, get_or, arith, refl, sym, rules}
+use Rattle.std.proofs.lemmas.Bool.Decides.{nat_tests}
+use Rattle.h41_ram.specs.declared.parts.Parts.{Parts}
+use Rattle.h41_ram.specs.private.KeptParts.{with_touched}
+use Rattle.h41_ram.specs.RegisterMap.{RegisterMap, digits_from, seven_from, curtain_of, end_of}
+use Rattle.h41_ram.specs.RamState.{RamState, KeepsMark, with_alpha_written}
+use Rattle.h41_ram.proofs.AlphaTexts.{alpha_keeps_others}
+use Rattle.h41_ram.proofs.Writes.{read_status}
 use Rattle.h41_ram.proofs.ram.Ram.set_alpha.Goals as goal
 
--- M, N, O and P with the text's bytes
-alpha_set : (memory : RegisterMap) (status main : List (List ℕ)) (text m n o p spare : List ℕ)
-    → record { status = status; main = main } ≡ memory → 8 < length status → m ≡ digits_from text (seven_from 17)
-    → n ≡ digits_from text (seven_from 10) → o ≡ digits_from text (seven_from 3)
-    → p ≡ digits_from text (0 ∷ 1 ∷ 2 ∷ []) ++ drop 6 (get_or status 8 spare)
-    → record { status = set (set (set (set status 5 m) 6 n) 7 o) 8 p; main = main } ≡ with_alpha memory text
-alpha_set memory status main text m n o p spare seen inside is_m is_n is_o is_p =
-    rw (← seen, is_m, is_n, is_o, is_p, get_or_default status 8 spare zeros inside) refl
+-- the mark behind a write at an address
+abbrev touched_at : Parts → ℕ → Parts
+touched_at parts address = with_touched parts (nat_le parts.end address && nat_lt address parts.curtain)
+
+in_turn : (t a b c d : Bool) → (((t || a) || b) || c) || d ≡ t || (a || (b || (c || (d || false))))
+in_turn t a b c d = search rules
+
+-- M, N, O and P with the text's bytes, and the mark
+alpha_set : (ram : RamState) (memory : RegisterMap) (parts one two three four : Parts) (text m n o p spare : List ℕ)
+    → record { registers = memory; touched = parts.touched } ≡ ram → length memory.status ≡ 16
+    → parts.curtain ≡ curtain_of memory → parts.end ≡ end_of memory
+    → one ≡ touched_at parts 5 → two ≡ touched_at one 6 → three ≡ touched_at two 7 → four ≡ touched_at three 8
+    → m ≡ digits_from text (seven_from 17) → n ≡ digits_from text (seven_from 10) → o ≡ digits_from text (seven_from 3)
+    → p ≡ digits_from text (0 ∷ 1 ∷ 2 ∷ []) ++ drop 6 (get_or memory.status 8 spare)
+    → record {
+      registers = record memory { status = set (set (set (set memory.status 5 m) 6 n) 7 o) 8 p };
+      touched = four.touched;
+    } ≡ with_alpha_written ram text
+alpha_set ram memory parts one two three four text m n o p spare seen size curtain end is_1 is_2 is_3 is_4 is_m is_n is_o is_p =
+    rw (← seen, is_4, is_3, is_2, is_1, is_m, is_n, is_o, is_p, read_status memory 8 spare size (omega arith), curtain, end)
+    (rw (in_turn _ _ _ _ _) refl)
+
+-- the program has none of the four
+none_of_four : (end curtain at : ℕ) (touched : Bool)
+    → touched || ((nat_le end 5 && nat_lt 5 curtain) || ((nat_le end 6 && nat_lt 6 curtain) || ((nat_le end 7 && nat_lt 7 curtain)
+    || ((nat_le end 8 && nat_lt 8 curtain) || false)))) ≡ false
+    → end ≤ at → at < curtain → (at < 5) ⊎ (8 < at)
+none_of_four end curtain at touched off from below = grind (arith, nat_tests)
+
+alpha_keeps : (ram : RamState) (text : List ℕ) → KeepsMark ram (with_alpha_written ram text)
+alpha_keeps ram text = record {
+  set = λ was. search rules;
+  clear = λ off. record {
+    size = refl;
+    c = sym (alpha_keeps_others ram.registers text 13 (inr (omega arith)));
+    program = λ at from below. sym (alpha_keeps_others ram.registers text at
+        (none_of_four (end_of ram.registers) (curtain_of ram.registers) at ram.touched (search rules) from below));
+  };
+}
 
 pub returns-clause-written : goal.returns-clause-written
 returns-clause-written g c =
-    let registers = alpha_set c.args.self.now.registers c.self.inside.status c.self.inside.main c.args.text c.seven_bytes.result
-    c.seven_bytes-2.result c.seven_bytes-3.result c.first_bytes.result c.index-self-8.result
-    (ap (λ (ram : RamState). ram.registers) c.self.view_is) (omega arith) c.seven_bytes.ensures c.seven_bytes-2.ensures
-    c.seven_bytes-3.ensures c.first_bytes.ensures in
-    search rules
+    alpha_set c.args.self.now (record { status = c.self.inside.status; main = c.self.inside.main }) c.self.inside.parts
+    c.touch_status.new.self c.touch_status-2.new.self c.touch_status-3.new.self c.touch_status-4.new.self c.args.text
+    c.seven_bytes.result c.seven_bytes-2.result c.seven_bytes-3.result c.first_bytes.result c.index-self-8.result
+    c.self.view_is c.self.invariant.0.status c.self.invariant.1.curtain c.self.invariant.1.end c.touch_status.ensures
+    c.touch_status-2.ensures c.touch_status-3.ensures c.touch_status-4.ensures c.seven_bytes.ensures c.seven_bytes-2.ensures
+    c.seven_bytes-3.ensures c.first_bytes.ensures
+
+pub returns-clause-mark : goal.returns-clause-mark
+returns-clause-mark g c = rw (returns-clause-written g c) (alpha_keeps c.args.self.now c.args.text)

@@ -4,11 +4,11 @@ use Rattle.std.proofs.Common.{get_or, get_or-set_other, get_or-set_same, length-
 use Rattle.std.specs.Prelude.{IsFalse, IsTrue, slice_set, nat_lt, nat_le, ◌&&◌}
 use Rattle.std.proofs.lemmas.List.{get_or_default}
 use Rattle.std.proofs.lemmas.Grind.{common_steps}
-use Rattle.std.proofs.lemmas.Bool.{cases_Bool}
+use Rattle.std.proofs.lemmas.Bool.{cases_Bool, and_parts}
 use Rattle.std.proofs.lemmas.Bool.Decides.{nat_tests}
 use Rattle.h41_ram.proofs.Named.{written_below}
 use Rattle.h41_ram.specs.RegisterMap.{RegisterMap, IsMemory, zeros, top_of, with_bit, is_final_end, register_at}
-use Rattle.h41_ram.specs.RegisterMap.{with_register, curtain_of, end_of, c_of}
+use Rattle.h41_ram.specs.RegisterMap.{with_register, curtain_of, end_of, c_of, three_digits}
 use Rattle.h41_ram.specs.declared.parts.Parts.{Parts}
 use Rattle.h41_ram.specs.private.KeptParts.{AreKept, with_touched, is_ordered, main_register}
 use Rattle.h41_ram.specs.RamState.{RamState, KeepsMark, exists_at, sets_mark, with_written, with_flag_written}
@@ -152,3 +152,37 @@ put_at_end count memory parts after from index register (is, kept) read same ins
         (this_end memory.main index (end_of memory) register (same ∙ read ∙ kept.end) (omega (arith, inside, is.main)));
   },
 )
+
+ordered_above : (c : List ℕ) (top end : ℕ) → end ≡ three_digits c 0 → is_ordered c top ≡ true → 16 ≤ end
+ordered_above c top end same ordered = grind (arith, nat_tests)
+
+-- where memory is sound the end is above the status registers
+pub end_above : (count : ℕ) (memory : RegisterMap) (parts : Parts) → IsMemory count memory × AreKept memory parts → parts.sound ≡ true
+    → 16 ≤ parts.end
+end_above count memory parts (is, kept) sound =
+    let first = and_parts parts.ordered (is_final_end (main_register memory.main (end_of memory))) (sym kept.sound ∙ sound) in
+    ordered_above (c_of memory) (top_of memory) parts.end kept.end (sym kept.ordered ∙ first.0)
+
+-- and a write into one of these other than c keeps the parts
+pub status_kept : (count : ℕ) (memory : RegisterMap) (parts after : Parts) (index address : ℕ) (register : List ℕ)
+    → IsMemory count memory × AreKept memory parts → index ≢ 13
+    → after ≡ with_touched parts (nat_le parts.end address && nat_lt address parts.curtain)
+    → IsMemory count (record memory { status = slice_set memory.status index register })
+    × AreKept (record memory { status = slice_set memory.status index register }) after
+status_kept count memory parts after index address register (is, kept) other made =
+    let same : c_of memory ≡ get_or (slice_set memory.status index register) 13 zeros =
+    sym (get_or-set_other memory.status index 13 register zeros (λ equal. other (sym equal))) in
+    rw made (
+      record {
+        status = length-set memory.status index register ∙ is.status;
+        main = is.main;
+        least = is.least;
+        most = is.most;
+      },
+      record {
+        curtain = kept.curtain ∙ ap (λ c. three_digits c 3) same;
+        end = kept.end ∙ ap (λ c. three_digits c 0) same;
+        ordered = kept.ordered ∙ ap (λ c. is_ordered c (top_of memory)) same;
+        sound = kept.sound ∙ ap (λ c. parts.ordered && is_final_end (main_register memory.main (three_digits c 0))) same;
+      },
+    )

@@ -1,12 +1,12 @@
-use Rattle.std.proofs.Common.{◌≡◌, ◌⊎◌, inr, ℕ, ◌<◌, ◌≤◌, ◌&&◌, ◌||◌, Bool, false, nat_le, nat_lt}
+use Rattle.std.proofs.Common.{◌≡◌, ◌≢◌, ◌⊎◌, inr, ℕ, ◌<◌, ◌≤◌, ◌&&◌, ◌||◌, Bool, true, false, nat_le, nat_lt}
 use Rattle.std.proofs.Common.{List, [], ◌∷◌, ◌++◌, set, drop, length, get_or, arith, refl, sym, rules}
 use Rattle.std.proofs.lemmas.Bool.Decides.{nat_tests}
 use Rattle.h41_ram.specs.declared.parts.Parts.{Parts}
-use Rattle.h41_ram.specs.private.KeptParts.{with_touched}
-use Rattle.h41_ram.specs.RegisterMap.{RegisterMap, digits_from, seven_from, curtain_of, end_of}
+use Rattle.h41_ram.specs.private.KeptParts.{AreKept, with_touched}
+use Rattle.h41_ram.specs.RegisterMap.{RegisterMap, IsMemory, digits_from, seven_from, curtain_of, end_of}
 use Rattle.h41_ram.specs.RamState.{RamState, KeepsMark, with_alpha_written}
 use Rattle.h41_ram.proofs.AlphaTexts.{alpha_keeps_others}
-use Rattle.h41_ram.proofs.Writes.{read_status}
+use Rattle.h41_ram.proofs.Writes.{read_status, end_above, status_kept}
 use Rattle.h41_ram.proofs.ram.Ram.set_alpha.Goals as goal
 
 -- the mark behind a write at an address
@@ -30,6 +30,27 @@ alpha_set : (ram : RamState) (memory : RegisterMap) (parts one two three four : 
 alpha_set ram memory parts one two three four text m n o p spare seen size curtain end is_1 is_2 is_3 is_4 is_m is_n is_o is_p =
     rw (← seen, is_4, is_3, is_2, is_1, is_m, is_n, is_o, is_p, read_status memory 8 spare size (omega arith), curtain, end)
     (rw (in_turn _ _ _ _ _) refl)
+
+-- the parts stay
+not_c : (n : ℕ) → n < 13 → n ≢ 13
+not_c n below = λ equal. absurd (omega (arith, below, equal))
+
+alpha_kept : (count : ℕ) (memory : RegisterMap) (parts one two three four : Parts) (m n o p : List ℕ)
+    → IsMemory count memory × AreKept memory parts
+    → one ≡ touched_at parts 5 → two ≡ touched_at one 6 → three ≡ touched_at two 7 → four ≡ touched_at three 8
+    → IsMemory count (record memory { status = set (set (set (set memory.status 5 m) 6 n) 7 o) 8 p })
+    × AreKept (record memory { status = set (set (set (set memory.status 5 m) 6 n) 7 o) 8 p }) four
+alpha_kept count memory parts one two three four m n o p kept is_1 is_2 is_3 is_4 =
+    let by_m = status_kept count memory parts one 5 5 m kept (not_c 5 (omega arith)) is_1 in
+    let by_n = status_kept count (record memory { status = set memory.status 5 m }) one two 6 6 n by_m (not_c 6 (omega arith)) is_2 in
+    let by_o = status_kept count (record memory { status = set (set memory.status 5 m) 6 n }) two three 7 7 o by_n
+    (not_c 7 (omega arith)) is_3 in
+    status_kept count (record memory { status = set (set (set memory.status 5 m) 6 n) 7 o }) three four 8 8 p by_o
+    (not_c 8 (omega arith)) is_4
+
+still_above : (parts after : Parts) (address : ℕ) → (parts.sound ≡ true → 16 ≤ parts.end) → after ≡ touched_at parts address
+    → after.sound ≡ true → 16 ≤ after.end
+still_above parts after address above made = rw made above
 
 -- the program has none of the four
 none_of_four : (end curtain at : ℕ) (touched : Bool)
@@ -60,3 +81,32 @@ returns-clause-written g c =
 
 pub returns-clause-mark : goal.returns-clause-mark
 returns-clause-mark g c = rw (returns-clause-written g c) (alpha_keeps c.args.self.now c.args.text)
+
+pub touch_status-requires-clause-above : goal.touch_status-requires-clause-above
+touch_status-requires-clause-above g c =
+    end_above _ (record { status = c.self.inside.status; main = c.self.inside.main }) c.self.inside.parts c.self.invariant
+
+pub touch_status-requires-2-clause-above : goal.touch_status-requires-2-clause-above
+touch_status-requires-2-clause-above g c =
+    let first = end_above _ (record { status = c.self.inside.status; main = c.self.inside.main }) c.self.inside.parts c.self.invariant in
+    still_above c.self.inside.parts c.touch_status.new.self 5 first c.touch_status.ensures
+
+pub touch_status-requires-3-clause-above : goal.touch_status-requires-3-clause-above
+touch_status-requires-3-clause-above g c =
+    let first = end_above _ (record { status = c.self.inside.status; main = c.self.inside.main }) c.self.inside.parts c.self.invariant in
+    let second = still_above c.self.inside.parts c.touch_status.new.self 5 first c.touch_status.ensures in
+    still_above c.touch_status.new.self c.touch_status-2.new.self 6 second c.touch_status-2.ensures
+
+pub touch_status-requires-4-clause-above : goal.touch_status-requires-4-clause-above
+touch_status-requires-4-clause-above g c =
+    let first = end_above _ (record { status = c.self.inside.status; main = c.self.inside.main }) c.self.inside.parts c.self.invariant in
+    let second = still_above c.self.inside.parts c.touch_status.new.self 5 first c.touch_status.ensures in
+    let third = still_above c.touch_status.new.self c.touch_status-2.new.self 6 second c.touch_status-2.ensures in
+    still_above c.touch_status-2.new.self c.touch_status-3.new.self 7 third c.touch_status-3.ensures
+
+pub invariant_of-self : goal.invariant_of-self
+invariant_of-self g c =
+    alpha_kept _ (record { status = c.self.inside.status; main = c.self.inside.main }) c.self.inside.parts
+    c.touch_status.new.self c.touch_status-2.new.self c.touch_status-3.new.self c.touch_status-4.new.self
+    c.seven_bytes.result c.seven_bytes-2.result c.seven_bytes-3.result c.first_bytes.result c.self.invariant
+    c.touch_status.ensures c.touch_status-2.ensures c.touch_status-3.ensures c.touch_status-4.ensures

@@ -1,6 +1,6 @@
 use Rattle.std.proofs.Common.{◌-◌}
 use Rattle.h41_ram.specs.RegisterMap.{d_of, with_bit}
-use Rattle.h41_ram.proofs.Writes.{flag_written, written_keeps}
+use Rattle.h41_ram.proofs.Writes.{flag_written, written_keeps, end_above}
 use Rattle.h41_ram.proofs.ram.Ram.set_flag.Goals as goal
 
 pub returns-clause-written : goal.returns-clause-written
@@ -13,3 +13,7 @@ pub returns-clause-mark : goal.returns-clause-mark
 returns-clause-mark g c =
     rw (returns-clause-written g c)
     (written_keeps c.args.self.now 14 (with_bit (d_of c.args.self.now.registers) (55 - c.args.flag) c.args.on))
+
+pub touch_status-requires-clause-above : goal.touch_status-requires-clause-above
+touch_status-requires-clause-above g c =
+    end_above _ (record { status = c.self.inside.status; main = c.self.inside.main }) c.self.inside.parts c.self.invariant

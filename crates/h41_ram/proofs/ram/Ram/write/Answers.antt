@@ -1,5 +1,5 @@
 use Rattle.h41_ram.proofs.Marks.{stays}
-use Rattle.h41_ram.proofs.Writes.{written_keeps, status_written, nothing_written}
+use Rattle.h41_ram.proofs.Writes.{written_keeps, status_written, end_above, status_kept, nothing_written}
 use Rattle.h41_ram.specs.RegisterMap.{c_address}
 use Rattle.h41_ram.proofs.ram.Ram.write.Goals as goal
 
@@ -34,3 +34,13 @@ returns-else-index-ge-MAIN_START-clause-written g c =
 pub returns-else-index-ge-MAIN_START-clause-mark :
     goal.returns-else-index-ge-MAIN_START-clause-mark
 returns-else-index-ge-MAIN_START-clause-mark g c = stays c.args.self.now
+
+pub touch_status-requires-clause-above : goal.touch_status-requires-clause-above
+touch_status-requires-clause-above g c =
+    end_above _ (record { status = c.self.inside.status; main = c.self.inside.main }) c.self.inside.parts c.self.invariant
+
+pub invariant_of-self : goal.invariant_of-self
+invariant_of-self g c =
+    status_kept _ (record { status = c.self.inside.status; main = c.self.inside.main }) c.self.inside.parts
+    c.touch_status.new.self c.from-index.result c.args.address c.args.register c.self.invariant c.if-index-eq-C.false
+    c.touch_status.ensures

@@ -1,6 +1,6 @@
 -- What a deck leaves written, at its end and at a fault.
-use Rattle.std.proofs.Common.{inl, inr, ◌≡◌, ◌≢◌, ◌⊎◌, ℕ, true, List, [], ◌∷◌, ◌++◌, length, Option, IfSome}
-use Rattle.std.proofs.Common.{Err, flat_map, refl, sym, subst, ap, ◌∙◌, arith}
+use Rattle.std.proofs.Common.{inl, inr, ◌≡◌, ◌≢◌, ◌⊎◌, ℕ, true, false, List, [], ◌∷◌, ◌++◌, length, Option, IfSome}
+use Rattle.std.proofs.Common.{◌<◌, ◌≤◌, Result, Ok, Err, flat_map, refl, sym, subst, ap, ◌∙◌, arith}
 use Rattle.std.specs.Io.KnownBytes.{Appends, Keeps}
 use Rattle.std.proofs.KnownBytes.{Appends-kept}
 use Rattle.std.proofs.lemmas.Bool.{ltb-true}
@@ -25,12 +25,25 @@ use Rattle.h41_deck.specs.Deck.{AnswersInTurn, Deck, DeckEnds, FaultLeaves, Writ
 use Rattle.h41_refusals.specs.Faults.{of_command, of_item, of_line}
 use Rattle.h41_deck.specs.Replies.{item_takes_memory}
 use Rattle.h41_deck.specs.Writing.{Leaves}
+use Rattle.h41_deck.specs.private.AnsweredLines.{AnswersLines}
 use Rattle.h41_refusals.specs.declared.fault.CommandFault.{CommandFault}
 use Rattle.h41_refusals.specs.declared.fault.CommandFault.TheVariants as command
+use Rattle.h41_refusals.specs.declared.fault.Fault.{Fault}
 use Rattle.h41_refusals.specs.declared.fault.Fault.TheVariants.{OutOfMemory, ReadFault, WriteFault}
 use Rattle.h41_deck.specs.declared.replies.Outcome.{Outcome}
 use Rattle.h41_deck.proofs.AnswersInTurn.{Told, done_answered, leaves_all, leaves_at, leaves_ended, leaves_unpassed, told_kept, told_none}
 use Rattle.h41_deck.proofs.DeckReading.{Begins, IsWholeDeck, ReadSoFar, begins_block, begins_done, begins_more, deck_is, ended_done}
+
+-- a result that is no fault, and one that is
+pub never_failed : {T E : Type 0} {x : T} {why : E} → Ok x ≡ Err why → ⊥
+never_failed is = cc
+
+pub same_fault : {T E : Type 0} {a b : E} (r : Result T E) → r ≡ Err a → r ≡ Err b → a ≡ b
+same_fault r is other = let same = sym is ∙ other in cc
+
+-- what is below what is at most another
+pub below_most : (a b c : ℕ) → a ≤ b → b < c → a < c
+below_most a b c most below = omega arith
 
 -- the whole deck
 module _ {registers : ℕ} (known after old new : Option (List ℕ)) (done : List Spelled) (s : BenchState) (outcome : Outcome)
@@ -199,3 +212,71 @@ module _ {R W : Type 0} (registers : ℕ) (source : sources.Ghosts R) (sink : si
     cause = λ is. cc;
     why = λ is. cc;
   }
+
+  -- all that an end without a fault leaves
+  pub ended : (first after : R) (old new : W) (outcome : Outcome)
+      → IfSome (source.remaining first) (WritesText (Deck registers) (sink.contents old) (sink.contents new))
+      → IfSome (source.remaining first) (λ deck. DeckEnds registers deck outcome) → sink.flushed new ≡ true
+      → source.failed after ≡ false → sink.failed new ≡ false → AnswersLines registers (Ok outcome) source sink first after old new
+  ended first after old new outcome written ends flushed reader writer = record {
+    deck = written;
+    outcome = ends;
+    flushed = flushed;
+    left = tt;
+    passed = λ is. cc;
+    write_fault = λ is. cc;
+    reader = λ other. reader;
+    writer = λ other. writer;
+  }
+
+  -- all that a fault leaves, by which end has failed
+  pub failed : (first after : R) (old new : W) (fault : Fault) → FaultLeaves registers fault source sink first after old new
+      → (fault ≡ ReadFault → sink.flushed new ≡ true) → (fault ≡ WriteFault → sink.failed new ≡ true)
+      → (fault ≢ ReadFault → source.failed after ≡ false) → (fault ≢ WriteFault → sink.failed new ≡ false)
+      → AnswersLines registers (Err fault) source sink first after old new
+  failed first after old new fault left passed marked reader writer = record {
+    deck = tt;
+    outcome = tt;
+    flushed = tt;
+    left = left;
+    passed = λ is. passed cc;
+    write_fault = λ is. marked cc;
+    reader = λ other. reader (λ is. other (ap (λ why. Err why) is));
+    writer = λ other. writer (λ is. other (ap (λ why. Err why) is));
+  }
+
+  pub failed_first : (first after : R) (old new : W) (why : LineReadFault)
+      → FaultLeaves registers (of_line why) source sink first after old new
+      → (why ≡ read.ReadFault → sink.flushed new ≡ true) → (why ≡ read.WriteFault → sink.failed new ≡ true)
+      → (why ≢ read.ReadFault → source.failed after ≡ false) → (why ≢ read.WriteFault → sink.failed new ≡ false)
+      → AnswersLines registers (Err (of_line why)) source sink first after old new
+  failed_first first after old new read.ReadFault left passed marked reader writer = failed first after old new ReadFault left
+      (λ is. passed refl) (λ is. cc) (λ other. absurd (other refl)) (λ other. writer (λ is. cc))
+  failed_first first after old new read.WriteFault left passed marked reader writer = failed first after old new WriteFault left
+      (λ is. cc) (λ is. marked refl) (λ other. reader (λ is. cc)) (λ other. absurd (other refl))
+
+  pub failed_item : (first after : R) (old new : W) (fault : ItemFault)
+      → FaultLeaves registers (of_item fault) source sink first after old new
+      → (fault ≡ item.ReadFault → sink.flushed new ≡ true) → (fault ≡ item.WriteFault → sink.failed new ≡ true)
+      → (fault ≢ item.ReadFault → source.failed after ≡ false) → (fault ≢ item.WriteFault → sink.failed new ≡ false)
+      → AnswersLines registers (Err (of_item fault)) source sink first after old new
+  failed_item first after old new item.OutOfMemory left passed marked reader writer = failed first after old new OutOfMemory left
+      (λ is. cc) (λ is. cc) (λ other. reader (λ is. cc)) (λ other. writer (λ is. cc))
+  failed_item first after old new item.ReadFault left passed marked reader writer = failed first after old new ReadFault left
+      (λ is. passed refl) (λ is. cc) (λ other. absurd (other refl)) (λ other. writer (λ is. cc))
+  failed_item first after old new item.WriteFault left passed marked reader writer = failed first after old new WriteFault left
+      (λ is. cc) (λ is. marked refl) (λ other. reader (λ is. cc)) (λ other. absurd (other refl))
+
+  pub failed_answer : (first after : R) (old new : W) (fault : CommandFault)
+      → FaultLeaves registers (of_command fault) source sink first after old new → source.failed after ≡ false
+      → (fault ≡ command.WriteFault → sink.failed new ≡ true) → (fault ≢ command.WriteFault → sink.failed new ≡ false)
+      → AnswersLines registers (Err (of_command fault)) source sink first after old new
+  failed_answer first after old new command.OutOfMemory left reader marked writer = failed first after old new OutOfMemory left
+      (λ is. cc) (λ is. cc) (λ other. reader) (λ other. writer (λ is. cc))
+  failed_answer first after old new command.WriteFault left reader marked writer = failed first after old new WriteFault left
+      (λ is. cc) (λ is. marked refl) (λ other. reader) (λ other. absurd (other refl))
+
+  pub failed_write : (first after : R) (old new : W) → FaultLeaves registers WriteFault source sink first after old new
+      → sink.failed new ≡ true → source.failed after ≡ false → AnswersLines registers (Err WriteFault) source sink first after old new
+  failed_write first after old new left marked reader = failed first after old new WriteFault left
+      (λ is. cc) (λ is. marked) (λ other. reader) (λ other. absurd (other refl))

@@ -9,3 +9,4 @@ pub mod Statuses
 pub mod Tasks
 pub mod Views
 pub mod Writing
+pub mod private

@@ -3,6 +3,7 @@
 ghost use Rattle.std.specs.Prelude.{◌≡◌, ◌≢◌, ◌≤◌, Err, IfOk, OnOk, true, false};
 ghost use Rattle.h41_debug.specs.Bench.{start};
 ghost use Rattle.h41_deck.specs.Deck.{EndsKnown, LeavesDeck, PassedOn, WritesDeck};
+ghost use Rattle.h41_deck.specs.private.AnsweredLines.{AnswersLines};
 
 use crate::lines::{answer, answer_line};
 use crate::replies::Outcome;
@@ -68,16 +69,8 @@ fn answer_deck<R: Source, W: Sink, const REGS: usize>(
     requires at_most { REGS ≤ 320 }
     requires reader_clear { R.failed reader.old ≡ false }
     requires writer_clear { W.failed writer.old ≡ false }
-    ensures deck { WritesDeck REGS result (R.remaining reader.old) W.contents
-        writer.old writer.new }
-    ensures outcome { IfOk result (EndsKnown REGS (R.remaining reader.old)) }
-    ensures flushed { OnOk result (W.flushed writer.new ≡ true) }
-    ensures left { LeavesDeck REGS result R.Source W.Sink
+    ensures { AnswersLines REGS result R.Source W.Sink
         reader.old reader.new writer.old writer.new }
-    ensures passed { result ≡ Err Fault.ReadFault → W.flushed writer.new ≡ true }
-    ensures write_fault { result ≡ Err Fault.WriteFault → W.failed writer.new ≡ true }
-    ensures reader { result ≢ Err Fault.ReadFault → R.failed reader.new ≡ false }
-    ensures writer { result ≢ Err Fault.WriteFault → W.failed writer.new ≡ false }
 {
     let mut bench = Bench::<REGS>::new(alloc)?;
     answer_lines(alloc, &mut bench, reader, writer)
@@ -95,16 +88,8 @@ fn answer_lines<R: Source, W: Sink, const REGS: usize>(
     requires new { bench.old ≡ start REGS }
     requires reader_clear { R.failed reader.old ≡ false }
     requires writer_clear { W.failed writer.old ≡ false }
-    ensures deck { WritesDeck REGS result (R.remaining reader.old) W.contents
-        writer.old writer.new }
-    ensures outcome { IfOk result (EndsKnown REGS (R.remaining reader.old)) }
-    ensures flushed { OnOk result (W.flushed writer.new ≡ true) }
-    ensures left { LeavesDeck REGS result R.Source W.Sink
+    ensures { AnswersLines REGS result R.Source W.Sink
         reader.old reader.new writer.old writer.new }
-    ensures passed { result ≡ Err Fault.ReadFault → W.flushed writer.new ≡ true }
-    ensures write_fault { result ≡ Err Fault.WriteFault → W.failed writer.new ≡ true }
-    ensures reader { result ≢ Err Fault.ReadFault → R.failed reader.new ≡ false }
-    ensures writer { result ≢ Err Fault.WriteFault → W.failed writer.new ≡ false }
 {
     let mut input = InputLines::new();
     let mut outcome = Outcome::Accepted;

@@ -1,4 +1,5 @@
-use Rattle.std.proofs.Common.{◌≡◌, true, false, ◌∷◌, ◌++◌, [], Err, ap, refl, rules, arith, sym, ◌∙◌}
+use Rattle.std.proofs.Common.{◌∷◌, ◌++◌, [], Err, ap, refl, rules, sym, ◌∙◌}
+use Rattle.std.proofs.lemmas.Bool.{false≢true}
 use Rattle.std.proofs.lemmas.Result.{err_from_is_err_and}
 use Rattle.h41_commands.proofs.FirstLines.{first_line, first_none, shut_line}
 use Rattle.h41_commands.specs.Entries.{what_is_spelled}
@@ -6,7 +7,8 @@ use Rattle.h41_commands.specs.Items.{line_spelled}
 use Rattle.h41_ends.proofs.InputReading.{consumes-nothing}
 use Rattle.h41_ends.specs.InputLines.{line_in}
 use Rattle.h41_deck.proofs.AnswersInTurn.{told_kept, told_more, told_none}
-use Rattle.h41_deck.proofs.DeckFaults.{deck_ended, deck_written, leaves_answer, leaves_first, leaves_item, leaves_whole}
+use Rattle.h41_deck.proofs.DeckFaults.{below_most, deck_ended, deck_written, ended, failed_answer, failed_first, failed_item, failed_write}
+use Rattle.h41_deck.proofs.DeckFaults.{leaves_answer, leaves_first, leaves_item, leaves_whole, never_failed, same_fault}
 use Rattle.h41_deck.proofs.DeckReading.{read_item, read_none, whole_done}
 use Rattle.h41_deck.proofs.ShortLines.{block_failed, block_next, block_short}
 use Rattle.h41_deck.proofs.deck.answer_lines.Goals as goal
@@ -19,10 +21,35 @@ loop-first-init g c = record {
         c.new-input.ensures.goes_on,
     rw c.requires.new (told_none g.row.REGS (g.W.Sink.contents c.args.writer.now)),
   );
-  reader = search rules;
-  writer = search rules;
+  reader = c.requires.reader_clear;
+  writer = c.requires.writer_clear;
   counted = c.new-input.ensures.counted _;
 }
+
+pub read_first_line-requires-clause-reader_clear : goal.read_first_line-requires-clause-reader_clear
+read_first_line-requires-clause-reader_clear g c = c.loop-first.invariant.reader
+
+pub read_first_line-requires-clause-writer_clear : goal.read_first_line-requires-clause-writer_clear
+read_first_line-requires-clause-writer_clear g c = c.loop-first.invariant.writer
+
+pub read_first_line-requires-clause-counted : goal.read_first_line-requires-clause-counted
+read_first_line-requires-clause-counted g c = c.loop-first.invariant.counted
+
+pub read_block-requires-clause-reader_clear : goal.read_block-requires-clause-reader_clear
+read_block-requires-clause-reader_clear g c = c.in_ok-first.ensures.reader never_failed
+
+pub read_block-requires-clause-writer_clear : goal.read_block-requires-clause-writer_clear
+read_block-requires-clause-writer_clear g c = c.in_ok-first.ensures.writer never_failed
+
+pub read_block-requires-clause-counted : goal.read_block-requires-clause-counted
+read_block-requires-clause-counted g c = c.in_ok-first.ensures.counted
+
+pub loop-first-smaller : goal.loop-first-smaller
+loop-first-smaller g c = rw c.in-Some.is at c.in_ok-first.ensures.fewer
+
+pub loop-first-smaller-then-opens_block : goal.loop-first-smaller-then-opens_block
+loop-first-smaller-then-opens_block g c =
+    below_most _ _ _ c.in_ok-item.ensures.bound (rw c.in-Some.is at c.in_ok-first.ensures.fewer)
 
 pub read_block-requires-clause-line : goal.read_block-requires-clause-line
 read_block-requires-clause-line g c =
@@ -30,12 +57,12 @@ read_block-requires-clause-line g c =
     block_short (line_in c.read_first_line.new.input) c.in-Some.first.kind (sym c.if-opens_block.ensures) first.kind
 
 pub answer-requires : goal.answer-requires
-answer-requires g c = (search rules, c.in_ok-item.ensures.writer (λ never. cc))
+answer-requires g c = (search rules, c.in_ok-item.ensures.writer never_failed)
 
 pub answer_line-requires : goal.answer_line-requires
 answer_line-requires g c =
     let first = rw c.in-Some.is at c.in_ok-first.ensures.first in
-    (search rules, (c.in_ok-first.ensures.writer (λ never. cc), search (rules, first)))
+    (search rules, (c.in_ok-first.ensures.writer never_failed, search (rules, first)))
 
 pub loop-first-preserved-then-opens_block : goal.loop-first-preserved-then-opens_block
 loop-first-preserved-then-opens_block g c =
@@ -50,12 +77,12 @@ loop-first-preserved-then-opens_block g c =
       done = (
         so_far.0 ++ what_is_spelled c.in_ok-item.item ∷ [],
         read_item _ _ _ c.loop-first.input c.read_block.new.input so_far.0 so_far.1 (what_is_spelled c.in_ok-item.item) next
-            (omega (arith, fewer, c.in_ok-item.ensures.bound)) c.in_ok-item.ensures.open,
+            (below_most _ _ _ c.in_ok-item.ensures.bound fewer) c.in_ok-item.ensures.open,
         rw c.and-outcome.ensures (told_more _ _ _ so_far.0 c.loop-first.bench c.answer.new.bench c.loop-first.outcome
             c.in_ok-answered.answered (what_is_spelled c.in_ok-item.item) told c.in_ok-answered.ensures.reply),
       );
-      reader = c.in_ok-item.ensures.reader (λ never. cc);
-      writer = c.in_ok-answered.ensures.clear (λ never. cc);
+      reader = c.in_ok-item.ensures.reader never_failed;
+      writer = c.in_ok-answered.ensures.clear never_failed;
       counted = c.in_ok-item.ensures.counted;
     }
 
@@ -71,103 +98,118 @@ loop-first-preserved g c =
       done = (
         so_far.0 ++ line_spelled line ∷ [],
         read_item _ _ _ c.loop-first.input c.read_first_line.new.input so_far.0 so_far.1 (line_spelled line) next fewer
-            (λ unended. let never : true ≡ false = sym unended ∙ shut_line line in cc),
+            (λ unended. absurd (false≢true (sym (shut_line line) ∙ unended))),
         rw c.and-outcome-in-Some.ensures (told_more _ _ _ so_far.0 c.loop-first.bench c.answer_line.new.bench c.loop-first.outcome
             c.in_ok-next.next (line_spelled line) told (rw c.line.ensures at c.in_ok-next.ensures.reply)),
       );
-      reader = c.in_ok-first.ensures.reader (λ never. cc);
-      writer = c.in_ok-next.ensures.clear (λ never. cc);
+      reader = c.in_ok-first.ensures.reader never_failed;
+      writer = c.in_ok-next.ensures.clear never_failed;
       counted = c.in_ok-first.ensures.counted;
     }
 
-pub returns-clause-deck : goal.returns-clause-deck
-returns-clause-deck g c =
+pub returns : goal.returns
+returns g c =
     let so_far = c.loop-first.invariant.done in
     let next = first_none _ _ _ _ (rw c.in_default.is at c.in_ok-first.ensures.line) in
     let end = rw c.in_default.is at c.in_ok-first.ensures.end in
     let whole = whole_done _ _ _ c.loop-first.input c.read_first_line.new.input so_far.0 so_far.1 next (end refl) in
     let told = told_kept _ _ _ so_far.0 c.loop-first.bench c.loop-first.outcome so_far.2 c.in_ok-first.ensures.kept in
-    deck_written _ _ _ _ so_far.0 c.loop-first.bench c.loop-first.outcome whole
-    (told_kept _ _ _ so_far.0 c.loop-first.bench c.loop-first.outcome told c.in_ok-flush.ensures.bytes)
+    ended g.row.REGS g.R.Source g.W.Sink c.args.reader.now c.read_first_line.new.reader c.args.writer.now c.flush.new.writer
+    c.loop-first.outcome
+    (deck_written _ _ _ _ so_far.0 c.loop-first.bench c.loop-first.outcome whole
+    (told_kept _ _ _ so_far.0 c.loop-first.bench c.loop-first.outcome told c.in_ok-flush.ensures.bytes))
+    (deck_ended _ _ _ _ so_far.0 c.loop-first.bench c.loop-first.outcome whole so_far.2) c.in_ok-flush.ensures.flushed
+    (c.in_ok-first.ensures.reader never_failed) c.in_ok-flush.ensures.clear
 
-pub returns-clause-outcome : goal.returns-clause-outcome
-returns-clause-outcome g c =
+pub returns-in_err-first : goal.returns-in_err-first
+returns-in_err-first g c =
     let so_far = c.loop-first.invariant.done in
-    let next = first_none _ _ _ _ (rw c.in_default.is at c.in_ok-first.ensures.line) in
-    let end = rw c.in_default.is at c.in_ok-first.ensures.end in
-    let whole = whole_done _ _ _ c.loop-first.input c.read_first_line.new.input so_far.0 so_far.1 next (end refl) in
-    deck_ended _ _ _ _ so_far.0 c.loop-first.bench c.loop-first.outcome whole so_far.2
-
-pub returns-in_err-first-clause-left : goal.returns-in_err-first-clause-left
-returns-in_err-first-clause-left g c =
-    let so_far = c.loop-first.invariant.done in
-    let failed = err_from_is_err_and c.from_residual.result c.from_residual.ensures.1 in
-    rw (failed.1, failed.2)
+    let from = err_from_is_err_and c.from_residual.result c.from_residual.ensures.1 in
+    let fault = c.in_err-first.ensures in
+    rw (from.1, from.2)
+    (failed_first g.row.REGS g.R.Source g.W.Sink c.args.reader.now c.read_first_line.new.reader c.args.writer.now
+    c.read_first_line.new.writer c.in_err-first.field-0.0
     (leaves_first g.row.REGS g.R.Source g.W.Sink c.args.reader.now c.loop-first.reader c.read_first_line.new.reader c.args.writer.now
     c.loop-first.writer c.read_first_line.new.writer c.loop-first.input c.read_first_line.new.input so_far.0 c.loop-first.bench
-    c.loop-first.outcome c.in_err-first.field-0.0 so_far.1 so_far.2 c.in_err-first.ensures.line c.in_err-first.ensures.kept
-    (λ is. c.in_err-first.ensures.stopped (ap (λ why. Err why) is)) (λ is. c.in_err-first.ensures.cause (ap (λ why. Err why) is))
-    c.in_err-first.ensures.counted)
+    c.loop-first.outcome c.in_err-first.field-0.0 so_far.1 so_far.2 fault.line fault.kept
+    (λ is. fault.stopped (ap (λ why. Err why) is)) (λ is. fault.cause (ap (λ why. Err why) is)) fault.counted)
+    (λ is. fault.flushed (ap (λ why. Err why) is)) (λ is. fault.write_fault (ap (λ why. Err why) is))
+    (λ other. fault.reader (λ is. other (same_fault _ refl is))) (λ other. fault.writer (λ is. other (same_fault _ refl is))))
 
-pub returns-in_err-item-clause-left : goal.returns-in_err-item-clause-left
-returns-in_err-item-clause-left g c =
+pub returns-in_err-item : goal.returns-in_err-item
+returns-in_err-item g c =
     let so_far = c.loop-first.invariant.done in
-    let failed = err_from_is_err_and c.from_residual-in_err-item.result c.from_residual-in_err-item.ensures.1 in
+    let from = err_from_is_err_and c.from_residual-in_err-item.result c.from_residual-in_err-item.ensures.1 in
     let first = rw c.in-Some.is at c.in_ok-first.ensures.line in
     let told = told_kept _ _ _ so_far.0 c.loop-first.bench c.loop-first.outcome so_far.2 c.in_ok-first.ensures.kept in
-    rw (failed.1, failed.2)
+    let fault = c.in_err-item.ensures in
+    rw (from.1, from.2)
+    (failed_item g.row.REGS g.R.Source g.W.Sink c.args.reader.now c.read_block.new.reader c.args.writer.now c.read_block.new.writer
+    c.in_err-item.field-0.0
     (leaves_item g.row.REGS g.R.Source g.W.Sink c.args.reader.now c.loop-first.reader c.read_block.new.reader c.args.writer.now
     c.read_first_line.new.writer c.read_block.new.writer c.loop-first.input c.read_block.new.input so_far.0 c.loop-first.bench
     c.loop-first.outcome c.in_err-item.field-0.0 so_far.1 told
     (block_failed _ _ _ c.loop-first.input c.read_first_line.new.input c.read_block.new.input c.in-Some.first.kind
-    (sym c.if-opens_block.ensures) first c.in_err-item.field-0.0 c.in_err-item.ensures.item) c.in_err-item.ensures.kept
-    (λ is. c.in_err-item.ensures.stopped (ap (λ why. Err why) is)) (λ is. c.in_err-item.ensures.cause (ap (λ why. Err why) is))
-    c.in_err-item.ensures.counted)
+    (sym c.if-opens_block.ensures) first c.in_err-item.field-0.0 fault.item) fault.kept
+    (λ is. fault.stopped (ap (λ why. Err why) is)) (λ is. fault.cause (ap (λ why. Err why) is)) fault.counted)
+    (λ is. fault.flushed (ap (λ why. Err why) is)) (λ is. fault.write_fault (ap (λ why. Err why) is))
+    (λ other. fault.reader (λ is. other (same_fault _ refl is))) (λ other. fault.writer (λ is. other (same_fault _ refl is))))
 
-pub returns-in_err-answered-clause-left : goal.returns-in_err-answered-clause-left
-returns-in_err-answered-clause-left g c =
+pub returns-in_err-answered : goal.returns-in_err-answered
+returns-in_err-answered g c =
     let so_far = c.loop-first.invariant.done in
-    let failed = err_from_is_err_and c.from_residual-in_err-answered.result c.from_residual-in_err-answered.ensures.1 in
+    let from = err_from_is_err_and c.from_residual-in_err-answered.result c.from_residual-in_err-answered.ensures.1 in
     let first = rw c.in-Some.is at c.in_ok-first.ensures.line in
     let fewer = rw c.in-Some.is at c.in_ok-first.ensures.fewer in
     let next = block_next _ _ _ c.loop-first.input c.read_first_line.new.input c.read_block.new.input c.in-Some.first.kind
     (sym c.if-opens_block.ensures) first c.in_ok-item.item c.in_ok-item.ensures.item in
     let told = told_kept _ _ _ so_far.0 c.loop-first.bench c.loop-first.outcome
     (told_kept _ _ _ so_far.0 c.loop-first.bench c.loop-first.outcome so_far.2 c.in_ok-first.ensures.kept) c.in_ok-item.ensures.kept in
-    rw (failed.1, failed.2)
+    let fault = c.in_err-answered.ensures in
+    rw (from.1, from.2)
+    (failed_answer g.row.REGS g.R.Source g.W.Sink c.args.reader.now c.read_block.new.reader c.args.writer.now c.answer.new.writer
+    c.in_err-answered.field-0.0
     (leaves_answer g.row.REGS g.R.Source g.W.Sink c.args.reader.now c.read_block.new.reader c.args.writer.now c.read_block.new.writer
     c.answer.new.writer c.read_block.new.input so_far.0 c.loop-first.bench c.answer.new.bench c.loop-first.outcome
     (what_is_spelled c.in_ok-item.item) c.in_err-answered.field-0.0
     (read_item _ _ _ c.loop-first.input c.read_block.new.input so_far.0 so_far.1 (what_is_spelled c.in_ok-item.item) next
-    (omega (arith, fewer, c.in_ok-item.ensures.bound)) c.in_ok-item.ensures.open) told
-    c.in_err-answered.ensures.reply (λ is. c.in_err-answered.ensures.memory (ap (λ why. Err why) is)))
+    (below_most _ _ _ c.in_ok-item.ensures.bound fewer) c.in_ok-item.ensures.open) told
+    fault.reply (λ is. fault.memory (ap (λ why. Err why) is)))
+    (c.in_ok-item.ensures.reader never_failed) (λ is. fault.mark (ap (λ why. Err why) is))
+    (λ other. fault.clear (λ is. other (same_fault _ refl is))))
 
-pub returns-in_err-next-clause-left : goal.returns-in_err-next-clause-left
-returns-in_err-next-clause-left g c =
+pub returns-in_err-next : goal.returns-in_err-next
+returns-in_err-next g c =
     let so_far = c.loop-first.invariant.done in
-    let failed = err_from_is_err_and c.from_residual-in_err-next.result c.from_residual-in_err-next.ensures.1 in
+    let from = err_from_is_err_and c.from_residual-in_err-next.result c.from_residual-in_err-next.ensures.1 in
     let first = rw c.in-Some.is at c.in_ok-first.ensures.line in
     let fewer = rw c.in-Some.is at c.in_ok-first.ensures.fewer in
     let line = line_in c.read_first_line.new.input in
     let next = first_line _ _ c.loop-first.input c.read_first_line.new.input c.in-Some.first.kind first (sym c.if-opens_block.ensures) in
     let told = told_kept _ _ _ so_far.0 c.loop-first.bench c.loop-first.outcome so_far.2 c.in_ok-first.ensures.kept in
-    rw (failed.1, failed.2)
+    let fault = c.in_err-next.ensures in
+    rw (from.1, from.2)
+    (failed_answer g.row.REGS g.R.Source g.W.Sink c.args.reader.now c.read_first_line.new.reader c.args.writer.now
+    c.answer_line.new.writer c.in_err-next.field-0.0
     (leaves_answer g.row.REGS g.R.Source g.W.Sink c.args.reader.now c.read_first_line.new.reader c.args.writer.now
     c.read_first_line.new.writer c.answer_line.new.writer c.read_first_line.new.input so_far.0 c.loop-first.bench
     c.answer_line.new.bench c.loop-first.outcome (line_spelled line) c.in_err-next.field-0.0
     (read_item _ _ _ c.loop-first.input c.read_first_line.new.input so_far.0 so_far.1 (line_spelled line) next fewer
-    (λ unended. let never : true ≡ false = sym unended ∙ shut_line line in cc)) told
-    (rw c.line.ensures at c.in_err-next.ensures.reply)
-    (λ is. rw c.line.ensures at c.in_err-next.ensures.memory (ap (λ why. Err why) is)))
+    (λ unended. absurd (false≢true (sym (shut_line line) ∙ unended)))) told
+    (rw c.line.ensures at fault.reply) (λ is. rw c.line.ensures at fault.memory (ap (λ why. Err why) is)))
+    (c.in_ok-first.ensures.reader never_failed) (λ is. fault.mark (ap (λ why. Err why) is))
+    (λ other. fault.clear (λ is. other (same_fault _ refl is))))
 
-pub returns-in_err-flush-clause-left : goal.returns-in_err-flush-clause-left
-returns-in_err-flush-clause-left g c =
+pub returns-in_err-flush : goal.returns-in_err-flush
+returns-in_err-flush g c =
     let so_far = c.loop-first.invariant.done in
-    let failed = err_from_is_err_and c.from_residual-in_err-flush.result c.from_residual-in_err-flush.ensures.1 in
+    let from = err_from_is_err_and c.from_residual-in_err-flush.result c.from_residual-in_err-flush.ensures.1 in
     let next = first_none _ _ _ _ (rw c.in_default.is at c.in_ok-first.ensures.line) in
     let end = rw c.in_default.is at c.in_ok-first.ensures.end in
     let whole = whole_done _ _ _ c.loop-first.input c.read_first_line.new.input so_far.0 so_far.1 next (end refl) in
     let told = told_kept _ _ _ so_far.0 c.loop-first.bench c.loop-first.outcome so_far.2 c.in_ok-first.ensures.kept in
-    rw (failed.1, failed.2)
+    rw (from.1, from.2)
+    (failed_write g.row.REGS g.R.Source g.W.Sink c.args.reader.now c.read_first_line.new.reader c.args.writer.now c.flush.new.writer
     (leaves_whole g.row.REGS g.R.Source g.W.Sink c.args.reader.now c.read_first_line.new.reader c.args.writer.now
     c.read_first_line.new.writer c.flush.new.writer so_far.0 c.loop-first.bench c.loop-first.outcome whole told c.flush.ensures.bytes)
+    c.in_err-flush.ensures.mark (c.in_ok-first.ensures.reader never_failed))

@@ -8,6 +8,7 @@ pub mod Loops
 pub mod MarksLeft
 pub mod Moved
 pub mod Recalled
+pub mod StatusWrites
 pub mod Told
 pub mod ValueLaws
 pub mod Working

@@ -1,12 +1,11 @@
 -- Writes that leave the mark of sound memory, and calls in turn that do.
 use Rattle.std.proofs.Common.{◌≡◌, ◌≢◌, ℕ, ◌+◌, ◌<◌, ◌≤◌, Bool, true, false, List, [], ◌∷◌, refl, sym, ap, arith, ◌∙◌}
 use Rattle.std.specs.Prelude.{nat_lt, nat_le, ◌&&◌, ◌||◌, ◌==◌, IsFalse, IsTrue}
-use Rattle.std.proofs.lemmas.Bool.{and_parts, ltb-true}
+use Rattle.std.proofs.lemmas.Bool.{ltb-true}
 use Rattle.std.proofs.lemmas.Bool.Decides.{nat_tests}
 use Rattle.h41_ram.specs.RegisterMap.{RegisterMap, constant_of, end_of, curtain_of, top_of, three_digits}
 use Rattle.h41_ram.specs.RegisterMap.{is_final_end, is_sound, register_at}
-use Rattle.h41_ram.specs.RamState.{RamState, KeepsMark, SameProgram, exists_at, sets_mark}
-use Rattle.h41_ram.specs.RamState.{marked_by, with_written}
+use Rattle.h41_ram.specs.RamState.{RamState, KeepsMark, SameProgram, exists_at, marked_by, sets_mark}
 use Rattle.h41_ram.proofs.Marks.{in_turn as turned, stays}
 use Rattle.h41_rows.specs.RowMarks.{IsApart, LeavesMark}
 
@@ -165,24 +164,6 @@ pub then_status : (old middle new : RamState) (address : ℕ) → Passed old mid
     → new.touched ≡ marked_by (address ∷ []) middle → nat_lt address 13 ≡ true → Passed old new
 then_status old middle new address first second written below =
     then_left old middle new first second (left_by_status middle new address written below)
-
--- four of them in turn
-pub four_status : (one two three four five : RamState) (a b c d : ℕ) (p q r s : List ℕ)
-    → five ≡ with_written four d s → four ≡ with_written three c r → three ≡ with_written two b q → two ≡ with_written one a p
-    → KeepsMark one two → KeepsMark two three → KeepsMark three four → KeepsMark four five
-    → (nat_lt a 13 && (nat_lt b 13 && (nat_lt c 13 && nat_lt d 13))) ≡ true → LeavesMark one five
-four_status one two three four five a b c d p q r s fourth third second first keeps_a keeps_b keeps_c keeps_d below =
-    let touched : RamState → Bool = λ ram. ram.touched in
-    let after_a = and_parts (nat_lt a 13) (nat_lt b 13 && (nat_lt c 13 && nat_lt d 13)) below in
-    let after_b = and_parts (nat_lt b 13) (nat_lt c 13 && nat_lt d 13) after_a.1 in
-    let after_c = and_parts (nat_lt c 13) (nat_lt d 13) after_b.1 in
-    (then_status one four five d
-    (then_status one three four c
-    (then_status one two three b
-    (then_status one one two a (none_yet one) keeps_a (ap touched first) after_a.0)
-    keeps_b (ap touched second) after_b.0)
-    keeps_c (ap touched third) after_c.0)
-    keeps_d (ap touched fourth) after_c.1).left
 
 pub then_flag : (old middle new : RamState) → Passed old middle → KeepsMark middle new
     → new.touched ≡ marked_by (14 ∷ []) middle → Passed old new

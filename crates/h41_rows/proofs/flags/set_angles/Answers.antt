@@ -1,12 +1,11 @@
-use Rattle.std.proofs.Common.{ap}
-use Rattle.h41_ram.specs.RamState.{RamState}
-use Rattle.h41_rows.proofs.MarksLeft.{none_yet, then_flag}
+use Rattle.h41_ram.specs.NamedFlags as named
+use Rattle.h41_rows.proofs.StatusWrites.{none_written, then_flag_written}
 use Rattle.h41_rows.proofs.flags.set_angles.Goals as goal
 
-pub returns-clause-left : goal.returns-clause-left
-returns-clause-left g c =
-    (then_flag _ _ _
-    (then_flag _ _ _
-    (none_yet c.args.ram.now)
-    c.set_flag.ensures.mark (ap (λ (ram : RamState). ram.touched) c.set_flag.ensures.written))
-    c.set_flag-2.ensures.mark (ap (λ (ram : RamState). ram.touched) c.set_flag-2.ensures.written)).left
+pub returns : goal.returns
+returns g c =
+    let grads =
+    then_flag_written _ _ _ _ named.grads c.args.grads (none_written c.args.ram.now) c.set_flag.ensures.written c.set_flag.ensures.mark in
+    let radians =
+    then_flag_written _ _ _ _ named.radians c.args.radians grads c.set_flag-2.ensures.written c.set_flag-2.ensures.mark in
+    record { change = radians.registers; mark = radians.passed.keeps; left = radians.passed.left }

@@ -1,20 +1,21 @@
-use Rattle.std.proofs.Common.{ap}
-use Rattle.h41_ram.specs.RamState.{RamState}
-use Rattle.h41_rows.proofs.MarksLeft.{none_yet, then_flag}
+use Rattle.std.specs.Prelude.{◌/◌, ◌%◌, ◌==◌}
+use Rattle.h41_ram.specs.NamedFlags as named
+use Rattle.h41_rows.proofs.StatusWrites.{none_written, then_flag_written}
 use Rattle.h41_rows.proofs.flags.set_format.Goals as goal
 
-pub returns-clause-left : goal.returns-clause-left
-returns-clause-left g c =
-    (then_flag _ _ _
-    (then_flag _ _ _
-    (then_flag _ _ _
-    (then_flag _ _ _
-    (then_flag _ _ _
-    (then_flag _ _ _
-    (none_yet c.args.ram.now)
-    c.set_flag.ensures.mark (ap (λ (ram : RamState). ram.touched) c.set_flag.ensures.written))
-    c.set_flag-2.ensures.mark (ap (λ (ram : RamState). ram.touched) c.set_flag-2.ensures.written))
-    c.set_flag-3.ensures.mark (ap (λ (ram : RamState). ram.touched) c.set_flag-3.ensures.written))
-    c.set_flag-4.ensures.mark (ap (λ (ram : RamState). ram.touched) c.set_flag-4.ensures.written))
-    c.set_flag-5.ensures.mark (ap (λ (ram : RamState). ram.touched) c.set_flag-5.ensures.written))
-    c.set_flag-6.ensures.mark (ap (λ (ram : RamState). ram.touched) c.set_flag-6.ensures.written)).left
+pub returns : goal.returns
+returns g c =
+    let eights =
+    then_flag_written _ _ _ _ named.digits_8 (c.args.digits / 8 % 2 == 1) (none_written c.args.ram.now)
+    c.set_flag.ensures.written c.set_flag.ensures.mark in
+    let fours =
+    then_flag_written _ _ _ _ named.digits_4 (c.args.digits / 4 % 2 == 1) eights c.set_flag-2.ensures.written c.set_flag-2.ensures.mark in
+    let twos =
+    then_flag_written _ _ _ _ named.digits_2 (c.args.digits / 2 % 2 == 1) fours c.set_flag-3.ensures.written c.set_flag-3.ensures.mark in
+    let ones =
+    then_flag_written _ _ _ _ named.digits_1 (c.args.digits % 2 == 1) twos c.set_flag-4.ensures.written c.set_flag-4.ensures.mark in
+    let fixed =
+    then_flag_written _ _ _ _ named.fixed c.args.fixed ones c.set_flag-5.ensures.written c.set_flag-5.ensures.mark in
+    let engineering =
+    then_flag_written _ _ _ _ named.engineering c.args.engineering fixed c.set_flag-6.ensures.written c.set_flag-6.ensures.mark in
+    record { change = engineering.registers; mark = engineering.passed.keeps; left = engineering.passed.left }

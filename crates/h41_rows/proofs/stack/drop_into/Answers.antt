@@ -1,6 +1,19 @@
-use Rattle.std.proofs.Common.{rules}
-use Rattle.h41_rows.proofs.MarksLeft.{four_status}
+use Rattle.std.proofs.Common.{refl}
+use Rattle.h41_rows.proofs.StatusWrites.{none_written, then_written}
 use Rattle.h41_rows.proofs.stack.drop_into.Goals as goal
 
-pub returns-clause-left : goal.returns-clause-left
-returns-clause-left g c = search (rules, four_status)
+pub returns : goal.returns
+returns g c =
+    let x =
+    then_written _ _ _ _ 3 c.args.register _ (none_written c.args.ram.now) c.set_status_register.ensures.written
+    c.set_status_register.ensures.mark refl refl in
+    let y =
+    then_written _ _ _ _ 2 c.status_register-z.result _ x c.set_status_register-2.ensures.written
+    c.set_status_register-2.ensures.mark c.status_register-z.ensures refl in
+    let z =
+    then_written _ _ _ _ 1 c.status_register-t.result _ y c.set_status_register-3.ensures.written
+    c.set_status_register-3.ensures.mark c.status_register-t.ensures refl in
+    let last =
+    then_written _ _ _ _ 4 c.status_register-x.result _ z c.set_status_register-4.ensures.written
+    c.set_status_register-4.ensures.mark c.status_register-x.ensures refl in
+    record { change = λ named. last.registers; mark = last.passed.keeps; left = last.passed.left }

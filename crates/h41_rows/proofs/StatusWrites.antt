@@ -1,0 +1,34 @@
+-- Status registers in front of c, and flags, that are written in turn: the registers behind them, and the mark.
+use Rattle.std.proofs.Common.{◌≡◌, ℕ, Bool, true, List, refl, ap, ◌∙◌}
+use Rattle.std.specs.Prelude.{nat_lt}
+use Rattle.h41_ram.specs.RegisterMap.{RegisterMap, with_flag, with_register}
+use Rattle.h41_ram.specs.RamState.{RamState, KeepsMark, with_flag_written, with_written}
+use Rattle.h41_rows.proofs.MarksLeft.{Passed, none_yet, then_flag, then_status}
+
+-- what was written so far
+pub record Wrote (old : RamState) (memory : RegisterMap) (new : RamState) : Type 0 where
+  pub registers : new.registers ≡ memory
+  pub passed : Passed old new
+
+pub none_written : (ram : RamState) → Wrote ram ram.registers ram
+none_written ram = record { registers = refl; passed = none_yet ram }
+
+pub then_written : (old middle new : RamState) (memory : RegisterMap) (address : ℕ) (register source : List ℕ)
+    → Wrote old memory middle → new ≡ with_written middle address register → KeepsMark middle new → register ≡ source
+    → nat_lt address 13 ≡ true → Wrote old (with_register memory address source) new
+then_written old middle new memory address register source first written keeps is below = record {
+  registers =
+      ap (λ (ram : RamState). ram.registers) written
+      ∙ (ap (λ (m : RegisterMap). with_register m address register) first.registers ∙ ap (with_register memory address) is);
+  passed =
+      then_status old middle new address first.passed keeps (ap (λ (ram : RamState). ram.touched) written) below;
+}
+
+-- flags in turn
+pub then_flag_written : (old middle new : RamState) (memory : RegisterMap) (flag : ℕ) (on : Bool) → Wrote old memory middle
+    → new ≡ with_flag_written middle flag on → KeepsMark middle new → Wrote old (with_flag memory flag on) new
+then_flag_written old middle new memory flag on first written keeps = record {
+  registers =
+      ap (λ (ram : RamState). ram.registers) written ∙ ap (λ (m : RegisterMap). with_flag m flag on) first.registers;
+  passed = then_flag old middle new first.passed keeps (ap (λ (ram : RamState). ram.touched) written);
+}

@@ -1,11 +1,13 @@
 -- The ones and the fraction of a number that counts a loop.
-use Rattle.std.proofs.Common.{◌≡◌, ℕ, zero, suc, ◌+◌, ◌-◌, ◌*◌, ◌/◌, ◌%◌, ◌^◌, ◌<◌, ◌≤◌, ◌⊎◌, inl, inr, ⊎_elim, sym, ◌∙◌, ap}
+use Rattle.std.proofs.Common.{◌≡◌, ℕ, true, false, zero, suc, ◌+◌, ◌-◌, ◌*◌, ◌/◌, ◌%◌, ◌^◌, ◌<◌, ◌≤◌, ◌⊎◌, inl, inr, ⊎_elim, sym, ◌∙◌, ap}
 use Rattle.std.proofs.Common.{refl, subst, arith}
 use Rattle.std.specs.Prelude.{ℤ, pos, negsuc, ◌+ℤ◌, ◌-ℤ◌, unsigned_abs}
 use Rattle.std.proofs.Math.Nat.{mul-lt-mul_of_pos_right, pow-le-pow_right}
 use Rattle.std.proofs.lemmas.Nat.{pow-add}
 use Rattle.std.proofs.lemmas.Bool.{cases_lt}
 use Rattle.std.proofs.lemmas.Int.{ints}
+use denote.Enum.Bare.{sameb}
+use Rattle.h41_decimal.specs.contracts.sign.Sign.{the_type}
 use Rattle.h41_decimal.specs.Signs.{opposite_of, with_sign, sign_of}
 use Rattle.h41_decimal.specs.Units.{one, size, units}
 use Rattle.h41_decimal.specs.WholeParts.{HasOnes, IsFraction}
@@ -15,9 +17,9 @@ use Rattle.h41_decimal.specs.declared.sign.Sign.TheVariants.{Plus, Minus}
 use Rattle.h41_decimal.specs.declared.ten.Ten.{Ten}
 use Rattle.h41_decimal.specs.declared.ten.Ten.TheVariants.{Zero, Nonzero}
 use Rattle.h41_decimal.proofs.Nearest.{ten_pow_pos}
-use Rattle.h41_decimal.proofs.Signed.{signed-add, signed-sub}
+use Rattle.h41_decimal.proofs.Signed.{signed-add, signed-sub, signed-sub_same, signed-sub_turned}
 use Rattle.h41_decimal.proofs.Steps.{sign_of-signed}
-use Rattle.h41_decimal.proofs.Tens.{minus_same_sign, size_pos, unsigned_abs-signed}
+use Rattle.h41_decimal.proofs.Tens.{minus_same_sign, signs_apart, signs_same, size_pos, unsigned_abs-signed}
 use Rattle.h41_decimal.proofs.Wholes.{all_ones, ten_of_fewer, filled_worth}
 use Rattle.h41_rows.specs.Counters.{count_of, counter_of, fraction_of}
 use Rattle.h41_rows.specs.private.Counting.{count_in, number_along, with_ones}
@@ -139,6 +141,35 @@ with_signed : (s : Sign) (n f : ℕ) → 0 < n → with_ones (with_sign s n) f �
 with_signed s n f some =
     ap (λ (t : Sign). with_sign t (unsigned_abs (with_sign s n) * one + f)) (sign_of-signed s n some)
     ∙ ap (λ (k : ℕ). with_sign s (k * one + f)) (unsigned_abs-signed s n)
+
+-- ones with a sign that are counted, in the four ways of `stepped`
+counted_apart : (s d : Sign) (q c : ℕ) → false ≡ sameb the_type s d → with_sign s q +ℤ with_sign d c ≡ with_sign s q -ℤ with_sign s c
+counted_apart s d q c apart =
+    ap (λ (t : Sign). with_sign s q +ℤ with_sign t c) (signs_apart s d apart) ∙ minus_same_sign s q c
+
+pub counted_same : (s d : Sign) (q c f : ℕ) → true ≡ sameb the_type s d → 0 < c
+    → with_ones (with_sign s q +ℤ with_sign d c) f ≡ with_sign s ((q + c) * one + f)
+counted_same s d q c f same some =
+    ap (λ (t : Sign). with_ones (with_sign s q +ℤ with_sign t c) f) (sym (signs_same s d same))
+    ∙ (ap (λ (t : ℤ). with_ones t f) (signed-add s q c) ∙ with_signed s (q + c) f (omega arith))
+
+pub counted_back : (s d : Sign) (q c f : ℕ) → false ≡ sameb the_type s d → c < q
+    → with_ones (with_sign s q +ℤ with_sign d c) f ≡ with_sign s ((q - c) * one + f)
+counted_back s d q c f apart less =
+    ap (λ (t : ℤ). with_ones t f) (counted_apart s d q c apart ∙ signed-sub s q c (q - c) (omega arith))
+    ∙ with_signed s (q - c) f (omega arith)
+
+pub counted_over : (s d : Sign) (q c f : ℕ) → false ≡ sameb the_type s d → q < c
+    → with_ones (with_sign s q +ℤ with_sign d c) f ≡ with_sign d ((c - q) * one + f)
+counted_over s d q c f apart less =
+    let turned : with_sign s q -ℤ with_sign s c ≡ with_sign d (c - q) =
+    signed-sub_turned s q c (c - q) (omega arith) ∙ ap (λ (t : Sign). with_sign t (c - q)) (sym (signs_apart s d apart)) in
+    ap (λ (t : ℤ). with_ones t f) (counted_apart s d q c apart ∙ turned) ∙ with_signed d (c - q) f (omega arith)
+
+pub counted_out : (s d : Sign) (q c f : ℕ) → false ≡ sameb the_type s d → q ≤ c → c ≤ q
+    → with_ones (with_sign s q +ℤ with_sign d c) f ≡ with_sign Plus (0 * one + f)
+counted_out s d q c f apart up down =
+    ap (λ (t : ℤ). with_ones t f) (counted_apart s d q c apart ∙ signed-sub_same s q c (omega arith))
 
 moved_on : (s : Sign) (q c f : ℕ) → 0 < c → with_ones (with_sign s q +ℤ with_sign s c) f
     ≡ with_sign s (q * one + f) +ℤ with_sign s (c * one)

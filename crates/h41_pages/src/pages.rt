@@ -46,12 +46,8 @@ impl Pages {
     pub fn new(alloc: Global) -> Result<Self, AllocError>
         ensures { IfOk result (λ pages. pages ≡ spec.no_pages) }
     {
-        let mut images = Vec::with_capacity(alloc, PAGES)?;
-        for _page in 0..PAGES {
-            images.push([None, None, None, None])?;
-        }
         Ok(Pages {
-            images,
+            images: no_images(alloc)?,
             chosen: [ChosenBank::of(Bank::First); PAGES],
             space: AddressSpace::new(alloc)?,
         })
@@ -237,6 +233,17 @@ impl Pages {
     {
         self.image(page, self.chosen[page].bank())
     }
+}
+
+/// Nothing at any page and bank.
+fn no_images(alloc: Global) -> Result<Vec<[Option<Image>; BANKS]>, AllocError>
+    ensures { IfOk result (λ images. images.items ≡ spec.no_pages.images) }
+{
+    let mut images = Vec::with_capacity(alloc, PAGES)?;
+    for _page in 0..PAGES {
+        images.push([None, None, None, None])?;
+    }
+    Ok(images)
 }
 
 /// Whether any of a page's banks is plugged.

@@ -1,6 +1,6 @@
 use Rattle.std.proofs.Common.{◌≡◌, replicate}
 use Rattle.h41_pages.specs.PageMap.{no_banks}
-use Rattle.h41_pages.proofs.pages.Pages.new.Given as goal
+use Rattle.h41_pages.proofs.pages.no_images.Given as goal
 
 -- the pages so far, nothing plugged
 abbrev pub invariant-loop-page : goal.invariant-loop-page

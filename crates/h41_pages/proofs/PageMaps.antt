@@ -8,14 +8,14 @@ use Rattle.std.specs.Option.{option_or}
 use Rattle.std.specs.List.{list_all}
 use Rattle.std.proofs.lemmas.Bool.{and_parts, cases_eq, cases_lt}
 use Rattle.std.proofs.lemmas.Bool.Decides.{nat_tests}
-use Rattle.std.proofs.lemmas.List.{get_or-replicate, get_or_default}
+use Rattle.std.proofs.lemmas.List.{get_or-replicate, get_or_default, set-get_or}
 use Rattle.std.proofs.Math.ListN.{get_or-eq_default}
 use Rattle.h41_words.specs.declared.rows.Bank.{Bank}
 use Rattle.h41_words.specs.declared.rows.Bank.TheVariants.{First}
 use Rattle.h41_pages.specs.Addresses.{page_size, page_of, offset_of, is_pluggable}
 use Rattle.h41_pages.specs.PageMap.{PageMap, PageImage, IsHeldImage, IsPageMap, no_banks, no_pages, banks_at, image_at, bank_place}
 use Rattle.h41_pages.specs.PageMap.{bank_numbered, chosen_at, chosen_image, is_bank, is_held, is_image, is_writable, plug_refusal}
-use Rattle.h41_pages.specs.PageMap.{with_page_image, with_word, write_refusal, written}
+use Rattle.h41_pages.specs.PageMap.{with_image, with_page_image, with_word, write_refusal, written}
 use Rattle.h41_pages.specs.declared.refusal.PlugRefusal.TheVariants as plugs
 use Rattle.h41_pages.proofs.OtherPages.{other_banks, own_banks, own_image, bank_below}
 
@@ -197,46 +197,71 @@ plugged_as images chosen page number writable words from place row image at read
     })
     made
 
--- a word written in the image of the chosen bank, as the code reaches it
-pub chosen_as : (images : List (List (Option PageImage))) (chosen : List Bank)
-    (address from place : ℕ) (row : List (Option PageImage)) (image : PageImage)
-    → from ≡ page_of address → row ≡ slice_index_or images from [] → place ≡ bank_place (slice_index_or chosen from First)
-    → slice_index_or row place None ≡ Some image → chosen_image (record { images = images; chosen = chosen }) (page_of address) ≡ Some image
-chosen_as images chosen address from place row image at read bank found =
-    ap (chosen_image (record { images = images; chosen = chosen })) (sym at)
-    ∙ ap (λ r. slice_index_or r (bank_place (slice_index_or chosen from First)) None) (sym read)
-    ∙ ap (λ k. slice_index_or row k None) (sym bank) ∙ found
+-- the image of the chosen bank, as the code reaches it to write in it
+pub record Reached (pages : PageMap) (address from place : ℕ) (bank : Bank) (row : List (Option PageImage)) (image : Option PageImage)
+    : Type 0 where
+  pub at : from ≡ page_of address
+  pub chosen : bank ≡ slice_index_or pages.chosen from First
+  pub placed : place ≡ bank_place bank
+  pub read : row ≡ slice_index_or pages.images from []
+  pub found : slice_index_or row place None ≡ image
 
-pub written_as : (images : List (List (Option PageImage))) (chosen : List Bank)
-    (address word from place : ℕ) (row : List (Option PageImage)) (image made : PageImage)
-    → from ≡ page_of address → row ≡ slice_index_or images from [] → place ≡ bank_place (slice_index_or chosen from First)
-    → slice_index_or row place None ≡ Some image → made ≡ with_word (offset_of address) word image
-    → record { images = slice_set images from (slice_set row place (Some made)); chosen = chosen }
-    ≡ written (record { images = images; chosen = chosen }) address word
-unfolding written
-written_as images chosen address word from place row image made at read bank found new =
-    let page = page_of address in
-    let here : row ≡ slice_index_or images page [] = read ∙ ap (λ i. slice_index_or images i []) at in
-    let its_bank : place ≡ bank_place (slice_index_or chosen page First) = bank ∙ ap (λ i. bank_place (slice_index_or chosen i First)) at in
-    let its_image =
-    ap Some new
-    ∙ ap (option_map (with_word (offset_of address) word))
-    (sym (chosen_as images chosen address from place row image at read bank found)) in
-    ap (λ i. record { images = slice_set images i (slice_set row place (Some made)); chosen = chosen }) at
-    ∙ ap (λ r. record { images = slice_set images page (slice_set r place (Some made)); chosen = chosen }) here
-    ∙ ap (λ k. record { images = slice_set images page (slice_set (slice_index_or images page []) k (Some made)); chosen = chosen })
-    its_bank
-    ∙ ap (λ i. record {
-      images = slice_set images page (slice_set (slice_index_or images page []) (bank_place (slice_index_or chosen page First)) i);
-      chosen = chosen;
-    })
-    its_image
+pub reached : (pages : PageMap) (address from place : ℕ) (bank other : Bank) (row none : List (Option PageImage)) (image : Option PageImage)
+    → IsPageMap pages → from ≡ page_of address → from < 16 → bank ≡ slice_index_or pages.chosen from other
+    → place ≡ bank_place bank → place < 4 → row ≡ slice_index_or pages.images from none
+    → Reached pages address from place bank row (slice_index_or row place image)
+reached pages address from place bank other row none image is at below chosen placed inside read =
+    let here = row_is pages.images pages.chosen from row none is below read in
+    let size : length row ≡ 4 = ap length here ∙ is.banks from below in
+    record {
+      at = at;
+      chosen = chosen ∙ get_or_default pages.chosen from other First (omega (arith, is.chosen, below));
+      placed = placed;
+      read = here;
+      found = get_or_default row place None image (omega (arith, size, inside));
+    }
 
-pub accepted_as : (pages : PageMap) (address : ℕ) (image : PageImage) → chosen_image pages (page_of address) ≡ Some image
-    → image.writable ≡ true → write_refusal pages address ≡ None
-accepted_as pages address image here writable =
-    ap (λ i. then_some (not (is_writable i)) (record { address = address })) here
-    ∙ ap (λ w. then_some (not w) (record { address = address })) writable
+module _ {pages : PageMap} {address from place : ℕ} {bank : Bank} {row : List (Option PageImage)} {image : Option PageImage}
+    (there : Reached pages address from place bank row image) where
+  pub bank_as : bank ≡ chosen_at pages (page_of address)
+  bank_as = there.chosen ∙ ap (λ i. slice_index_or pages.chosen i First) there.at
+
+  row_as : row ≡ banks_at pages (page_of address)
+  row_as = there.read ∙ ap (λ i. slice_index_or pages.images i []) there.at
+
+  place_as : place ≡ bank_place (chosen_at pages (page_of address))
+  place_as = there.placed ∙ ap bank_place bank_as
+
+  chosen_as : chosen_image pages (page_of address) ≡ image
+  chosen_as =
+      ap (λ r. slice_index_or r (bank_place (chosen_at pages (page_of address))) None) (sym row_as)
+      ∙ ap (λ k. slice_index_or row k None) (sym place_as) ∙ there.found
+
+  -- whether it is written
+  pub refused_as : (writable : Bool) → writable ≡ is_writable image
+      → then_some (not writable) (record { address = address }) ≡ write_refusal pages address
+  refused_as writable is =
+      ap (λ w. then_some (not w) (record { address = address })) is
+      ∙ ap (λ i. then_some (not (is_writable i)) (record { address = address })) (sym chosen_as)
+
+  -- with the word written, and as it was
+  pub written_as : (word : ℕ) (made : Option PageImage) → made ≡ option_map (with_word (offset_of address) word) image
+      → record pages { images = slice_set pages.images from (slice_set row place made) } ≡ written pages address word
+  unfolding written
+  written_as word made new =
+      let page = page_of address in
+      ap (λ i. record pages { images = slice_set pages.images i (slice_set row place made) }) there.at
+      ∙ ap (λ r. record pages { images = slice_set pages.images page (slice_set r place made) }) row_as
+      ∙ ap (λ k. record pages { images = slice_set pages.images page (slice_set (banks_at pages page) k made) }) place_as
+      ∙ ap (λ i. with_image pages page (chosen_at pages page) i)
+      (new ∙ ap (option_map (with_word (offset_of address) word)) (sym chosen_as))
+
+  pub kept_as : (made : Option PageImage) → made ≡ image
+      → record pages { images = slice_set pages.images from (slice_set row place made) } ≡ pages
+  kept_as made same =
+      ap (λ i. record pages { images = slice_set pages.images from (slice_set row place i) }) (same ∙ sym there.found)
+      ∙ ap (λ r. record pages { images = slice_set pages.images from r }) (set-get_or row place None ∙ there.read)
+      ∙ ap (λ images. record pages { images = images }) (set-get_or pages.images from [])
 
 -- the image at a bank with another word
 rewritten_held : (page place offset word : ℕ) (image : Option PageImage) → word < 0x400 → IfSome image (IsHeldImage page place)

@@ -1,12 +1,13 @@
 //! The image of a page's bank: its words, and beside them the keystroke code that they hold.
 
-ghost use Rattle.std.specs.Prelude.{◌≡◌, ◌<◌, IfOk, IsTrue, All, length, slice_index, slice_set};
+ghost use Rattle.std.specs.Prelude.{◌≡◌, ◌<◌, IfOk, IsFalse, IsTrue, All, length, option_map};
+ghost use Rattle.std.specs.Prelude.{slice_index, slice_set};
 ghost use Rattle.std.specs.List.{list_all};
 ghost use Rattle.std.specs.Prelude.{nat_le};
 ghost use Rattle.h41_words.specs.Counts.{word_count};
 ghost use Rattle.h41_pages.specs.Addresses.{page_size};
 ghost use Rattle.h41_pages.specs.KeystrokeCode.{code_byte, code_from};
-ghost use Rattle.h41_pages.specs.PageMap.{is_image};
+ghost use Rattle.h41_pages.specs.PageMap.{is_image, is_writable, with_word};
 
 use crate::addresses::PAGE_WORDS;
 use h41_words::Word;
@@ -97,6 +98,24 @@ impl Image {
         let _number = word.number();
         self.words[offset] = word;
         self.code[offset] = code_byte(word);
+    }
+}
+
+/// Writes a word at an offset where an image is plugged as writable. Whether it is.
+#[inline(always)]
+pub fn write_plugged(image: &mut Option<Image>, offset: usize, word: Word) -> bool
+    requires { offset < page_size }
+    ensures writable { result ≡ is_writable image.old }
+    ensures word { word < word_count }
+    ensures written { IsTrue result → image.new ≡ option_map (with_word offset word) image.old }
+    ensures unchanged { IsFalse result → image.new ≡ image.old }
+{
+    match image {
+        Some(image) if image.is_writable() => {
+            image.write(offset, word);
+            true
+        }
+        _ => false,
     }
 }
 

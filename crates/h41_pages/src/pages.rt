@@ -13,7 +13,7 @@ ghost use Rattle.h41_pages.specs.PageMap.{with_page_image};
 use crate::address_space::AddressSpace;
 use crate::addresses::{FIRST_ADDRESS, PAGES, is_pluggable, offset_of, page_of};
 use crate::banks::{BANKS, ChosenBank, bank_numbered, bank_place, is_held};
-use crate::image::{Image, is_image};
+use crate::image::{Image, is_image, write_plugged};
 use crate::refusal::{FetchRefusal, PlugRefusal, ReadOnly, UnplugRefusal};
 use h41_words::{Bank, Word};
 use std::alloc::{AllocError, Global};
@@ -189,14 +189,15 @@ impl Pages {
     {
         let page = page_of(address);
         let bank = self.chosen[page].bank();
-        match &mut self.images[page][bank_place(bank)] {
-            Some(image) if image.is_writable() => {
-                image.write(offset_of(address), word);
-                self.space.set(bank, address, word);
-                Ok(())
-            }
-            _ => Err(ReadOnly { address }),
+        if !write_plugged(
+            &mut self.images[page][bank_place(bank)],
+            offset_of(address),
+            word,
+        ) {
+            return Err(ReadOnly { address });
         }
+        self.space.set(bank, address, word);
+        Ok(())
     }
 
     /// Whether the word at an address may be written. Refused as 12 where the chosen bank of its page is not plugged as

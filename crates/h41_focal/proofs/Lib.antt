@@ -1,4 +1,5 @@
 mod Apart
+mod Begun
 mod Briefly
 mod Elsewhere
 mod LabelsMet

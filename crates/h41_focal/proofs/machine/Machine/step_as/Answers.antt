@@ -4,27 +4,44 @@ use Rattle.h41_positions.specs.LabelledMachine.{machine_of}
 use Rattle.h41_focal.specs.LineStep.{StepsLine}
 use Rattle.h41_positions.specs.FocalState.{Machine}
 use Rattle.h41_focal.specs.MachineCalls.{Steps}
+use Rattle.h41_focal.proofs.Begun.{refuses, takes}
 use Rattle.h41_focal.proofs.machine.Machine.step_as.Goals as goal
 
-pub returns-in_err-next-clause-line : goal.returns-in_err-next-clause-line
-returns-in_err-next-clause-line g c =
+pub returns-in_err-next : goal.returns-in_err-next
+returns-in_err-next g c =
     let refused = err_from_is_err_and c.from_residual.result c.from_residual.ensures.1 in
+    let refuses =
+    refuses c.args.pages.now (Some c.args.function) c.args.self.now c.begin.new.self _ c.begin.ensures.begun c.in_err-next.ensures in
     rw (refused.1, refused.2)
-    (subst (λ (machine : Machine). StepsLine c.args.pages.now (Some c.args.function) machine (Err c.in_err-next.field-0.0))
-    (ap machine_of c.begin.ensures.begun)
-    (Err c.in_err-next.field-0.0, c.in_err-next.ensures, refl))
+    (record {
+      line =
+          subst (λ (machine : Machine). StepsLine c.args.pages.now (Some c.args.function) machine (Err c.in_err-next.field-0.0))
+          (ap machine_of c.begin.ensures.begun)
+          (Err c.in_err-next.field-0.0, c.in_err-next.ensures, refl);
+      unchanged = refuses.unchanged;
+      kept = refuses.kept;
+      mark = refuses.mark;
+      clear = refuses.clear;
+      right = λ clear. c.begin.ensures.right;
+    })
 
-pub returns-in_err-next-clause-right : goal.returns-in_err-next-clause-right
-returns-in_err-next-clause-right g c = λ clear. c.begin.ensures.right
-
-pub returns-clause-line : goal.returns-clause-line
-returns-clause-line g c =
-    subst (λ (machine : Machine). Steps c.args.pages.now (Some c.args.function) machine (machine_of c.carry_out.new.machine)
-    c.carry_out.result)
-    (ap machine_of c.begin.ensures.begun)
-    (Ok (c.in_ok-next.field-0-0, c.in_ok-next.next), c.in_ok-next.ensures, c.carry_out.ensures.taken)
-
-pub returns-clause-right : goal.returns-clause-right
-returns-clause-right g c =
-    c.kept_answers_stay_right.ensures.searching c.begin.new.self c.carry_out.new.machine _ c.begin.ensures.right
-    c.carry_out.ensures.kept c.carry_out.ensures.mark
+pub returns : goal.returns
+returns g c =
+    let takes =
+    takes c.args.pages.now (Some c.args.function) c.args.self.now c.begin.new.self c.carry_out.new.machine c.in_ok-next.field-0-0
+    c.in_ok-next.next c.carry_out.result c.begin.ensures.begun c.in_ok-next.ensures c.carry_out.ensures.unchanged
+    c.carry_out.ensures.kept c.carry_out.ensures.mark c.carry_out.ensures.left in
+    record {
+      line =
+          subst (λ (machine : Machine). Steps c.args.pages.now (Some c.args.function) machine (machine_of c.carry_out.new.machine)
+          c.carry_out.result)
+          (ap machine_of c.begin.ensures.begun)
+          (Ok (c.in_ok-next.field-0-0, c.in_ok-next.next), c.in_ok-next.ensures, c.carry_out.ensures.taken);
+      unchanged = takes.unchanged;
+      kept = takes.kept;
+      mark = takes.mark;
+      clear = takes.clear;
+      right =
+          c.kept_answers_stay_right.ensures.searching c.begin.new.self c.carry_out.new.machine _ c.begin.ensures.right
+          c.carry_out.ensures.kept c.carry_out.ensures.mark;
+    }

@@ -1,5 +1,5 @@
 -- Lines are taken, by what was found of their operands and by their rows.
-use Rattle.std.specs.Prelude.{IsTrue}
+use Rattle.std.specs.Prelude.{IsTrue, List, if◌then◌else◌}
 use Rattle.std.proofs.Common.{◌≡◌, ℕ, Bool, true, false, IfNone, IfSome, Option, Some, None, Ok, Err, Result, refl}
 use Rattle.h41_codes.specs.declared.functions.Function.{Function}
 use Rattle.h41_codes.specs.declared.functions.ParameterFunction.{ParameterFunction}
@@ -24,6 +24,8 @@ use Rattle.h41_focal.specs.declared.uses.RegisterUse.{RegisterUse}
 use Rattle.h41_focal.specs.declared.works.FunctionWork.{FunctionWork}
 use Rattle.h41_decimal.specs.declared.ten.Ten.{Ten}
 use Rattle.h41_plain_numbers.specs.MemoryNumbers.{HasNumber}
+use Rattle.h41_labels.specs.KeptAnswers.{KeepsSearch}
+use Rattle.h41_labels.specs.declared.search.KeptAnswer.{KeptAnswer}
 use Rattle.h41_pages.specs.PageMap.{PageMap}
 use Rattle.h41_positions.proofs.PageAnswers.{both_here}
 use Rattle.h41_positions.specs.Positions.{ShortLineAt}
@@ -113,6 +115,12 @@ pub short_taken : (pages : PageMap) (origin : Origin) (function : RegisterFuncti
     → TakesBriefly pages origin (lines.Register function register) old new result
 short_taken pages origin function register (Ok address) old new result found carries = rw (← found) carries
 short_taken pages origin function register (Err fault) old new result found fails = rw (← found) fails
+
+-- a line that makes no search keeps what is kept, also where it is left out
+pub unsearched : (memory : RegisterMap) (out : Bool) (old new : List KeptAnswer) → new ≡ old
+    → KeepsSearch memory (if out then None else None) old new
+unsearched memory true old new same = same
+unsearched memory false old new same = same
 
 -- behind a line that is no XROM line lift stays
 pub lift_kept : (line : Line) (lift : Bool) → ((number entry : ℕ) → line ≡ lines.Module number entry → ⊥) → lift_behind line lift ≡ lift

@@ -39,7 +39,8 @@ returns g c =
     c.carry_briefly.ensures.mark c.carry_briefly.ensures.left in
     record {
       line =
-          subst (λ (machine : Machine). StepsBriefly c.args.pages.now machine (machine_of c.carry_briefly.new.machine) c.carry_briefly.result)
+          subst (λ (machine : Machine). StepsBriefly c.args.pages.now machine (machine_of c.carry_briefly.new.machine)
+          c.carry_briefly.result)
           (ap machine_of c.begin.ensures.begun) (
             called_by c.begin.new.self.ram.registers c.in_ok-line.line,
             calls_elsewhere c.begin.new.self.ram.registers c.in_ok-line.line,

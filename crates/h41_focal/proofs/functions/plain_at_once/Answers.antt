@@ -4,25 +4,43 @@ use Rattle.h41_positions.specs.LabelledMachine.{machine_of}
 use Rattle.h41_focal.specs.declared.works.FunctionWork.TheVariants.{Move, OfX, OfYAndX}
 use Rattle.h41_focal.proofs.functions.plain_at_once.Goals as goal
 
-pub returns-in-Some-OfYAndX-clause-taken : goal.returns-in-Some-OfYAndX-clause-taken
-returns-in-Some-OfYAndX-clause-taken g c =
-    plain_taken c.args.pages.now c.args.origin c.args.function (OfYAndX c.in-Some-OfYAndX.value)
-    (machine_of c.args.machine.now) (machine_of c.of_y_and_x.new.machine) (end_told c.is_done.result c.is_done.new.told)
-    (let row = c.work_of.ensures in rw (c.in-Some-OfYAndX.is, c.in-Some-OfYAndX.field-0-is) at row)
-    (rw c.is_done.ensures (c.of_y_and_x.ensures.done 0 c.args.pages.now))
+pub returns-in-Some-OfYAndX : goal.returns-in-Some-OfYAndX
+returns-in-Some-OfYAndX g c =
+    record {
+      taken =
+          plain_taken c.args.pages.now c.args.origin c.args.function (OfYAndX c.in-Some-OfYAndX.value)
+          (machine_of c.args.machine.now) (machine_of c.of_y_and_x.new.machine) (end_told c.is_done.result c.is_done.new.told)
+          (let row = c.work_of.ensures in rw (c.in-Some-OfYAndX.is, c.in-Some-OfYAndX.field-0-is) at row)
+          (rw c.is_done.ensures (c.of_y_and_x.ensures.done 0 c.args.pages.now));
+      unchanged = rw c.is_done.ensures tt;
+      keeps = c.of_y_and_x.ensures.keeps;
+      left = c.of_y_and_x.ensures.left;
+    }
 
-pub returns-in-Some-Move-clause-taken : goal.returns-in-Some-Move-clause-taken
-returns-in-Some-Move-clause-taken g c =
-    plain_taken c.args.pages.now c.args.origin c.args.function (Move c.in-Some-Move.movement)
-    (machine_of c.args.machine.now) (machine_of c.move_stack.new.machine)
-    (end_told c.is_done-in-Some-Move.result c.is_done-in-Some-Move.new.told)
-    (let row = c.work_of.ensures in rw (c.in-Some-Move.is, c.in-Some-Move.field-0-is) at row)
-    (rw c.is_done-in-Some-Move.ensures (c.move_stack.ensures.done 0 c.args.pages.now))
+pub returns-in-Some-Move : goal.returns-in-Some-Move
+returns-in-Some-Move g c =
+    record {
+      taken =
+          plain_taken c.args.pages.now c.args.origin c.args.function (Move c.in-Some-Move.movement)
+          (machine_of c.args.machine.now) (machine_of c.move_stack.new.machine)
+          (end_told c.is_done-in-Some-Move.result c.is_done-in-Some-Move.new.told)
+          (let row = c.work_of.ensures in rw (c.in-Some-Move.is, c.in-Some-Move.field-0-is) at row)
+          (rw c.is_done-in-Some-Move.ensures (c.move_stack.ensures.done 0 c.args.pages.now));
+      unchanged = rw c.is_done-in-Some-Move.ensures tt;
+      keeps = c.move_stack.ensures.keeps;
+      left = c.move_stack.ensures.left;
+    }
 
-pub returns-in-Some-OfX-clause-taken : goal.returns-in-Some-OfX-clause-taken
-returns-in-Some-OfX-clause-taken g c =
-    plain_taken c.args.pages.now c.args.origin c.args.function (OfX c.in-Some-OfX.value)
-    (machine_of c.args.machine.now) (machine_of c.of_x.new.machine)
-    (end_told c.is_done-in-Some-OfX.result c.is_done-in-Some-OfX.new.told)
-    (let row = c.work_of.ensures in rw (c.in-Some-OfX.is, c.in-Some-OfX.field-0-is) at row)
-    (rw c.is_done-in-Some-OfX.ensures (c.of_x.ensures.done 0 c.args.pages.now))
+pub returns-in-Some-OfX : goal.returns-in-Some-OfX
+returns-in-Some-OfX g c =
+    record {
+      taken =
+          plain_taken c.args.pages.now c.args.origin c.args.function (OfX c.in-Some-OfX.value)
+          (machine_of c.args.machine.now) (machine_of c.of_x.new.machine)
+          (end_told c.is_done-in-Some-OfX.result c.is_done-in-Some-OfX.new.told)
+          (let row = c.work_of.ensures in rw (c.in-Some-OfX.is, c.in-Some-OfX.field-0-is) at row)
+          (rw c.is_done-in-Some-OfX.ensures (c.of_x.ensures.done 0 c.args.pages.now));
+      unchanged = rw c.is_done-in-Some-OfX.ensures tt;
+      keeps = c.of_x.ensures.keeps;
+      left = c.of_x.ensures.left;
+    }

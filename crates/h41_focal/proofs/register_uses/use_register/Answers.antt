@@ -1,22 +1,82 @@
 use Rattle.h41_focal.proofs.register_uses.use_register.Goals as goal
 
-pub returns-in-Recall-clause-carried : goal.returns-in-Recall-clause-carried
-returns-in-Recall-clause-carried g c = rw c.in-Recall.is (c.recall.ensures.done c.args.pages.now)
+pub returns-in-Recall : goal.returns-in-Recall
+returns-in-Recall g c =
+    record {
+      carried = rw c.in-Recall.is (c.recall.ensures.done c.args.pages.now);
+      unchanged = tt;
+      keeps = c.recall.ensures.keeps;
+      left = λ apart. c.recall.ensures.left;
+    }
 
-pub returns-in-Store-clause-carried : goal.returns-in-Store-clause-carried
-returns-in-Store-clause-carried g c = rw c.in-Store.is (c.store.ensures.done c.args.pages.now)
+pub returns-in-Store : goal.returns-in-Store
+returns-in-Store g c =
+    record {
+      carried = rw c.in-Store.is (c.store.ensures.done c.args.pages.now);
+      unchanged = tt;
+      keeps = c.store.ensures.keeps;
+      left = c.store.ensures.left;
+    }
 
-pub returns-in-Combine-clause-carried : goal.returns-in-Combine-clause-carried
-returns-in-Combine-clause-carried g c = rw c.in-Combine.is (c.combine.ensures.done c.args.pages.now)
+pub returns-in-Combine : goal.returns-in-Combine
+returns-in-Combine g c =
+    record {
+      carried = rw c.in-Combine.is (c.combine.ensures.done c.args.pages.now);
+      unchanged = tt;
+      keeps = c.combine.ensures.keeps;
+      left = c.combine.ensures.left;
+    }
 
-pub returns-in-View-clause-carried : goal.returns-in-View-clause-carried
-returns-in-View-clause-carried g c = rw c.in-View.is (c.view.ensures.done c.args.pages.now)
+pub returns-in-CountUp : goal.returns-in-CountUp
+returns-in-CountUp g c =
+    record {
+      carried = rw c.in-CountUp.is c.count_up.ensures.carried;
+      unchanged = c.count_up.ensures.unchanged;
+      keeps = c.count_up.ensures.keeps;
+      left = c.count_up.ensures.left;
+    }
 
-pub returns-in-StoreAlpha-clause-carried : goal.returns-in-StoreAlpha-clause-carried
-returns-in-StoreAlpha-clause-carried g c = rw c.in-StoreAlpha.is (c.store_alpha.ensures.done c.args.pages.now)
+pub returns-in-CountDown : goal.returns-in-CountDown
+returns-in-CountDown g c =
+    record {
+      carried = rw c.in-CountDown.is c.count_down.ensures.carried;
+      unchanged = c.count_down.ensures.unchanged;
+      keeps = c.count_down.ensures.keeps;
+      left = c.count_down.ensures.left;
+    }
 
-pub returns-in-RecallAlpha-clause-carried : goal.returns-in-RecallAlpha-clause-carried
-returns-in-RecallAlpha-clause-carried g c = rw c.in-RecallAlpha.is (c.recall_alpha.ensures.done c.args.pages.now)
+pub returns-in-View : goal.returns-in-View
+returns-in-View g c =
+    record {
+      carried = rw c.in-View.is (c.view.ensures.done c.args.pages.now);
+      unchanged = tt;
+      keeps = c.view.ensures.keeps;
+      left = λ apart. c.view.ensures.left;
+    }
 
-pub returns-in-Exchange-clause-carried : goal.returns-in-Exchange-clause-carried
-returns-in-Exchange-clause-carried g c = rw c.in-Exchange.is (c.exchange_x.ensures.done c.args.pages.now)
+pub returns-in-StoreAlpha : goal.returns-in-StoreAlpha
+returns-in-StoreAlpha g c =
+    record {
+      carried = rw c.in-StoreAlpha.is (c.store_alpha.ensures.done c.args.pages.now);
+      unchanged = tt;
+      keeps = c.store_alpha.ensures.keeps;
+      left = c.store_alpha.ensures.left;
+    }
+
+pub returns-in-RecallAlpha : goal.returns-in-RecallAlpha
+returns-in-RecallAlpha g c =
+    record {
+      carried = rw c.in-RecallAlpha.is (c.recall_alpha.ensures.done c.args.pages.now);
+      unchanged = tt;
+      keeps = c.recall_alpha.ensures.keeps;
+      left = λ apart. c.recall_alpha.ensures.left;
+    }
+
+pub returns-in-Exchange : goal.returns-in-Exchange
+returns-in-Exchange g c =
+    record {
+      carried = rw c.in-Exchange.is (c.exchange_x.ensures.done c.args.pages.now);
+      unchanged = tt;
+      keeps = c.exchange_x.ensures.keeps;
+      left = c.exchange_x.ensures.left;
+    }

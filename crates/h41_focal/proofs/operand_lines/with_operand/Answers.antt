@@ -1,36 +1,64 @@
-use Rattle.std.proofs.Common.{◌≡◌, false, Ok, rules}
+use Rattle.std.proofs.Common.{◌≡◌, false, sym, Ok, ◌∙◌}
 use Rattle.h41_focal.proofs.LinesTaken.{digits_taken, flag_taken, label_taken, register_taken}
 use Rattle.h41_rows.specs.Profile.{is_use_left_out}
 use Rattle.h41_focal.proofs.operand_lines.with_operand.Goals as goal
 
-pub returns-in-Register-clause-taken : goal.returns-in-Register-clause-taken
-returns-in-Register-clause-taken g c =
-    let held : is_use_left_out c.args.function c.args.operand.now ≡ false = search rules in
+pub returns-in-Register : goal.returns-in-Register
+returns-in-Register g c =
+    let held : is_use_left_out c.args.function c.args.operand.now ≡ false =
+    sym c.is_left_out.ensures ∙ c.if-is_left_out.false in
     let taken = c.use_of.ensures in
     let row = rw c.in-Register.is at taken in
-    register_taken c.args.pages.now c.args.origin c.args.function c.args.operand.now c.in-Register.taken _ _ _ held row.0 row.1
-    c.with_register.ensures.used
+    record {
+      taken =
+          register_taken c.args.pages.now c.args.origin c.args.function c.args.operand.now c.in-Register.taken _ _ _ held row.0 row.1
+          c.with_register.ensures.used;
+      unchanged = c.with_register.ensures.unchanged;
+      keeps = c.with_register.ensures.keeps;
+      left = c.with_register.ensures.left;
+    }
 
-pub returns-in-Digits-clause-taken : goal.returns-in-Digits-clause-taken
-returns-in-Digits-clause-taken g c =
-    let held : is_use_left_out c.args.function c.args.operand.now ≡ false = search rules in
+pub returns-in-Digits : goal.returns-in-Digits
+returns-in-Digits g c =
+    let held : is_use_left_out c.args.function c.args.operand.now ≡ false =
+    sym c.is_left_out.ensures ∙ c.if-is_left_out.false in
     let taken = c.use_of.ensures in
     let row = rw c.in-Digits.is at taken in
-    digits_taken c.args.pages.now c.args.origin c.args.function c.args.operand.now c.in-Digits.taken _ _ _ held row.0 row.1
-    (c.with_digits.ensures.used c.args.pages.now)
+    record {
+      taken =
+          digits_taken c.args.pages.now c.args.origin c.args.function c.args.operand.now c.in-Digits.taken _ _ _ held row.0 row.1
+          (c.with_digits.ensures.used c.args.pages.now);
+      unchanged = c.with_digits.ensures.unchanged;
+      keeps = c.with_digits.ensures.keeps;
+      left = c.with_digits.ensures.left;
+    }
 
-pub returns-in-Flag-clause-taken : goal.returns-in-Flag-clause-taken
-returns-in-Flag-clause-taken g c =
-    let held : is_use_left_out c.args.function c.args.operand.now ≡ false = search rules in
+pub returns-in-Flag : goal.returns-in-Flag
+returns-in-Flag g c =
+    let held : is_use_left_out c.args.function c.args.operand.now ≡ false =
+    sym c.is_left_out.ensures ∙ c.if-is_left_out.false in
     let taken = c.use_of.ensures in
     let row = rw c.in-Flag.is at taken in
-    flag_taken c.args.pages.now c.args.origin c.args.function c.args.operand.now c.in-Flag.taken _ _ _ held row.0 row.1
-    c.with_flag.ensures.used
+    record {
+      taken =
+          flag_taken c.args.pages.now c.args.origin c.args.function c.args.operand.now c.in-Flag.taken _ _ _ held row.0 row.1
+          c.with_flag.ensures.used;
+      unchanged = c.with_flag.ensures.unchanged;
+      keeps = c.with_flag.ensures.keeps;
+      left = c.with_flag.ensures.left;
+    }
 
-pub returns-in-Label-clause-taken : goal.returns-in-Label-clause-taken
-returns-in-Label-clause-taken g c =
-    let held : is_use_left_out c.args.function c.args.operand.now ≡ false = search rules in
+pub returns-in-Label : goal.returns-in-Label
+returns-in-Label g c =
+    let held : is_use_left_out c.args.function c.args.operand.now ≡ false =
+    sym c.is_left_out.ensures ∙ c.if-is_left_out.false in
     let taken = c.use_of.ensures in
     let row = rw c.in-Label.is at taken in
-    label_taken c.args.pages.now c.args.origin c.args.function c.args.operand.now _ _ (Ok c.be_silent.result) held row.0 row.1
-    (c.be_silent.ensures.done 0 c.args.pages.now)
+    record {
+      taken =
+          label_taken c.args.pages.now c.args.origin c.args.function c.args.operand.now _ _ (Ok c.be_silent.result) held row.0 row.1
+          (c.be_silent.ensures.done 0 c.args.pages.now);
+      unchanged = tt;
+      keeps = c.be_silent.ensures.keeps;
+      left = c.be_silent.ensures.left;
+    }

@@ -6,7 +6,7 @@ ghost use Rattle.h41_ends.specs.Ends.{most_bytes};
 use crate::fault::LineReadFault;
 use crate::input::MOST_BYTES;
 use crate::line_ends::line_end;
-use crate::output::flush;
+use crate::output::flush_rest;
 use crate::sink::Sink;
 use crate::source::Source;
 use h41_lines::lines::without_return;
@@ -191,9 +191,7 @@ impl InputLines {
         ensures writer { result ≢ Err LineReadFault.WriteFault → W.failed writer.new ≡ false }
         ensures write_fault { result ≡ Err LineReadFault.WriteFault → W.failed writer.new ≡ true }
     {
-        if !writer.is_flushed() {
-            flush(writer)?;
-        }
+        flush_rest(writer)?;
         if self.is_over {
             return Err(LineReadFault::ReadFault);
         }

@@ -45,3 +45,18 @@ pub fn flush<W: Sink>(writer: &mut W) -> Result<(), WriteFault>
         Err(_) => Err(WriteFault),
     }
 }
+
+/// The same, unless there is nothing to flush.
+#[inline(always)]
+pub fn flush_rest<W: Sink>(writer: &mut W) -> Result<(), WriteFault>
+    requires { W.failed writer.old ≡ false }
+    ensures bytes { Keeps (W.contents writer.old) (W.contents writer.new) }
+    ensures flushed { OnOk result (W.flushed writer.new ≡ true) }
+    ensures clear { OnOk result (W.failed writer.new ≡ false) }
+    ensures mark { OnErr result (W.failed writer.new ≡ true) }
+{
+    if writer.is_flushed() {
+        return Ok(());
+    }
+    flush(writer)
+}

@@ -1,10 +1,22 @@
-use Rattle.std.proofs.Common.{◌≡◌, ◌≤◌, nat_lt, false, ◌-◌, take, min, length, length-append, length-take, ap, ◌∙◌, arith}
+use Rattle.std.proofs.Common.{Bool, Ok, Err, Result, ◌≡◌, ◌≤◌, nat_lt, false, ◌-◌, take, min, length, length-append, length-take, ap, refl, ◌∙◌, arith}
 use Rattle.std.proofs.lemmas.Bool.{ltb-false}
 use Rattle.h41_ends.specs.Ends.{most_bytes}
 use Rattle.h41_ends.specs.InputLines.{held_in}
+use Rattle.h41_ends.specs.declared.fault.LineReadFault.{LineReadFault}
+use Rattle.h41_ends.specs.declared.fault.LineReadFault.TheVariants.{ReadFault, WriteFault}
 use Rattle.h41_ends.proofs.InputBuffers.{held_kept, held_more}
 use Rattle.h41_ends.proofs.InputReading.{counted_more, counted_same, reaches_end, reads_failed, reads_some, stopped_short}
 use Rattle.h41_ends.proofs.input_lines.InputLines.read_more.Goals as goal
+
+-- an answer is no fault, and a read no write
+no_fault : (more : Bool) (fault : LineReadFault) → ◌≡◌ {A = Result Bool LineReadFault} (Ok more) (Err fault) → ⊥
+no_fault more fault is = cc
+
+no_answer : (more : Bool) (fault : LineReadFault) → ◌≡◌ {A = Result Bool LineReadFault} (Err fault) (Ok more) → ⊥
+no_answer more fault is = cc
+
+no_write : ◌≡◌ {A = Result Bool LineReadFault} (Err ReadFault) (Err WriteFault) → ⊥
+no_write is = cc
 
 pub returns-in-Err-clause-lines : goal.returns-in-Err-clause-lines
 returns-in-Err-clause-lines g c =
@@ -96,3 +108,63 @@ returns-in-Ok-clause-bound g c =
       length-take (min count (most_bytes - front.count)) tail,
       length-append (take 202 (held_in old)) (take (min count (most_bytes - front.count)) tail),
     )
+
+pub returns-in-Ok-clause-goes_on : goal.returns-in-Ok-clause-goes_on
+returns-in-Ok-clause-goes_on g c = c.take_read.ensures.at_end
+
+pub returns-in-Ok-clause-cause : goal.returns-in-Ok-clause-cause
+returns-in-Ok-clause-cause g c = λ is. absurd (no_fault _ _ is)
+
+pub returns-in-Ok-clause-flushed : goal.returns-in-Ok-clause-flushed
+returns-in-Ok-clause-flushed g c = λ is. absurd (no_fault _ _ is)
+
+pub returns-in-Ok-clause-kept : goal.returns-in-Ok-clause-kept
+returns-in-Ok-clause-kept g c = c.in_ok-flush_rest.ensures.bytes
+
+pub returns-in-Ok-clause-writer : goal.returns-in-Ok-clause-writer
+returns-in-Ok-clause-writer g c = λ other. c.in_ok-flush_rest.ensures.clear
+
+pub returns-in-Ok-clause-write_fault : goal.returns-in-Ok-clause-write_fault
+returns-in-Ok-clause-write_fault g c = λ is. absurd (no_fault _ _ is)
+
+pub returns-in-Err-clause-less : goal.returns-in-Err-clause-less
+returns-in-Err-clause-less g c = λ is. absurd (no_answer _ _ is)
+
+pub returns-in-Err-clause-end : goal.returns-in-Err-clause-end
+returns-in-Err-clause-end g c = λ is. absurd (no_answer _ _ is)
+
+pub returns-in-Err-clause-flushed : goal.returns-in-Err-clause-flushed
+returns-in-Err-clause-flushed g c = λ is. c.in_ok-flush_rest.ensures.flushed
+
+pub returns-in-Err-clause-kept : goal.returns-in-Err-clause-kept
+returns-in-Err-clause-kept g c = c.in_ok-flush_rest.ensures.bytes
+
+pub returns-in-Err-clause-writer : goal.returns-in-Err-clause-writer
+returns-in-Err-clause-writer g c = λ other. c.in_ok-flush_rest.ensures.clear
+
+pub returns-in-Err-clause-reader : goal.returns-in-Err-clause-reader
+returns-in-Err-clause-reader g c = λ other. absurd (other refl)
+
+pub returns-in-Err-clause-write_fault : goal.returns-in-Err-clause-write_fault
+returns-in-Err-clause-write_fault g c = λ is. absurd (no_write is)
+
+pub returns-then-self-clause-less : goal.returns-then-self-clause-less
+returns-then-self-clause-less g c = λ is. absurd (no_answer _ _ is)
+
+pub returns-then-self-clause-end : goal.returns-then-self-clause-end
+returns-then-self-clause-end g c = λ is. absurd (no_answer _ _ is)
+
+pub returns-then-self-clause-flushed : goal.returns-then-self-clause-flushed
+returns-then-self-clause-flushed g c = λ is. c.in_ok-flush_rest.ensures.flushed
+
+pub returns-then-self-clause-kept : goal.returns-then-self-clause-kept
+returns-then-self-clause-kept g c = c.in_ok-flush_rest.ensures.bytes
+
+pub returns-then-self-clause-writer : goal.returns-then-self-clause-writer
+returns-then-self-clause-writer g c = λ other. c.in_ok-flush_rest.ensures.clear
+
+pub returns-then-self-clause-reader : goal.returns-then-self-clause-reader
+returns-then-self-clause-reader g c = λ other. absurd (other refl)
+
+pub returns-then-self-clause-write_fault : goal.returns-then-self-clause-write_fault
+returns-then-self-clause-write_fault g c = λ is. absurd (no_write is)

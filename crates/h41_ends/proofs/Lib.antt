@@ -1,3 +1,4 @@
+pub mod Answered
 pub mod EndedLines
 pub mod InputBuffers
 pub mod InputReading

@@ -1,5 +1,6 @@
-use Rattle.std.proofs.Common.{arith, refl, rules}
+use Rattle.std.proofs.Common.{arith, refl}
 use Rattle.std.proofs.lemmas.Result.{err_from_is_err_and}
+use Rattle.h41_ends.proofs.Answered.{no_end, no_fault, no_more}
 use Rattle.h41_ends.proofs.InputReading.{counted_same, keeps-both, reads_both, reads_last, reads_line}
 use Rattle.h41_ends.proofs.input_lines.InputLines.next_line.Goals as goal
 
@@ -23,8 +24,8 @@ loop-end-preserved g c = record {
       c.in_ok-read_more.ensures.lines;
   bound = omega (arith, c.loop-end.invariant.bound, c.in_ok-read_more.ensures.bound);
   kept = keeps-both _ _ _ c.loop-end.invariant.kept c.in_ok-read_more.ensures.kept;
-  reader = search rules;
-  writer = search rules;
+  reader = c.in_ok-read_more.ensures.reader (λ is. no_fault _ _ is);
+  writer = c.in_ok-read_more.ensures.writer (λ is. no_fault _ _ is);
   counted = c.in_ok-read_more.ensures.counted;
 }
 
@@ -43,3 +44,81 @@ returns-in_err-read_more-clause-lines g c =
     let failed = err_from_is_err_and c.from_residual.result c.from_residual.ensures.1 in
     rw failed.1 (reads_both _ _ _ c.args.self.now c.loop-end.self c.read_more.new.self _ _ c.loop-end.invariant.reads
     c.in_err-read_more.ensures.lines)
+
+pub returns-in-Some-clause-stopped : goal.returns-in-Some-clause-stopped
+returns-in-Some-clause-stopped g c = λ is. absurd (no_fault _ _ is)
+
+pub returns-in-Some-clause-cause : goal.returns-in-Some-clause-cause
+returns-in-Some-clause-cause g c = λ is. absurd (no_fault _ _ is)
+
+pub returns-in-Some-clause-flushed : goal.returns-in-Some-clause-flushed
+returns-in-Some-clause-flushed g c = λ is. absurd (no_fault _ _ is)
+
+pub returns-in-Some-clause-write_fault : goal.returns-in-Some-clause-write_fault
+returns-in-Some-clause-write_fault g c = λ is. absurd (no_fault _ _ is)
+
+pub returns-then-self-clause-stopped : goal.returns-then-self-clause-stopped
+returns-then-self-clause-stopped g c = λ is. absurd (no_fault _ _ is)
+
+pub returns-then-self-clause-cause : goal.returns-then-self-clause-cause
+returns-then-self-clause-cause g c = λ is. absurd (no_fault _ _ is)
+
+pub returns-then-self-clause-flushed : goal.returns-then-self-clause-flushed
+returns-then-self-clause-flushed g c = λ is. absurd (no_fault _ _ is)
+
+pub returns-then-self-clause-write_fault : goal.returns-then-self-clause-write_fault
+returns-then-self-clause-write_fault g c = λ is. absurd (no_fault _ _ is)
+
+pub returns-then-not-branch-clause-stopped : goal.returns-then-not-branch-clause-stopped
+returns-then-not-branch-clause-stopped g c = λ is. absurd (no_fault _ _ is)
+
+pub returns-then-not-branch-clause-cause : goal.returns-then-not-branch-clause-cause
+returns-then-not-branch-clause-cause g c = λ is. absurd (no_fault _ _ is)
+
+pub returns-then-not-branch-clause-flushed : goal.returns-then-not-branch-clause-flushed
+returns-then-not-branch-clause-flushed g c = λ is. absurd (no_fault _ _ is)
+
+pub returns-then-not-branch-clause-write_fault : goal.returns-then-not-branch-clause-write_fault
+returns-then-not-branch-clause-write_fault g c = λ is. absurd (no_fault _ _ is)
+
+pub returns-in-Some-clause-kept : goal.returns-in-Some-clause-kept
+returns-in-Some-clause-kept g c = c.loop-end.invariant.kept
+
+pub returns-in-Some-clause-reader : goal.returns-in-Some-clause-reader
+returns-in-Some-clause-reader g c = λ other. c.loop-end.invariant.reader
+
+pub returns-in-Some-clause-writer : goal.returns-in-Some-clause-writer
+returns-in-Some-clause-writer g c = λ other. c.loop-end.invariant.writer
+
+pub returns-then-self-clause-kept : goal.returns-then-self-clause-kept
+returns-then-self-clause-kept g c = c.loop-end.invariant.kept
+
+pub returns-then-self-clause-reader : goal.returns-then-self-clause-reader
+returns-then-self-clause-reader g c = λ other. c.loop-end.invariant.reader
+
+pub returns-then-self-clause-writer : goal.returns-then-self-clause-writer
+returns-then-self-clause-writer g c = λ other. c.loop-end.invariant.writer
+
+pub returns-in-Some-clause-end : goal.returns-in-Some-clause-end
+returns-in-Some-clause-end g c = λ is. absurd (no_end is)
+
+pub returns-then-self-clause-lines : goal.returns-then-self-clause-lines
+returns-then-self-clause-lines g c = c.loop-end.invariant.reads
+
+pub returns-then-self-clause-bound : goal.returns-then-self-clause-bound
+returns-then-self-clause-bound g c = c.loop-end.invariant.bound
+
+pub returns-then-self-clause-fewer : goal.returns-then-self-clause-fewer
+returns-then-self-clause-fewer g c = λ is. absurd (no_more is)
+
+pub returns-then-self-clause-counted : goal.returns-then-self-clause-counted
+returns-then-self-clause-counted g c = c.loop-end.invariant.counted
+
+pub returns-then-not-branch-clause-kept : goal.returns-then-not-branch-clause-kept
+returns-then-not-branch-clause-kept g c = keeps-both _ _ _ c.loop-end.invariant.kept c.in_ok-read_more.ensures.kept
+
+pub returns-then-not-branch-clause-reader : goal.returns-then-not-branch-clause-reader
+returns-then-not-branch-clause-reader g c = λ other. c.in_ok-read_more.ensures.reader (λ is. no_fault _ _ is)
+
+pub returns-then-not-branch-clause-writer : goal.returns-then-not-branch-clause-writer
+returns-then-not-branch-clause-writer g c = λ other. c.in_ok-read_more.ensures.writer (λ is. no_fault _ _ is)

@@ -1,22 +1,11 @@
-use Rattle.std.proofs.Common.{Bool, Ok, Err, Result, ◌≡◌, ◌≤◌, nat_lt, false, ◌-◌, take, min, length, length-append, length-take, ap, refl, ◌∙◌, arith}
+use Rattle.std.proofs.Common.{◌≡◌, ◌≤◌, nat_lt, false, ◌-◌, take, min, length, length-append, length-take, ap, refl, ◌∙◌, arith}
 use Rattle.std.proofs.lemmas.Bool.{ltb-false}
 use Rattle.h41_ends.specs.Ends.{most_bytes}
 use Rattle.h41_ends.specs.InputLines.{held_in}
-use Rattle.h41_ends.specs.declared.fault.LineReadFault.{LineReadFault}
-use Rattle.h41_ends.specs.declared.fault.LineReadFault.TheVariants.{ReadFault, WriteFault}
 use Rattle.h41_ends.proofs.InputBuffers.{held_kept, held_more}
+use Rattle.h41_ends.proofs.Answered.{no_answer, no_fault, no_write}
 use Rattle.h41_ends.proofs.InputReading.{counted_more, counted_same, reaches_end, reads_failed, reads_some, stopped_short}
 use Rattle.h41_ends.proofs.input_lines.InputLines.read_more.Goals as goal
-
--- an answer is no fault, and a read no write
-no_fault : (more : Bool) (fault : LineReadFault) → ◌≡◌ {A = Result Bool LineReadFault} (Ok more) (Err fault) → ⊥
-no_fault more fault is = cc
-
-no_answer : (more : Bool) (fault : LineReadFault) → ◌≡◌ {A = Result Bool LineReadFault} (Err fault) (Ok more) → ⊥
-no_answer more fault is = cc
-
-no_write : ◌≡◌ {A = Result Bool LineReadFault} (Err ReadFault) (Err WriteFault) → ⊥
-no_write is = cc
 
 pub returns-in-Err-clause-lines : goal.returns-in-Err-clause-lines
 returns-in-Err-clause-lines g c =

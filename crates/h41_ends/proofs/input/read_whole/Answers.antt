@@ -1,6 +1,11 @@
-use Rattle.std.proofs.Common.{◌-◌, arith}
+use Rattle.std.proofs.Common.{◌≡◌, ◌-◌, Result, Ok, Err, false, ap, ◌∙◌, ◌||◌, arith}
+use Rattle.h41_ends.specs.declared.fault.InputFault.{InputFault}
+use Rattle.h41_ends.specs.declared.input.ReadInput.{ReadInput}
 use Rattle.h41_ends.proofs.Reading.{input_front}
 use Rattle.h41_ends.proofs.input.read_whole.Goals as goal
+
+no_fault : (input : ReadInput) (fault : InputFault) → ◌≡◌ {A = Result ReadInput InputFault} (Ok input) (Err fault) → ⊥
+no_fault input fault is = cc
 
 pub returns-then-count-eq0-clause-bytes : goal.returns-then-count-eq0-clause-bytes
 returns-then-count-eq0-clause-bytes g c =
@@ -11,3 +16,9 @@ returns-then-count-eq0-clause-bytes g c =
     (omega (arith, c.loop-count.bytes.ok.0, c.loop-count.invariant.0))
     (omega (arith, c.loop-count.bytes.ok.0, c.len-room.ensures)) c.min.ensures
     (c.in_ok-extend_from_slice.ensures).items c.then-count-eq0.either
+
+pub returns-then-count-eq0-clause-mark : goal.returns-then-count-eq0-clause-mark
+returns-then-count-eq0-clause-mark g c = λ is. absurd (no_fault _ _ is)
+
+pub returns-then-count-eq0-clause-clear : goal.returns-then-count-eq0-clause-clear
+returns-then-count-eq0-clause-clear g c = λ other. c.in-Ok.ensures.mark ∙ ap (λ failed. failed || false) c.loop-count.invariant.1

@@ -129,7 +129,8 @@ returns-in-ClearRegisters g c =
       taken =
           plain_taken c.args.pages.now c.args.origin c.args.function c.in-Some.work
           (machine_of c.args.machine.now) (machine_of c.clear_registers.new.machine) (Ok c.clear_registers.result)
-          (let row = c.work_of.ensures in rw c.in-Some.is at row) (rw c.in-ClearRegisters.is (c.clear_registers.ensures.done 0 c.args.pages.now));
+          (let row = c.work_of.ensures in rw c.in-Some.is at row)
+          (rw c.in-ClearRegisters.is (c.clear_registers.ensures.done 0 c.args.pages.now));
       unchanged = tt;
       keeps = c.clear_registers.ensures.keeps;
       left = c.clear_registers.ensures.left;

@@ -1,6 +1,6 @@
 //! One step: the word at the processor's address, and what it changes.
 
-ghost use Rattle.std.specs.Prelude.{◌≡◌, ◌<◌, ◌≤◌, ◌==◌, false, IfOk, OnOk};
+ghost use Rattle.std.specs.Prelude.{◌≡◌, ◌<◌, ◌≤◌, ◌==◌, false, true, IfOk, OnOk};
 ghost use Rattle.h41_words.specs.WordTable.{row_of};
 ghost use Rattle.h41_words.specs.declared.rows.Bank.{Bank};
 ghost use Rattle.h41_words.specs.declared.rows.Row.TheVariants.{EnableBank};
@@ -8,7 +8,7 @@ ghost use Rattle.h41_pages.specs.Addresses.{first_address};
 ghost use Rattle.h41_pages.specs.PageMap.{with_chosen};
 ghost use Rattle.h41_nut.specs.Addresses.{end_of_function};
 ghost use Rattle.h41_nut.specs.private.ProcessorSteps.{TellsEnd};
-ghost use Rattle.h41_nut.specs.private.RowStep.{Ran, is_jump};
+ghost use Rattle.h41_nut.specs.private.RowStep.{Ran, RanWithin, is_jump, is_within};
 ghost use Rattle.h41_nut.specs.WordStep.{Stepped};
 ghost use Rattle.h41_ram.specs.RamState.{KeepsMark};
 
@@ -120,17 +120,9 @@ fn execute_straight<const REGS: usize>(
     let address = cpu.pc();
     match row {
         Row::Arithmetic(operation, field) => cpu.arithmetic::<REGS>(operation, field),
-        Row::ClearStatus(bit) => cpu.set_status(bit, false),
-        Row::SetStatus(bit) => cpu.set_status(bit, true),
-        Row::TestStatus(bit) => cpu.answer(cpu.is_status_set(bit)),
-        Row::TestPointer(place) => cpu.answer(cpu.pointer() == usize::from(place.number())),
-        Row::SetPointer(place) => cpu.set_pointer(usize::from(place.number())),
-        Row::RotateRight(digits) => cpu.rotate_right(digits),
-        Row::LoadDigit(digit) => cpu.load_digit(digit),
         Row::Write(register) => write_register(cpu, ram, register),
         Row::Read(register) => read_register(cpu, ram, register),
         Row::Constant(word) => Err(constant_refusal(word, address)),
-        Row::Nop | Row::TestLowBattery => cpu.go_on(),
         Row::WriteRom => write_rom(cpu, pages),
         Row::EnableBank(_) => {
             let page = (address / 0x1000) as u8;
@@ -138,18 +130,46 @@ fn execute_straight<const REGS: usize>(
             enable_bank(pages, page, word);
             Ok(())
         }
-        Row::ClearStatusByte => cpu.clear_status_byte(),
         Row::ClearKeyFlag => {
             cpu.go_on()?;
             keys.flag = false;
             Ok(())
         }
+        Row::PowerOff => Err(WordRefusal::Asleep(address)),
+        Row::LoadImmediate => {
+            let second = fetch(pages, cpu.next_address())?;
+            cpu.load_immediate(second)
+        }
+        Row::WriteData => write_data(cpu, ram),
+        Row::ReadData => cpu.load_register(ram.read(cpu.selected())),
+        Row::FetchWord => fetch_word(cpu, pages),
+        Row::SelectPeripheral => select_peripheral(cpu),
+        _ => execute_within(row, cpu, *keys),
+    }
+}
+
+/// Carries out a word that is about the processor alone, and the keyboard: it goes on with the word behind it.
+#[inline(always)]
+fn execute_within(row: Row, cpu: &mut Cpu, keys: Keys) -> Result<(), WordRefusal>
+    requires held { first_address ≤ cpu.old.pc }
+    requires within { is_within row ≡ true }
+    ensures { RanWithin row keys cpu.old cpu.new result }
+{
+    match row {
+        Row::ClearStatus(bit) => cpu.set_status(bit, false),
+        Row::SetStatus(bit) => cpu.set_status(bit, true),
+        Row::TestStatus(bit) => cpu.answer(cpu.is_status_set(bit)),
+        Row::TestPointer(place) => cpu.answer(cpu.pointer() == usize::from(place.number())),
+        Row::SetPointer(place) => cpu.set_pointer(usize::from(place.number())),
+        Row::RotateRight(digits) => cpu.rotate_right(digits),
+        Row::LoadDigit(digit) => cpu.load_digit(digit),
+        Row::Nop | Row::TestLowBattery => cpu.go_on(),
+        Row::ClearStatusByte => cpu.clear_status_byte(),
         Row::TestKeyFlag => cpu.answer(keys.flag),
         Row::DecrementPointer => cpu.set_pointer(place_below(cpu.pointer())),
         Row::IncrementPointer => cpu.set_pointer(place_above(cpu.pointer())),
         Row::Transfer(transfer) => cpu.transfer(transfer),
         Row::DropReturn => cpu.drop_return(),
-        Row::PowerOff => Err(WordRefusal::Asleep(address)),
         Row::SelectPointer(pointer) => cpu.select_pointer(pointer),
         Row::TestPointersEqual => cpu.answer(cpu.p() == cpu.q()),
         Row::ClearRegisters => cpu.clear_registers(),
@@ -158,25 +178,12 @@ fn execute_straight<const REGS: usize>(
         Row::SetDecimal => cpu.set_base(Base::Decimal),
         Row::DisplayOff => cpu.set_display(false),
         Row::ToggleDisplay => cpu.set_display(!cpu.display()),
-        Row::LoadImmediate => {
-            let second = fetch(pages, cpu.next_address())?;
-            cpu.load_immediate(second)
-        }
         Row::PushAddress => cpu.push_address(),
         Row::PopAddress => cpu.pop_address(),
         Row::SelectRegister => cpu.select(cpu.word_in_c()),
-        Row::WriteData => write_data(cpu, ram),
-        Row::ReadData => cpu.load_register(ram.read(cpu.selected())),
-        Row::FetchWord => fetch_word(cpu, pages),
         Row::Or => cpu.load_register(digits_or(cpu.c(), cpu.a())),
         Row::And => cpu.load_register(digits_and(cpu.c(), cpu.a())),
-        Row::SelectPeripheral => select_peripheral(cpu),
-        Row::LongJump(_)
-        | Row::ShortJump(_, _)
-        | Row::ReturnIf(_)
-        | Row::Return
-        | Row::GoToAddress
-        | Row::GoToKey => unreachable!(),
+        _ => unreachable!(),
     }
 }
 

@@ -1,13 +1,16 @@
 -- What carrying out a row promises a step.
-use Rattle.std.specs.Prelude.{Bool, true, false, Result}
+use Rattle.std.specs.Prelude.{Bool, true, false, None, Result}
 use Rattle.h41_words.specs.declared.rows.Row.{Row}
 use Rattle.h41_words.specs.declared.rows.Row.TheVariants as rows
 use Rattle.h41_pages.specs.PageMap.{PageMap}
 use Rattle.h41_ram.specs.RegisterMap.{RegisterMap}
+use Rattle.h41_nut.specs.Arrivals.{next_address}
 use Rattle.h41_nut.specs.declared.keys.Keys.{Keys}
 use Rattle.h41_nut.specs.declared.refusal.WordRefusal.{WordRefusal}
 use Rattle.h41_nut.specs.Processor.{Processor}
+use Rattle.h41_nut.specs.private.ProcessorSteps.{Goes}
 use Rattle.h41_nut.specs.WordStep.{WordEffect, RefusesOr, nut_of, row_refusal}
+use Rattle.h41_nut.specs.WordStep.{answer, registers_after}
 
 -- a row was carried out: refused as `row_refusal` says and then without a change, or with its
 -- `WordEffect`
@@ -27,3 +30,34 @@ is_jump rows.Return = true
 is_jump rows.GoToAddress = true
 is_jump rows.GoToKey = true
 is_jump row = false
+
+-- whether a word goes on with the word behind it, refused for no reason of its own, and reads and
+-- changes no more than the processor and what it reads of the keyboard, but for arithmetic
+abbrev pub is_within : Row → Bool
+is_within (rows.Arithmetic operation field) = false
+is_within (rows.Write register) = false
+is_within (rows.Read register) = false
+is_within (rows.Constant word) = false
+is_within rows.WriteRom = false
+is_within (rows.EnableBank bank) = false
+is_within rows.ClearKeyFlag = false
+is_within rows.PowerOff = false
+is_within rows.LoadImmediate = false
+is_within rows.WriteData = false
+is_within rows.ReadData = false
+is_within rows.FetchWord = false
+is_within rows.SelectPeripheral = false
+is_within (rows.LongJump low_byte) = false
+is_within (rows.ShortJump condition displacement) = false
+is_within (rows.ReturnIf condition) = false
+is_within rows.Return = false
+is_within rows.GoToAddress = false
+is_within rows.GoToKey = false
+is_within row = true
+
+-- such a word was carried out, whatever the memory and the pages are
+abbrev pub RanWithin : {T : Type 0} → Row → Keys → Processor → Processor → Result T WordRefusal
+    → Type 0
+RanWithin row keys s t result = (ram : RegisterMap) (pages : PageMap)
+    → Goes None (next_address s) (answer row (nut_of s ram pages keys))
+    (registers_after row (nut_of s ram pages keys)) s t result

@@ -174,7 +174,18 @@ impl Cpu {
         ensures { GoesOn (spec.after_transfer transfer) self.old self.new result }
     {
         let next = self.following()?;
+        self.copy_or_exchange(transfer);
+        self.arrive(next, false);
+        Ok(())
+    }
+
+    /// Copies a register to another, or exchanges two.
+    #[inline(always)]
+    fn copy_or_exchange(&mut self, transfer: RegisterTransfer)
+        ensures { self.new ≡ spec.after_transfer transfer self.old }
+    {
         let (c, g, t) = (self.c, self.g, self.t);
+        let status = self.status_byte();
         match transfer {
             RegisterTransfer::CToG => self.g = self.byte_at_pointer(),
             RegisterTransfer::GToC => self.put_byte_at_pointer(g),
@@ -189,21 +200,19 @@ impl Cpu {
             RegisterTransfer::CToN => self.n = c,
             RegisterTransfer::NToC => self.c = self.n,
             RegisterTransfer::ExchangeCN => (self.c, self.n) = (self.n, c),
-            RegisterTransfer::StatusToT => self.t = self.status_byte(),
+            RegisterTransfer::StatusToT => self.t = status,
             RegisterTransfer::TToStatus => self.set_status_byte(t),
             RegisterTransfer::ExchangeStatusT => {
-                self.t = self.status_byte();
+                self.t = status;
                 self.set_status_byte(t);
             }
             RegisterTransfer::CToStatus => self.set_status_byte(c.byte(0)),
-            RegisterTransfer::StatusToC => self.c = c.with_byte(0, self.status_byte()),
+            RegisterTransfer::StatusToC => self.c = c.with_byte(0, status),
             RegisterTransfer::ExchangeCStatus => {
-                self.c = c.with_byte(0, self.status_byte());
+                self.c = c.with_byte(0, status);
                 self.set_status_byte(c.byte(0));
             }
         }
-        self.arrive(next, false);
-        Ok(())
     }
 
     /// The byte of C at the active pointer, its low digit there and its high digit one place above.

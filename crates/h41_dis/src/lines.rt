@@ -3,12 +3,12 @@
 ghost use Rattle.std.specs.Prelude.{◌≡◌, ◌+◌, ◌%◌, ◌≤◌, ◌<◌, ◌++◌, IfOk, length};
 ghost use Rattle.std.specs.String.{string_bytes};
 ghost use Rattle.arrayvec.specs.ArrayString.{array_string_len};
-ghost use Rattle.h41_dis.specs.Spelling.{columns_text, GainsLine, listing_text, piece_line, spell};
+ghost use Rattle.h41_dis.specs.Spelling.{columns_text, GainsLine, listing_text, piece_line};
+ghost use Rattle.h41_dis.specs.Spelling.{second_column, spell};
 
 use crate::cut::{Piece, Pieces};
-use crate::text::{push_instruction, push_word};
+use crate::text::{push_address, push_instruction, push_word};
 use arrayvec::ArrayString;
-use h41_lines::characters::push_byte_digits;
 use h41_words::Word;
 use std::alloc::{AllocError, Global};
 
@@ -72,16 +72,25 @@ fn push_columns(columns: &mut ArrayString<LINE>, address: u16, piece: Piece)
     ensures text { columns.new.bytes ≡ columns.old.bytes ++ columns_text address piece }
     ensures length { array_string_len columns.new ≡ 15 }
 {
-    push_byte_digits(columns, (address / 256) as u8);
-    push_byte_digits(columns, (address % 256) as u8);
+    push_address(columns, address);
     columns.push_str("  ");
     push_word(columns, piece.first);
-    match piece.second {
+    push_second_column(columns, piece.second);
+    columns.push_str("  ");
+}
+
+/// Appends a second word behind a blank, or blanks in their place.
+#[inline]
+fn push_second_column(columns: &mut ArrayString<LINE>, second: Option<Word>)
+    requires { array_string_len columns.old ≤ 9 }
+    ensures text { columns.new.bytes ≡ columns.old.bytes ++ second_column second }
+    ensures length { array_string_len columns.new ≡ array_string_len columns.old + 4 }
+{
+    match second {
         Some(second) => {
             columns.push_str(" ");
             push_word(columns, second);
         }
         None => columns.push_str("    "),
     }
-    columns.push_str("  ");
 }

@@ -60,8 +60,20 @@ fn push_long_jump<const N: usize>(text: &mut ArrayString<N>, low_byte: u8, secon
 {
     text.push_str(long_jump_name(second.condition, second.kind));
     text.push_str(" ");
-    push_byte_digits(text, second.high_byte);
-    push_byte_digits(text, low_byte);
+    push_address(
+        text,
+        u16::from(second.high_byte) * 256 + u16::from(low_byte),
+    );
+}
+
+/// Appends the four digits of an address.
+#[inline]
+pub(crate) fn push_address<const N: usize>(text: &mut ArrayString<N>, address: u16)
+    requires { array_string_len text.old + 4 ≤ N }
+    ensures { text.new.bytes ≡ text.old.bytes ++ hexadecimal_text 4 address }
+{
+    push_byte_digits(text, (address / 256) as u8);
+    push_byte_digits(text, (address % 256) as u8);
 }
 
 /// Appends a row of one word.

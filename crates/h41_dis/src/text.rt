@@ -76,6 +76,7 @@ pub(crate) fn push_address<const N: usize>(text: &mut ArrayString<N>, address: u
     push_byte_digits(text, (address % 256) as u8);
 }
 
+#[tactic(auto, using(crate::proofs::Short::mnemonic_short))]
 /// Appends a row of one word.
 #[inline]
 fn push_row<const N: usize>(text: &mut ArrayString<N>, row: Row)

@@ -8,8 +8,7 @@ use h41_words::{Bank, Condition, LongJumpKind, Operation, RegisterTransfer, Row}
 
 /// The mnemonic of a row of one word; the first word of two, and a word that stands for no instruction, is `CON`.
 pub(crate) fn mnemonic(row: &Row) -> &'static str
-    ensures text { result.now ≡ spec.mnemonic row.now }
-    ensures short { length result.now ≤ 10 }
+    ensures { result.now ≡ spec.mnemonic row.now }
 {
     match row {
         Row::Arithmetic(operation, _) => operation_name(*operation),
@@ -62,8 +61,7 @@ pub(crate) fn mnemonic(row: &Row) -> &'static str
 
 /// The name of an operation.
 fn operation_name(operation: Operation) -> &'static str
-    ensures text { result.now ≡ spec.operation_text operation }
-    ensures short { length result.now ≤ 6 }
+    ensures { result.now ≡ spec.operation_text operation }
 {
     match operation {
         Operation::ClearA => "A=0",
@@ -120,8 +118,7 @@ pub(crate) fn field_name(field: Field) -> &'static str
 
 /// The name of a copy or an exchange of registers.
 fn transfer_name(transfer: RegisterTransfer) -> &'static str
-    ensures text { result.now ≡ spec.transfer_text transfer }
-    ensures short { length result.now ≤ 5 }
+    ensures { result.now ≡ spec.transfer_text transfer }
 {
     match transfer {
         RegisterTransfer::CToG => "G=C",
@@ -144,8 +141,7 @@ fn transfer_name(transfer: RegisterTransfer) -> &'static str
 
 /// The name of a jump by a displacement.
 fn short_jump_name(condition: Condition) -> &'static str
-    ensures text { result.now ≡ spec.short_jump_text condition }
-    ensures short { length result.now ≤ 3 }
+    ensures { result.now ≡ spec.short_jump_text condition }
 {
     match condition {
         Condition::NoCarry => "JNC",
@@ -168,8 +164,7 @@ pub(crate) fn long_jump_name(condition: Condition, kind: LongJumpKind) -> &'stat
 
 /// The name of the choice of a bank.
 fn bank_name(bank: Bank) -> &'static str
-    ensures text { result.now ≡ spec.bank_text bank }
-    ensures short { length result.now ≤ 7 }
+    ensures { result.now ≡ spec.bank_text bank }
 {
     match bank {
         Bank::First => "ENBANK1",
@@ -181,8 +176,7 @@ fn bank_name(bank: Bank) -> &'static str
 
 /// The name of the choice of a pointer.
 fn selection_name(pointer: Pointer) -> &'static str
-    ensures text { result.now ≡ spec.selection_text pointer }
-    ensures short { length result.now ≤ 6 }
+    ensures { result.now ≡ spec.selection_text pointer }
 {
     match pointer {
         Pointer::P => "SLCT P",
@@ -192,8 +186,7 @@ fn selection_name(pointer: Pointer) -> &'static str
 
 /// The name of a return at a carry.
 fn return_name(condition: Condition) -> &'static str
-    ensures text { result.now ≡ spec.return_text condition }
-    ensures short { length result.now ≤ 7 }
+    ensures { result.now ≡ spec.return_text condition }
 {
     match condition {
         Condition::NoCarry => "?NC RTN",

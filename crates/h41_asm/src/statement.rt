@@ -1,12 +1,14 @@
 //! What a line says behind its label.
 
 ghost use Rattle.std.specs.Prelude.{◌≡◌, ◌+◌, ◌≤◌, ◌==◌, [], ◌∷◌, codes, length};
-ghost use Rattle.std.specs.Option.{ok_or};
+ghost use Rattle.std.specs.Option.{ok_or, option_map};
+ghost use Rattle.h41_words.specs.Counts.{place_count, status_bit_count};
 ghost use Rattle.h41_asm.specs.declared.fault.SourceFault.TheVariants.{BadOperand};
 ghost use Rattle.h41_asm.specs.CodeStatements.{found_in_code, in_code, in_form, in_line};
 ghost use Rattle.h41_asm.specs.CodeStatements.{read_in_code, taken_operand, takes_in_code};
 ghost use Rattle.h41_asm.specs.CodeStatements.{takes_numbered};
 ghost use Rattle.h41_asm.specs.Openings as openings;
+ghost use Rattle.h41_asm.specs.Operands.{number_in};
 ghost use Rattle.h41_asm.specs.Openings.{Reads, ReadsSecond};
 ghost use Rattle.h41_asm.specs.SourceLines.{words_of};
 ghost use Rattle.h41_asm.specs.Statements as spec;
@@ -309,18 +311,39 @@ fn take(taking: Taking, operand: &[u8]) -> Option<Statement<'_>>
 fn take_number(numbered: Numbered, operand: &[u8]) -> Option<Statement<'_>>
     ensures { found_in_code result ≡ takes_numbered numbered operand.now }
 {
-    let row = match numbered {
-        Numbered::ClearStatus => Row::ClearStatus(StatusBit::new(number_in(0, 14, operand)?)),
-        Numbered::SetStatus => Row::SetStatus(StatusBit::new(number_in(0, 14, operand)?)),
-        Numbered::TestStatus => Row::TestStatus(StatusBit::new(number_in(0, 14, operand)?)),
-        Numbered::TestPointer => Row::TestPointer(DigitPlace::new(number_in(0, 14, operand)?)),
-        Numbered::SetPointer => Row::SetPointer(DigitPlace::new(number_in(0, 14, operand)?)),
-        Numbered::RotateRight => Row::RotateRight(DigitPlace::new(number_in(0, 14, operand)?)),
+    let row = numbered_row(numbered, operand)?;
+    Some(Form::One(word(row)).alone())
+}
+
+/// The row of an instruction whose operand is a number.
+fn numbered_row(numbered: Numbered, operand: &[u8]) -> Option<Row>
+    ensures { option_map spec.one_word result ≡ takes_numbered numbered operand.now }
+{
+    Some(match numbered {
+        Numbered::ClearStatus => Row::ClearStatus(status_bit_in(operand)?),
+        Numbered::SetStatus => Row::SetStatus(status_bit_in(operand)?),
+        Numbered::TestStatus => Row::TestStatus(status_bit_in(operand)?),
+        Numbered::TestPointer => Row::TestPointer(place_in(operand)?),
+        Numbered::SetPointer => Row::SetPointer(place_in(operand)?),
+        Numbered::RotateRight => Row::RotateRight(place_in(operand)?),
         Numbered::LoadDigit => Row::LoadDigit(LoadedDigit::new(number_in(0, 16, operand)?)),
         Numbered::Write => Row::Write(BlockRegister::new(number_in(0, 16, operand)?)),
         Numbered::Read => Row::Read(ReadRegister::new(number_in(1, 15, operand)?)),
-    };
-    Some(Form::One(word(row)).alone())
+    })
+}
+
+/// A status bit, by its number.
+fn status_bit_in(operand: &[u8]) -> Option<StatusBit>
+    ensures { result ≡ number_in 0 status_bit_count operand.now }
+{
+    Some(StatusBit::new(number_in(0, 14, operand)?))
+}
+
+/// A place of a register, by its number.
+fn place_in(operand: &[u8]) -> Option<DigitPlace>
+    ensures { result ≡ number_in 0 place_count operand.now }
+{
+    Some(DigitPlace::new(number_in(0, 14, operand)?))
 }
 
 /// A jump to an address, or to a label.

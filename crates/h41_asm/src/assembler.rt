@@ -1,16 +1,17 @@
 //! From lines to words, in two passes: first the addresses of the labels, then the words.
 
-ghost use Rattle.std.specs.Prelude.{◌≡◌, ◌-ℤ◌, pos, ◌<◌, ◌≤◌, ◌++◌, [], ◌∷◌, None, Some, IfOk};
+ghost use Rattle.std.specs.Prelude.{◌≡◌, ℕ, ◌-ℤ◌, pos, ◌<◌, ◌≤◌, ◌++◌, [], ◌∷◌, None, Some, IfOk};
 ghost use Rattle.std.specs.Prelude.{IfErr, OnOk, length};
 ghost use Rattle.std.specs.Option.{ok_or};
 ghost use Rattle.h41_asm.specs.Assembly.{Assembles, address_count};
-ghost use Rattle.h41_asm.specs.CodeStatements.{in_label};
-ghost use Rattle.h41_asm.specs.Faults.{assembly_fault, is_past};
+ghost use Rattle.h41_asm.specs.CodeStatements.{entry_bits, in_label};
+ghost use Rattle.h41_asm.specs.Faults.{assembly_fault, is_past, missing_fault, reach_fault};
 ghost use Rattle.h41_asm.specs.KeptLines.{AreReadyFrom, KeepsLines, Says, SpellsBy, first_fault_by};
 ghost use Rattle.h41_asm.specs.LabelTable.{AddsLabel, AddsName, AddsOwn, HoldsLabels, fault_by};
 ghost use Rattle.h41_asm.specs.LabelTable.{first_own_fault, is_held, is_held_in, jump_word};
-ghost use Rattle.h41_asm.specs.LabelTable.{labels_in, line_fault_in};
+ghost use Rattle.h41_asm.specs.LabelTable.{SpellsNext, labels_in, line_fault_in};
 ghost use Rattle.h41_asm.specs.Refusals.{IsFault, IsRefusal};
+ghost use Rattle.h41_asm.specs.Statements.{EntryAt, LongJumpTo, ShortJumpTo};
 
 use crate::emit::{entry_words, push_name};
 use crate::fault::{AssembleError, SourceFault, SpellError};
@@ -176,34 +177,93 @@ fn push_statement(
     ensures err { IfErr result (IsFault (fault_by labels.now address statement.now)) }
 {
     match statement.form {
-        Form::Nothing => {}
-        Form::One(word) => words.push(word)?,
-        Form::Two(first, second) => push_two(words, first, second)?,
-        Form::Name => push_name(words, statement.name)?,
-        Form::OutOfReach => return Err(SpellError::Fault(SourceFault::TooFar)),
+        Form::Nothing => Ok(()),
+        Form::One(word) => push_one(words, word),
+        Form::Two(first, second) => push_two(words, first, second),
+        Form::Name => Ok(push_name(words, statement.name)?),
+        Form::OutOfReach => Err(SpellError::Fault(SourceFault::TooFar)),
         Form::LongJumpTo(condition, kind) => {
-            let target = label_address(labels, statement.name)?;
-            let (first, second) = long_jump_words(condition, kind, target);
-            push_two(words, first, second)?;
+            push_long_jump(words, labels, condition, kind, statement.name)
         }
         Form::ShortJumpTo(condition) => {
-            let target = label_address(labels, statement.name)?;
-            let word = short_jump(condition, distance(address, target))?;
-            words.push(word)?;
+            push_short_jump(words, labels, address, condition, statement.name)
         }
-        Form::EntryAt(kind) => {
-            let target = label_address(labels, statement.name)?;
-            let (first, second) = entry_words(kind, target);
-            push_two(words, first, second)?;
-        }
+        Form::EntryAt(kind) => push_entry(words, labels, kind, statement.name),
     }
-    Ok(())
+}
+
+/// Appends the words of a jump to a label.
+#[inline(always)]
+fn push_long_jump(
+    words: &mut Vec<Word>,
+    labels: &Labels<'_>,
+    condition: Condition,
+    kind: LongJumpKind,
+    name: &[u8],
+) -> Result<(), SpellError>
+    ensures ok { OnOk result (missing_fault (labels_in labels.now name.now) ≡ None) }
+    ensures own { (address : ℕ) → OnOk result (SpellsNext (labels_in labels.now) address
+        (LongJumpTo condition kind name.now) words.old.items words.new.items) }
+    ensures err { IfErr result (IsFault (missing_fault (labels_in labels.now name.now))) }
+{
+    let target = label_address(labels, name)?;
+    let (first, second) = long_jump_words(condition, kind, target);
+    push_two(words, first, second)
+}
+
+/// Appends the word of a short jump at an address to a label.
+#[inline(always)]
+fn push_short_jump(
+    words: &mut Vec<Word>,
+    labels: &Labels<'_>,
+    address: u32,
+    condition: Condition,
+    name: &[u8],
+) -> Result<(), SpellError>
+    requires { address ≤ address_count }
+    ensures ok { OnOk result (reach_fault address (labels_in labels.now name.now) ≡ None) }
+    ensures own { OnOk result (SpellsNext (labels_in labels.now) address
+        (ShortJumpTo condition name.now) words.old.items words.new.items) }
+    ensures err { IfErr result (IsFault
+        (reach_fault address (labels_in labels.now name.now))) }
+{
+    let target = label_address(labels, name)?;
+    let word = short_jump(condition, distance(address, target))?;
+    push_one(words, word)
+}
+
+/// Appends the words of a function that begins at a label.
+#[inline(always)]
+fn push_entry(
+    words: &mut Vec<Word>,
+    labels: &Labels<'_>,
+    kind: EntryKind,
+    name: &[u8],
+) -> Result<(), SpellError>
+    ensures ok { OnOk result (missing_fault (labels_in labels.now name.now) ≡ None) }
+    ensures own { (address : ℕ) → OnOk result (SpellsNext (labels_in labels.now) address
+        (EntryAt (entry_bits kind) name.now) words.old.items words.new.items) }
+    ensures err { IfErr result (IsFault (missing_fault (labels_in labels.now name.now))) }
+{
+    let target = label_address(labels, name)?;
+    let (first, second) = entry_words(kind, target);
+    push_two(words, first, second)
+}
+
+/// Appends a word.
+#[inline(always)]
+fn push_one(words: &mut Vec<Word>, word: Word) -> Result<(), SpellError>
+    ensures pushed { OnOk result (words.new.items ≡ words.old.items ++ word ∷ []) }
+    ensures err { IfErr result (λ error. error ≡ SpellError.OutOfMemory) }
+{
+    Ok(words.push(word)?)
 }
 
 /// Appends two words.
 #[inline(always)]
-fn push_two(words: &mut Vec<Word>, first: Word, second: Word) -> Result<(), AllocError>
-    ensures { OnOk result (words.new.items ≡ words.old.items ++ first ∷ second ∷ []) }
+fn push_two(words: &mut Vec<Word>, first: Word, second: Word) -> Result<(), SpellError>
+    ensures pushed { OnOk result (words.new.items ≡ words.old.items ++ first ∷ second ∷ []) }
+    ensures err { IfErr result (λ error. error ≡ SpellError.OutOfMemory) }
 {
     words.push(first)?;
     words.push(second)?;

@@ -1,7 +1,7 @@
 //! From lines to words, in two passes: first the addresses of the labels, then the words.
 
 ghost use Rattle.std.specs.Prelude.{◌≡◌, ℕ, ◌-ℤ◌, pos, ◌<◌, ◌≤◌, ◌++◌, [], ◌∷◌, None, Some, IfOk};
-ghost use Rattle.std.specs.Prelude.{IfErr, OnOk, length};
+ghost use Rattle.std.specs.Prelude.{IfErr, List, OnOk, length};
 ghost use Rattle.std.specs.Option.{ok_or};
 ghost use Rattle.h41_asm.specs.Assembly.{Assembles, address_count};
 ghost use Rattle.h41_asm.specs.CodeStatements.{entry_bits, in_label};
@@ -37,33 +37,39 @@ pub fn assemble(alloc: Global, text: &[u8], origin: u16) -> Result<Vec<Word>, As
     ensures ok { OnOk result (assembly_fault text.now origin ≡ None) }
     ensures err { IfErr result (IsRefusal (assembly_fault text.now origin)) }
 {
-    let (labels, lines, names) = place(alloc, text, origin)?;
-    spell(alloc, origin, &labels, &lines, &names)
-}
-
-/// The addresses of the labels of a source, and what its lines with words say; or the first fault that a line has whatever the
-/// labels are.
-fn place<'a>(
-    alloc: Global,
-    text: &'a [u8],
-    origin: u16,
-) -> Result<(Labels<'a>, Vec<KeptLine>, Vec<&'a [u8]>), AssembleError>
-    ensures ok { OnOk result (first_own_fault origin text.now ≡ None) }
-    ensures labels { IfOk result (λ placed. HoldsLabels placed.0 origin text.now) }
-    ensures kept { IfOk result (λ placed. KeepsLines text.now placed.1.items placed.2.items) }
-    ensures err { IfErr result (IsRefusal (first_own_fault origin text.now)) }
-{
     let mut labels = IndexMap::new(alloc);
     let mut lines = Vec::new(alloc);
     let mut names = Vec::new(alloc);
+    place(&mut labels, &mut lines, &mut names, text, origin)?;
+    spell(alloc, origin, &labels, &lines, &names)
+}
+
+/// Notes the addresses of the labels of a source, and keeps what its lines with words say, where nothing was before; or refuses
+/// the first fault that a line has whatever the labels are.
+#[inline(always)]
+fn place<'a>(
+    labels: &mut Labels<'a>,
+    lines: &mut Vec<KeptLine>,
+    names: &mut Vec<&'a [u8]>,
+    text: &'a [u8],
+    origin: u16,
+) -> Result<(), AssembleError>
+    requires labels { (name : List ℕ) → labels_in labels.old name ≡ None }
+    requires lines { lines.old.items ≡ [] }
+    requires names { names.old.items ≡ [] }
+    ensures ok { OnOk result (first_own_fault origin text.now ≡ None) }
+    ensures labels { OnOk result (HoldsLabels labels.new origin text.now) }
+    ensures kept { OnOk result (KeepsLines text.now lines.new.items names.new.items) }
+    ensures err { IfErr result (IsRefusal (first_own_fault origin text.now)) }
+{
     let mut address = u32::from(origin);
     let mut number = 1;
     let mut start = 0;
     while start < text.len() {
         let (line, next) = line_at(text, start);
-        match place_line(&mut labels, address, read_line(line)) {
+        match place_line(labels, address, read_line(line)) {
             Ok(statement) => {
-                keep(&mut lines, &mut names, number, &statement)?;
+                keep(lines, names, number, &statement)?;
                 address += statement.length() as u32;
             }
             Err(error) => return Err(error.at_line(number)),
@@ -71,7 +77,7 @@ fn place<'a>(
         number += 1;
         start = next;
     }
-    Ok((labels, lines, names))
+    Ok(())
 }
 
 /// Notes the label of a line at an address, and answers what the line says.

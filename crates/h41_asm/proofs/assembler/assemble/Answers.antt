@@ -11,20 +11,20 @@ use Rattle.h41_asm.proofs.Walks.{reference_faults_of}
 use Rattle.h41_asm.proofs.assembler.assemble.Goals as goal
 
 pub spell-requires-clause-length : goal.spell-requires-clause-length
-spell-requires-clause-length c = rw (c.deref.ensures.value, c.deref-2.ensures.value) c.in_ok-labels.ensures.kept.length
+spell-requires-clause-length c = rw (c.deref.ensures.value, c.deref-2.ensures.value) c.in_ok-place.ensures.kept.length
 
 pub spell-requires-clause-ready : goal.spell-requires-clause-ready
 spell-requires-clause-ready c =
-    let placed = c.in_ok-labels.ensures in
-    let labels : Labels = labels_in c.in_ok-labels.labels in
+    let placed = c.in_ok-place.ensures in
+    let labels : Labels = labels_in c.place.new.labels in
     let all = source_lines c.args.text.now in
     rw (c.deref.ensures.value, c.deref-2.ensures.value, placed.kept.said)
     (ready_said labels 1 c.args.origin all (ready_by labels c.args.text.now c.args.origin placed.ok placed.labels))
 
 pub returns-clause-words : goal.returns-clause-words
 returns-clause-words c =
-    let placed = c.in_ok-labels.ensures in
-    let labels : Labels = labels_in c.in_ok-labels.labels in
+    let placed = c.in_ok-place.ensures in
+    let labels : Labels = labels_in c.place.new.labels in
     let all = source_lines c.args.text.now in
     let ready : IsReady labels c.args.origin all = ready_by labels c.args.text.now c.args.origin placed.ok placed.labels in
     IfOk-weaker c.spell.result _ _ (λ words spelled.
@@ -44,12 +44,12 @@ fault_of labels source origin said kept none same =
 
 pub returns-clause-ok : goal.returns-clause-ok
 returns-clause-ok c =
-    let placed = c.in_ok-labels.ensures in
-    rw (← fault_of (labels_in c.in_ok-labels.labels) c.args.text.now c.args.origin _ placed.kept.said placed.ok placed.labels)
+    let placed = c.in_ok-place.ensures in
+    rw (← fault_of (labels_in c.place.new.labels) c.args.text.now c.args.origin _ placed.kept.said placed.ok placed.labels)
     (rw (c.deref.ensures.value, c.deref-2.ensures.value) at c.spell.ensures.ok)
 
 pub returns-clause-err : goal.returns-clause-err
 returns-clause-err c =
-    let placed = c.in_ok-labels.ensures in
-    rw (← fault_of (labels_in c.in_ok-labels.labels) c.args.text.now c.args.origin _ placed.kept.said placed.ok placed.labels)
+    let placed = c.in_ok-place.ensures in
+    rw (← fault_of (labels_in c.place.new.labels) c.args.text.now c.args.origin _ placed.kept.said placed.ok placed.labels)
     (rw (c.deref.ensures.value, c.deref-2.ensures.value) at c.spell.ensures.err)

@@ -13,12 +13,12 @@ use Rattle.h41_asm.proofs.assembler.place.Goals as goal
 pub loop-start-init : goal.loop-start-init
 loop-start-init c =
     let count = length-lines c.args.text.now in
-    rw (c.from-address.ensures, c.new-lines.ensures.items, c.new-names.ensures.items)
+    rw (c.from-address.ensures, c.requires.lines, c.requires.names)
     (record {
       within = omega arith;
       count = omega (arith, count);
-      placed = placed_none (labels_in c.new-labels.result) (source_lines c.args.text.now)
-          c.args.origin (λ name. rw c.new-labels.ensures.empty refl);
+      placed = placed_none (labels_in c.args.labels.now) (source_lines c.args.text.now)
+          c.args.origin c.requires.labels;
       length = refl;
       kept = refl;
     })

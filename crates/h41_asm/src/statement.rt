@@ -1,6 +1,6 @@
 //! What a line says behind its label.
 
-ghost use Rattle.std.specs.Prelude.{◌≡◌, ◌+◌, ◌≤◌, ◌==◌, [], ◌∷◌, codes, length};
+ghost use Rattle.std.specs.Prelude.{◌≡◌, ◌+◌, ◌≤◌, ◌==◌, [], ◌∷◌, bytes_eq, codes, length};
 ghost use Rattle.std.specs.Option.{ok_or, option_map};
 ghost use Rattle.h41_words.specs.Counts.{place_count, status_bit_count};
 ghost use Rattle.h41_asm.specs.declared.fault.SourceFault.TheVariants.{BadOperand};
@@ -232,16 +232,24 @@ fn at_carry(condition: Condition, others: SourceWords<'_>) -> Result<Statement<'
     ensures { ReadsSecond (openings.at_carry condition) others.entry result }
 {
     let mut others = others;
-    match others.next() {
-        Some(second) if second == "RTN".as_bytes() => alone(word(Row::ReturnIf(condition)), others),
-        Some(second) if second == "XQ".as_bytes() => {
-            taken(Taking::LongJump(condition, LongJumpKind::Execute), others)
-        }
-        Some(second) if second == "GO".as_bytes() => {
-            taken(Taking::LongJump(condition, LongJumpKind::Go), others)
-        }
-        _ => Err(SourceFault::BadLine),
+    let second = others.next().ok_or(SourceFault::BadLine)?;
+    if is(second, "RTN") {
+        alone(word(Row::ReturnIf(condition)), others)
+    } else if is(second, "XQ") {
+        taken(Taking::LongJump(condition, LongJumpKind::Execute), others)
+    } else if is(second, "GO") {
+        taken(Taking::LongJump(condition, LongJumpKind::Go), others)
+    } else {
+        Err(SourceFault::BadLine)
     }
+}
+
+/// Whether a word is this text.
+#[inline(always)]
+fn is(word: &[u8], text: &str) -> bool
+    ensures { result ≡ bytes_eq word.now text.now }
+{
+    word == text.as_bytes()
 }
 
 /// Whether no word is left.

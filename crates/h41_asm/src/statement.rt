@@ -3,6 +3,7 @@
 ghost use Rattle.std.specs.Prelude.{◌≡◌, ◌+◌, ◌≤◌, ◌==◌, [], ◌∷◌, bytes_eq, codes, length};
 ghost use Rattle.std.specs.Option.{ok_or, option_map};
 ghost use Rattle.h41_words.specs.Counts.{place_count, status_bit_count};
+ghost use Rattle.h41_words.specs.WordTable.{number_of};
 ghost use Rattle.h41_asm.specs.declared.fault.SourceFault.TheVariants.{BadOperand};
 ghost use Rattle.h41_asm.specs.CodeStatements.{found_in_code, in_code, in_form, in_line};
 ghost use Rattle.h41_asm.specs.CodeStatements.{read_in_code, taken_operand, takes_in_code};
@@ -126,19 +127,16 @@ fn opened(opening: Opening, others: SourceWords<'_>) -> Result<Statement<'_>, So
         Opening::Taker(taking) => taken(taking, others),
         Opening::Data(number, numbered) => data_or(rom_word(number), numbered, others),
         Opening::Logic => logic(others),
-        Opening::Push => pair("ADR", word(Row::PushAddress), others),
-        Opening::Pop => pair("ADR", word(Row::PopAddress), others),
-        Opening::Ram => pair("SLCT", word(Row::SelectRegister), others),
-        Opening::Peripheral => pair("SLCT", word(Row::SelectPeripheral), others),
-        Opening::Fetch => pair("S&X", word(Row::FetchWord), others),
+        Opening::Push => pair("ADR", Row::PushAddress, others),
+        Opening::Pop => pair("ADR", Row::PopAddress, others),
+        Opening::Ram => pair("SLCT", Row::SelectRegister, others),
+        Opening::Peripheral => pair("SLCT", Row::SelectPeripheral, others),
+        Opening::Fetch => pair("S&X", Row::FetchWord, others),
         Opening::Select => {
-            let p = word(Row::SelectPointer(Pointer::P));
-            either("P", p, "Q", word(Row::SelectPointer(Pointer::Q)), others)
+            let p = Row::SelectPointer(Pointer::P);
+            either("P", p, "Q", Row::SelectPointer(Pointer::Q), others)
         }
-        Opening::GoTo => {
-            let address = word(Row::GoToAddress);
-            either("ADR", address, "KEY", word(Row::GoToKey), others)
-        }
+        Opening::GoTo => either("ADR", Row::GoToAddress, "KEY", Row::GoToKey, others),
         Opening::If(condition) => at_carry(condition, others),
     }
 }
@@ -176,42 +174,44 @@ fn is_data(words: SourceWords<'_>) -> bool
 {
     let mut words = words;
     match words.next() {
-        Some(word) => word == "DATA".as_bytes() && is_nothing(words),
+        Some(word) => is(word, "DATA") && is_nothing(words),
         None => false,
     }
 }
 
 /// An instruction whose second word is this.
-fn pair<'a>(
-    name: &str,
-    instruction: Word,
-    others: SourceWords<'a>,
-) -> Result<Statement<'a>, SourceFault>
-    ensures { ReadsSecond (openings.pair name.now instruction) others.entry result }
+fn pair<'a>(name: &str, row: Row, others: SourceWords<'a>) -> Result<Statement<'a>, SourceFault>
+    ensures { ReadsSecond (openings.pair name.now (number_of row)) others.entry result }
 {
     let mut others = others;
-    match others.next() {
-        Some(second) if second == name.as_bytes() => alone(instruction, others),
-        _ => Err(SourceFault::BadLine),
+    let second = others.next().ok_or(SourceFault::BadLine)?;
+    if is(second, name) {
+        alone(word(row), others)
+    } else {
+        Err(SourceFault::BadLine)
     }
 }
 
 /// One of two instructions, by the second word.
 fn either<'a>(
     name: &str,
-    word: Word,
+    row: Row,
     other_name: &str,
-    other: Word,
+    other_row: Row,
     others: SourceWords<'a>,
 ) -> Result<Statement<'a>, SourceFault>
-    ensures { ReadsSecond (openings.one_of_two name.now word other_name.now other) others.entry
-        result }
+    ensures { ReadsSecond
+        (openings.one_of_two name.now (number_of row) other_name.now (number_of other_row))
+        others.entry result }
 {
     let mut others = others;
-    match others.next() {
-        Some(second) if second == name.as_bytes() => alone(word, others),
-        Some(second) if second == other_name.as_bytes() => alone(other, others),
-        _ => Err(SourceFault::BadLine),
+    let second = others.next().ok_or(SourceFault::BadLine)?;
+    if is(second, name) {
+        alone(word(row), others)
+    } else if is(second, other_name) {
+        alone(word(other_row), others)
+    } else {
+        Err(SourceFault::BadLine)
     }
 }
 
@@ -220,10 +220,13 @@ fn logic(others: SourceWords<'_>) -> Result<Statement<'_>, SourceFault>
     ensures { ReadsSecond openings.logic others.entry result }
 {
     let mut others = others;
-    match others.next() {
-        Some(second) if second == "OR".as_bytes() => pair("A", word(Row::Or), others),
-        Some(second) if second == "AND".as_bytes() => pair("A", word(Row::And), others),
-        _ => Err(SourceFault::BadLine),
+    let second = others.next().ok_or(SourceFault::BadLine)?;
+    if is(second, "OR") {
+        pair("A", Row::Or, others)
+    } else if is(second, "AND") {
+        pair("A", Row::And, others)
+    } else {
+        Err(SourceFault::BadLine)
     }
 }
 

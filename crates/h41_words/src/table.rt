@@ -286,14 +286,31 @@ fn short_jump(word: Word) -> Row
     ensures valid { spec.IsRow result }
 {
     let number = word.number();
-    let condition = if number / 4 % 2 == 0 {
+    Row::ShortJump(condition(number / 4 % 2), displacement(number / 8))
+}
+
+/// The condition with this bit.
+#[inline(always)]
+fn condition(bit: u16) -> Condition
+    requires { bit < 2 }
+    ensures { spec.condition_bit result ≡ bit }
+{
+    if bit == 0 {
         Condition::NoCarry
     } else {
         Condition::Carry
-    };
-    let bits = (number / 8) as i16;
+    }
+}
+
+/// The displacement with these bits, 0 to 127.
+#[inline(always)]
+fn displacement(bits: u16) -> Displacement
+    requires { bits < 128 }
+    ensures { spec.displacement_bits result ≡ bits }
+{
+    let bits = bits as i16;
     let words = if bits < 64 { bits } else { bits - 128 };
-    Row::ShortJump(condition, Displacement::new(words as i8))
+    Displacement::new(words as i8)
 }
 
 /// The row of a word whose low two bits are 00.

@@ -8,7 +8,8 @@ ghost use Rattle.h41_pages.specs.Addresses.{first_address};
 ghost use Rattle.h41_pages.specs.PageMap.{with_chosen};
 ghost use Rattle.h41_nut.specs.Addresses.{end_of_function};
 ghost use Rattle.h41_nut.specs.private.ProcessorSteps.{TellsEnd};
-ghost use Rattle.h41_nut.specs.private.RowStep.{Ran, RanWithin, is_jump, is_within};
+ghost use Rattle.h41_nut.specs.private.RowStep.{Changed, Ran, RanWithin, is_jump, is_test};
+ghost use Rattle.h41_nut.specs.private.RowStep.{is_within};
 ghost use Rattle.h41_nut.specs.WordStep.{Stepped};
 ghost use Rattle.h41_ram.specs.RamState.{KeepsMark};
 
@@ -17,7 +18,7 @@ use crate::cpu::Cpu;
 use crate::cpu::pointers::{place_above, place_below};
 use crate::cpu::registers::{digits_and, digits_or};
 use crate::keys::Keys;
-use crate::machine::memory::{read_register, write_data, write_register};
+use crate::machine::memory::{read_data, read_register, write_data, write_register};
 use crate::machine::peripherals::{constant_refusal, select_peripheral};
 use crate::machine::rom::{fetch, fetch_word, write_rom};
 use crate::refusal::WordRefusal;
@@ -141,7 +142,7 @@ fn execute_straight<const REGS: usize>(
             cpu.load_immediate(second)
         }
         Row::WriteData => write_data(cpu, ram),
-        Row::ReadData => cpu.load_register(ram.read(cpu.selected())),
+        Row::ReadData => read_data(cpu, ram),
         Row::FetchWord => fetch_word(cpu, pages),
         Row::SelectPeripheral => select_peripheral(cpu),
         _ => execute_within(row, cpu, *keys),
@@ -156,22 +157,39 @@ fn execute_within(row: Row, cpu: &mut Cpu, keys: Keys) -> Result<(), WordRefusal
     ensures { RanWithin row keys cpu.old cpu.new result }
 {
     match row {
-        Row::ClearStatus(bit) => cpu.set_status(bit, false),
-        Row::SetStatus(bit) => cpu.set_status(bit, true),
         Row::TestStatus(bit) => cpu.answer(cpu.is_status_set(bit)),
         Row::TestPointer(place) => cpu.answer(cpu.pointer() == usize::from(place.number())),
+        Row::TestPointersEqual => cpu.answer(cpu.p() == cpu.q()),
+        Row::TestKeyFlag => cpu.answer(keys.flag),
+        Row::TestLowBattery | Row::Nop => cpu.go_on(),
+        _ => {
+            let next = cpu.following()?;
+            change(row, cpu, keys);
+            cpu.arrive(next, false);
+            Ok(())
+        }
+    }
+}
+
+/// Changes registers of the processor as a word says that is about these alone, and no test.
+#[inline(always)]
+fn change(row: Row, cpu: &mut Cpu, keys: Keys)
+    requires within { is_within row ≡ true }
+    requires change { is_test row ≡ false }
+    ensures { Changed row keys cpu.old cpu.new }
+{
+    match row {
+        Row::ClearStatus(bit) => cpu.set_status(bit, false),
+        Row::SetStatus(bit) => cpu.set_status(bit, true),
         Row::SetPointer(place) => cpu.set_pointer(usize::from(place.number())),
         Row::RotateRight(digits) => cpu.rotate_right(digits),
         Row::LoadDigit(digit) => cpu.load_digit(digit),
-        Row::Nop | Row::TestLowBattery => cpu.go_on(),
         Row::ClearStatusByte => cpu.clear_status_byte(),
-        Row::TestKeyFlag => cpu.answer(keys.flag),
         Row::DecrementPointer => cpu.set_pointer(place_below(cpu.pointer())),
         Row::IncrementPointer => cpu.set_pointer(place_above(cpu.pointer())),
         Row::Transfer(transfer) => cpu.transfer(transfer),
         Row::DropReturn => cpu.drop_return(),
         Row::SelectPointer(pointer) => cpu.select_pointer(pointer),
-        Row::TestPointersEqual => cpu.answer(cpu.p() == cpu.q()),
         Row::ClearRegisters => cpu.clear_registers(),
         Row::ReadKey => cpu.load_key(keys.ky),
         Row::SetHexadecimal => cpu.set_base(Base::Hexadecimal),

@@ -1,5 +1,5 @@
 -- What carrying out a row promises a step.
-use Rattle.std.specs.Prelude.{Bool, true, false, None, Result}
+use Rattle.std.specs.Prelude.{◌≡◌, Bool, true, false, None, Result}
 use Rattle.h41_words.specs.declared.rows.Row.{Row}
 use Rattle.h41_words.specs.declared.rows.Row.TheVariants as rows
 use Rattle.h41_pages.specs.PageMap.{PageMap}
@@ -61,3 +61,18 @@ abbrev pub RanWithin : {T : Type 0} → Row → Keys → Processor → Processor
 RanWithin row keys s t result = (ram : RegisterMap) (pages : PageMap)
     → Goes None (next_address s) (answer row (nut_of s ram pages keys))
     (registers_after row (nut_of s ram pages keys)) s t result
+
+-- whether such a word changes no register, but for what it answers as the carry
+abbrev pub is_test : Row → Bool
+is_test (rows.TestStatus bit) = true
+is_test (rows.TestPointer place) = true
+is_test rows.TestPointersEqual = true
+is_test rows.TestKeyFlag = true
+is_test rows.TestLowBattery = true
+is_test rows.Nop = true
+is_test row = false
+
+-- the registers were changed as such a word says, whatever the memory and the pages are
+abbrev pub Changed : Row → Keys → Processor → Processor → Type 0
+Changed row keys s t =
+    (ram : RegisterMap) → (pages : PageMap) → t ≡ registers_after row (nut_of s ram pages keys)

@@ -151,38 +151,26 @@ impl Cpu {
     }
 
     /// `XQ->GO`: drops the newest return address.
-    pub(crate) fn drop_return(&mut self) -> Result<(), WordRefusal>
-        requires { first_address ≤ self.old.pc }
-        ensures { GoesOn spec.with_return_popped self.old self.new result }
+    pub(crate) fn drop_return(&mut self)
+        ensures { self.new ≡ spec.with_return_popped self.old }
     {
-        let next = self.following()?;
         self.pop();
-        self.arrive(next, false);
-        Ok(())
     }
 
     /// `PUSH ADR`: the address in C becomes the newest return address.
-    pub(crate) fn push_address(&mut self) -> Result<(), WordRefusal>
-        requires { first_address ≤ self.old.pc }
-        ensures { GoesOn with_address_pushed self.old self.new result }
+    pub(crate) fn push_address(&mut self)
+        ensures { self.new ≡ with_address_pushed self.old }
     {
-        let next = self.following()?;
         self.push(self.address_in_c());
-        self.arrive(next, false);
-        Ok(())
     }
 
     /// `POP ADR`: the newest return address goes to C, and is taken off.
-    pub(crate) fn pop_address(&mut self) -> Result<(), WordRefusal>
-        requires { first_address ≤ self.old.pc }
-        ensures { GoesOn with_address_popped self.old self.new result }
+    pub(crate) fn pop_address(&mut self)
+        ensures { self.new ≡ with_address_popped self.old }
     {
-        let next = self.following()?;
         let address = self.returns[0];
         self.c = self.c.with_number(3, 6, u64::from(address));
         self.pop();
-        self.arrive(next, false);
-        Ok(())
     }
 
     /// `GOTO KEY`: goes to the next address with the key's code as its low byte. Tells whether a function ends there.

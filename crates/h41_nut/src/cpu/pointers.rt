@@ -1,12 +1,9 @@
 //! The words of the pointers.
 
-ghost use Rattle.std.specs.Prelude.{◌≡◌, ◌<◌, ◌≤◌};
-ghost use Rattle.h41_pages.specs.Addresses.{first_address};
-ghost use Rattle.h41_nut.specs.private.ProcessorSteps.{GoesOn};
+ghost use Rattle.std.specs.Prelude.{◌≡◌, ◌<◌};
 ghost use Rattle.h41_nut.specs.Pointers as spec;
 
 use crate::cpu::Cpu;
-use crate::refusal::WordRefusal;
 use h41_digits::PLACES;
 use h41_fields::Pointer;
 
@@ -23,19 +20,7 @@ impl Cpu {
     }
 
     /// `R= n`, `R=R+1` and `R=R-1`: puts the active pointer at a place.
-    pub(crate) fn set_pointer(&mut self, place: usize) -> Result<(), WordRefusal>
-        requires held { first_address ≤ self.old.pc }
-        requires place { place < 14 }
-        ensures { GoesOn (spec.with_pointer place) self.old self.new result }
-    {
-        let next = self.following()?;
-        self.move_pointer(place);
-        self.arrive(next, false);
-        Ok(())
-    }
-
-    /// Puts the active pointer at a place.
-    pub(crate) fn move_pointer(&mut self, place: usize)
+    pub(crate) fn set_pointer(&mut self, place: usize)
         requires { place < 14 }
         ensures { self.new ≡ spec.with_pointer place self.old }
     {
@@ -46,14 +31,10 @@ impl Cpu {
     }
 
     /// `SLCT P` and `SLCT Q`: makes a pointer the active one.
-    pub(crate) fn select_pointer(&mut self, pointer: Pointer) -> Result<(), WordRefusal>
-        requires { first_address ≤ self.old.pc }
-        ensures { GoesOn (spec.with_active pointer) self.old self.new result }
+    pub(crate) fn select_pointer(&mut self, pointer: Pointer)
+        ensures { self.new ≡ spec.with_active pointer self.old }
     {
-        let next = self.following()?;
         self.active = pointer;
-        self.arrive(next, false);
-        Ok(())
     }
 }
 

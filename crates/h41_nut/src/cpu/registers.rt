@@ -62,126 +62,78 @@ impl Cpu {
     }
 
     /// `LD@R n`: a digit goes to C at the active pointer, which goes down.
-    pub(crate) fn load_digit(&mut self, digit: LoadedDigit) -> Result<(), WordRefusal>
-        requires { first_address ≤ self.old.pc }
-        ensures { GoesOn (spec.with_digit_loaded digit) self.old self.new result }
+    pub(crate) fn load_digit(&mut self, digit: LoadedDigit)
+        ensures { self.new ≡ spec.with_digit_loaded digit self.old }
     {
-        let next = self.following()?;
         let place = self.pointer();
         self.c = self.c.with(place, digit.number());
-        self.move_pointer(place_below(place));
-        self.arrive(next, false);
-        Ok(())
+        self.set_pointer(place_below(place));
     }
 
     /// `C=KEY`: the key's code goes to C's digits 4 and 3.
-    pub(crate) fn load_key(&mut self, key: u8) -> Result<(), WordRefusal>
-        requires { first_address ≤ self.old.pc }
-        ensures { GoesOn (spec.with_key_in_c key) self.old self.new result }
+    pub(crate) fn load_key(&mut self, key: u8)
+        ensures { self.new ≡ spec.with_key_in_c key self.old }
     {
-        let next = self.following()?;
         self.c = self.c.with_number(3, 4, u64::from(key));
-        self.arrive(next, false);
-        Ok(())
     }
 
     /// `READ DATA`, `C=C OR A` and `C=C AND A`: a register goes to C.
-    pub(crate) fn load_register(&mut self, register: Reg) -> Result<(), WordRefusal>
-        requires { first_address ≤ self.old.pc }
-        ensures { GoesOn (spec.with_c register) self.old self.new result }
+    pub(crate) fn load_register(&mut self, register: Reg)
+        ensures { self.new ≡ spec.with_c register self.old }
     {
-        let next = self.following()?;
         self.c = register;
-        self.arrive(next, false);
-        Ok(())
     }
 
     /// `RCR n`: rotates C right by so many digits.
-    pub(crate) fn rotate_right(&mut self, digits: DigitPlace) -> Result<(), WordRefusal>
-        requires { first_address ≤ self.old.pc }
-        ensures { GoesOn (spec.with_c_rotated digits) self.old self.new result }
+    pub(crate) fn rotate_right(&mut self, digits: DigitPlace)
+        ensures { self.new ≡ spec.with_c_rotated digits self.old }
     {
-        let next = self.following()?;
         self.c = rotated(self.c, usize::from(digits.number()));
-        self.arrive(next, false);
-        Ok(())
     }
 
     /// `CLRABC`: clears A, B and C.
-    pub(crate) fn clear_registers(&mut self) -> Result<(), WordRefusal>
-        requires { first_address ≤ self.old.pc }
-        ensures { GoesOn spec.with_abc_clear self.old self.new result }
+    pub(crate) fn clear_registers(&mut self)
+        ensures { self.new ≡ spec.with_abc_clear self.old }
     {
-        let next = self.following()?;
         self.a = Reg::zero();
         self.b = Reg::zero();
         self.c = Reg::zero();
-        self.arrive(next, false);
-        Ok(())
     }
 
     /// `RAM SLCT`, `WRIT n`: selects an address of the memory.
-    pub(crate) fn select(&mut self, address: u16) -> Result<(), WordRefusal>
-        requires held { first_address ≤ self.old.pc }
-        requires address { address < word_count }
-        ensures { GoesOn (with_selected address) self.old self.new result }
+    pub(crate) fn select(&mut self, address: u16)
+        requires { address < word_count }
+        ensures { self.new ≡ with_selected address self.old }
     {
-        let next = self.following()?;
         self.selected = address;
-        self.arrive(next, false);
-        Ok(())
     }
 
     /// `READ n`: selects an address of the memory, whose register goes to C.
-    pub(crate) fn select_and_load(&mut self, address: u16, register: Reg) -> Result<(), WordRefusal>
-        requires held { first_address ≤ self.old.pc }
-        requires address { address < word_count }
-        ensures { GoesOn (selecting_and_loading address register) self.old self.new result }
+    pub(crate) fn select_and_load(&mut self, address: u16, register: Reg)
+        requires { address < word_count }
+        ensures { self.new ≡ selecting_and_loading address register self.old }
     {
-        let next = self.following()?;
         self.selected = address;
         self.c = register;
-        self.arrive(next, false);
-        Ok(())
     }
 
     /// `SETHEX` and `SETDEC`: the base that arithmetic counts in from here on.
-    pub(crate) fn set_base(&mut self, base: Base) -> Result<(), WordRefusal>
-        requires { first_address ≤ self.old.pc }
-        ensures { GoesOn (spec.with_base base) self.old self.new result }
+    pub(crate) fn set_base(&mut self, base: Base)
+        ensures { self.new ≡ spec.with_base base self.old }
     {
-        let next = self.following()?;
         self.base = base;
-        self.arrive(next, false);
-        Ok(())
     }
 
     /// `DISOFF` and `DISTOG`: turns the display on or off.
-    pub(crate) fn set_display(&mut self, on: bool) -> Result<(), WordRefusal>
-        requires { first_address ≤ self.old.pc }
-        ensures { GoesOn (spec.with_display on) self.old self.new result }
+    pub(crate) fn set_display(&mut self, on: bool)
+        ensures { self.new ≡ spec.with_display on self.old }
     {
-        let next = self.following()?;
         self.display = on;
-        self.arrive(next, false);
-        Ok(())
     }
 
     /// `G=C`, `C=M`, `ST<>T` and the like: copies a register, or exchanges two.
     #[inline(always)]
-    pub(crate) fn transfer(&mut self, transfer: RegisterTransfer) -> Result<(), WordRefusal>
-        requires { first_address ≤ self.old.pc }
-        ensures { GoesOn (spec.after_transfer transfer) self.old self.new result }
-    {
-        let next = self.following()?;
-        self.copy_or_exchange(transfer);
-        self.arrive(next, false);
-        Ok(())
-    }
-
-    /// Copies a register to another, or exchanges two.
-    #[inline(always)]
-    fn copy_or_exchange(&mut self, transfer: RegisterTransfer)
+    pub(crate) fn transfer(&mut self, transfer: RegisterTransfer)
         ensures { self.new ≡ spec.after_transfer transfer self.old }
     {
         let (c, g, t) = (self.c, self.g, self.t);

@@ -1,12 +1,9 @@
 //! The words of the status bits.
 
-ghost use Rattle.std.specs.Prelude.{◌≡◌, ◌≤◌};
-ghost use Rattle.h41_pages.specs.Addresses.{first_address};
-ghost use Rattle.h41_nut.specs.private.ProcessorSteps.{GoesOn};
+ghost use Rattle.std.specs.Prelude.{◌≡◌};
 ghost use Rattle.h41_nut.specs.Pointers as spec;
 
 use crate::cpu::Cpu;
-use crate::refusal::WordRefusal;
 use crate::status_bits::{StatusBits, named};
 use bitflags::Flags;
 use h41_words::StatusBit;
@@ -20,32 +17,17 @@ impl Cpu {
     }
 
     /// `SETF n` and `CLRF n`: sets or clears a status bit.
-    pub(crate) fn set_status(&mut self, bit: StatusBit, on: bool) -> Result<(), WordRefusal>
-        requires { first_address ≤ self.old.pc }
-        ensures { GoesOn (spec.with_status bit on) self.old self.new result }
-    {
-        let next = self.following()?;
-        self.put_status(bit, on);
-        self.arrive(next, false);
-        Ok(())
-    }
-
-    /// Sets or clears a status bit.
-    fn put_status(&mut self, bit: StatusBit, on: bool)
+    pub(crate) fn set_status(&mut self, bit: StatusBit, on: bool)
         ensures { self.new ≡ spec.with_status bit on self.old }
     {
         self.status.set(named(bit), on);
     }
 
     /// `ST=0`: clears S0 to S7.
-    pub(crate) fn clear_status_byte(&mut self) -> Result<(), WordRefusal>
-        requires { first_address ≤ self.old.pc }
-        ensures { GoesOn (spec.with_status_byte 0) self.old self.new result }
+    pub(crate) fn clear_status_byte(&mut self)
+        ensures { self.new ≡ spec.with_status_byte 0 self.old }
     {
-        let next = self.following()?;
         self.set_status_byte(0);
-        self.arrive(next, false);
-        Ok(())
     }
 
     /// S0 to S7 as a byte.

@@ -25,7 +25,8 @@ pub fn write_register<const REGS: usize>(
     ensures mark { KeepsMark ram.old ram.new }
 {
     let address = cpu.block_address(register.number());
-    cpu.select(address)?;
+    cpu.go_on()?;
+    cpu.select(address);
     ram.write(address, cpu.c());
     Ok(())
 }
@@ -40,7 +41,9 @@ pub fn read_register<const REGS: usize>(
     ensures { GoesOn (spec.with_register_in_c ram.now.registers register) cpu.old cpu.new result }
 {
     let address = cpu.block_address(register.number());
-    cpu.select_and_load(address, ram.read(address))
+    cpu.go_on()?;
+    cpu.select_and_load(address, ram.read(address));
+    Ok(())
 }
 
 /// `WRIT DATA`: C goes to the selected register.
@@ -54,5 +57,15 @@ pub fn write_data<const REGS: usize>(cpu: &mut Cpu, ram: &mut Ram<REGS>) -> Resu
 {
     cpu.go_on()?;
     ram.write(cpu.selected(), cpu.c());
+    Ok(())
+}
+
+/// `READ DATA`: the selected register goes to C.
+pub fn read_data<const REGS: usize>(cpu: &mut Cpu, ram: &Ram<REGS>) -> Result<(), WordRefusal>
+    requires { first_address ≤ cpu.old.pc }
+    ensures { GoesOn (spec.with_selected_in_c ram.now.registers) cpu.old cpu.new result }
+{
+    cpu.go_on()?;
+    cpu.load_register(ram.read(cpu.selected()));
     Ok(())
 }

@@ -1,6 +1,6 @@
 use Rattle.std.proofs.Common.{◌∙◌}
 use Rattle.h41_nut.proofs.StatusNumbers.{put_bit, put_bit-lt}
-use Rattle.h41_nut.proofs.cpu.Cpu.put_status.Goals as goal
+use Rattle.h41_nut.proofs.cpu.Cpu.set_status.Goals as goal
 
 pub invariant_of-self : goal.invariant_of-self
 invariant_of-self c =

@@ -2,6 +2,7 @@
 
 ghost use Rattle.std.specs.Prelude.{◌≡◌, IfOk, Some};
 ghost use Rattle.std.specs.Fmt.{WritesOnOk};
+ghost use Rattle.h41_digits.specs.Register.{hexadecimal_text, text};
 ghost use Rattle.h41_views.specs.Views as spec;
 ghost use Rattle.h41_views.specs.Views.{registers_line, memories_line, pointers_line, modes_line};
 ghost use Rattle.h41_views.specs.Views.{returns_line, pointer_text, base_text, bit_text};
@@ -66,9 +67,9 @@ fn write_memories<W: fmt::Write>(f: &mut fmt::Formatter<W>, cpu: &Cpu) -> fmt::R
 fn write_pointers<W: fmt::Write>(f: &mut fmt::Formatter<W>, cpu: &Cpu) -> fmt::Result
     ensures { WritesOnOk W.write_str_gives f.old result (pointers_line cpu.now) f.new }
 {
-    let g = Digits::<2>::holding(u64::from(cpu.g()));
-    let t = Digits::<2>::holding(u64::from(cpu.t()));
-    let status = Digits::<4>::holding(u64::from(cpu.status()));
+    let g = byte_digits(cpu.g());
+    let t = byte_digits(cpu.t());
+    let status = word_digits(cpu.status());
     let p = Digits::<1>::holding(cpu.p() as u64);
     let q = Digits::<1>::holding(cpu.q() as u64);
     let active = pointer_name(cpu.active());
@@ -80,11 +81,11 @@ fn write_pointers<W: fmt::Write>(f: &mut fmt::Formatter<W>, cpu: &Cpu) -> fmt::R
 fn write_modes<W: fmt::Write>(f: &mut fmt::Formatter<W>, cpu: &Cpu, keys: &Keys) -> fmt::Result
     ensures { WritesOnOk W.write_str_gives f.old result (modes_line cpu.now keys.now) f.new }
 {
-    let pc = Digits::<4>::holding(u64::from(cpu.pc()));
+    let pc = word_digits(cpu.pc());
     let carry = bit(cpu.carry());
     let base = base_name(cpu.base());
     let selected = Digits::<3>::holding(u64::from(cpu.selected()));
-    let ky = Digits::<2>::holding(u64::from(keys.ky));
+    let ky = byte_digits(keys.ky);
     let flag = bit(keys.flag);
     writeln!(
         f,
@@ -98,11 +99,25 @@ fn write_returns<W: fmt::Write>(f: &mut fmt::Formatter<W>, cpu: &Cpu) -> fmt::Re
     ensures { WritesOnOk W.write_str_gives f.old result (returns_line cpu.now) f.new }
 {
     let [newest, second, third, fourth] = cpu.returns();
-    let newest = Digits::<4>::holding(u64::from(newest));
-    let second = Digits::<4>::holding(u64::from(second));
-    let third = Digits::<4>::holding(u64::from(third));
-    let fourth = Digits::<4>::holding(u64::from(fourth));
+    let newest = word_digits(newest);
+    let second = word_digits(second);
+    let third = word_digits(third);
+    let fourth = word_digits(fourth);
     writeln!(f, "RTN={newest} {second} {third} {fourth}")
+}
+
+/// The digits of a number of 8 bits.
+fn byte_digits(byte: u8) -> Digits<2>
+    ensures { text result ≡ hexadecimal_text 2 byte }
+{
+    Digits::holding(u64::from(byte))
+}
+
+/// The digits of a number of 16 bits.
+fn word_digits(word: u16) -> Digits<4>
+    ensures { text result ≡ hexadecimal_text 4 word }
+{
+    Digits::holding(u64::from(word))
 }
 
 /// `P` or `Q`.

@@ -96,27 +96,26 @@ fn push_operand<const N: usize>(text: &mut ArrayString<N>, row: Row)
     ensures text { text.new.bytes ≡ text.old.bytes ++ behind (operand row) }
     ensures length { array_string_len text.new ≤ array_string_len text.old + 4 }
 {
-    match row {
+    let number = match row {
         Row::Arithmetic(_, field) => {
             text.push_str(" ");
-            text.push_str(field_name(field));
+            return text.push_str(field_name(field));
         }
-        Row::ShortJump(_, displacement) => push_displacement(text, displacement),
-        Row::ClearStatus(bit) | Row::SetStatus(bit) | Row::TestStatus(bit) => {
-            push_decimal(text, bit.number());
-        }
+        Row::ShortJump(_, displacement) => return push_displacement(text, displacement),
+        Row::ClearStatus(bit) | Row::SetStatus(bit) | Row::TestStatus(bit) => bit.number(),
         Row::TestPointer(place) | Row::SetPointer(place) | Row::RotateRight(place) => {
-            push_decimal(text, place.number());
+            place.number()
         }
-        Row::LoadDigit(digit) => push_decimal(text, digit.number()),
-        Row::Write(register) => push_decimal(text, register.number()),
-        Row::Read(register) => push_decimal(text, register.number()),
+        Row::LoadDigit(digit) => digit.number(),
+        Row::Write(register) => register.number(),
+        Row::Read(register) => register.number(),
         Row::Constant(_) | Row::LongJump(_) | Row::LoadImmediate => {
             text.push_str(" ");
-            push_word(text, word(row));
+            return push_word(text, word(row));
         }
-        _ => {}
-    }
+        _ => return,
+    };
+    push_decimal(text, number);
 }
 
 /// Appends a blank and a decimal number.

@@ -1,4 +1,5 @@
 mod Edited
+mod Ended
 mod OneAnswer
 mod Opened
 mod Shown

@@ -84,10 +84,9 @@ pub fn go_to_end<const REGS: usize>(
     ensures labels { focal.new.labels ≡ focal.old.labels }
 {
     lists_are_determined();
-    let open = is_last_open(ram)?;
+    let open = is_last_open(ram).unwrap_or(false);
     close_last(ram)?;
-    let end = final_position(ram);
-    let start = Position::Memory(h41_program::start_of(ram, end));
+    let start = Position::Memory(h41_program::start_of(ram, final_position(ram)));
     if open {
         focal.halt_at(start);
     } else {

@@ -13,6 +13,7 @@ use Rattle.h41_debug.specs.Bench.{BenchState, with_calculator}
 use Rattle.h41_breakpoints.specs.Breakpoints.{is_set}
 use Rattle.h41_debug.specs.Positions.{location_of}
 use Rattle.h41_debug.specs.private.Running.{runs_function, stop_at, stop_behind, stop_running}
+use Rattle.h41_debug.specs.declared.run.Stop.{Stop}
 use Rattle.h41_debug.specs.declared.run.Stop.TheVariants.{Break, Idle}
 use Rattle.h41_debug.proofs.Runs.{made_more}
 
@@ -21,6 +22,11 @@ pub no_function : (m : Mode) → ((caller : Caller) → m ≡ modes.Micro caller
 no_function modes.Idle other = refl
 no_function modes.Run other = refl
 no_function (modes.Micro caller) other = absurd (other caller refl)
+
+not_idle : (m : Mode) → (m ≡ modes.Idle → ⊥) → is_idle m ≡ false
+not_idle modes.Idle other = absurd (other refl)
+not_idle modes.Run other = refl
+not_idle (modes.Micro caller) other = refl
 
 pub line_refuses : (m : Mode) (s : CalculatorState) (why : Option CalculatorRefusal) → runs_function m ≡ false → RefusesLine s why
     → RefusesStepIn m s why
@@ -50,6 +56,16 @@ pub clear_in_program : (behind : Bool) (t : BenchState) → t.calculator.mode �
     ≡ None
 clear_in_program behind t mode clear =
     stop_either behind t (subst (λ (m : Mode). (if is_idle m then Some Idle else stop_running t) ≡ None) (sym mode) clear)
+
+-- where nothing runs that is the reason to stop behind a step, and else a breakpoint alone
+pub idle_stops : (behind : Bool) (s : BenchState) → behind ≡ true → s.calculator.mode ≡ modes.Idle → Some Idle ≡ stop_behind behind s
+idle_stops behind s is mode = rw (is, mode) refl
+
+pub running_stops : (behind : Bool) (s : BenchState) (m : Mode) → behind ≡ true → m ≡ s.calculator.mode → (m ≡ modes.Idle → ⊥)
+    → (stop : Option Stop) → stop ≡ stop_running s → stop ≡ stop_behind behind s
+running_stops behind s m is mode other stop same =
+    let runs : is_idle s.calculator.mode ≡ false = ap is_idle (sym mode) ∙ not_idle m other in
+    rw (is, runs) same
 
 module _ (same_refusal : StepRefusalIsDetermined) (same_step : StepIsDetermined) where
   -- one step more

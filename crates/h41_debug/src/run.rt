@@ -165,7 +165,7 @@ impl<const REGS: usize> Bench<REGS> {
         }
         match self.calculator().mode() {
             Mode::Idle => Some(Stop::Idle),
-            Mode::Run | Mode::Micro(_) => self.stop_at_breakpoint(watched),
+            _ => self.stop_at_breakpoint(watched),
         }
     }
 

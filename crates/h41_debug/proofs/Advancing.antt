@@ -57,6 +57,13 @@ pub clear_in_program : (behind : Bool) (t : BenchState) → t.calculator.mode �
 clear_in_program behind t mode clear =
     stop_either behind t (subst (λ (m : Mode). (if is_idle m then Some Idle else stop_running t) ≡ None) (sym mode) clear)
 
+-- where something runs a breakpoint alone stops it
+pub breaks : (s : BenchState) → is_set s.breakpoints (location_of s.calculator) ≡ true → Some Break ≡ stop_running s
+breaks s set = rw set refl
+
+pub goes_past : (s : BenchState) → is_set s.breakpoints (location_of s.calculator) ≡ false → None ≡ stop_running s
+goes_past s free = rw free refl
+
 -- where nothing runs that is the reason to stop behind a step, and else a breakpoint alone
 pub idle_stops : (behind : Bool) (s : BenchState) → behind ≡ true → s.calculator.mode ≡ modes.Idle → Some Idle ≡ stop_behind behind s
 idle_stops behind s is mode = rw (is, mode) refl

@@ -1,4 +1,5 @@
 pub mod Advancing
+mod Locations
 pub mod KeysInTurn
 pub mod Runs
 pub mod StepsInTurn

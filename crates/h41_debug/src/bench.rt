@@ -77,8 +77,8 @@ impl<const REGS: usize> Bench<REGS> {
         ensures { result ≡ location_of self.now.calculator }
     {
         match self.calculator.mode() {
-            Mode::Idle | Mode::Run => Location::Line(self.calculator.focal().position),
             Mode::Micro(_) => Location::Word(self.calculator.cpu().pc()),
+            _ => Location::Line(self.calculator.focal().position),
         }
     }
 

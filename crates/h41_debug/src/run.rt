@@ -143,7 +143,7 @@ impl<const REGS: usize> Bench<REGS> {
             }
             match self.calculator().mode() {
                 Mode::Run => {}
-                Mode::Idle | Mode::Micro(_) => return (made + 1, None),
+                _ => return (made + 1, None),
             }
             match self.stop_at_breakpoint(watched) {
                 None => {}
@@ -176,11 +176,13 @@ impl<const REGS: usize> Bench<REGS> {
         requires { watched ≡ false → len self.now.breakpoints ≡ 0 }
         ensures { result ≡ stop_running self.now }
     {
-        if watched && self.has_breakpoint(self.location()) {
-            Some(Stop::Break)
-        } else {
-            None
+        if !watched {
+            return None;
         }
+        if self.has_breakpoint(self.location()) {
+            return Some(Stop::Break);
+        }
+        None
     }
 }
 

@@ -16,8 +16,8 @@ returns-in-Err g c =
     (c.in-Err.ensures).refusal)
     (c.in-Err.ensures).unchanged
 
-pub returns-in-Idle : goal.returns-in-Idle
-returns-in-Idle g c =
+pub returns-in_default : goal.returns-in_default
+returns-in_default g c =
     ends_piece c.step_is_determined.ensures.refusal c.step_is_determined.ensures.state c.args.limit
     c.args.from c.loop-made.made c.args.self.now c.loop-made.self c.step_line.new.self
     c.loop-made.invariant.0 c.loop-made.invariant.3 c.loop-made.auto.made c.loop-made.invariant.1 c.loop-made-test.true

@@ -1,19 +1,18 @@
-use Rattle.std.proofs.Common.{◌≡◌, Bool, false, Some, None, sym, ap, subst, ◌∙◌}
-use Rattle.std.specs.Prelude.{if◌then◌else◌}
-use Rattle.h41_breakpoints.specs.Breakpoints.{is_set}
+use Rattle.std.proofs.Common.{sym, ◌∙◌}
 use Rattle.h41_breakpoints.proofs.Members.{none_set}
+use Rattle.h41_debug.proofs.Advancing.{breaks, goes_past}
 use Rattle.h41_debug.specs.Positions.{location_of}
-use Rattle.h41_debug.specs.declared.run.Stop.TheVariants.{Break}
 use Rattle.h41_debug.proofs.bench.Bench.stop_at_breakpoint.Goals as goal
-use Rattle.h41_debug.proofs.bench.Bench.stop_at_breakpoint.Goals.{else-watched-via-then-watched+else-has_breakpoint}
-use Rattle.h41_debug.proofs.bench.Bench.stop_at_breakpoint.Goals.{else-watched-via-else-watched}
 
-pub returns-else-watched : goal.returns-else-watched
-returns-else-watched g c =
+pub returns-then-not-watched : goal.returns-then-not-watched
+returns-then-not-watched g c =
     let s = c.args.self.now in
-    let free : is_set s.breakpoints (location_of s.calculator) ≡ false = elim c.else-watched.branch [
-      | else-watched-via-then-watched+else-has_breakpoint w ↦
-          subst (λ at. is_set s.breakpoints at ≡ false) w.location.ensures (sym w.has_breakpoint.ensures ∙ w.if-has_breakpoint.false)
-      | else-watched-via-else-watched w ↦ sym (none_set s.breakpoints (location_of s.calculator) (c.requires w.if-watched.false))
-    ] in
-    ap (λ (set : Bool). if set then Some Break else None) (sym free)
+    goes_past s (sym (none_set s.breakpoints (location_of s.calculator) (c.requires c.if-not-watched.true)))
+
+pub returns-then-has_breakpoint : goal.returns-then-has_breakpoint
+returns-then-has_breakpoint g c =
+    breaks c.args.self.now (rw c.location.ensures at (sym c.has_breakpoint.ensures ∙ c.if-has_breakpoint.true))
+
+pub returns : goal.returns
+returns g c =
+    goes_past c.args.self.now (rw c.location.ensures at (sym c.has_breakpoint.ensures ∙ c.if-has_breakpoint.false))

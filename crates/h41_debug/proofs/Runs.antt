@@ -130,11 +130,11 @@ module _ (limit made : ℕ) (t : BenchState) (running : is_idle t.calculator.mod
     not_limited short (Refused why) below holds = absurd (omega (arith, below))
 
 -- it ends at its limit, or where a step is refused
-pub ends_at_limit : (limit : ℕ) (s t : BenchState) → GoesOn limit limit s t → Run limit s t limit Limit
-ends_at_limit limit s t on = record {
+pub ends_at_limit : (limit made : ℕ) (s t : BenchState) → GoesOn limit made s t → made ≡ limit → Run limit s t made Limit
+ends_at_limit limit made s t on all = record {
   steps = on.steps;
-  stops = refl;
-  first = not_broken limit limit t on.running on.clear;
+  stops = all;
+  first = not_broken limit made t on.running on.clear;
   least = on.before;
 }
 
@@ -234,12 +234,16 @@ ends_at_refusal limit made s t why so_far stop below refused =
     ((below, refused), λ running. ends_refused limit made s t why (goes_on limit made s t so_far stop running) below refused)
 
 -- as many steps were made as may be
-pub ends_made : (limit : ℕ) (s t : BenchState) → 1 ≤ limit → MakesSteps limit limit s t
+pub ends_limited : (limit made : ℕ) (s t : BenchState) → MakesSteps limit made s t → stop_behind (nat_lt 0 made) t ≡ None → made ≡ limit
+    → is_idle s.calculator.mode ≡ false → Run limit s t made Limit
+ends_limited limit made s t so_far stop all running = ends_at_limit limit made s t (goes_on limit made s t so_far stop running) all
+
+ends_made : (limit : ℕ) (s t : BenchState) → 1 ≤ limit → MakesSteps limit limit s t
     → Ended limit limit s t (unwrap_or (stop_at t) Limit)
 ends_made limit s t some so_far =
     elim (stop_at t) as (λ stop. stop_at t ≡ stop → Ended limit limit s t (unwrap_or stop Limit)) [
       | Some why ↦ λ is. stops_behind limit limit s t why so_far some is
-      | None ↦ λ is. (refl, λ running. ends_at_limit limit s t (on_behind limit limit s t so_far is running))
+      | None ↦ λ is. (refl, λ running. ends_at_limit limit limit s t (on_behind limit limit s t so_far is running) refl)
     ] refl
 
 -- what follows from why steps ended

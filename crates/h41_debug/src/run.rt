@@ -54,9 +54,12 @@ impl<const REGS: usize> Bench<REGS> {
     {
         let watched = self.breakpoint_count() != 0;
         let mut made = 0;
-        while made < limit {
+        loop {
             if let Some(stop) = self.stop(made > 0, watched) {
                 return (made, stop);
+            }
+            if made == limit {
+                return (made, Stop::Limit);
             }
             let (now, refused) = self.go_on(made, limit, watched);
             if let Some(refusal) = refused {
@@ -64,7 +67,6 @@ impl<const REGS: usize> Bench<REGS> {
             }
             made = now;
         }
-        (limit, self.stop(true, watched).unwrap_or(Stop::Limit))
     }
 
     /// Where there is no reason to stop: the next words of a function, or the next lines. Tells how many steps are made then, and why the

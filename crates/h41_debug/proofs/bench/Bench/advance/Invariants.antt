@@ -4,9 +4,9 @@ use Rattle.h41_debug.specs.private.Advancing.{MakesSteps}
 use Rattle.h41_debug.proofs.bench.Bench.advance.Given as goal
 
 -- so many steps were made, and where breakpoints are not asked for none is set
-abbrev pub invariant-loop-made : goal.invariant-loop-made
-invariant-loop-made g l =
+abbrev pub invariant-loop-stop : goal.invariant-loop-stop
+invariant-loop-stop g l =
     MakesSteps l.fn.limit l.made l.fn.self l.self × (l.made ≤ l.fn.limit) × (l.watched ≡ false → len l.self.breakpoints ≡ 0)
 
-abbrev pub decreases-loop-made : goal.decreases-loop-made
-decreases-loop-made g l = l.fn.limit - l.made
+abbrev pub decreases-loop-stop : goal.decreases-loop-stop
+decreases-loop-stop g l = l.fn.limit - l.made

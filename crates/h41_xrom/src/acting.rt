@@ -8,9 +8,7 @@ ghost use Rattle.h41_xrom.specs.private.PrivateCalls.{IsActed, edited_as, effect
 use crate::lines::{LineEnd, LineSource, carry_line};
 use crate::refusal::CalculatorRefusal;
 use crate::storing::stored_line;
-use crate::typing::{
-    add_letter, begin_number, begin_text, change_number, clear_alpha, take_letter, toggle_alpha,
-};
+use crate::typing::{begin_number, change_number, type_letters};
 use h41_codes::{Function, Line};
 use h41_editor::{delete_line, go_to_end, insert_line, replace_line, show_before, show_next};
 use h41_focal::Machine;
@@ -51,7 +49,6 @@ pub fn act<const REGS: usize>(
 {
     kept_answers_stay_right();
     match action {
-        Action::Nothing => Ok(KeyEffect::Nothing),
         Action::Stop => Ok(KeyEffect::Stops),
         Action::Run => Ok(KeyEffect::Starts),
         Action::Step if program_mode => edited(show_next(&machine.ram, pages, &mut machine.focal)),
@@ -68,11 +65,10 @@ pub fn act<const REGS: usize>(
         Action::EndNumber => carried(machine, pages, &LineSource::Keys(CLEAR_X)),
         Action::BeginNumber(number) => Ok(begin_number(machine, &number)),
         Action::ChangeNumber(number) => Ok(change_number(machine, &number)),
-        Action::ToggleAlpha => Ok(toggle_alpha(&mut machine.ram)),
-        Action::BeginText(letter) => Ok(begin_text(&mut machine.ram, letter)),
-        Action::AddLetter(letter) => Ok(add_letter(&mut machine.ram, letter)),
-        Action::TakeLetter => Ok(take_letter(&mut machine.ram)),
-        Action::ClearAlpha => Ok(clear_alpha(&mut machine.ram)),
+        _ => {
+            type_letters(&mut machine.ram, action);
+            Ok(KeyEffect::Nothing)
+        }
     }
 }
 

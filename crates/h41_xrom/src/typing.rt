@@ -7,10 +7,12 @@ ghost use Rattle.h41_xrom.specs.KeyActions.{BeginsNumber, ChangesNumber, Leaves}
 ghost use Rattle.h41_xrom.specs.KeyActions.{with_alpha_toggled, with_letters, with_text};
 ghost use Rattle.h41_xrom.specs.declared.acting.KeyEffect.TheVariants.{Nothing};
 ghost use Rattle.h41_ram.specs.RamState.{KeepsMark};
+ghost use Rattle.h41_xrom.specs.private.PrivateCalls.{lettered};
 
 use crate::acting::KeyEffect;
 use h41_codes::Number;
 use h41_focal::Machine;
+use h41_keys::Action;
 use h41_ram::flags::{ALPHA_ENTRY, ALPHA_MODE, NUMBER_ENTRY};
 use h41_ram::{ALPHA_LENGTH, Ram};
 use h41_rows::{append_text, bring_in, replace_text, written};
@@ -40,58 +42,63 @@ pub fn change_number<const REGS: usize>(machine: &mut Machine<REGS>, number: &Nu
     KeyEffect::Nothing
 }
 
+/// What letters and the key ALPHA make of memory; other actions make nothing of it.
+pub fn type_letters<const REGS: usize>(ram: &mut Ram<REGS>, action: Action)
+    ensures memory { ram.new.registers ≡ lettered action ram.old.registers }
+    ensures mark { KeepsMark ram.old ram.new }
+{
+    match action {
+        Action::ToggleAlpha => toggle_alpha(ram),
+        Action::BeginText(letter) => begin_text(ram, letter),
+        Action::AddLetter(letter) => add_letter(ram, letter),
+        Action::TakeLetter => take_letter(ram),
+        Action::ClearAlpha => clear_alpha(ram),
+        _ => {}
+    }
+}
+
 /// ALPHA is shown and written, or no longer.
-pub fn toggle_alpha<const REGS: usize>(ram: &mut Ram<REGS>) -> KeyEffect
+fn toggle_alpha<const REGS: usize>(ram: &mut Ram<REGS>)
     ensures memory { ram.new.registers ≡ with_alpha_toggled ram.old.registers }
-    ensures effect { result ≡ Nothing }
     ensures mark { KeepsMark ram.old ram.new }
 {
     let on = !ram.flag(ALPHA_MODE);
     ram.set_flag(ALPHA_MODE, on);
-    KeyEffect::Nothing
 }
 
 /// A letter is the first of ALPHA.
-pub fn begin_text<const REGS: usize>(ram: &mut Ram<REGS>, letter: u8) -> KeyEffect
+fn begin_text<const REGS: usize>(ram: &mut Ram<REGS>, letter: u8)
     ensures memory { ram.new.registers ≡ with_letters ram.old.registers (letter ∷ []) }
-    ensures effect { result ≡ Nothing }
     ensures mark { KeepsMark ram.old ram.new }
 {
     replace_text(ram, &[letter]);
     ram.set_flag(ALPHA_ENTRY, true);
-    KeyEffect::Nothing
 }
 
 /// A letter comes behind what ALPHA holds.
-pub fn add_letter<const REGS: usize>(ram: &mut Ram<REGS>, letter: u8) -> KeyEffect
+fn add_letter<const REGS: usize>(ram: &mut Ram<REGS>, letter: u8)
     ensures memory { ram.new.registers ≡ with_letters ram.old.registers
         (alpha_of ram.old.registers ++ letter ∷ []) }
-    ensures effect { result ≡ Nothing }
     ensures mark { KeepsMark ram.old ram.new }
 {
     append_text(ram, &[letter]);
     ram.set_flag(ALPHA_ENTRY, true);
-    KeyEffect::Nothing
 }
 
 /// ALPHA's last character goes.
-pub fn take_letter<const REGS: usize>(ram: &mut Ram<REGS>) -> KeyEffect
+fn take_letter<const REGS: usize>(ram: &mut Ram<REGS>)
     ensures memory { ram.new.registers ≡ with_text ram.old.registers
         (take 23 (alpha_of ram.old.registers)) }
-    ensures effect { result ≡ Nothing }
     ensures mark { KeepsMark ram.old ram.new }
 {
     let alpha = ram.alpha();
     replace_text(ram, &alpha[..ALPHA_LENGTH - 1]);
-    KeyEffect::Nothing
 }
 
 /// ALPHA is cleared.
-pub fn clear_alpha<const REGS: usize>(ram: &mut Ram<REGS>) -> KeyEffect
+fn clear_alpha<const REGS: usize>(ram: &mut Ram<REGS>)
     ensures memory { ram.new.registers ≡ with_text ram.old.registers [] }
-    ensures effect { result ≡ Nothing }
     ensures mark { KeepsMark ram.old ram.new }
 {
     replace_text(ram, &[]);
-    KeyEffect::Nothing
 }

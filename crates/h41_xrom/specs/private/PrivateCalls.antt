@@ -1,6 +1,7 @@
 -- What private functions promise one another of lines and of keys. No public contract needs this
 -- file.
-use Rattle.std.specs.Prelude.{◌≡◌, Bool, IsTrue, List, ℕ, Option, Some, None, Result, Ok, Err}
+use Rattle.std.specs.Prelude.{◌≡◌, Bool, IsTrue, List, [], ◌∷◌, ◌++◌, take, ℕ, Option, Some, None}
+use Rattle.std.specs.Prelude.{Result, Ok, Err}
 use Rattle.std.specs.Option.{option_map_or}
 use Rattle.h41_codes.specs.declared.functions.Function.{Function}
 use Rattle.h41_codes.specs.declared.line.Line.{Line}
@@ -25,7 +26,7 @@ use Rattle.h41_program.specs.Lines.{is_inner}
 use Rattle.h41_program.specs.ProgramLines.{AnswersOf}
 use Rattle.h41_program.specs.Searches.{named_in, position_of}
 use Rattle.h41_program.specs.declared.refusal.ProgramRefusal.{ProgramRefusal}
-use Rattle.h41_ram.specs.RegisterMap.{RegisterMap, is_sound}
+use Rattle.h41_ram.specs.RegisterMap.{RegisterMap, alpha_of, is_sound}
 use Rattle.h41_xrom.specs.Calculator.{CalculatorState, after_answer, with_function}
 use Rattle.h41_xrom.specs.KeyActions as spec
 use Rattle.h41_xrom.specs.Lines.{Answers, Begins, CarriesFrom, Ended}
@@ -76,6 +77,16 @@ effect_as new (Err refusal) = Err refusal
 abbrev pub edited_as : Result (Unit {0}) ProgramRefusal → Result KeyEffect CalculatorRefusal
 edited_as (Ok done) = Ok effects.Nothing
 edited_as (Err refusal) = Err (Program refusal)
+
+-- memory behind an action of letters; others leave it
+abbrev pub lettered : Action → RegisterMap → RegisterMap
+lettered actions.ToggleAlpha memory = spec.with_alpha_toggled memory
+lettered (actions.BeginText letter) memory = spec.with_letters memory (letter ∷ [])
+lettered (actions.AddLetter letter) memory =
+    spec.with_letters memory (alpha_of memory ++ letter ∷ [])
+lettered actions.TakeLetter memory = spec.with_text memory (take 23 (alpha_of memory))
+lettered actions.ClearAlpha memory = spec.with_text memory []
+lettered action memory = memory
 
 -- what is stored in place of XEQ of a name, or that it is stored itself
 abbrev pub StoresFor : PageMap → RegisterMap → List ℕ → Option Line → Type 0

@@ -1,17 +1,21 @@
-use Rattle.std.proofs.Common.{◌≡◌, ◌++◌, [], ◌∷◌, take, Result, Ok, Err, ap, refl, subst, ◌∙◌}
+use Rattle.std.proofs.Common.{Bool, ◌≡◌, Result, Ok, Err, ap, refl, subst, ◌∙◌}
+use Rattle.h41_codes.specs.declared.characters.Number.{Number}
+use Rattle.h41_codes.specs.declared.line.Line.{Line}
 use Rattle.h41_editor.specs.Changes.{Deletes, Inserts, Replaces}
 use Rattle.h41_editor.specs.Moves.{GoesToEnd, ShowsBefore, ShowsNext, made_as}
+use Rattle.h41_keys.specs.declared.action.Action.{Action}
+use Rattle.h41_keys.specs.declared.action.Action.TheVariants as actions
+use Rattle.h41_pages.specs.PageMap.{PageMap}
 use Rattle.h41_positions.specs.FocalState.{Machine, machine_with}
 use Rattle.h41_positions.specs.LabelledMachine.{LabelledMachine, machine_of}
 use Rattle.h41_program.specs.declared.refusal.ProgramRefusal.{ProgramRefusal}
-use Rattle.h41_ram.specs.RegisterMap.{RegisterMap, alpha_of}
-use Rattle.h41_xrom.specs.KeyActions.{Edits, KeyOutcome, edit_effect, leaves_memory, with_alpha_toggled, with_letters, with_text}
-use Rattle.h41_xrom.specs.declared.acting.KeyEffect.{KeyEffect}
-use Rattle.h41_xrom.specs.declared.acting.KeyEffect.TheVariants.{Nothing}
-use Rattle.h41_xrom.specs.declared.refusal.CalculatorRefusal.{CalculatorRefusal}
-use Rattle.h41_xrom.specs.private.PrivateCalls.{edited_as, effect_as, effect_with}
+use Rattle.h41_ram.specs.RegisterMap.{RegisterMap}
 use Rattle.h41_xrom.proofs.LabelsStay.{right_beside, right_over}
 use Rattle.h41_xrom.proofs.acting.act.Goals as goal
+use Rattle.h41_xrom.specs.KeyActions.{Acts, Leaves, leaves_memory, Edits, edit_effect}
+use Rattle.h41_xrom.specs.declared.acting.KeyEffect.{KeyEffect}
+use Rattle.h41_xrom.specs.declared.refusal.CalculatorRefusal.{CalculatorRefusal}
+use Rattle.h41_xrom.specs.private.PrivateCalls.{lettered, edited_as, effect_as}
 
 -- what a change of the program, or a move, makes is its effect
 effect_of_edit : (new : Machine) (given : Result (Unit {0}) ProgramRefusal)
@@ -28,12 +32,39 @@ edits edit old from new given result is made told = (
   ap (effect_as new) told ∙ effect_of_edit new given,
 )
 
--- letters change memory alone
-leaves : (change : RegisterMap → RegisterMap) (old from : LabelledMachine) (memory : RegisterMap) (effect : KeyEffect) → from ≡ old
-    → memory ≡ change from.ram.registers → effect ≡ Nothing
-    → ◌≡◌ {A = Result KeyOutcome CalculatorRefusal} (Ok (effect_with (machine_with memory from.focal.state) effect))
-    (leaves_memory (change old.ram.registers) (machine_of old))
-leaves change old from memory effect is changed nothing = rw (← is, changed, nothing) refl
+-- what is no other action is one of letters, or does nothing
+module _ (pages : PageMap) (program_mode : Bool) (machine : Machine) where
+  abbrev Lettered : Action → Type 0
+  Lettered a = Acts pages program_mode a machine (leaves_memory (lettered a machine.memory) machine)
+
+  letters_act : (a : Action) → (a ≡ actions.Stop → ⊥) → (a ≡ actions.Run → ⊥) → (a ≡ actions.Step → ⊥) → (a ≡ actions.StepBack → ⊥)
+      → ((line : Line) → a ≡ actions.CarryOut line → ⊥) → ((line : Line) → a ≡ actions.Insert line → ⊥)
+      → ((line : Line) → a ≡ actions.Replace line → ⊥) → (a ≡ actions.Delete → ⊥)
+      → ((number : Number) → a ≡ actions.BeginNumber number → ⊥) → ((number : Number) → a ≡ actions.ChangeNumber number → ⊥)
+      → (a ≡ actions.EndNumber → ⊥) → (a ≡ actions.GoToEnd → ⊥) → Lettered a
+  letters_act actions.Nothing stop run step back out insert replace delete begin change end go = refl
+  letters_act actions.Stop stop run step back out insert replace delete begin change end go = absurd (stop refl)
+  letters_act actions.Run stop run step back out insert replace delete begin change end go = absurd (run refl)
+  letters_act actions.Step stop run step back out insert replace delete begin change end go = absurd (step refl)
+  letters_act actions.StepBack stop run step back out insert replace delete begin change end go = absurd (back refl)
+  letters_act (actions.CarryOut line) stop run step back out insert replace delete begin change end go = absurd (out line refl)
+  letters_act (actions.Insert line) stop run step back out insert replace delete begin change end go = absurd (insert line refl)
+  letters_act (actions.Replace line) stop run step back out insert replace delete begin change end go = absurd (replace line refl)
+  letters_act actions.Delete stop run step back out insert replace delete begin change end go = absurd (delete refl)
+  letters_act (actions.BeginNumber number) stop run step back out insert replace delete begin change end go = absurd (begin number refl)
+  letters_act (actions.ChangeNumber number) stop run step back out insert replace delete begin change end go = absurd (change number refl)
+  letters_act actions.EndNumber stop run step back out insert replace delete begin change end go = absurd (end refl)
+  letters_act actions.ToggleAlpha stop run step back out insert replace delete begin change end go = refl
+  letters_act (actions.BeginText letter) stop run step back out insert replace delete begin change end go = refl
+  letters_act (actions.AddLetter letter) stop run step back out insert replace delete begin change end go = refl
+  letters_act actions.TakeLetter stop run step back out insert replace delete begin change end go = refl
+  letters_act actions.ClearAlpha stop run step back out insert replace delete begin change end go = refl
+  letters_act actions.GoToEnd stop run step back out insert replace delete begin change end go = absurd (go refl)
+
+leaves_lettered : (pages : PageMap) (program_mode : Bool) (a : Action) (old from : LabelledMachine) (memory : RegisterMap) → from ≡ old
+    → memory ≡ lettered a from.ram.registers → Lettered pages program_mode (machine_of old) a
+    → Acts pages program_mode a (machine_of old) (Ok (Leaves (machine_with memory from.focal.state)))
+leaves_lettered pages program_mode a old from memory is changed letters = rw (changed, is) letters
 
 pub returns-in-Step-clause-effect : goal.returns-in-Step-clause-effect
 returns-in-Step-clause-effect g c =
@@ -94,36 +125,6 @@ pub returns-in-ChangeNumber-clause-effect : goal.returns-in-ChangeNumber-clause-
 returns-in-ChangeNumber-clause-effect g c =
     rw (c.in-ChangeNumber.is, c.change_number.ensures.effect) c.change_number.ensures.number
 
-pub returns-in-ToggleAlpha-clause-effect : goal.returns-in-ToggleAlpha-clause-effect
-returns-in-ToggleAlpha-clause-effect g c =
-    rw c.in-ToggleAlpha.is
-    (leaves with_alpha_toggled c.args.machine.now _ _ _
-    c.machine-in-ToggleAlpha.view_is c.toggle_alpha.ensures.memory c.toggle_alpha.ensures.effect)
-
-pub returns-in-BeginText-clause-effect : goal.returns-in-BeginText-clause-effect
-returns-in-BeginText-clause-effect g c =
-    rw c.in-BeginText.is
-    (leaves (λ memory. with_letters memory (c.in-BeginText.letter ∷ [])) c.args.machine.now _ _ _
-    c.machine-in-BeginText.view_is c.begin_text.ensures.memory c.begin_text.ensures.effect)
-
-pub returns-in-AddLetter-clause-effect : goal.returns-in-AddLetter-clause-effect
-returns-in-AddLetter-clause-effect g c =
-    rw c.in-AddLetter.is
-    (leaves (λ memory. with_letters memory (alpha_of memory ++ c.in-AddLetter.letter ∷ [])) c.args.machine.now _ _ _
-    c.machine-in-AddLetter.view_is c.add_letter.ensures.memory c.add_letter.ensures.effect)
-
-pub returns-in-TakeLetter-clause-effect : goal.returns-in-TakeLetter-clause-effect
-returns-in-TakeLetter-clause-effect g c =
-    rw c.in-TakeLetter.is
-    (leaves (λ memory. with_text memory (take 23 (alpha_of memory))) c.args.machine.now _ _ _
-    c.machine-in-TakeLetter.view_is c.take_letter.ensures.memory c.take_letter.ensures.effect)
-
-pub returns-in-ClearAlpha-clause-effect : goal.returns-in-ClearAlpha-clause-effect
-returns-in-ClearAlpha-clause-effect g c =
-    rw c.in-ClearAlpha.is
-    (leaves (λ memory. with_text memory []) c.args.machine.now _ _ _
-    c.machine-in-ClearAlpha.view_is c.clear_alpha.ensures.memory c.clear_alpha.ensures.effect)
-
 pub returns-in-GoToEnd-clause-right : goal.returns-in-GoToEnd-clause-right
 returns-in-GoToEnd-clause-right g c =
     right_beside c.kept_answers_stay_right.ensures.keeping c.args.machine.now _ c.go_to_end.new.ram c.go_to_end.new.focal
@@ -152,32 +153,17 @@ pub returns-in-ChangeNumber-clause-right : goal.returns-in-ChangeNumber-clause-r
 returns-in-ChangeNumber-clause-right g c =
     c.kept_answers_stay_right.ensures.keeping c.args.machine.now c.change_number.new.machine c.change_number.ensures.keeps c.requires.right
 
-pub returns-in-ToggleAlpha-clause-right : goal.returns-in-ToggleAlpha-clause-right
-returns-in-ToggleAlpha-clause-right g c =
-    right_over c.kept_answers_stay_right.ensures.keeping c.args.machine.now _ c.toggle_alpha.new.ram c.machine-in-ToggleAlpha.view_is
-    c.toggle_alpha.ensures.mark
-    c.requires.right
+pub returns-in_default-clause-effect : goal.returns-in_default-clause-effect
+returns-in_default-clause-effect g c =
+    let other = c.in_default in
+    let letters = letters_act c.args.pages.now c.args.program_mode (machine_of c.args.machine.now) c.args.action
+    other.not-Stop other.not-Run other.not-Step other.not-StepBack other.not-CarryOut other.not-Insert other.not-Replace other.not-Delete
+    other.not-BeginNumber other.not-ChangeNumber other.not-EndNumber other.not-GoToEnd in
+    leaves_lettered c.args.pages.now c.args.program_mode c.args.action c.args.machine.now _ _ c.machine-in_default.view_is
+    c.type_letters.ensures.memory letters
 
-pub returns-in-BeginText-clause-right : goal.returns-in-BeginText-clause-right
-returns-in-BeginText-clause-right g c =
-    right_over c.kept_answers_stay_right.ensures.keeping c.args.machine.now _ c.begin_text.new.ram c.machine-in-BeginText.view_is
-    c.begin_text.ensures.mark
-    c.requires.right
-
-pub returns-in-AddLetter-clause-right : goal.returns-in-AddLetter-clause-right
-returns-in-AddLetter-clause-right g c =
-    right_over c.kept_answers_stay_right.ensures.keeping c.args.machine.now _ c.add_letter.new.ram c.machine-in-AddLetter.view_is
-    c.add_letter.ensures.mark
-    c.requires.right
-
-pub returns-in-TakeLetter-clause-right : goal.returns-in-TakeLetter-clause-right
-returns-in-TakeLetter-clause-right g c =
-    right_over c.kept_answers_stay_right.ensures.keeping c.args.machine.now _ c.take_letter.new.ram c.machine-in-TakeLetter.view_is
-    c.take_letter.ensures.mark
-    c.requires.right
-
-pub returns-in-ClearAlpha-clause-right : goal.returns-in-ClearAlpha-clause-right
-returns-in-ClearAlpha-clause-right g c =
-    right_over c.kept_answers_stay_right.ensures.keeping c.args.machine.now _ c.clear_alpha.new.ram c.machine-in-ClearAlpha.view_is
-    c.clear_alpha.ensures.mark
+pub returns-in_default-clause-right : goal.returns-in_default-clause-right
+returns-in_default-clause-right g c =
+    right_over c.kept_answers_stay_right.ensures.keeping c.args.machine.now _ c.type_letters.new.ram c.machine-in_default.view_is
+    c.type_letters.ensures.mark
     c.requires.right

@@ -51,9 +51,10 @@ impl<const REGS: usize> Bench<REGS> {
         requires at_most { REGS ≤ 320 }
         ensures { IfOk result (λ bench. bench ≡ start REGS) }
     {
+        let breakpoints = Breakpoints::new(alloc)?;
         Ok(Bench {
             calculator: Calculator::new(alloc)?,
-            breakpoints: Breakpoints::new(alloc)?,
+            breakpoints,
         })
     }
 

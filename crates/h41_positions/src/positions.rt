@@ -1,10 +1,12 @@
 //! What stands at a position, and what is found from there: one row a kind of position.
 
 ghost use Rattle.std.specs.Prelude.{◌≡◌, ◌<◌, IsTrue};
+ghost use Rattle.std.specs.Option.{option_map};
 ghost use Rattle.h41_pages.specs.Addresses as addresses;
 ghost use Rattle.h41_positions.specs.Positions.{EndOf, LineAndNext, LineAt, LineBefore, LineInPage};
 ghost use Rattle.h41_positions.specs.Positions.{LocalFrom, NextAt, NumberAt, ShortLineAt, StartOf};
 ghost use Rattle.h41_positions.specs.Positions as spec;
+ghost use Rattle.h41_positions.specs.declared.position.Position.TheVariants.{Memory};
 ghost use Rattle.h41_positions.specs.private.PagePlaces.{InPageAndNext};
 ghost use Rattle.h41_ram.specs.RegisterMap.{is_sound};
 
@@ -37,6 +39,29 @@ fn in_page(page: usize, offset: u16) -> Position
     ensures { result ≡ spec.in_page page offset }
 {
     Position::Page(((page * PAGE_WORDS + usize::from(offset)) % ADDRESSES) as u16)
+}
+
+/// The position of a byte of memory that was found.
+#[inline(always)]
+fn byte_found(found: Option<u16>) -> Option<Position>
+    ensures { result ≡ option_map Memory found }
+{
+    match found {
+        Some(byte) => Some(Position::Memory(byte)),
+        None => None,
+    }
+}
+
+/// The position of an offset of a page that was found.
+#[inline(always)]
+fn offset_found(page: usize, found: Option<u16>) -> Option<Position>
+    requires { page < 16 }
+    ensures { result ≡ option_map (spec.in_page page) found }
+{
+    match found {
+        Some(offset) => Some(in_page(page, offset)),
+        None => None,
+    }
 }
 
 /// The line that a position stands for: the first from there on, nulls passed over. 14 where there is none.
@@ -184,17 +209,12 @@ pub fn local<const REGS: usize>(
     ensures { LocalFrom label pages.now ram.now.registers at result }
 {
     match at {
-        Position::Memory(at) => match h41_program::local(ram, at, label) {
-            Some(byte) => Some(Position::Memory(byte)),
-            None => None,
-        },
+        Position::Memory(at) => byte_found(h41_program::local(ram, at, label)),
         Position::Page(address) => {
             let (page, offset) = place_of(address);
             let begins = pages.keystroke_offsets(page);
-            match page_programs::local(pages.code(page), begins.as_slice(), offset, label) {
-                Some(found) => Some(in_page(page, found)),
-                None => None,
-            }
+            let found = page_programs::local(pages.code(page), begins.as_slice(), offset, label);
+            offset_found(page, found)
         }
     }
 }
@@ -206,17 +226,12 @@ pub fn end_of<const REGS: usize>(ram: &Ram<REGS>, pages: &Pages, at: Position) -
     ensures { EndOf pages.now ram.now.registers at result }
 {
     match at {
-        Position::Memory(at) => match h41_program::end_of(ram, at) {
-            Some(byte) => Some(Position::Memory(byte)),
-            None => None,
-        },
+        Position::Memory(at) => byte_found(h41_program::end_of(ram, at)),
         Position::Page(address) => {
             let (page, offset) = place_of(address);
             let begins = pages.keystroke_offsets(page);
-            match page_programs::end_of(pages.code(page), begins.as_slice(), offset) {
-                Some(found) => Some(in_page(page, found)),
-                None => None,
-            }
+            let found = page_programs::end_of(pages.code(page), begins.as_slice(), offset);
+            offset_found(page, found)
         }
     }
 }
@@ -252,17 +267,12 @@ pub fn line_before<const REGS: usize>(
     ensures { LineBefore pages.now ram.now.registers position result }
 {
     match position {
-        Position::Memory(byte) => match h41_program::line_before(ram, byte) {
-            Some(found) => Some(Position::Memory(found)),
-            None => None,
-        },
+        Position::Memory(byte) => byte_found(h41_program::line_before(ram, byte)),
         Position::Page(address) => {
             let (page, offset) = place_of(address);
             let begins = pages.keystroke_offsets(page);
-            match page_programs::line_before(pages.code(page), begins.as_slice(), offset) {
-                Some(found) => Some(in_page(page, found)),
-                None => None,
-            }
+            let found = page_programs::line_before(pages.code(page), begins.as_slice(), offset);
+            offset_found(page, found)
         }
     }
 }

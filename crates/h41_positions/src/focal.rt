@@ -8,7 +8,7 @@ ghost use Rattle.h41_positions.specs.Positions.{LocalFrom};
 ghost use Rattle.h41_ram.specs.RegisterMap.{is_sound};
 
 use crate::position::Position;
-use crate::positions::local;
+use crate::positions::{byte_found, local};
 use arrayvec::ArrayVec;
 use h41_codes::{Parameter, Text};
 use h41_labels::LabelCache;
@@ -124,10 +124,7 @@ impl Focal {
         ensures state { self.new.state ≡ self.old.state }
     {
         match from {
-            Position::Memory(byte) => match self.labels.local(ram, byte, label) {
-                Some(found) => Some(Position::Memory(found)),
-                None => None,
-            },
+            Position::Memory(byte) => byte_found(self.labels.local(ram, byte, label)),
             Position::Page(_) => local(ram, pages, from, label),
         }
     }

@@ -43,7 +43,7 @@ fn in_page(page: usize, offset: u16) -> Position
 
 /// The position of a byte of memory that was found.
 #[inline(always)]
-fn byte_found(found: Option<u16>) -> Option<Position>
+pub fn byte_found(found: Option<u16>) -> Option<Position>
     ensures { result ≡ option_map Memory found }
 {
     match found {

@@ -2,11 +2,13 @@
 
 ghost use Rattle.std.specs.Prelude.{◌≡◌, ◌≢◌, [], true, false, codes, map, IfOk, IfSome, IfNone};
 ghost use Rattle.std.specs.Prelude.{IsErr, option_map};
-ghost use Rattle.clap.specs.Words.{FailsBy, HasMatchesOf, app_of, fault_of, first_of, found_of};
+ghost use Rattle.clap.specs.Words.{App, FailsBy, HasMatchesOf, app_of, fault_of, first_of};
+ghost use Rattle.clap.specs.Words.{found_of, new_app, with_subcommand};
 ghost use Rattle.clap.specs.Words.{kind_of, rows_of, rule_of};
 ghost use Rattle.clap.specs.Words.{subcommand_rows_of};
 ghost use Rattle.clap.specs.declared.error.kind.ErrorKind.TheVariants as kind;
-ghost use Rattle.h41_arguments.specs.BenchCommand.{bench_app, file_rule, has_globals, job_in};
+ghost use Rattle.h41_arguments.specs.BenchCommand.{bench_app, empty_bench, file_rule};
+ghost use Rattle.h41_arguments.specs.BenchCommand.{has_globals, job_in};
 ghost use Rattle.h41_arguments.specs.BenchCommand.{memory_asked, memory_in, option_app};
 ghost use Rattle.h41_arguments.specs.BenchCommand.{origin_app, origin_asked, origin_in};
 ghost use Rattle.h41_arguments.specs.BenchCommand.{origin_rule, option_rule, run_app, task_asked};
@@ -167,15 +169,31 @@ program with status 2, and nothing is listed.";
 fn bench<'a>(alloc: Global) -> Result<Command<'a>, AllocError>
     ensures { IfOk result (λ command. app_of command ≡ bench_app) }
 {
-    Command::new(alloc, "bench")
+    let with_run = with_task(empty_bench(alloc), run_command(alloc))?;
+    let with_assemble = with_task(with_run, assemble_command(alloc))?;
+    with_task(with_assemble, list_command(alloc))
+}
+
+/// The command `bench` without its subcommands.
+fn empty_bench<'a>(alloc: Global) -> Command<'a>
+    ensures { app_of result ≡ empty_bench }
+{
+    let about = "Runs decks of commands of the bench, assembles sources, lists words";
+    told_command(alloc, "bench", about, USAGE, DECKS)
         .version(VERSION)
-        .about("Runs decks of commands of the bench, assembles sources, lists words")
-        .override_usage(USAGE)
-        .after_help(DECKS)
         .subcommand_required(true)
-        .subcommand(run_command(alloc)?)?
-        .subcommand(assemble_command(alloc)?)?
-        .subcommand(list_command(alloc)?)
+}
+
+/// The command with one subcommand more.
+fn with_task<'a>(
+    bench: Command<'a>,
+    task: Result<Command<'a>, AllocError>,
+) -> Result<Command<'a>, AllocError>
+    requires { IfOk task (λ command. has_globals command ≡ false) }
+    ensures { (added : App) → IfOk task.entry (λ command. app_of command ≡ added)
+        → IfOk result (λ command. app_of command ≡ with_subcommand (app_of bench.entry) added.top) }
+{
+    bench.subcommand(task?)
 }
 
 /// The command that runs a deck.
@@ -237,12 +255,26 @@ fn option_command<'a>(
         (λ command. app_of command ≡ option_app name.now (rule_of option.entry)) }
     ensures local { IfOk result (λ command. has_globals command ≡ false) }
 {
+    told_command(alloc, name, about, usage, text)
+        .arg(option)?
+        .arg(file_argument(alloc))
+}
+
+/// A command that takes nothing yet. Help says what it is about, its usage, and the text behind that.
+fn told_command<'a>(
+    alloc: Global,
+    name: &'a str,
+    about: &'a str,
+    usage: &'a str,
+    text: &'a str,
+) -> Command<'a>
+    ensures app { app_of result ≡ new_app name.now }
+    ensures local { has_globals result ≡ false }
+{
     Command::new(alloc, name)
         .about(about)
         .override_usage(usage)
         .after_help(text)
-        .arg(option)?
-        .arg(file_argument(alloc))
 }
 
 /// The argument `--origin`.

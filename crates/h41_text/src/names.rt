@@ -9,7 +9,7 @@ ghost use Rattle.h41_text.specs.private.TextParts as part;
 use crate::places::{FUNCTION_PLACES, name_hash};
 use h41_codes::{Branch, Character, Function, NameFunction, ParameterFunction, RegisterFunction};
 
-/// Functions without a parameter. `$write` is the macro that writes a look-up, and `$with` what it writes it with.
+/// Functions without a parameter. `$write` is the macro that writes a table, and `$with` what it writes it with.
 macro_rules! functions {
     ($write:ident $with:tt) => {
         $write! { $with Function
@@ -131,12 +131,10 @@ macro_rules! parameter_functions {
 
 pub(crate) use parameter_functions;
 
-/// Writes the match from each name of a list to its text.
-macro_rules! text_beside {
-    (($value:expr) $kind:ident $($name:ident => $text:literal,)*) => {
-        match $value {
-            $($kind::$name => $text,)*
-        }
+/// Writes the array of the texts of a list.
+macro_rules! all_texts {
+    (() $kind:ident $($name:ident => $text:literal,)*) => {
+        [$($text,)*]
     };
 }
 
@@ -149,6 +147,12 @@ macro_rules! all_names {
 
 /// The functions without a parameter.
 static FUNCTIONS: [Function; 80] = functions!(all_names());
+
+/// Their names, in the order of the functions.
+static FUNCTION_NAMES: [&str; 80] = functions!(all_texts());
+
+/// The names of the functions with a parameter, in the order of these.
+static PARAMETER_FUNCTION_NAMES: [&str; 24] = parameter_functions!(all_texts());
 
 /// The function without a parameter of a name, or nothing where there is none.
 pub(crate) fn function_named(name: &[u8]) -> Option<Function>
@@ -175,7 +179,7 @@ pub(crate) fn function_name(function: Function) -> &'static str
     ensures text { result.now ≡ spec.function_name function }
     ensures bound { length result.now ≤ 6 }
 {
-    functions!(text_beside(function))
+    FUNCTION_NAMES[function as usize]
 }
 
 /// The name of a function with a parameter, up to 4 characters.
@@ -183,7 +187,7 @@ pub fn parameter_function_name(function: ParameterFunction) -> &'static str
     ensures text { result.now ≡ spec.parameter_function_name function }
     ensures bound { length result.now ≤ 4 }
 {
-    parameter_functions!(text_beside(function))
+    PARAMETER_FUNCTION_NAMES[function as usize]
 }
 
 /// The name of a function on one of the first registers.
@@ -220,26 +224,15 @@ pub fn branch_name(branch: Branch) -> &'static str
     }
 }
 
+/// The characters of a number, in their order.
+static CHARACTER_BYTES: [u8; 13] = *b"0123456789.E-";
+
 /// A character of a number.
 pub(crate) fn character_byte(character: Character) -> u8
     ensures text { result ≡ spec.character_byte character }
     ensures bound { result < 128 }
 {
-    match character {
-        Character::Zero => b'0',
-        Character::One => b'1',
-        Character::Two => b'2',
-        Character::Three => b'3',
-        Character::Four => b'4',
-        Character::Five => b'5',
-        Character::Six => b'6',
-        Character::Seven => b'7',
-        Character::Eight => b'8',
-        Character::Nine => b'9',
-        Character::Point => b'.',
-        Character::Exponent => b'E',
-        Character::Minus => b'-',
-    }
+    CHARACTER_BYTES[character as usize]
 }
 
 /// The character of a number that a byte stands for, or nothing where there is none.

@@ -44,6 +44,20 @@ const KEYS: [Key; 39] = [
     Key::RunStop,
 ];
 
+/// Their names, in the same order, as decks spell what is printed on them.
+static KEY_NAMES: [&str; 39] = [
+    "ON", "USER", "PRGM", "ALPHA", "SIGMA+", "1/X", "SQRT", "LOG", "LN", "X<>Y", "RDN", "SIN",
+    "COS", "TAN", "SHIFT", "XEQ", "STO", "RCL", "SST", "ENTER", "CHS", "EEX", "BACK", "-", "7",
+    "8", "9", "+", "4", "5", "6", "*", "1", "2", "3", "/", "0", ".", "R/S",
+];
+
+/// Their codes, in the same order: a digit for the row, one for the column.
+static KEY_CODES: [u8; 39] = [
+    0x01, 0x02, 0x03, 0x04, 0x11, 0x12, 0x13, 0x14, 0x15, 0x21, 0x22, 0x23, 0x24, 0x25, 0x31, 0x32,
+    0x33, 0x34, 0x35, 0x41, 0x42, 0x43, 0x44, 0x51, 0x52, 0x53, 0x54, 0x61, 0x62, 0x63, 0x64, 0x71,
+    0x72, 0x73, 0x74, 0x81, 0x82, 0x83, 0x84,
+];
+
 /// A key, by what is printed on it, as decks spell it.
 #[derive(Clone, Copy, Debug, PartialEq, Eq)]
 pub enum Key {
@@ -154,94 +168,14 @@ impl Key {
     pub fn name(self) -> &'static str
         ensures { result.now ≡ name_of self }
     {
-        match self {
-            Key::On => "ON",
-            Key::User => "USER",
-            Key::Program => "PRGM",
-            Key::Alpha => "ALPHA",
-            Key::SigmaPlus => "SIGMA+",
-            Key::Reciprocal => "1/X",
-            Key::SquareRoot => "SQRT",
-            Key::CommonLogarithm => "LOG",
-            Key::NaturalLogarithm => "LN",
-            Key::ExchangeXY => "X<>Y",
-            Key::RollDown => "RDN",
-            Key::Sine => "SIN",
-            Key::Cosine => "COS",
-            Key::Tangent => "TAN",
-            Key::Shift => "SHIFT",
-            Key::Execute => "XEQ",
-            Key::Store => "STO",
-            Key::Recall => "RCL",
-            Key::SingleStep => "SST",
-            Key::Enter => "ENTER",
-            Key::ChangeSign => "CHS",
-            Key::EnterExponent => "EEX",
-            Key::Back => "BACK",
-            Key::Minus => "-",
-            Key::Seven => "7",
-            Key::Eight => "8",
-            Key::Nine => "9",
-            Key::Plus => "+",
-            Key::Four => "4",
-            Key::Five => "5",
-            Key::Six => "6",
-            Key::Times => "*",
-            Key::One => "1",
-            Key::Two => "2",
-            Key::Three => "3",
-            Key::Divide => "/",
-            Key::Zero => "0",
-            Key::Point => ".",
-            Key::RunStop => "R/S",
-        }
+        KEY_NAMES[self as usize]
     }
 
     /// Its code, which microcode reads: a digit for its row, one for its column.
     pub fn code(self) -> u8
         ensures { result ≡ code_of self }
     {
-        match self {
-            Key::On => 0x01,
-            Key::User => 0x02,
-            Key::Program => 0x03,
-            Key::Alpha => 0x04,
-            Key::SigmaPlus => 0x11,
-            Key::Reciprocal => 0x12,
-            Key::SquareRoot => 0x13,
-            Key::CommonLogarithm => 0x14,
-            Key::NaturalLogarithm => 0x15,
-            Key::ExchangeXY => 0x21,
-            Key::RollDown => 0x22,
-            Key::Sine => 0x23,
-            Key::Cosine => 0x24,
-            Key::Tangent => 0x25,
-            Key::Shift => 0x31,
-            Key::Execute => 0x32,
-            Key::Store => 0x33,
-            Key::Recall => 0x34,
-            Key::SingleStep => 0x35,
-            Key::Enter => 0x41,
-            Key::ChangeSign => 0x42,
-            Key::EnterExponent => 0x43,
-            Key::Back => 0x44,
-            Key::Minus => 0x51,
-            Key::Seven => 0x52,
-            Key::Eight => 0x53,
-            Key::Nine => 0x54,
-            Key::Plus => 0x61,
-            Key::Four => 0x62,
-            Key::Five => 0x63,
-            Key::Six => 0x64,
-            Key::Times => 0x71,
-            Key::One => 0x72,
-            Key::Two => 0x73,
-            Key::Three => 0x74,
-            Key::Divide => 0x81,
-            Key::Zero => 0x82,
-            Key::Point => 0x83,
-            Key::RunStop => 0x84,
-        }
+        KEY_CODES[self as usize]
     }
 }
 
@@ -279,18 +213,7 @@ impl Digit {
         ensures value { result ≡ value_of self }
         ensures bound { result < 10 }
     {
-        match self {
-            Digit::Zero => 0,
-            Digit::One => 1,
-            Digit::Two => 2,
-            Digit::Three => 3,
-            Digit::Four => 4,
-            Digit::Five => 5,
-            Digit::Six => 6,
-            Digit::Seven => 7,
-            Digit::Eight => 8,
-            Digit::Nine => 9,
-        }
+        self as u8
     }
 
     /// The character of a number that it is.

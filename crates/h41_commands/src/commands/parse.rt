@@ -1,6 +1,6 @@
 //! The command that a line's words spell.
 
-ghost use Rattle.std.specs.Prelude.{◌≡◌, ◌≤◌, ◌+◌, ◌*◌, ◌∷◌, ℕ, Ok, drop, length};
+ghost use Rattle.std.specs.Prelude.{◌≡◌, ◌≤◌, ◌+◌, ◌*◌, ◌∷◌, [], ℕ, Ok, codes, drop, length};
 ghost use Rattle.h41_commands.specs.Commands.{break_location, call_command, location_by};
 ghost use Rattle.h41_commands.specs.Commands.{placed_command, read_plain, key_command};
 ghost use Rattle.h41_commands.specs.Commands.{load_command, reset_command, size_command};
@@ -138,12 +138,26 @@ fn plug_with(
 ) -> Result<Command, LineRefusal>
     ensures { result ≡ plug_with kind page.now (words_of options.entry.rest.now) }
 {
-    match (options.next(), options.next(), options.next()) {
-        (None, _, _) => plug_at(kind, page, FIRST_BANK, false),
-        (Some(b"rw"), None, _) => plug_at(kind, page, FIRST_BANK, true),
-        (Some(bank), None, _) => plug_at_bank(kind, page, bank, false),
-        (Some(bank), Some(b"rw"), None) => plug_at_bank(kind, page, bank, true),
-        _ => Err(LineRefusal::BadCommand),
+    let Some(option) = options.next() else {
+        return plug_at(kind, page, FIRST_BANK, false);
+    };
+    let Some(other) = options.next() else {
+        return plug_by(kind, page, option);
+    };
+    if other == "rw".as_bytes() && options.next().is_none() {
+        return plug_at_bank(kind, page, option, true);
+    }
+    Err(LineRefusal::BadCommand)
+}
+
+/// The same, by the words that name the page, and its bank or `rw`.
+fn plug_by(kind: PageKind, page: &[u8], option: &[u8]) -> Result<Command, LineRefusal>
+    ensures { result ≡ plug_with kind page.now (option.now ∷ []) }
+{
+    if option == "rw".as_bytes() {
+        plug_at(kind, page, FIRST_BANK, true)
+    } else {
+        plug_at_bank(kind, page, option, false)
     }
 }
 
@@ -409,10 +423,22 @@ pub fn view(mut operands: LineWords<'_>) -> Result<View, LineRefusal>
 fn view_with(what: &[u8], operand: &[u8], mut others: LineWords<'_>) -> Result<View, LineRefusal>
     ensures { result ≡ view_of (what.now ∷ operand.now ∷ words_of others.entry.rest.now) }
 {
-    match (what, others.next()) {
-        (b"ram", None) => Ok(View::Register(hexadecimal(3, 3, operand)?)),
-        (b"image", None) => image_view(operand, FIRST_BANK),
-        (b"image", Some(bank)) if others.next().is_none() => image_view_at(operand, bank),
+    if what == "image".as_bytes() {
+        return image_with(operand, others);
+    }
+    if what == "ram".as_bytes() && others.next().is_none() {
+        return Ok(View::Register(hexadecimal(3, 3, operand)?));
+    }
+    Err(LineRefusal::BadCommand)
+}
+
+/// `image P [bN]`: the image of a page's bank, by the word that names the page and those behind it.
+fn image_with(page: &[u8], mut others: LineWords<'_>) -> Result<View, LineRefusal>
+    ensures { result ≡ view_of (codes "image" ∷ page.now ∷ words_of others.entry.rest.now) }
+{
+    match (others.next(), others.next()) {
+        (None, _) => image_view(page, FIRST_BANK),
+        (Some(bank), None) => image_view_at(page, bank),
         _ => Err(LineRefusal::BadCommand),
     }
 }

@@ -204,8 +204,11 @@ pub enum Digit {
     Nine,
 }
 
+/// Their texts, in the same order.
+static DIGIT_TEXTS: [&str; 10] = ["0", "1", "2", "3", "4", "5", "6", "7", "8", "9"];
+
 impl Digit {
-    ghost use Rattle.std.specs.Prelude.{◌≡◌, ◌<◌};
+    ghost use Rattle.std.specs.Prelude.{◌≡◌, ◌<◌, ◌+◌, ◌∷◌, []};
     ghost use Rattle.h41_keys.specs.NumberTyping.{character_of, value_of};
 
     /// Its value, 0 to 9.
@@ -214,6 +217,13 @@ impl Digit {
         ensures bound { result < 10 }
     {
         self as u8
+    }
+
+    /// Its text, of one character.
+    pub(crate) fn text(self) -> &'static str
+        ensures { result.now ≡ (0x30 + value_of self) ∷ [] }
+    {
+        DIGIT_TEXTS[self as usize]
     }
 
     /// The character of a number that it is.

@@ -313,7 +313,8 @@ fn is_local_letter(letter: u8) -> bool
 
 impl Prompt {
     ghost use Rattle.std.specs.Prelude.{◌≡◌};
-    ghost use Rattle.h41_keys.specs.Prompts.{prompt_text, digits_wanted};
+    ghost use Rattle.std.specs.Prelude.{codes};
+    ghost use Rattle.h41_keys.specs.Prompts.{prompt_text, digits_wanted, typed_text};
 
     /// How many digits the parameter has.
     pub(crate) fn digits(&self) -> u8
@@ -335,24 +336,27 @@ impl Prompt {
         if self.indirect {
             push(&mut text, b" IND");
         }
-        match &self.typed {
-            Typed::Nothing => {
-                if self.digits() == 1 {
-                    push(&mut text, b" _");
-                } else {
-                    push(&mut text, b" __");
-                }
-            }
-            Typed::Digit(digit) => push(&mut text, &[b' ', b'0' + digit.value(), b'_']),
-            Typed::Stack => push(&mut text, b" ST _"),
-            Typed::Point => push(&mut text, b" ._"),
-            Typed::Name(name) => {
-                push(&mut text, b" \"");
-                push(&mut text, name.characters());
-                push(&mut text, b"_");
-            }
-        }
+        let (before, typed) = self.typed_parts();
+        push(&mut text, before.as_bytes());
+        push(&mut text, typed);
+        push(&mut text, b"_");
         text
+    }
+
+    /// What its text has in front of what is typed, and that; `_` follows.
+    fn typed_parts(&self) -> (&str, &[u8])
+        ensures parts { typed_text self.now.function self.now.indirect self.now.typed
+            ≡ result.0.now ++ result.1.now ++ codes "_" }
+        ensures bound { length result.0.now + length result.1.now ≤ 9 }
+    {
+        match &self.typed {
+            Typed::Nothing if self.digits() == 1 => (" ", b""),
+            Typed::Nothing => (" _", b""),
+            Typed::Digit(digit) => (" ", digit.text().as_bytes()),
+            Typed::Stack => (" ST ", b""),
+            Typed::Point => (" .", b""),
+            Typed::Name(name) => (" \"", name.characters()),
+        }
     }
 }
 

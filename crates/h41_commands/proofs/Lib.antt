@@ -14,3 +14,4 @@ pub mod ParsedCommands
 pub mod ProgramTextLines
 pub mod ToldCommands
 pub mod WordValues
+mod ReadFaults

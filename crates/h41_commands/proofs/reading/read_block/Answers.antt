@@ -10,6 +10,9 @@ use Rattle.h41_commands.specs.declared.item.Item.TheVariants.{Refused}
 use Rattle.h41_commands.specs.declared.refusal.LineRefusal.{LineRefusal}
 use Rattle.h41_commands.specs.ItemReading.{is_unended}
 use Rattle.h41_commands.proofs.ParsedCommands.{never_unended}
+use Rattle.std.proofs.lemmas.Result.{err_from_is_err_and}
+use Rattle.h41_commands.specs.declared.fault.ItemFault.TheVariants as faults
+use Rattle.h41_commands.proofs.ReadFaults.{told, untold}
 use Rattle.h41_commands.proofs.reading.read_block.Goals as goal
 use Rattle.h41_commands.proofs.reading.read_block.Goals.{in-Ok, in-Err+in-Words-1, in-Err+in-Image-1, in-Err+in-Source-1, in-Err+in-Bytes-1}
 use Rattle.h41_commands.proofs.reading.read_block.Goals.{in-Err+in-Text-1}
@@ -56,3 +59,39 @@ returns-clause-item g c =
 pub returns-clause-open : goal.returns-clause-open
 returns-clause-open g c =
     let shut : is_unended c.parse-command.result ≡ false = ap is_unended c.parse-command.ensures ∙ never_unended _ in search rules
+
+pub returns-in_err-block-clause-bound : goal.returns-in_err-block-clause-bound
+returns-in_err-block-clause-bound g c =
+    rw (err_from_is_err_and c.from_residual.result c.from_residual.ensures.1).1 tt
+
+pub returns-in_err-block-clause-stopped : goal.returns-in_err-block-clause-stopped
+returns-in_err-block-clause-stopped g c =
+    λ is. c.in_err-block.ensures.stopped (told c.from_residual.result c.in_err-block.field-0.0 faults.ReadFault c.from_residual.ensures.1 is)
+
+pub returns-in_err-block-clause-cause : goal.returns-in_err-block-clause-cause
+returns-in_err-block-clause-cause g c =
+    λ is. c.in_err-block.ensures.cause (told c.from_residual.result c.in_err-block.field-0.0 faults.ReadFault c.from_residual.ensures.1 is)
+
+pub returns-in_err-block-clause-flushed : goal.returns-in_err-block-clause-flushed
+returns-in_err-block-clause-flushed g c =
+    λ is. c.in_err-block.ensures.flushed (told c.from_residual.result c.in_err-block.field-0.0 faults.ReadFault c.from_residual.ensures.1 is)
+
+pub returns-in_err-block-clause-kept : goal.returns-in_err-block-clause-kept
+returns-in_err-block-clause-kept g c =
+    c.read_lines.ensures.kept
+
+pub returns-in_err-block-clause-counted : goal.returns-in_err-block-clause-counted
+returns-in_err-block-clause-counted g c =
+    c.in_err-block.ensures.counted
+
+pub returns-in_err-block-clause-reader : goal.returns-in_err-block-clause-reader
+returns-in_err-block-clause-reader g c =
+    λ not. c.in_err-block.ensures.reader (untold c.from_residual.result c.in_err-block.field-0.0 faults.ReadFault c.from_residual.ensures.1 not)
+
+pub returns-in_err-block-clause-writer : goal.returns-in_err-block-clause-writer
+returns-in_err-block-clause-writer g c =
+    λ not. c.in_err-block.ensures.writer (untold c.from_residual.result c.in_err-block.field-0.0 faults.WriteFault c.from_residual.ensures.1 not)
+
+pub returns-in_err-block-clause-write_fault : goal.returns-in_err-block-clause-write_fault
+returns-in_err-block-clause-write_fault g c =
+    λ is. c.in_err-block.ensures.write_fault (told c.from_residual.result c.in_err-block.field-0.0 faults.WriteFault c.from_residual.ensures.1 is)

@@ -4,6 +4,8 @@ use Rattle.h41_ends.specs.InputLines.{line_in}
 use Rattle.h41_ends.proofs.InputReading.{keeps-both, reads_both}
 use Rattle.h41_commands.specs.DeckLines.{is_end}
 use Rattle.h41_commands.proofs.ItemLines.{endless_more, endless_still, takes_more}
+use Rattle.h41_ends.specs.declared.fault.LineReadFault.TheVariants as line
+use Rattle.h41_commands.proofs.ReadFaults.{told_of_line, untold_of_line}
 use Rattle.h41_commands.proofs.reading.read_lines.Goals as goal
 
 pub returns-in_err-next_line-clause-block : goal.returns-in_err-next_line-clause-block
@@ -79,3 +81,39 @@ returns-clause-block g c =
 
 pub returns-clause-bound : goal.returns-clause-bound
 returns-clause-bound g c = omega (arith, c.loop-block.invariant.bound, c.in_ok-next_line.ensures.bound)
+
+pub returns-in_err-next_line-clause-bound : goal.returns-in_err-next_line-clause-bound
+returns-in_err-next_line-clause-bound g c =
+    rw (err_from_is_err_and c.from_residual.result c.from_residual.ensures.1).1 tt
+
+pub returns-in_err-next_line-clause-stopped : goal.returns-in_err-next_line-clause-stopped
+returns-in_err-next_line-clause-stopped g c =
+    λ is. c.in_err-next_line.ensures.stopped (told_of_line c.from_residual.result c.in_err-next_line.field-0.0 line.ReadFault c.from_residual.ensures.1 is)
+
+pub returns-in_err-next_line-clause-cause : goal.returns-in_err-next_line-clause-cause
+returns-in_err-next_line-clause-cause g c =
+    λ is. c.in_err-next_line.ensures.cause (told_of_line c.from_residual.result c.in_err-next_line.field-0.0 line.ReadFault c.from_residual.ensures.1 is)
+
+pub returns-in_err-next_line-clause-flushed : goal.returns-in_err-next_line-clause-flushed
+returns-in_err-next_line-clause-flushed g c =
+    λ is. c.in_err-next_line.ensures.flushed (told_of_line c.from_residual.result c.in_err-next_line.field-0.0 line.ReadFault c.from_residual.ensures.1 is)
+
+pub returns-in_err-next_line-clause-kept : goal.returns-in_err-next_line-clause-kept
+returns-in_err-next_line-clause-kept g c =
+    keeps-both _ _ _ c.loop-block.invariant.kept c.in_err-next_line.ensures.kept
+
+pub returns-in_err-next_line-clause-counted : goal.returns-in_err-next_line-clause-counted
+returns-in_err-next_line-clause-counted g c =
+    c.in_err-next_line.ensures.counted
+
+pub returns-in_err-next_line-clause-reader : goal.returns-in_err-next_line-clause-reader
+returns-in_err-next_line-clause-reader g c =
+    λ not. c.in_err-next_line.ensures.reader (untold_of_line c.from_residual.result c.in_err-next_line.field-0.0 line.ReadFault c.from_residual.ensures.1 not)
+
+pub returns-in_err-next_line-clause-writer : goal.returns-in_err-next_line-clause-writer
+returns-in_err-next_line-clause-writer g c =
+    λ not. c.in_err-next_line.ensures.writer (untold_of_line c.from_residual.result c.in_err-next_line.field-0.0 line.WriteFault c.from_residual.ensures.1 not)
+
+pub returns-in_err-next_line-clause-write_fault : goal.returns-in_err-next_line-clause-write_fault
+returns-in_err-next_line-clause-write_fault g c =
+    λ is. c.in_err-next_line.ensures.write_fault (told_of_line c.from_residual.result c.in_err-next_line.field-0.0 line.WriteFault c.from_residual.ensures.1 is)

@@ -12,6 +12,6 @@ pub mod KeysInCells
 pub mod NameEnds
 pub mod ParsedCommands
 pub mod ProgramTextLines
+mod ReadFaults
 pub mod ToldCommands
 pub mod WordValues
-mod ReadFaults

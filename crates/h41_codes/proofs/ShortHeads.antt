@@ -1,7 +1,7 @@
 -- The first byte of a short line tells how many it has.
 use Rattle.std.proofs.Common.{◌≡◌, ℕ, zero, suc, ◌/◌, ◌<◌, ◌≤◌, List, ◌∷◌, length, take, get_or, inl, inr, refl, sym, ap, subst, arith}
 use Rattle.std.proofs.lemmas.List.{length-take}
-use Rattle.h41_codes.specs.ByteGrammar.{spelling, IsLine}
+use Rattle.h41_codes.specs.ByteGrammar.{spelling, Begins, IsLine}
 use Rattle.h41_codes.specs.Codes.{parameter_function_code}
 use Rattle.h41_codes.specs.Heads.{IsIn, IsOneByte, IsShort, IsTwoBytes}
 use Rattle.h41_codes.specs.ShortLines.{BeginsShorts, line_of}
@@ -60,14 +60,16 @@ first_of : (first : ℕ) (rest : List ℕ) (line : Line) (size : ℕ) → 1 ≤ 
 first_of first rest line zero some same = absurd (omega (arith, some, ap length same))
 first_of first rest line (suc n) some same = sym (ap (λ (bytes : List ℕ). get_or bytes 0 0) same)
 
--- a short line that begins so has as many bytes as another
-pub size_of_head : (first size : ℕ) → IsShort first size → BeginsShorts first size
-size_of_head first size is rest line count begins =
+-- what begins a short line is the first byte of one of so many bytes
+pub short_head : (first : ℕ) (rest : List ℕ) (line : ShortLine) (count : ℕ) → Begins (first ∷ rest) (line_of line) count → IsShort first count
+short_head first rest line count begins =
     let valid = begins.spells.valid in
     let same = first_of first rest (line_of line) count (spelling_least (line_of line) valid) begins.spells.same in
     let count_is : length (spelling (line_of line)) ≡ count =
     omega (arith, ap length begins.spells.same, length-take count (first ∷ rest), begins.inside) in
-    let own : IsShort first count =
     subst (λ (n : ℕ). IsShort first n) count_is
-    (subst (λ (byte : ℕ). IsShort byte (length (spelling (line_of line)))) same (head_of line valid)) in
-    one_size first count size own is
+    (subst (λ (byte : ℕ). IsShort byte (length (spelling (line_of line)))) same (head_of line valid))
+
+-- a short line that begins so has as many bytes as another
+pub size_of_head : (first size : ℕ) → IsShort first size → BeginsShorts first size
+size_of_head first size is rest line count begins = one_size first count size (short_head first rest line count begins) is

@@ -61,7 +61,8 @@ first_of first rest line zero some same = absurd (omega (arith, some, ap length 
 first_of first rest line (suc n) some same = sym (ap (λ (bytes : List ℕ). get_or bytes 0 0) same)
 
 -- what begins a short line is the first byte of one of so many bytes
-pub short_head : (first : ℕ) (rest : List ℕ) (line : ShortLine) (count : ℕ) → Begins (first ∷ rest) (line_of line) count → IsShort first count
+pub short_head : (first : ℕ) (rest : List ℕ) (line : ShortLine) (count : ℕ) → Begins (first ∷ rest) (line_of line) count
+    → IsShort first count
 short_head first rest line count begins =
     let valid = begins.spells.valid in
     let same = first_of first rest (line_of line) count (spelling_least (line_of line) valid) begins.spells.same in

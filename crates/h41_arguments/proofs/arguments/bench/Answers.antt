@@ -6,7 +6,8 @@ use Rattle.h41_arguments.proofs.arguments.bench.Goals as goal
 
 pub returns : goal.returns
 returns c =
-    let run = c.in_ok-with_run.ensures run_app c.run_command.ensures.app ∙ ap (λ (a : App). with_subcommand a run_app.top) c.empty_bench.ensures in
+    let run = c.in_ok-with_run.ensures run_app c.run_command.ensures.app
+    ∙ ap (λ (a : App). with_subcommand a run_app.top) c.empty_bench.ensures in
     let assemble = c.in_ok-with_assemble.ensures (origin_app (codes "asm")) c.assemble_command.ensures.app
     ∙ ap (λ (a : App). with_subcommand a (origin_app (codes "asm")).top) run in
     IfOk-weaker c.with_task-3.result _ _ (λ r h. h ∙ ap (λ (a : App). with_subcommand a (origin_app (codes "dis")).top) assemble)

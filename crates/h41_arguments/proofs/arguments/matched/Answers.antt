@@ -5,7 +5,9 @@ use Rattle.h41_arguments.proofs.arguments.matched.Goals as goal
 
 pub returns-clause-kinds : goal.returns-clause-kinds
 returns-clause-kinds c =
-    subst (λ (app : App). is_simple_and_free app ≡ true → FailsBy (fault_of app (map (λ w. w.now) c.args.words.now)) c.try_get_matches_from.result)
+    subst
+    (λ (app : App). is_simple_and_free app ≡ true → FailsBy (fault_of app (map (λ w. w.now) c.args.words.now))
+    c.try_get_matches_from.result)
     c.in_ok-bench.ensures c.try_get_matches_from.ensures.kinds refl
 
 pub returns-clause-matches : goal.returns-clause-matches

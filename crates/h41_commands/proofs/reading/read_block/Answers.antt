@@ -66,7 +66,8 @@ returns-in_err-block-clause-bound g c =
 
 pub returns-in_err-block-clause-stopped : goal.returns-in_err-block-clause-stopped
 returns-in_err-block-clause-stopped g c =
-    λ is. c.in_err-block.ensures.stopped (told c.from_residual.result c.in_err-block.field-0.0 faults.ReadFault c.from_residual.ensures.1 is)
+    λ is. c.in_err-block.ensures.stopped
+    (told c.from_residual.result c.in_err-block.field-0.0 faults.ReadFault c.from_residual.ensures.1 is)
 
 pub returns-in_err-block-clause-cause : goal.returns-in_err-block-clause-cause
 returns-in_err-block-clause-cause g c =
@@ -74,7 +75,8 @@ returns-in_err-block-clause-cause g c =
 
 pub returns-in_err-block-clause-flushed : goal.returns-in_err-block-clause-flushed
 returns-in_err-block-clause-flushed g c =
-    λ is. c.in_err-block.ensures.flushed (told c.from_residual.result c.in_err-block.field-0.0 faults.ReadFault c.from_residual.ensures.1 is)
+    λ is. c.in_err-block.ensures.flushed
+    (told c.from_residual.result c.in_err-block.field-0.0 faults.ReadFault c.from_residual.ensures.1 is)
 
 pub returns-in_err-block-clause-kept : goal.returns-in_err-block-clause-kept
 returns-in_err-block-clause-kept g c =
@@ -86,12 +88,15 @@ returns-in_err-block-clause-counted g c =
 
 pub returns-in_err-block-clause-reader : goal.returns-in_err-block-clause-reader
 returns-in_err-block-clause-reader g c =
-    λ not. c.in_err-block.ensures.reader (untold c.from_residual.result c.in_err-block.field-0.0 faults.ReadFault c.from_residual.ensures.1 not)
+    λ not. c.in_err-block.ensures.reader
+    (untold c.from_residual.result c.in_err-block.field-0.0 faults.ReadFault c.from_residual.ensures.1 not)
 
 pub returns-in_err-block-clause-writer : goal.returns-in_err-block-clause-writer
 returns-in_err-block-clause-writer g c =
-    λ not. c.in_err-block.ensures.writer (untold c.from_residual.result c.in_err-block.field-0.0 faults.WriteFault c.from_residual.ensures.1 not)
+    λ not. c.in_err-block.ensures.writer
+    (untold c.from_residual.result c.in_err-block.field-0.0 faults.WriteFault c.from_residual.ensures.1 not)
 
 pub returns-in_err-block-clause-write_fault : goal.returns-in_err-block-clause-write_fault
 returns-in_err-block-clause-write_fault g c =
-    λ is. c.in_err-block.ensures.write_fault (told c.from_residual.result c.in_err-block.field-0.0 faults.WriteFault c.from_residual.ensures.1 is)
+    λ is. c.in_err-block.ensures.write_fault
+    (told c.from_residual.result c.in_err-block.field-0.0 faults.WriteFault c.from_residual.ensures.1 is)

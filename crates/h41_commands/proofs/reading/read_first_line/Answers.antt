@@ -88,15 +88,18 @@ returns-in_err-next_line-clause-fewer g c =
 
 pub returns-in_err-next_line-clause-stopped : goal.returns-in_err-next_line-clause-stopped
 returns-in_err-next_line-clause-stopped g c =
-    λ is. c.in_err-next_line.ensures.stopped (told c.from_residual.result c.in_err-next_line.field-0.0 line.ReadFault c.from_residual.ensures.1 is)
+    λ is. c.in_err-next_line.ensures.stopped
+    (told c.from_residual.result c.in_err-next_line.field-0.0 line.ReadFault c.from_residual.ensures.1 is)
 
 pub returns-in_err-next_line-clause-cause : goal.returns-in_err-next_line-clause-cause
 returns-in_err-next_line-clause-cause g c =
-    λ is. c.in_err-next_line.ensures.cause (told c.from_residual.result c.in_err-next_line.field-0.0 line.ReadFault c.from_residual.ensures.1 is)
+    λ is. c.in_err-next_line.ensures.cause
+    (told c.from_residual.result c.in_err-next_line.field-0.0 line.ReadFault c.from_residual.ensures.1 is)
 
 pub returns-in_err-next_line-clause-flushed : goal.returns-in_err-next_line-clause-flushed
 returns-in_err-next_line-clause-flushed g c =
-    λ is. c.in_err-next_line.ensures.flushed (told c.from_residual.result c.in_err-next_line.field-0.0 line.ReadFault c.from_residual.ensures.1 is)
+    λ is. c.in_err-next_line.ensures.flushed
+    (told c.from_residual.result c.in_err-next_line.field-0.0 line.ReadFault c.from_residual.ensures.1 is)
 
 pub returns-in_err-next_line-clause-kept : goal.returns-in_err-next_line-clause-kept
 returns-in_err-next_line-clause-kept g c =
@@ -108,12 +111,15 @@ returns-in_err-next_line-clause-counted g c =
 
 pub returns-in_err-next_line-clause-reader : goal.returns-in_err-next_line-clause-reader
 returns-in_err-next_line-clause-reader g c =
-    λ not. c.in_err-next_line.ensures.reader (untold c.from_residual.result c.in_err-next_line.field-0.0 line.ReadFault c.from_residual.ensures.1 not)
+    λ not. c.in_err-next_line.ensures.reader
+    (untold c.from_residual.result c.in_err-next_line.field-0.0 line.ReadFault c.from_residual.ensures.1 not)
 
 pub returns-in_err-next_line-clause-writer : goal.returns-in_err-next_line-clause-writer
 returns-in_err-next_line-clause-writer g c =
-    λ not. c.in_err-next_line.ensures.writer (untold c.from_residual.result c.in_err-next_line.field-0.0 line.WriteFault c.from_residual.ensures.1 not)
+    λ not. c.in_err-next_line.ensures.writer
+    (untold c.from_residual.result c.in_err-next_line.field-0.0 line.WriteFault c.from_residual.ensures.1 not)
 
 pub returns-in_err-next_line-clause-write_fault : goal.returns-in_err-next_line-clause-write_fault
 returns-in_err-next_line-clause-write_fault g c =
-    λ is. c.in_err-next_line.ensures.write_fault (told c.from_residual.result c.in_err-next_line.field-0.0 line.WriteFault c.from_residual.ensures.1 is)
+    λ is. c.in_err-next_line.ensures.write_fault
+    (told c.from_residual.result c.in_err-next_line.field-0.0 line.WriteFault c.from_residual.ensures.1 is)

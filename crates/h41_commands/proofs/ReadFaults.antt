@@ -1,5 +1,5 @@
 -- What a fault that `?` passes on says of the fault that it comes from.
-use Rattle.std.proofs.Common.{◌≡◌, ◌≢◌, Result, Ok, Err, ap, refl, ◌∙◌}
+use Rattle.std.proofs.Common.{◌≡◌, ◌≢◌, Result, Err, ap, refl, ◌∙◌}
 use Rattle.std.specs.Result.{IsErrAnd}
 use Rattle.std.proofs.lemmas.Result.{err_from_is_err_and}
 use Rattle.h41_ends.specs.declared.fault.LineReadFault.{LineReadFault}

@@ -1,4 +1,4 @@
-use Rattle.std.proofs.Common.{◌≡◌, drop, map, ℕ, List}
+use Rattle.std.proofs.Common.{◌≡◌, drop, map}
 use Rattle.h41_commands.specs.Commands.{named_in}
 use Rattle.h41_commands.proofs.commands.named_in.Given as goal
 

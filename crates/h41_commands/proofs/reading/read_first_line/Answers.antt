@@ -123,3 +123,12 @@ pub returns-in_err-next_line-clause-write_fault : goal.returns-in_err-next_line-
 returns-in_err-next_line-clause-write_fault g c =
     λ is. c.in_err-next_line.ensures.write_fault
     (told c.from_residual.result c.in_err-next_line.field-0.0 line.WriteFault c.from_residual.ensures.1 is)
+
+pub first_line-requires : goal.first_line-requires
+first_line-requires g c = assumption
+
+pub line-requires : goal.line-requires
+line-requires g c = assumption
+
+pub next_line-requires : goal.next_line-requires
+next_line-requires g c = assumption

@@ -213,3 +213,9 @@ returns-in_err-flush g c =
     (leaves_whole g.row.REGS g.R.Source g.W.Sink c.args.reader.now c.read_first_line.new.reader c.args.writer.now
     c.read_first_line.new.writer c.flush.new.writer so_far.0 c.loop-first.bench c.loop-first.outcome whole told c.flush.ensures.bytes)
     c.in_err-flush.ensures.mark (c.in_ok-first.ensures.reader never_failed))
+
+pub line-requires : goal.line-requires
+line-requires g c = assumption
+
+pub opens_block-requires : goal.opens_block-requires
+opens_block-requires g c = assumption

@@ -15,3 +15,12 @@ returns-in_err-end-in-Refused-clause-reply g c =
     rw (failed.1, failed.2, c.in-Refused.is)
     (ends_part _ c.args.bench.now _ _ _ _ (Some c.from.result)
     (refused_item c.in-Refused.refusal c.args.bench.now _ _ c.from.ensures) c.in_err-end-in-Refused.ensures.written)
+
+pub apply-requires : goal.apply-requires
+apply-requires g c = assumption
+
+pub end-requires : goal.end-requires
+end-requires g c = assumption
+
+pub from-requires : goal.from-requires
+from-requires g c = assumption

@@ -47,3 +47,9 @@ returns-in_err-end-in-Long-clause-reply g c =
     ∙ ap (λ (kind : LineKind). Some kind) c.in-Long.is))
     c.args.bench.now _ _
     c.in_err-end-in-Long.ensures.written)
+
+pub end-requires : goal.end-requires
+end-requires g c = assumption
+
+pub refuse_unknown-requires : goal.refuse_unknown-requires
+refuse_unknown-requires g c = assumption

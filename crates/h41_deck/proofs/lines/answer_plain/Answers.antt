@@ -98,3 +98,24 @@ returns-in-Show-clause-reply g c =
     subst (λ (item : Spelled). Leaves c.show_named.result item c.args.bench.now c.show_named.new.bench g.W.Sink.contents
     c.args.writer.now c.show_named.new.writer) (sym (named_spelled c.args.line.now plain.Show is))
     (rw c.requires.words at c.show_named.ensures.reply)
+
+pub break_placed-requires : goal.break_placed-requires
+break_placed-requires g c = assumption
+
+pub reset_alone-requires : goal.reset_alone-requires
+reset_alone-requires g c = assumption
+
+pub run_counted-requires : goal.run_counted-requires
+run_counted-requires g c = assumption
+
+pub show_named-requires : goal.show_named-requires
+show_named-requires g c = assumption
+
+pub step_counted-requires : goal.step_counted-requires
+step_counted-requires g c = assumption
+
+pub unbreak_placed-requires : goal.unbreak_placed-requires
+unbreak_placed-requires g c = assumption
+
+pub unplug_named-requires : goal.unplug_named-requires
+unplug_named-requires g c = assumption

@@ -29,3 +29,12 @@ returns-in-Err-clause-reply g c =
     ends_written c.end-in-Err.result plain.Break _ (Err c.in-Err.refusal) is c.args.bench.now c.args.bench.now g.W.Sink.contents
     c.args.writer.now c.args.writer.now c.end-in-Err.new.writer (Some (Line c.in-Err.refusal))
     (refused_said c.in-Err.refusal c.args.bench.now _) c.end-in-Err.ensures.outcome c.end-in-Err.ensures.written
+
+pub break_location-requires : goal.break_location-requires
+break_location-requires g c = assumption
+
+pub end-requires : goal.end-requires
+end-requires g c = assumption
+
+pub set_break-requires : goal.set_break-requires
+set_break-requires g c = assumption

@@ -27,3 +27,9 @@ returns-in-Err-clause-reply g c =
     ends_written c.end-in-Err.result plain.Run _ (Err c.in-Err.refusal) is c.args.bench.now c.args.bench.now g.W.Sink.contents
     c.args.writer.now c.args.writer.now c.end-in-Err.new.writer (Some (Line c.in-Err.refusal))
     (refused_said c.in-Err.refusal c.args.bench.now _) c.end-in-Err.ensures.outcome c.end-in-Err.ensures.written
+
+pub most_steps-requires : goal.most_steps-requires
+most_steps-requires g c = assumption
+
+pub run-requires : goal.run-requires
+run-requires g c = assumption

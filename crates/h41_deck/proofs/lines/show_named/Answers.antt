@@ -58,3 +58,9 @@ returns-in_err-end-in-Err-clause-reply g c =
     (g.W.Sink.contents c.end-in-Err.new.writer)) (sym is)
     (ends_part _ c.args.bench.now c.args.bench.now _ _ _ (Some (Line c.in-Err.refusal))
     (refused_said c.in-Err.refusal c.args.bench.now _) c.in_err-end-in-Err.ensures.written))
+
+pub show-requires : goal.show-requires
+show-requires g c = assumption
+
+pub view-requires : goal.view-requires
+view-requires g c = assumption

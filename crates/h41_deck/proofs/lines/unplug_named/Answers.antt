@@ -28,3 +28,12 @@ returns-in-Err-clause-reply g c =
     ends_written c.end-in-Err.result plain.Unplug _ (Err c.in-Err.refusal) is c.args.bench.now c.args.bench.now g.W.Sink.contents
     c.args.writer.now c.args.writer.now c.end-in-Err.new.writer (Some (Line c.in-Err.refusal))
     (refused_said c.in-Err.refusal c.args.bench.now _) c.end-in-Err.ensures.outcome c.end-in-Err.ensures.written
+
+pub end-requires : goal.end-requires
+end-requires g c = assumption
+
+pub unplug-requires : goal.unplug-requires
+unplug-requires g c = assumption
+
+pub unplugged_page-requires : goal.unplugged_page-requires
+unplugged_page-requires g c = assumption

@@ -57,3 +57,27 @@ unreachable-requires g c =
     let other = c.in_default in
     silent_named c.args.command c.requires other.not-Unplug other.not-Size other.not-Reset other.not-Call other.not-Key
     other.not-Step other.not-Break other.not-Unbreak
+
+pub call-requires : goal.call-requires
+call-requires g c = assumption
+
+pub press-requires : goal.press-requires
+press-requires g c = assumption
+
+pub reset-requires : goal.reset-requires
+reset-requires g c = assumption
+
+pub set_break-requires : goal.set_break-requires
+set_break-requires g c = assumption
+
+pub size-requires : goal.size-requires
+size-requires g c = assumption
+
+pub step-requires : goal.step-requires
+step-requires g c = assumption
+
+pub unbreak-requires : goal.unbreak-requires
+unbreak-requires g c = assumption
+
+pub unplug-requires : goal.unplug-requires
+unplug-requires g c = assumption

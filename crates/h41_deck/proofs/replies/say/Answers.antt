@@ -15,3 +15,9 @@ pub returns-in_ok-load-in-Load-clause-text : goal.returns-in_ok-load-in-Load-cla
 returns-in_ok-load-in-Load-clause-text g c =
     load_text c.args.block c.args.command c.in-Load._kind c.args.bench.now
     _ _ _ c.in-Load.is c.requires.block c.in_ok-load-in-Load.ensures.loads
+
+pub from-requires : goal.from-requires
+from-requires g c = assumption
+
+pub refusal-requires : goal.refusal-requires
+refusal-requires g c = assumption

@@ -15,3 +15,18 @@ returns-in_err-say_made-in-List-clause-text g c =
 
 pub returns-in_default-clause-text : goal.returns-in_default-clause-text
 returns-in_default-clause-text g c = λ values. silent_alone c.args.command values c.args.bench.now _ _ _ (c.carry_out.ensures values)
+
+pub listed-requires : goal.listed-requires
+listed-requires g c = assumption
+
+pub run-requires : goal.run-requires
+run-requires g c = assumption
+
+pub say_made-requires : goal.say_made-requires
+say_made-requires g c = assumption
+
+pub show-requires : goal.show-requires
+show-requires g c = assumption
+
+pub trace-requires : goal.trace-requires
+trace-requires g c = assumption

@@ -29,3 +29,12 @@ returns-in_err-say_made-in_default g c =
       mark = search rules;
       clear = search rules;
     }
+
+pub position-requires : goal.position-requires
+position-requires g c = assumption
+
+pub say_made-requires : goal.say_made-requires
+say_made-requires g c = assumption
+
+pub shown-requires : goal.shown-requires
+shown-requires g c = assumption

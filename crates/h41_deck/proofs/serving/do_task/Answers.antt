@@ -65,3 +65,15 @@ returns-in_err-run_with-in-Run-clause-read g c = λ is.
     rw c.in-Run.is
     (why_deck g.R.Source g.W.Sink c.args.reader.now c.run_with.new.reader c.args.writer.now c.run_with.new.writer
     (rw same at c.in_err-run_with-in-Run.ensures.left) (passed (λ other. cc)))
+
+pub ended-requires : goal.ended-requires
+ended-requires g c = assumption
+
+pub read_input-requires : goal.read_input-requires
+read_input-requires g c = assumption
+
+pub run_with-requires : goal.run_with-requires
+run_with-requires g c = assumption
+
+pub write_answer-requires : goal.write_answer-requires
+write_answer-requires g c = assumption

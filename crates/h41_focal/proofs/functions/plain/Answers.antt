@@ -159,3 +159,45 @@ returns-in-Nothing g c =
       keeps = c.do_nothing.ensures.keeps;
       left = c.do_nothing.ensures.left;
     }
+
+pub ask-requires : goal.ask-requires
+ask-requires g c = assumption
+
+pub change_alpha-requires : goal.change_alpha-requires
+change_alpha-requires g c = assumption
+
+pub change_sign-requires : goal.change_sign-requires
+change_sign-requires g c = assumption
+
+pub clear_registers-requires : goal.clear_registers-requires
+clear_registers-requires g c = assumption
+
+pub do_nothing-requires : goal.do_nothing-requires
+do_nothing-requires g c = assumption
+
+pub go_back-requires : goal.go_back-requires
+go_back-requires g c = assumption
+
+pub move_stack-requires : goal.move_stack-requires
+move_stack-requires g c = assumption
+
+pub of_x-requires : goal.of_x-requires
+of_x-requires g c = assumption
+
+pub of_y_and_x-requires : goal.of_y_and_x-requires
+of_y_and_x-requires g c = assumption
+
+pub percent-requires : goal.percent-requires
+percent-requires g c = assumption
+
+pub set_angle_unit-requires : goal.set_angle_unit-requires
+set_angle_unit-requires g c = assumption
+
+pub show-requires : goal.show-requires
+show-requires g c = assumption
+
+pub square-requires : goal.square-requires
+square-requires g c = assumption
+
+pub work_of-requires : goal.work_of-requires
+work_of-requires g c = assumption

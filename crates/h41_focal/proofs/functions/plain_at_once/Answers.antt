@@ -44,3 +44,21 @@ returns-in-Some-OfX g c =
       keeps = c.of_x.ensures.keeps;
       left = c.of_x.ensures.left;
     }
+
+pub is_done-requires : goal.is_done-requires
+is_done-requires g c = assumption
+
+pub move_stack-requires : goal.move_stack-requires
+move_stack-requires g c = assumption
+
+pub of_x-requires : goal.of_x-requires
+of_x-requires g c = assumption
+
+pub of_y_and_x-requires : goal.of_y_and_x-requires
+of_y_and_x-requires g c = assumption
+
+pub plain-requires : goal.plain-requires
+plain-requires g c = assumption
+
+pub work_of-requires : goal.work_of-requires
+work_of-requires g c = assumption

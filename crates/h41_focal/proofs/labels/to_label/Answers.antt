@@ -63,3 +63,9 @@ returns-in-None-clause-kept g c =
     (local_search (from_of c.args.origin machine.focal.state.position) c.args.label) machine.focal.labels
     c.fail.new.machine.focal.labels)
     c.machine.view_is (rw c.fail.ensures.keeps.labels (rw from_is at kept))
+
+pub arrive-requires : goal.arrive-requires
+arrive-requires g c = assumption
+
+pub fail-requires : goal.fail-requires
+fail-requires g c = assumption

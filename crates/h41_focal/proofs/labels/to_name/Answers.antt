@@ -72,3 +72,9 @@ returns-in-None-Execute-clause-kept g c =
     (λ (machine : LabelledMachine). KeepsSearch machine.ram.registers (Some (Global c.args.name)) machine.focal.labels
     c.global.new.self.labels)
     c.machine.view_is c.global.ensures.kept
+
+pub arrive-requires : goal.arrive-requires
+arrive-requires g c = assumption
+
+pub fail-requires : goal.fail-requires
+fail-requires g c = assumption

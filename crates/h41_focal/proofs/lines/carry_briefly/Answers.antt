@@ -160,3 +160,42 @@ returns-in-Text g c =
       mark = c.text_line.ensures.keeps.mark;
       left = c.text_line.ensures.left;
     })
+
+pub be_silent-requires : goal.be_silent-requires
+be_silent-requires g c = assumption
+
+pub do_nothing-requires : goal.do_nothing-requires
+do_nothing-requires g c = assumption
+
+pub go_back-requires : goal.go_back-requires
+go_back-requires g c = assumption
+
+pub indirect-requires : goal.indirect-requires
+indirect-requires g c = assumption
+
+pub named-requires : goal.named-requires
+named-requires g c = assumption
+
+pub number-requires : goal.number-requires
+number-requires g c = assumption
+
+pub number_line-requires : goal.number_line-requires
+number_line-requires g c = assumption
+
+pub plain-requires : goal.plain-requires
+plain-requires g c = assumption
+
+pub short-requires : goal.short-requires
+short-requires g c = assumption
+
+pub text_line-requires : goal.text_line-requires
+text_line-requires g c = assumption
+
+pub to_label-requires : goal.to_label-requires
+to_label-requires g c = assumption
+
+pub with_operand-requires : goal.with_operand-requires
+with_operand-requires g c = assumption
+
+pub written-requires : goal.written-requires
+written-requires g c = assumption

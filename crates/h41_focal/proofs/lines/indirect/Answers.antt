@@ -22,3 +22,12 @@ returns-in-Ok-clause-taken g c =
     (meant_of machine.memory (BranchIndirect c.args.branch c.args.register)))
     (ap machine_of c.machine.view_is) (rw c.in-Ok.is at found))
     c.to_target.ensures.done
+
+pub fail-requires : goal.fail-requires
+fail-requires g c = assumption
+
+pub is_parameter_out-requires : goal.is_parameter_out-requires
+is_parameter_out-requires g c = assumption
+
+pub to_target-requires : goal.to_target-requires
+to_target-requires g c = assumption

@@ -5,3 +5,6 @@ returns-in-GoToName-clause-taken g c = λ pages. rw c.in-GoToName.is (c.to_name.
 
 pub returns-in-ExecuteName-clause-taken : goal.returns-in-ExecuteName-clause-taken
 returns-in-ExecuteName-clause-taken g c = λ pages. rw c.in-ExecuteName.is (c.to_name-in-ExecuteName.ensures.done pages 0)
+
+pub to_name-requires : goal.to_name-requires
+to_name-requires g c = assumption

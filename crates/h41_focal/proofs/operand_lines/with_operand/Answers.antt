@@ -62,3 +62,9 @@ returns-in-Label g c =
       keeps = c.be_silent.ensures.keeps;
       left = c.be_silent.ensures.left;
     }
+
+pub be_silent-requires : goal.be_silent-requires
+be_silent-requires g c = assumption
+
+pub is_left_out-requires : goal.is_left_out-requires
+is_left_out-requires g c = assumption

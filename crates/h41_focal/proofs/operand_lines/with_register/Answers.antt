@@ -16,3 +16,9 @@ returns-in-Ok-clause-left g c = λ sound.
     (meant_as RegisterKind machine.ram.registers c.args.operand.now))
     c.machine.view_is (rw c.in-Ok.is at meant)))
     sound
+
+pub fail-requires : goal.fail-requires
+fail-requires g c = assumption
+
+pub use_register-requires : goal.use_register-requires
+use_register-requires g c = assumption

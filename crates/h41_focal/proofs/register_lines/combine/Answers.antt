@@ -24,3 +24,9 @@ returns-in-Err-clause-done g c =
     (let worked = c.compute_of_two.ensures c.machine.inside.ram.registers c.args.address Named X refl refl refl in
     works_in_register c.args.value _ c.args.address _ (rw c.in-Err.is at worked))
     c.fail.ensures.done
+
+pub fail-requires : goal.fail-requires
+fail-requires g c = assumption
+
+pub go_on_lifting-requires : goal.go_on_lifting-requires
+go_on_lifting-requires g c = assumption

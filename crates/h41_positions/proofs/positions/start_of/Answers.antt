@@ -13,3 +13,12 @@ returns-in-Page g c =
     (start_there pages c.args.ram.now.registers c.in-Page.address page offset c.code.result.now c.place_of-page.ensures.page
     c.place_of-page.ensures.offset c.code.ensures.code begins (c.as_slice.ensures.value ∙ c.keystroke_offsets-begins.ensures.offsets)
     start c.start_of-in-Page.ensures)
+
+pub code-requires : goal.code-requires
+code-requires g c = assumption
+
+pub in_page-requires : goal.in_page-requires
+in_page-requires g c = assumption
+
+pub start_of-requires : goal.start_of-requires
+start_of-requires g c = assumption

@@ -68,3 +68,15 @@ pub returns-in_default-clause-none : goal.returns-in_default-clause-none
 returns-in_default-clause-none g c =
     none_fits c.args.ram.now.registers c.args.at c.args.limit 2 c.fitting-in_default.result c.fitting-in_default.ensures.none
     (pair_lacks c.args.ram.now.registers c.args.at c.args.limit c.requires.from c.args.byte c.requires.byte (two g c))
+
+pub first_bytes-requires : goal.first_bytes-requires
+first_bytes-requires g c = assumption
+
+pub fitting-requires : goal.fitting-requires
+fitting-requires g c = assumption
+
+pub from-requires : goal.from-requires
+from-requires g c = assumption
+
+pub is_one_byte-requires : goal.is_one_byte-requires
+is_one_byte-requires g c = assumption

@@ -167,3 +167,18 @@ returns-in_default-clause-right g c =
     right_over c.kept_answers_stay_right.ensures.keeping c.args.machine.now _ c.type_letters.new.ram c.machine-in_default.view_is
     c.type_letters.ensures.mark
     c.requires.right
+
+pub begin_number-requires : goal.begin_number-requires
+begin_number-requires g c = assumption
+
+pub carried-requires : goal.carried-requires
+carried-requires g c = assumption
+
+pub change_number-requires : goal.change_number-requires
+change_number-requires g c = assumption
+
+pub edited-requires : goal.edited-requires
+edited-requires g c = assumption
+
+pub kept_answers_stay_right-requires : goal.kept_answers_stay_right-requires
+kept_answers_stay_right-requires g c = assumption

@@ -9,3 +9,6 @@ advance-requires g c = (search rules, some _ c.if-limit-eq0.false)
 
 pub returns : goal.returns
 returns g c = c.advance.ensures.run (search rules)
+
+pub eq-requires : goal.eq-requires
+eq-requires g c = assumption

@@ -111,3 +111,9 @@ pub returns : goal.returns
 returns g c =
     all_steps _ _ _ _ _ _ c.loop-made.invariant.0 c.loop-made.invariant.3 c.loop-made-test.false c.loop-made.invariant.5
     (same _) c.requires.below
+
+pub has_breakpoint-requires : goal.has_breakpoint-requires
+has_breakpoint-requires g c = assumption
+
+pub step_is_determined-requires : goal.step_is_determined-requires
+step_is_determined-requires g c = assumption

@@ -22,3 +22,18 @@ returns g c = elim c.match-view.branch [
   | in-Lines+in_ok-text-in-Lines w ↦ search rules
   | in-Functions+in_ok-text-in-Functions w ↦ search rules
 ]
+
+pub functions_text-requires : goal.functions_text-requires
+functions_text-requires g c = assumption
+
+pub image_shown-requires : goal.image_shown-requires
+image_shown-requires g c = assumption
+
+pub line_of-requires : goal.line_of-requires
+line_of-requires g c = assumption
+
+pub position-requires : goal.position-requires
+position-requires g c = assumption
+
+pub processor_text-requires : goal.processor_text-requires
+processor_text-requires g c = assumption

@@ -122,3 +122,9 @@ returns-then-not-branch-clause-reader g c = λ other. c.in_ok-read_more.ensures.
 
 pub returns-then-not-branch-clause-writer : goal.returns-then-not-branch-clause-writer
 returns-then-not-branch-clause-writer g c = λ other. c.in_ok-read_more.ensures.writer (λ is. no_fault _ _ is)
+
+pub held-requires : goal.held-requires
+held-requires g c = assumption
+
+pub line_end-requires : goal.line_end-requires
+line_end-requires g c = assumption

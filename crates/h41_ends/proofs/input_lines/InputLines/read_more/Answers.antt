@@ -157,3 +157,12 @@ returns-then-self-clause-reader g c = λ other. absurd (other refl)
 
 pub returns-then-self-clause-write_fault : goal.returns-then-self-clause-write_fault
 returns-then-self-clause-write_fault g c = λ is. absurd (no_write is)
+
+pub flush_rest-requires : goal.flush_rest-requires
+flush_rest-requires g c = assumption
+
+pub read-requires : goal.read-requires
+read-requires g c = assumption
+
+pub shorten-requires : goal.shorten-requires
+shorten-requires g c = assumption

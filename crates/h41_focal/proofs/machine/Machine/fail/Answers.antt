@@ -17,3 +17,9 @@ returns-clause-line g c =
     (λ called. c.outcome.ensures called ∙ ap (λ (of : Machine). brief_answer called of.memory c.fail.result)
     (ap machine_of c.self.view_is)))
     (Ok (c.in_ok-next.field-0-0, c.in_ok-next.next), c.in_ok-next.ensures, c.fail.ensures.done)
+
+pub fail-requires : goal.fail-requires
+fail-requires g c = assumption
+
+pub standing-requires : goal.standing-requires
+standing-requires g c = assumption

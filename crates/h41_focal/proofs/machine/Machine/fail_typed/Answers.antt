@@ -13,3 +13,6 @@ returns-clause-line g c =
     (λ called. c.outcome.ensures called ∙ ap (λ (of : Machine). brief_answer called of.memory c.fail.result)
     (ap machine_of c.self-2.view_is)))
     (rw sound c.fail.ensures.done)
+
+pub fail-requires : goal.fail-requires
+fail-requires g c = assumption

@@ -20,3 +20,9 @@ returns-clause-line g c = (
       ≡ with_line_passed c.in_ok-line.line c.in_ok-line.next machine)
       (ap machine_of c.self.view_is) (rw c.go_behind.ensures.state refl)),
 )
+
+pub go_behind-requires : goal.go_behind-requires
+go_behind-requires g c = assumption
+
+pub standing-requires : goal.standing-requires
+standing-requires g c = assumption

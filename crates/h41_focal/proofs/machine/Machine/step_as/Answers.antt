@@ -45,3 +45,12 @@ returns g c =
           c.kept_answers_stay_right.ensures.searching c.begin.new.self c.carry_out.new.machine _ c.begin.ensures.right
           c.carry_out.ensures.kept c.carry_out.ensures.mark;
     }
+
+pub begin-requires : goal.begin-requires
+begin-requires g c = assumption
+
+pub kept_answers_stay_right-requires : goal.kept_answers_stay_right-requires
+kept_answers_stay_right-requires g c = assumption
+
+pub standing-requires : goal.standing-requires
+standing-requires g c = assumption

@@ -32,3 +32,15 @@ returns-in-Some-clause-kept g c =
 
 pub returns-in-None-clause-line : goal.returns-in-None-clause-line
 returns-in-None-clause-line g c = rw c.is_done.ensures c.step_long.ensures.line
+
+pub is_done-requires : goal.is_done-requires
+is_done-requires g c = assumption
+
+pub kept_answers_stay_right-requires : goal.kept_answers_stay_right-requires
+kept_answers_stay_right-requires g c = assumption
+
+pub short_standing-requires : goal.short_standing-requires
+short_standing-requires g c = assumption
+
+pub step_long-requires : goal.step_long-requires
+step_long-requires g c = assumption

@@ -27,3 +27,12 @@ pub returns-in-Err : goal.returns-in-Err
 returns-in-Err g c =
     key_failed c.args.key c.args.input c.args.action _ c.args.self.now (machine_of c.act.new.machine) c.in-Err.refusal c.self.view_is
     (c.in_ok-check_memory.ensures) (c.in-Err.ensures).effect (c.in-Err.ensures).unchanged
+
+pub check_memory-requires : goal.check_memory-requires
+check_memory-requires g c = assumption
+
+pub finish-requires : goal.finish-requires
+finish-requires g c = assumption
+
+pub tell-requires : goal.tell-requires
+tell-requires g c = assumption

@@ -17,3 +17,9 @@ pub returns-in-Err-clause-refusal : goal.returns-in-Err-clause-refusal
 returns-in-Err-clause-refusal g c =
     line_refused _ c.args.self.now (machine_of c.carry_line.new.machine) c.in-Err.refusal
     _ c.self.view_is (c.in-Err.ensures).line (ap Some c.into.ensures)
+
+pub end_entry-requires : goal.end_entry-requires
+end_entry-requires g c = assumption
+
+pub end_line-requires : goal.end_line-requires
+end_line-requires g c = assumption

@@ -23,3 +23,12 @@ returns-in-Err g c =
     key_unknown _ c.args.self.now c.args.key c.waits.result c.key_flags.result c.into.result
     c.self.view_is c.waits.ensures c.key_flags.ensures (c.in-Err.ensures).refused
     c.into.ensures
+
+pub key_flags-requires : goal.key_flags-requires
+key_flags-requires g c = assumption
+
+pub press-requires : goal.press-requires
+press-requires g c = assumption
+
+pub waits-requires : goal.waits-requires
+waits-requires g c = assumption

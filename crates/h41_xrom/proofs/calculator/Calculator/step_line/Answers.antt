@@ -53,3 +53,12 @@ returns-in-Err-clause-refusal g c =
     let steps = c.if-step_briefly.ensures.line in
     let steps = rw c.in-Err.is at steps in
     brief_refused _ c.args.self.now c.in-Err.refusal _ c.self.view_is steps.2 (ap Some c.into.ensures)
+
+pub answer_briefly-requires : goal.answer_briefly-requires
+answer_briefly-requires g c = assumption
+
+pub call_by_line-requires : goal.call_by_line-requires
+call_by_line-requires g c = assumption
+
+pub end_entry-requires : goal.end_entry-requires
+end_entry-requires g c = assumption

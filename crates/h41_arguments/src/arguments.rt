@@ -72,7 +72,7 @@ const ORIGIN: u16 = 0x8000;
 const MEMORY: MemorySize = MemorySize::Cv;
 
 /// The version, and the kit that proves it, as `rt version` prints it.
-const VERSION: &str = "0.1.0, proved with rattle-kit-13b logic dac8208d650f15bf";
+const VERSION: &str = "0.1.0, proved with rattle-kit-13f logic dac8208d650f15bf";
 
 /// What a wrong origin is answered with.
 const WRONG_ORIGIN: &str = "error: the origin has not four hexadecimal digits\n";

@@ -1,12 +1,11 @@
 //! The words that work on a field of A, B and C.
 
-ghost use Rattle.std.specs.Prelude.{◌≡◌, ◌≤◌, false, true, OnOk, OnErr};
+ghost use Rattle.std.specs.Prelude.{◌≡◌, ◌≤◌, false, OnOk, OnErr};
 ghost use Rattle.std.specs.Result.{result_err};
 ghost use Rattle.h41_pages.specs.Addresses.{first_address};
 ghost use Rattle.h41_arith.specs.DigitRule.{base_of};
 ghost use Rattle.h41_nut.specs.Arithmetic.{Operates, OperatesOn, base_number};
 ghost use Rattle.h41_nut.specs.Arrivals.{refusal_to_go_on, gone_on, next_address};
-ghost use Rattle.h41_nut.specs.private.Operations.{counts, asks};
 
 use crate::base::Base;
 use crate::cpu::Cpu;
@@ -49,66 +48,62 @@ impl Cpu {
         requires base { base_of DEC ≡ base_number self.old.base }
         ensures { Operates operation span.lo span.hi (record self.old { carry = false }) self.new }
     {
-        let (a, b, c) = (self.a, self.b, self.c);
-        self.carry = false;
         match operation {
-            Operation::AddBToA => (self.a, self.carry) = add::<DEC>(a, a, b, false, span),
-            Operation::AddCToA => (self.a, self.carry) = add::<DEC>(a, a, c, false, span),
-            Operation::IncrementA => (self.a, self.carry) = inc::<DEC>(a, a, span),
-            Operation::SubtractBFromA => (self.a, self.carry) = sub::<DEC>(a, a, b, false, span),
-            Operation::DecrementA => (self.a, self.carry) = dec::<DEC>(a, a, span),
-            Operation::SubtractCFromA => (self.a, self.carry) = sub::<DEC>(a, a, c, false, span),
-            Operation::DoubleC => (self.c, self.carry) = add::<DEC>(c, c, c, false, span),
-            Operation::AddAToC => (self.c, self.carry) = add::<DEC>(c, a, c, false, span),
-            Operation::IncrementC => (self.c, self.carry) = inc::<DEC>(c, c, span),
-            Operation::SubtractCFromAToC => (self.c, self.carry) = sub::<DEC>(c, a, c, false, span),
-            Operation::DecrementC => (self.c, self.carry) = dec::<DEC>(c, c, span),
-            Operation::NegateC => (self.c, self.carry) = neg::<DEC>(c, c, span),
-            Operation::ComplementC => (self.c, self.carry) = neg1::<DEC>(c, c, span),
-            _ => self.rearrange(operation, span),
-        }
-    }
-
-    /// Works on a span of places by an operation that is the same in each base. The carry is clear before.
-    #[inline(always)]
-    fn rearrange(&mut self, operation: Operation, span: Span)
-        requires same { counts operation ≡ false }
-        requires clear { self.old.carry ≡ false }
-        ensures { Operates operation span.lo span.hi self.old self.new }
-    {
-        let (a, b, c) = (self.a, self.b, self.c);
-        match operation {
-            Operation::ClearA => self.a = copy(a, Reg::zero(), span).0,
-            Operation::ClearB => self.b = copy(b, Reg::zero(), span).0,
-            Operation::ClearC => self.c = copy(c, Reg::zero(), span).0,
-            Operation::ExchangeAB => (self.a, self.b) = exchange(a, b, span),
-            Operation::AToB => self.b = copy(b, a, span).0,
-            Operation::ExchangeAC => (self.a, self.c) = exchange(a, c, span),
-            Operation::BToC => self.c = copy(c, b, span).0,
-            Operation::ExchangeBC => (self.b, self.c) = exchange(b, c, span),
-            Operation::CToA => self.a = copy(a, c, span).0,
-            Operation::ShiftRightA => self.a = shift_right(a, a, span).0,
-            Operation::ShiftRightB => self.b = shift_right(b, b, span).0,
-            Operation::ShiftRightC => self.c = shift_right(c, c, span).0,
-            Operation::ShiftLeftA => self.a = shift_left(a, a, span).0,
-            _ => self.carry = self.answer_of(operation, span),
-        }
-    }
-
-    /// What an operation that asks of a span of places has as its answer, the carry afterwards.
-    #[inline(always)]
-    fn answer_of(&self, operation: Operation, span: Span) -> bool
-        requires { asks operation ≡ true }
-        ensures { Operates operation span.lo span.hi self.now (record self.now { carry = result }) }
-    {
-        match operation {
-            Operation::TestBNonzero => nonzero(self.b, span),
-            Operation::TestCNonzero => nonzero(self.c, span),
-            Operation::TestALessThanC => less(self.a, self.c, span),
-            Operation::TestALessThanB => less(self.a, self.b, span),
-            Operation::TestANonzero => nonzero(self.a, span),
-            Operation::TestADiffersFromC => differs(self.a, self.c, span),
-            _ => unreachable!(),
+            Operation::ClearA => (self.a, self.carry) = copy(self.a, Reg::zero(), span),
+            Operation::ClearB => (self.b, self.carry) = copy(self.b, Reg::zero(), span),
+            Operation::ClearC => (self.c, self.carry) = copy(self.c, Reg::zero(), span),
+            Operation::ExchangeAB => {
+                (self.a, self.b) = exchange(self.a, self.b, span);
+                self.carry = false;
+            }
+            Operation::AToB => (self.b, self.carry) = copy(self.b, self.a, span),
+            Operation::ExchangeAC => {
+                (self.a, self.c) = exchange(self.a, self.c, span);
+                self.carry = false;
+            }
+            Operation::BToC => (self.c, self.carry) = copy(self.c, self.b, span),
+            Operation::ExchangeBC => {
+                (self.b, self.c) = exchange(self.b, self.c, span);
+                self.carry = false;
+            }
+            Operation::CToA => (self.a, self.carry) = copy(self.a, self.c, span),
+            Operation::AddBToA => (self.a, self.carry) = add::<DEC>(
+                self.a, self.a, self.b, false, span,
+            ),
+            Operation::AddCToA => (self.a, self.carry) = add::<DEC>(
+                self.a, self.a, self.c, false, span,
+            ),
+            Operation::IncrementA => (self.a, self.carry) = inc::<DEC>(self.a, self.a, span),
+            Operation::SubtractBFromA => (self.a, self.carry) = sub::<DEC>(
+                self.a, self.a, self.b, false, span,
+            ),
+            Operation::DecrementA => (self.a, self.carry) = dec::<DEC>(self.a, self.a, span),
+            Operation::SubtractCFromA => (self.a, self.carry) = sub::<DEC>(
+                self.a, self.a, self.c, false, span,
+            ),
+            Operation::DoubleC => (self.c, self.carry) = add::<DEC>(
+                self.c, self.c, self.c, false, span,
+            ),
+            Operation::AddAToC => (self.c, self.carry) = add::<DEC>(
+                self.c, self.a, self.c, false, span,
+            ),
+            Operation::IncrementC => (self.c, self.carry) = inc::<DEC>(self.c, self.c, span),
+            Operation::SubtractCFromAToC => (self.c, self.carry) = sub::<DEC>(
+                self.c, self.a, self.c, false, span,
+            ),
+            Operation::DecrementC => (self.c, self.carry) = dec::<DEC>(self.c, self.c, span),
+            Operation::NegateC => (self.c, self.carry) = neg::<DEC>(self.c, self.c, span),
+            Operation::ComplementC => (self.c, self.carry) = neg1::<DEC>(self.c, self.c, span),
+            Operation::TestBNonzero => self.carry = nonzero(self.b, span),
+            Operation::TestCNonzero => self.carry = nonzero(self.c, span),
+            Operation::TestALessThanC => self.carry = less(self.a, self.c, span),
+            Operation::TestALessThanB => self.carry = less(self.a, self.b, span),
+            Operation::TestANonzero => self.carry = nonzero(self.a, span),
+            Operation::TestADiffersFromC => self.carry = differs(self.a, self.c, span),
+            Operation::ShiftRightA => (self.a, self.carry) = shift_right(self.a, self.a, span),
+            Operation::ShiftRightB => (self.b, self.carry) = shift_right(self.b, self.b, span),
+            Operation::ShiftRightC => (self.c, self.carry) = shift_right(self.c, self.c, span),
+            Operation::ShiftLeftA => (self.a, self.carry) = shift_left(self.a, self.a, span),
         }
     }
 }

@@ -52,15 +52,6 @@ pub enum ProgramKind {
     Text,
 }
 
-/// The kinds of blocks, by the first words of the lines that open them.
-static BLOCK_KINDS: [(&str, BlockKind); 5] = [
-    ("words", BlockKind::Page(PageKind::Words)),
-    ("image", BlockKind::Page(PageKind::Image)),
-    ("asm", BlockKind::Page(PageKind::Asm)),
-    ("load", BlockKind::Program(ProgramKind::Bytes)),
-    ("program", BlockKind::Program(ProgramKind::Text)),
-];
-
 impl BlockKind {
     ghost use Rattle.h41_commands.specs.Commands.{kind_of_word};
 
@@ -70,7 +61,14 @@ impl BlockKind {
     pub(crate) fn of_word(word: &[u8]) -> Option<Self>
         ensures { result ≡ kind_of_word word.now }
     {
-        named_in(&BLOCK_KINDS, word)
+        match word {
+            b"words" => Some(BlockKind::Page(PageKind::Words)),
+            b"image" => Some(BlockKind::Page(PageKind::Image)),
+            b"asm" => Some(BlockKind::Page(PageKind::Asm)),
+            b"load" => Some(BlockKind::Program(ProgramKind::Bytes)),
+            b"program" => Some(BlockKind::Program(ProgramKind::Text)),
+            _ => None,
+        }
     }
 }
 
@@ -132,22 +130,6 @@ pub enum PlainKind {
     Key,
 }
 
-/// The commands that open no block, by their first words.
-static PLAIN_KINDS: [(&str, PlainKind); 12] = [
-    ("unplug", PlainKind::Unplug),
-    ("size", PlainKind::Size),
-    ("reset", PlainKind::Reset),
-    ("call", PlainKind::Call),
-    ("step", PlainKind::Step),
-    ("run", PlainKind::Run),
-    ("trace", PlainKind::Trace),
-    ("break", PlainKind::Break),
-    ("unbreak", PlainKind::Unbreak),
-    ("list", PlainKind::List),
-    ("show", PlainKind::Show),
-    ("key", PlainKind::Key),
-];
-
 impl PlainKind {
     ghost use Rattle.std.specs.Prelude.{◌≤◌, length, IsSome};
     ghost use Rattle.h41_commands.specs.Commands.{plain_of_word};
@@ -159,7 +141,21 @@ impl PlainKind {
         ensures kind { result ≡ plain_of_word word.now }
         ensures long { IsSome result → 3 ≤ length word.now }
     {
-        named_in(&PLAIN_KINDS, word)
+        match word {
+            b"unplug" => Some(PlainKind::Unplug),
+            b"size" => Some(PlainKind::Size),
+            b"reset" => Some(PlainKind::Reset),
+            b"call" => Some(PlainKind::Call),
+            b"step" => Some(PlainKind::Step),
+            b"run" => Some(PlainKind::Run),
+            b"trace" => Some(PlainKind::Trace),
+            b"break" => Some(PlainKind::Break),
+            b"unbreak" => Some(PlainKind::Unbreak),
+            b"list" => Some(PlainKind::List),
+            b"show" => Some(PlainKind::Show),
+            b"key" => Some(PlainKind::Key),
+            _ => None,
+        }
     }
 }
 

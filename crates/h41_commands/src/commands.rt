@@ -1,7 +1,6 @@
 //! The commands of a deck, as their first lines give them.
 
-ghost use Rattle.std.specs.Prelude.{◌≡◌, map};
-ghost use Rattle.h41_commands.specs.Commands.{named_in};
+ghost use Rattle.std.specs.Prelude.{◌≡◌};
 
 use crate::commands::keys::PressedKeys;
 use h41_breakpoints::Location;
@@ -9,19 +8,6 @@ use h41_breakpoints::Location;
 pub mod keys;
 pub mod number;
 pub mod parse;
-
-/// The value that stands beside a word in a table.
-#[inline(always)]
-pub(crate) fn named_in<T: Copy>(rows: &[(&str, T)], word: &[u8]) -> Option<T>
-    ensures { result ≡ named_in (map (λ row. (row.0.now, row.1)) rows.now) word.now }
-{
-    for (name, value) in rows {
-        if word == name.as_bytes() {
-            return Some(*value);
-        }
-    }
-    None
-}
 
 /// What a command's block is for.
 #[derive(Clone, Copy, Debug, PartialEq, Eq)]

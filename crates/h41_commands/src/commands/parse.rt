@@ -19,7 +19,7 @@ ghost use Rattle.h41_commands.specs.declared.commands.Command.TheVariants as com
 
 use crate::commands::keys::PressedKeys;
 use crate::commands::number::{count_up_to, hexadecimal, number_up_to};
-use crate::commands::{BlockKind, Command, PageKind, PlainKind, ProgramKind, View, named_in};
+use crate::commands::{BlockKind, Command, PageKind, PlainKind, ProgramKind, View};
 use crate::refusal::LineRefusal;
 use h41_breakpoints::Location;
 use h41_keys::Key;
@@ -40,18 +40,6 @@ const MOST_WORDS: u32 = 4_096;
 
 /// The bank that is meant where none is named.
 const FIRST_BANK: u8 = 1;
-
-/// The views that one word names.
-static VIEWS: [(&str, View); 8] = [
-    ("cpu", View::Cpu),
-    ("stack", View::Stack),
-    ("flags", View::Flags),
-    ("alpha", View::Alpha),
-    ("display", View::Display),
-    ("pos", View::Position),
-    ("lines", View::Lines),
-    ("functions", View::Functions),
-];
 
 /// The command of a line: 50 BadCommand where its words are no command's, and else 51 BadNumber where a number is
 /// wrong. The line is not too long.
@@ -465,5 +453,15 @@ fn image_view(page: &[u8], bank: u8) -> Result<View, LineRefusal>
 fn view_named(what: &[u8]) -> Result<View, LineRefusal>
     ensures { result ≡ view_named what.now }
 {
-    named_in(&VIEWS, what).ok_or(LineRefusal::BadCommand)
+    match what {
+        b"cpu" => Ok(View::Cpu),
+        b"stack" => Ok(View::Stack),
+        b"flags" => Ok(View::Flags),
+        b"alpha" => Ok(View::Alpha),
+        b"display" => Ok(View::Display),
+        b"pos" => Ok(View::Position),
+        b"lines" => Ok(View::Lines),
+        b"functions" => Ok(View::Functions),
+        _ => Err(LineRefusal::BadCommand),
+    }
 }

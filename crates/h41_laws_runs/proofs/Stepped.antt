@@ -12,7 +12,7 @@ use Rattle.h41_debug.specs.private.Advancing.{MakesSteps}
 use Rattle.h41_debug.specs.private.Running.{stop_at, stop_behind}
 use Rattle.h41_debug.specs.declared.run.Stop.{Stop}
 use Rattle.h41_debug.specs.declared.run.Stop.TheVariants.{Idle}
-use Rattle.h41_debug.proofs.Runs.{GoesOn, ends_at_limit, ends_refused, goes_on, made_more, made_none, stops}
+use Rattle.h41_debug.proofs.Runs.{ends_at_limit, ends_refused, goes_on, made_more, made_none, stops}
 use Rattle.h41_laws_calculator.specs.CalculatorAnswers.{AcceptedStepHasOneState, StepHasOneRefusal}
 use Rattle.h41_laws_runs.specs.BenchOutcomes.{LeadsToRegisters}
 
@@ -88,7 +88,7 @@ module _ (refusals : StepHasOneRefusal) (states : AcceptedStepHasOneState) where
     run_from zero limit made s t sum leads running so_far stop =
         let at : made ≡ limit = omega (arith, sum) in
         let on = goes_on limit made s t so_far stop running in
-        record { t = t; made = limit; why = _; run = ends_at_limit limit s t (subst (λ k. GoesOn limit k s t) at on) }
+        record { t = t; made = made; why = _; run = ends_at_limit limit made s t on at }
     run_from (suc left) limit made s t sum leads running so_far stop =
         let why = refusals t.calculator in
         run_by left limit made (run_from left) s t sum leads running so_far stop why.answer why.right

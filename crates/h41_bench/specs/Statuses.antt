@@ -2,7 +2,7 @@
 use Rattle.std.specs.Prelude.{◌≡◌, ◌⊎◌, ℕ, List, [], MatchOption}
 use Rattle.clap.specs.Words.{fault_of}
 use Rattle.h41_arguments.specs.BenchCommand.{bench_app, job_asked}
-use Rattle.h41_deck.specs.Statuses.{IsTaskStatus}
+use Rattle.h41_serving.specs.Statuses.{IsTaskStatus}
 
 -- this status, or 3 where memory or an end failed
 abbrev pub IsOrFailed : ℕ → ℕ → Type 0

@@ -7,10 +7,13 @@ ghost use Rattle.h41_bench.specs.ProgramWords.{behind_name};
 ghost use Rattle.h41_arguments.specs.CommandLine.{asks_help, asks_version, file_to_run, is_mistake};
 ghost use Rattle.h41_arguments.specs.Ending.{status_of};
 ghost use Rattle.h41_bench.specs.Statuses.{EndsJobOf, IsOrFailed};
-ghost use Rattle.h41_deck.specs.Statuses.{EndsTask, IsStatus, IsTaskStatus};
+ghost use Rattle.h41_serving.specs.Statuses.{EndsTask, IsStatus, IsTaskStatus};
 
-use h41_deck::{Fault, FromRead, ToWrite, serve, tell};
-use h41_jobs::{Ending, Job, read_words, text_of};
+use h41_arguments::{Ending, Job, read_words};
+use h41_ends::{FromRead, ToWrite};
+use h41_jobs::text_of;
+use h41_refusals::Fault;
+use h41_serving::{serve, tell};
 use std::alloc::{AllocError, Global};
 use std::env;
 use std::fs::File;

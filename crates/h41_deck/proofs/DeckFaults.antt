@@ -245,6 +245,14 @@ module _ {R W : Type 0} (registers : ℕ) (source : sources.Ghosts R) (sink : si
     writer = λ other. writer (λ is. other (ap (λ why. Err why) is));
   }
 
+  -- the fault that a result tells
+  pub told_fault : (first after : R) (old new : W) (result : Result Outcome Fault) (fault other : Fault) → result ≡ Err fault
+      → fault ≡ other → AnswersLines registers (Err other) source sink first after old new
+      → AnswersLines registers result source sink first after old new
+  told_fault first after old new result fault other is was lines =
+      subst (λ (of : Result Outcome Fault). AnswersLines registers of source sink first after old new)
+      (sym (is ∙ ap (λ (why : Fault). Err why) was)) lines
+
   pub failed_first : (first after : R) (old new : W) (why : LineReadFault)
       → FaultLeaves registers (of_line why) source sink first after old new
       → (why ≡ read.ReadFault → sink.flushed new ≡ true) → (why ≡ read.WriteFault → sink.failed new ≡ true)

@@ -5,6 +5,5 @@ pub mod DeckReading
 pub mod Determined
 pub mod Plugging
 pub mod Running
+pub mod SaidAlone
 pub mod ShortLines
-pub mod TaskFaults
-pub mod TaskInputs

@@ -1,5 +1,6 @@
 -- How a line is answered that opens no block.
-use Rattle.std.proofs.Common.{◌≡◌, ◌≤◌, ℕ, true, List, [], ◌++◌, drop, length, Option, Some, None, Result, Ok, Err, IfOk, refl, sym, subst}
+use Rattle.std.proofs.Common.{◌≡◌, ◌≤◌, ℕ, Bool, true, if◌then◌else◌, List, [], ◌++◌, drop, length, Option, Some, None, Result, Ok, Err}
+use Rattle.std.proofs.Common.{IfOk, ap, le-ltb, refl, sym, subst}
 use Rattle.std.proofs.KnownBytes.{Appends-nil}
 use Rattle.std.specs.Io.KnownBytes.{Appends}
 use Rattle.h41_commands.proofs.FirstLines.{block_fault, first_block, named_short, named_spelled}
@@ -15,7 +16,7 @@ use Rattle.h41_commands.specs.declared.line.LineKind.{LineKind}
 use Rattle.h41_ends.specs.InputLines.{line_in}
 use Rattle.h41_ends.specs.declared.fault.LineReadFault.{LineReadFault}
 use Rattle.h41_ends.specs.declared.input_lines.InputLines.{InputLines}
-use Rattle.h41_commands.specs.Items.{Spelled, line_spelled}
+use Rattle.h41_commands.specs.Items.{Spelled, line_spelled, spelled_by}
 use Rattle.h41_commands.specs.declared.commands.Command.TheVariants as commands
 use Rattle.h41_commands.specs.declared.commands.FirstWord.TheVariants.{Opening, Plain, Unknown}
 use Rattle.h41_commands.specs.declared.commands.PlainKind.{PlainKind}
@@ -32,6 +33,7 @@ use Rattle.h41_deck.specs.Replies.{ItemReply}
 use Rattle.h41_deck.specs.Views.{line_of}
 use Rattle.h41_deck.specs.Writing.{EndsAs, Replies, RepliesInPart, SaysText, outcome_in}
 use Rattle.h41_commands.specs.declared.refusal.LineRefusal.{LineRefusal}
+use Rattle.h41_commands.specs.declared.refusal.LineRefusal.TheVariants.{LineTooLong}
 use Rattle.h41_refusals.specs.declared.refusal.Refusal.{Refusal}
 use Rattle.h41_refusals.specs.declared.refusal.Refusal.TheVariants.{Line}
 use Rattle.h41_deck.specs.declared.replies.Outcome.{Outcome}
@@ -41,6 +43,11 @@ use Rattle.h41_deck.proofs.Commanded.{ends_part, ends_reply, part_longer}
 pub silent : (item : Spelled) (s t : BenchState) (old : Option (List ℕ)) (refusal : Option Refusal) → ItemReply item s t (ends_by refusal)
     → SaysText item s t old old refusal
 silent item s t old refusal reply = record { text = []; reply = reply; written = Appends-nil old }
+
+-- a line that is not too long
+pub short_spelled : (line : List ℕ) → length line ≤ longest_line → line_spelled line ≡ spelled_by line []
+short_spelled line short =
+    ap (λ (is_long : Bool). if is_long then Err LineTooLong else spelled_by line []) (le-ltb longest_line (length line) short)
 
 module _ (line : List ℕ) (kind : PlainKind) (is : line_kind line ≡ Some (Named (Plain kind))) (s t : BenchState)
     (old new : Option (List ℕ)) where

@@ -5,8 +5,6 @@ pub mod Deck
 pub mod Listings
 pub mod Replies
 pub mod Runs
-pub mod Statuses
-pub mod Tasks
 pub mod Views
 pub mod Writing
 pub mod private

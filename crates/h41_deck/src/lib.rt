@@ -1,12 +1,10 @@
-//! The deck language of the HP-41 bench: the replies to a deck's commands in turn; and the jobs of the bench, of which a deck is one.
+//! The deck language of the HP-41 bench: the replies to a deck's commands in turn.
 #![tactic(auto)]
 
 mod deck;
 pub mod laws;
 mod lines;
-mod memory;
 mod replies;
-mod serving;
 
 pub use deck::run_deck;
 pub use h41_breakpoints::{BreakFull, Location, NoBreak};
@@ -21,4 +19,3 @@ pub use h41_ends::{
 pub use h41_refusals::{CommandFault, Detail, Fault, Refusal};
 pub use h41_xrom::{Calculator, CalculatorRefusal, Caller, Mode};
 pub use replies::{Outcome, apply};
-pub use serving::{serve, tell};

@@ -22,7 +22,6 @@ use arrayvec::ArrayString;
 use h41_commands::{Block, Command, PAGE_WORDS, PressedKeys, View};
 use h41_debug::Bench;
 use h41_ends::{Sink, WriteFault, write_whole};
-use h41_jobs::Ended;
 use h41_pages::PlugRefusal;
 use h41_refusals::{CommandFault, Refusal};
 use std::alloc::{AllocError, Global};
@@ -46,7 +45,6 @@ pub enum Outcome {
 
 impl Outcome {
     ghost use Rattle.h41_deck.specs.AnsweredItems.{outcome_and};
-    ghost use Rattle.h41_deck.specs.Tasks.{ended_of_deck};
 
     /// How a deck ends that goes on so.
     pub(crate) fn and(self, next: Self) -> Self
@@ -55,16 +53,6 @@ impl Outcome {
         match self {
             Outcome::Accepted => next,
             Outcome::Refused => Outcome::Refused,
-        }
-    }
-
-    /// How a job ends whose deck ends so.
-    pub(crate) fn ended(self) -> Ended
-        ensures { result ≡ ended_of_deck self }
-    {
-        match self {
-            Outcome::Accepted => Ended::Accepted,
-            Outcome::Refused => Ended::Refused,
         }
     }
 }

@@ -4,8 +4,9 @@
 use crate::ends::Long;
 use crate::judge::wants;
 use crate::watched::{Once, Reader, Writer};
-use h41_deck::{Fault, Outcome, run_deck, serve};
+use h41_deck::{Fault, Outcome, run_deck};
 use h41_jobs::{Job, MemorySize, Task};
+use h41_serving::serve;
 use std::alloc::{AllocError, Global};
 use std::cell::Cell;
 use std::process::Abort;

@@ -3,8 +3,8 @@
 use crate::decks::{DECK, TEXT};
 use crate::ends::{reader, writer};
 use crate::judge::wants;
-use h41_deck::serve;
 use h41_jobs::{Job, MemorySize, Task};
+use h41_serving::serve;
 use std::alloc::Global;
 use std::process::Abort;
 

@@ -8,7 +8,7 @@ use Rattle.h41_ends.proofs.InputReading.{consumes-nothing}
 use Rattle.h41_ends.specs.InputLines.{line_in}
 use Rattle.h41_deck.proofs.AnswersInTurn.{told_kept, told_more, told_none}
 use Rattle.h41_deck.proofs.DeckFaults.{below_most, deck_ended, deck_written, ended, failed_answer, failed_first, failed_item, failed_write}
-use Rattle.h41_deck.proofs.DeckFaults.{leaves_answer, leaves_first, leaves_item, leaves_whole, never_failed, same_fault}
+use Rattle.h41_deck.proofs.DeckFaults.{leaves_answer, leaves_first, leaves_item, leaves_whole, never_failed, same_fault, told_fault}
 use Rattle.h41_deck.proofs.DeckReading.{read_item, read_none, whole_done}
 use Rattle.h41_deck.proofs.ShortLines.{block_failed, block_next, block_short}
 use Rattle.h41_deck.proofs.deck.answer_lines.Goals as goal
@@ -126,7 +126,7 @@ returns-in_err-first g c =
     let so_far = c.loop-first.invariant.done in
     let from = err_from_is_err_and c.from_residual.result c.from_residual.ensures.1 in
     let fault = c.in_err-first.ensures in
-    rw (from.1, from.2)
+    told_fault g.row.REGS g.R.Source g.W.Sink _ _ _ _ _ _ _ from.1 from.2
     (failed_first g.row.REGS g.R.Source g.W.Sink c.args.reader.now c.read_first_line.new.reader c.args.writer.now
     c.read_first_line.new.writer c.in_err-first.field-0.0
     (leaves_first g.row.REGS g.R.Source g.W.Sink c.args.reader.now c.loop-first.reader c.read_first_line.new.reader c.args.writer.now
@@ -143,7 +143,7 @@ returns-in_err-item g c =
     let first = rw c.in-Some.is at c.in_ok-first.ensures.line in
     let told = told_kept _ _ _ so_far.0 c.loop-first.bench c.loop-first.outcome so_far.2 c.in_ok-first.ensures.kept in
     let fault = c.in_err-item.ensures in
-    rw (from.1, from.2)
+    told_fault g.row.REGS g.R.Source g.W.Sink _ _ _ _ _ _ _ from.1 from.2
     (failed_item g.row.REGS g.R.Source g.W.Sink c.args.reader.now c.read_block.new.reader c.args.writer.now c.read_block.new.writer
     c.in_err-item.field-0.0
     (leaves_item g.row.REGS g.R.Source g.W.Sink c.args.reader.now c.loop-first.reader c.read_block.new.reader c.args.writer.now
@@ -166,7 +166,7 @@ returns-in_err-answered g c =
     let told = told_kept _ _ _ so_far.0 c.loop-first.bench c.loop-first.outcome
     (told_kept _ _ _ so_far.0 c.loop-first.bench c.loop-first.outcome so_far.2 c.in_ok-first.ensures.kept) c.in_ok-item.ensures.kept in
     let fault = c.in_err-answered.ensures in
-    rw (from.1, from.2)
+    told_fault g.row.REGS g.R.Source g.W.Sink _ _ _ _ _ _ _ from.1 from.2
     (failed_answer g.row.REGS g.R.Source g.W.Sink c.args.reader.now c.read_block.new.reader c.args.writer.now c.answer.new.writer
     c.in_err-answered.field-0.0
     (leaves_answer g.row.REGS g.R.Source g.W.Sink c.args.reader.now c.read_block.new.reader c.args.writer.now c.read_block.new.writer
@@ -188,7 +188,7 @@ returns-in_err-next g c =
     let next = first_line _ _ c.loop-first.input c.read_first_line.new.input c.in-Some.first.kind first (sym c.if-opens_block.ensures) in
     let told = told_kept _ _ _ so_far.0 c.loop-first.bench c.loop-first.outcome so_far.2 c.in_ok-first.ensures.kept in
     let fault = c.in_err-next.ensures in
-    rw (from.1, from.2)
+    told_fault g.row.REGS g.R.Source g.W.Sink _ _ _ _ _ _ _ from.1 from.2
     (failed_answer g.row.REGS g.R.Source g.W.Sink c.args.reader.now c.read_first_line.new.reader c.args.writer.now
     c.answer_line.new.writer c.in_err-next.field-0.0
     (leaves_answer g.row.REGS g.R.Source g.W.Sink c.args.reader.now c.read_first_line.new.reader c.args.writer.now
@@ -208,7 +208,7 @@ returns-in_err-flush g c =
     let end = rw c.in_default.is at c.in_ok-first.ensures.end in
     let whole = whole_done _ _ _ c.loop-first.input c.read_first_line.new.input so_far.0 so_far.1 next (end refl) in
     let told = told_kept _ _ _ so_far.0 c.loop-first.bench c.loop-first.outcome so_far.2 c.in_ok-first.ensures.kept in
-    rw (from.1, from.2)
+    told_fault g.row.REGS g.R.Source g.W.Sink _ _ _ _ _ _ _ from.1 from.2
     (failed_write g.row.REGS g.R.Source g.W.Sink c.args.reader.now c.read_first_line.new.reader c.args.writer.now c.flush.new.writer
     (leaves_whole g.row.REGS g.R.Source g.W.Sink c.args.reader.now c.read_first_line.new.reader c.args.writer.now
     c.read_first_line.new.writer c.flush.new.writer so_far.0 c.loop-first.bench c.loop-first.outcome whole told c.flush.ensures.bytes)

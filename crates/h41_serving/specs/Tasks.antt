@@ -1,12 +1,10 @@
 -- What a job makes of its input: the text that it prints, how it ends, and what is said where it
 -- goes wrong.
 use Rattle.std.specs.Prelude.{◌≡◌, ◌≢◌, ◌⊎◌, ℕ, ◌<◌, Bool, true, false, List, [], length, take}
-use Rattle.std.specs.Prelude.{Option, IfSome, Result, Err, IfErr, IfOk, OnOk}
+use Rattle.std.specs.Prelude.{Option, IfSome}
 use Rattle.std.specs.Io.KnownBytes.{Appends, Consumes, Keeps}
 use Rattle.h41_ends.specs.declared.sink.Sink as sinks
 use Rattle.h41_ends.specs.declared.source.Source as sources
-use Rattle.h41_refusals.specs.declared.fault.Fault.{Fault}
-use Rattle.h41_refusals.specs.declared.fault.Fault.TheVariants.{ReadFault, WriteFault}
 use Rattle.h41_deck.specs.declared.replies.Outcome.{Outcome}
 use Rattle.h41_deck.specs.declared.replies.Outcome.TheVariants as outcomes
 use Rattle.h41_deck.specs.Deck as decks
@@ -44,13 +42,7 @@ abbrev pub WritesTaskText : {W : Type 0} → Task → Option (List ℕ) → (W �
 WritesTaskText task known contents old new =
     IfSome known (WritesTextOf (HasText task) (contents old) (contents new))
 
--- where a task ends without a fault, it is
-abbrev pub OkWritesText : {E R W : Type 0} → Result Ended E → Task → sources.Ghosts R
-    → sinks.Ghosts W → R → W → W → Type 0
-OkWritesText result task source sink before old new =
-    OnOk result (WritesTaskText task (source.remaining before) sink.contents old new)
-
--- and where a job's status is not that of a fault
+-- and so where a job's status is not that of a fault
 abbrev pub JobWritesText : {R W : Type 0} → ℕ → Job → sources.Ghosts R → sinks.Ghosts W → R → W → W
     → Type 0
 JobWritesText status job source sink before old new =
@@ -102,36 +94,29 @@ pub record LeavesTooLong {R W : Type 0} (registers : ℕ) (source : sources.Ghos
       (bytes_within bytes)
   pub flushed : sink.flushed new ≡ true
 
--- why reading is said to have failed where no read did: a deck is too long, or another input, of
--- which nothing is printed
+-- more was read of another input than the bound, and nothing is printed
+abbrev pub LeavesNothing : {R W : Type 0} → sources.Ghosts R → sinks.Ghosts W → R → R → W → W
+    → Type 0
+LeavesNothing source sink before after old new =
+    (most_bytes < source.given after)
+    × IfSome (source.remaining before)
+    (WritesTextOf IsTooLong (sink.contents old) (sink.contents new))
+
+-- why reading is said to have failed where no read did: a deck is too long, or another input
 abbrev pub TooLong : {R W : Type 0} → Task → sources.Ghosts R → sinks.Ghosts W → R → R → W → W
     → Type 0
 TooLong (tasks.Run size) source sink before after old new =
     LeavesTooLong (registers_of size) source sink before after old new
 TooLong (tasks.Assemble origin) source sink before after old new =
-    (most_bytes < source.given after)
-    × IfSome (source.remaining before)
-    (WritesTextOf IsTooLong (sink.contents old) (sink.contents new))
+    LeavesNothing source sink before after old new
 TooLong (tasks.List origin) source sink before after old new =
-    (most_bytes < source.given after)
-    × IfSome (source.remaining before)
-    (WritesTextOf IsTooLong (sink.contents old) (sink.contents new))
+    LeavesNothing source sink before after old new
 
 -- why reading ends with a fault: a read failed, or the input is too long
 abbrev pub FailedOrTooLong : {R W : Type 0} → Task → sources.Ghosts R → sinks.Ghosts W → R → R → W
     → W → Type 0
 FailedOrTooLong task source sink before after old new =
     (source.failed after ≡ true) ⊎ TooLong task source sink before after old new
-
--- where a task ends without a fault, it ends so over the input, where that is known
-abbrev pub Ends : {E : Type 0} → Result Ended E → Task → Option (List ℕ) → Type 0
-Ends result task known = IfOk result (λ ended. IfSome known (TaskEnds task ended))
-
--- where a task ends with a fault of reading, this is why
-abbrev pub NotRead : {A R W : Type 0} → Result A Fault → Task → sources.Ghosts R → sinks.Ghosts W
-    → R → R → W → W → Type 0
-NotRead result task source sink before after old new =
-    result ≡ Err ReadFault → FailedOrTooLong task source sink before after old new
 
 -- what a task leaves written where its input or memory failed: of a deck the replies to some first
 -- commands of what was read, of a source and of a list of words nothing
@@ -176,33 +161,12 @@ LeavesFront (tasks.List origin) source sink before after old new =
     IfSome (source.remaining before)
     (WritesFrontOf ListingText (sink.contents old) (sink.contents new))
 
--- where a task ends with a fault of another end than the output, of the input, and of the output
-abbrev pub ErrLeavesBegun : {A R W : Type 0} → Result A Fault → Task → sources.Ghosts R
-    → sinks.Ghosts W → R → R → W → W → Type 0
-ErrLeavesBegun result task source sink before after old new =
-    IfErr result
-    (λ fault. fault ≢ WriteFault → LeavesBegun task source sink before after old new)
-
-abbrev pub ErrLeavesUnread : {A R W : Type 0} → Result A Fault → Task → sources.Ghosts R
-    → sinks.Ghosts W → R → R → W → W → Type 0
-ErrLeavesUnread result task source sink before after old new =
-    result ≡ Err ReadFault → LeavesUnread task source sink before after old new
-
-abbrev pub ErrLeavesFront : {A R W : Type 0} → Result A Fault → Task → sources.Ghosts R
-    → sinks.Ghosts W → R → R → W → W → Type 0
-ErrLeavesFront result task source sink before after old new =
-    result ≡ Err WriteFault → LeavesFront task source sink before after old new
-
 -- but for a fault of writing all that is written of a deck is passed on; of a source and of a list
 -- of words nothing is written
 abbrev pub IsPassedOn : Task → Bool → Type 0
 IsPassedOn (tasks.Run size) flushed = flushed ≡ true
 IsPassedOn (tasks.Assemble origin) flushed = Unit {0}
 IsPassedOn (tasks.List origin) flushed = Unit {0}
-
-abbrev pub ErrPassedOn : {A : Type 0} → Result A Fault → Task → Bool → Type 0
-ErrPassedOn result task flushed =
-    IfErr result (λ fault. fault ≢ WriteFault → IsPassedOn task flushed)
 
 abbrev pub JobPassedOn : ℕ → Job → Bool → Bool → Type 0
 JobPassedOn status job failed flushed = status ≡ 3 → failed ≡ false → IsPassedOn job.task flushed

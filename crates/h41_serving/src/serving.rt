@@ -1,20 +1,21 @@
 //! Does a job from one end to another, and tells how it went by a status.
 
-ghost use Rattle.std.specs.Prelude.{◌≡◌, ◌≢◌, ◌≤◌, true, false, Err, OnOk, OnErr, IfOk, IfSome};
+ghost use Rattle.std.specs.Prelude.{◌≡◌, ◌≢◌, ◌≤◌, true, false, OnOk, OnErr, IfSome};
 ghost use Rattle.std.specs.Io.KnownBytes.{Keeps};
 ghost use Rattle.h41_ends.specs.Ends.{Appended};
-ghost use Rattle.h41_deck.specs.Statuses.{EndsJob, IsTaskStatus, TellsFault, TellsMark, fault_line};
-ghost use Rattle.h41_deck.specs.Tasks.{Ends, ErrLeavesBegun, ErrLeavesFront, ErrLeavesUnread};
-ghost use Rattle.h41_deck.specs.Tasks.{ErrPassedOn, JobPassedOn};
-ghost use Rattle.h41_deck.specs.Tasks.{JobBegun, JobLeavesFront, JobLeavesUnread, JobWritesText};
-ghost use Rattle.h41_deck.specs.Tasks.{MayEnd, OkWritesText, Tells, TellsWord};
-ghost use Rattle.h41_deck.specs.Tasks.{NotRead};
 ghost use Rattle.h41_jobs.specs.Texts.{mistake_line};
+ghost use Rattle.h41_serving.specs.Statuses.{EndsJob, IsTaskStatus, TellsFault, TellsMark};
+ghost use Rattle.h41_serving.specs.Statuses.{fault_line};
+ghost use Rattle.h41_serving.specs.Tasks.{JobBegun, JobLeavesFront, JobLeavesUnread, JobPassedOn};
+ghost use Rattle.h41_serving.specs.Tasks.{JobWritesText, Tells, TellsWord, ended_of_deck};
+ghost use Rattle.h41_serving.specs.private.CarriedOut.{CarriesOut};
 
+use crate::inputs::{assemble_source, list_words};
 use crate::memory::run_with;
 use h41_arguments::{Job, Task};
+use h41_deck::Outcome;
 use h41_ends::{Sink, Source, WriteFault};
-use h41_jobs::{Ended, assembly, listing, mistake_line, read_input, write_answer, write_text};
+use h41_jobs::{Ended, mistake_line, write_text};
 use h41_refusals::Fault;
 use std::alloc::Global;
 
@@ -72,7 +73,7 @@ pub fn serve<R: Source, W: Sink, E: Sink>(
     ensures fault { TellsFault result job.entry.task R.Source W.Sink E.Sink
         reader.old reader.new writer.old writer.new faults.old faults.new }
 {
-    match do_task(alloc, job.task, reader, writer) {
+    match carry_out(alloc, job.task, reader, writer) {
         Ok(Ended::Accepted) => ACCEPTED,
         Ok(Ended::Refused) => REFUSED,
         Ok(Ended::WrongWord(number)) => tell_mistake(number, faults),
@@ -81,7 +82,7 @@ pub fn serve<R: Source, W: Sink, E: Sink>(
 }
 
 /// Carries a task out.
-fn do_task<R: Source, W: Sink>(
+fn carry_out<R: Source, W: Sink>(
     alloc: Global,
     task: Task,
     reader: &mut R,
@@ -89,34 +90,22 @@ fn do_task<R: Source, W: Sink>(
 ) -> Result<Ended, Fault>
     requires reader_clear { R.failed reader.old ≡ false }
     requires writer_clear { W.failed writer.old ≡ false }
-    ensures text { OkWritesText result task R.Source W.Sink reader.old writer.old writer.new }
-    ensures ends { Ends result task (R.remaining reader.old) }
-    ensures kind { IfOk result (MayEnd task) }
-    ensures flushed { OnOk result (W.flushed writer.new ≡ true) }
-    ensures read { NotRead result task R.Source W.Sink reader.old reader.new writer.old writer.new }
-    ensures begun { ErrLeavesBegun result task R.Source W.Sink
-        reader.old reader.new writer.old writer.new }
-    ensures unread { ErrLeavesUnread result task R.Source W.Sink
-        reader.old reader.new writer.old writer.new }
-    ensures cut { ErrLeavesFront result task R.Source W.Sink
-        reader.old reader.new writer.old writer.new }
-    ensures passed { ErrPassedOn result task (W.flushed writer.new) }
-    ensures write_fault { result ≡ Err Fault.WriteFault → W.failed writer.new ≡ true }
-    ensures reader { result ≢ Err Fault.ReadFault → R.failed reader.new ≡ false }
-    ensures writer { result ≢ Err Fault.WriteFault → W.failed writer.new ≡ false }
+    ensures { CarriesOut task result R.Source W.Sink reader.old reader.new writer.old writer.new }
 {
     match task {
-        Task::Run { memory } => Ok(run_with(alloc, memory, reader, writer)?.ended()),
-        Task::Assemble { origin } => {
-            let source = read_input(alloc, reader)?;
-            let answer = assembly(alloc, &source, origin)?;
-            Ok(write_answer(writer, &answer)?)
-        }
-        Task::List { origin } => {
-            let words = read_input(alloc, reader)?;
-            let answer = listing(alloc, &words, origin)?;
-            Ok(write_answer(writer, &answer)?)
-        }
+        Task::Run { memory } => Ok(ended(run_with(alloc, memory, reader, writer)?)),
+        Task::Assemble { origin } => assemble_source(alloc, origin, reader, writer),
+        Task::List { origin } => list_words(alloc, origin, reader, writer),
+    }
+}
+
+/// How a job ends whose deck ends so.
+fn ended(outcome: Outcome) -> Ended
+    ensures { result ≡ ended_of_deck outcome }
+{
+    match outcome {
+        Outcome::Accepted => Ended::Accepted,
+        Outcome::Refused => Ended::Refused,
     }
 }
 

@@ -4,15 +4,14 @@ ghost use Rattle.std.specs.Prelude.{◌≡◌, ◌≢◌, true, false, Err, IfOk
 ghost use Rattle.h41_deck.specs.Deck.{EndsKnown, LeavesDeck, PassedOn, WritesDeck};
 ghost use Rattle.h41_arguments.specs.MemorySizes.{registers_of};
 
-use crate::deck::run_deck;
-use crate::replies::Outcome;
 use h41_arguments::MemorySize;
+use h41_deck::{Outcome, run_deck};
 use h41_ends::{Sink, Source};
 use h41_refusals::Fault;
 use std::alloc::Global;
 
 /// Runs a deck on a bench whose memory has this size, as `run_deck` does; its contract is proved there, once for all sizes.
-pub fn run_with<R: Source, W: Sink>(
+pub(crate) fn run_with<R: Source, W: Sink>(
     alloc: Global,
     size: MemorySize,
     reader: &mut R,

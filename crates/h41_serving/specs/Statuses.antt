@@ -10,7 +10,7 @@ use Rattle.h41_arguments.specs.declared.arguments.Task.{Task}
 use Rattle.h41_arguments.specs.declared.arguments.Task.TheVariants as tasks
 use Rattle.h41_jobs.specs.declared.ended.Ended.{Ended}
 use Rattle.h41_jobs.specs.declared.ended.Ended.TheVariants.{Accepted, Refused, WrongWord}
-use Rattle.h41_deck.specs.Tasks.{FailedOrTooLong, TaskEnds, Tells}
+use Rattle.h41_serving.specs.Tasks.{FailedOrTooLong, TaskEnds, Tells}
 
 -- the status of a deck or a source that was begun: 0, 1 or 3
 abbrev pub IsStatus : ℕ → Type 0

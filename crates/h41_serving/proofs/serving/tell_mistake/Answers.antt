@@ -1,4 +1,4 @@
-use Rattle.h41_deck.proofs.serving.tell_mistake.Goals as goal
+use Rattle.h41_serving.proofs.serving.tell_mistake.Goals as goal
 
 pub as_bytes-requires : goal.as_bytes-requires
 as_bytes-requires g c = assumption

@@ -1,0 +1,27 @@
+-- What the end of a task says of the job's status.
+use Rattle.std.proofs.Common.{◌≡◌, ◌≢◌, Bool, true, false, List, ℕ, Option, Some, None, Result, Err, IfSome, refl}
+use Rattle.h41_arguments.specs.declared.arguments.Task.{Task}
+use Rattle.h41_refusals.specs.declared.fault.Fault.{Fault}
+use Rattle.h41_refusals.specs.declared.fault.Fault.TheVariants.{OutOfMemory, ReadFault, WriteFault}
+use Rattle.h41_jobs.specs.declared.ended.Ended.{Ended}
+use Rattle.h41_serving.specs.Statuses.{EndsTask, status_of_ended}
+use Rattle.h41_serving.specs.Tasks.{TaskEnds}
+
+-- the status that tells how a task ended
+pub tells_end : (task : Task) (ended : Ended) (status : ℕ) (known : Option (List ℕ)) → status ≡ status_of_ended ended
+    → IfSome known (TaskEnds task ended) → IfSome known (EndsTask task status)
+tells_end task ended status None is ends = tt
+tells_end task ended status (Some input) is ends = (ended, ends, is)
+
+-- the fault that a set mark tells
+pub is_read : {T : Type 0} {mark : Bool} (fault : Fault) (result : Result T Fault) → result ≡ Err fault
+    → (result ≢ Err ReadFault → mark ≡ false) → mark ≡ true → fault ≡ ReadFault
+is_read OutOfMemory result is clear set = let unset = clear (λ same. cc) in cc
+is_read ReadFault result is clear set = refl
+is_read WriteFault result is clear set = let unset = clear (λ same. cc) in cc
+
+pub is_write : {T : Type 0} {mark : Bool} (fault : Fault) (result : Result T Fault) → result ≡ Err fault
+    → (result ≢ Err WriteFault → mark ≡ false) → mark ≡ true → fault ≡ WriteFault
+is_write OutOfMemory result is clear set = let unset = clear (λ same. cc) in cc
+is_write ReadFault result is clear set = let unset = clear (λ same. cc) in cc
+is_write WriteFault result is clear set = refl

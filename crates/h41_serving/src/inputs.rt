@@ -1,0 +1,45 @@
+//! Carries out the tasks whose input is read whole.
+
+ghost use Rattle.std.specs.Prelude.{◌≡◌, false};
+ghost use Rattle.h41_jobs.specs.Texts.{AssemblyEnds, AssemblyText, HasNoWrongWord};
+ghost use Rattle.h41_jobs.specs.Texts.{IsNotRefused, ListingEnds, ListingText};
+ghost use Rattle.h41_serving.specs.private.CarriedOut.{CarriesOutWhole};
+
+use h41_ends::{Sink, Source};
+use h41_jobs::{Ended, assembly, listing, read_input, write_answer};
+use h41_refusals::Fault;
+use std::alloc::Global;
+
+/// Assembles a source.
+pub(crate) fn assemble_source<R: Source, W: Sink>(
+    alloc: Global,
+    origin: u16,
+    reader: &mut R,
+    writer: &mut W,
+) -> Result<Ended, Fault>
+    requires reader_clear { R.failed reader.old ≡ false }
+    requires writer_clear { W.failed writer.old ≡ false }
+    ensures { CarriesOutWhole (AssemblyText origin) (AssemblyEnds origin) HasNoWrongWord result
+        R.Source W.Sink reader.old reader.new writer.old writer.new }
+{
+    let source = read_input(alloc, reader)?;
+    let answer = assembly(alloc, &source, origin)?;
+    Ok(write_answer(writer, &answer)?)
+}
+
+/// Lists words.
+pub(crate) fn list_words<R: Source, W: Sink>(
+    alloc: Global,
+    origin: u16,
+    reader: &mut R,
+    writer: &mut W,
+) -> Result<Ended, Fault>
+    requires reader_clear { R.failed reader.old ≡ false }
+    requires writer_clear { W.failed writer.old ≡ false }
+    ensures { CarriesOutWhole ListingText ListingEnds IsNotRefused result
+        R.Source W.Sink reader.old reader.new writer.old writer.new }
+{
+    let words = read_input(alloc, reader)?;
+    let answer = listing(alloc, &words, origin)?;
+    Ok(write_answer(writer, &answer)?)
+}

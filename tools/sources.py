@@ -367,12 +367,11 @@ class Assembled(Source):
         return self.words[self.places[at]:self.places[at + 1]]
 
 
-def run_tool(name, usage, tell):
+def run_tool(name, usage, tell, words):
     """Runs a tool that takes a source and a page: what it tells of the source has its status."""
-    words = sys.argv[1:]
     if words in (["-h"], ["--help"]):
         print(usage.strip())
-        sys.exit(0)
+        return 0
     parser = argparse.ArgumentParser(prog=name, add_help=False, allow_abbrev=False, usage=f"tools/{name} [--page P] FILE.asm [FILE.page]")
     parser.add_argument("--page", default="8", type=str.upper)
     parser.add_argument("file", metavar="FILE.asm")
@@ -381,12 +380,11 @@ def run_tool(name, usage, tell):
     if len(options.page) != 1 or options.page not in PAGES:
         parser.error(f"a page is one of 4 to F, and not {options.page}")
     sys.stdout.reconfigure(errors="backslashreplace")
-    sys.stderr.reconfigure(errors="backslashreplace")
     try:
-        sys.exit(tell(Assembled(options.file, options.page, options.end)))
-    except Failure as why:
-        print(why if isinstance(why, Faulty) else f"{name}: {why}", file=sys.stderr)
-        sys.exit(why.status)
+        return tell(Assembled(options.file, options.page, options.end))
+    except Faulty as why:
+        print(why, file=sys.stderr)
+        return why.status
 
 
 class Labels:

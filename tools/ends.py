@@ -1,0 +1,57 @@
+"""How a tool ends: with the status of its work, or by what it tells where that failed or one of its own ends did."""
+import os
+import signal
+import sys
+
+from decks import Failure, end_with_reader
+
+# The status where what a tool tells cannot be written.
+NOT_WRITTEN = 3
+
+
+class Closed:
+    """Standard input or output that was closed before the tool began. What reads or writes it fails."""
+
+    def __init__(self, what):
+        self.what = what
+
+    def __getattr__(self, name):
+        raise Failure(f"standard {self.what} is closed", NOT_WRITTEN)
+
+    def reconfigure(self, **_options):
+        pass
+
+    def flush(self):
+        pass
+
+
+def open_ends():
+    """Puts what fails in place of an end that is closed, and has texts with any characters told."""
+    sys.stdin, sys.stdout = sys.stdin or Closed("input"), sys.stdout or Closed("output")
+    sys.stderr = sys.stderr or open(os.devnull, "w", encoding="utf-8")
+    sys.stderr.reconfigure(errors="backslashreplace")
+
+
+def end(name, main, statuses=None):
+    """Ends the process with the status of `main` over the words of the command line. A failure is told, each line behind the tool's
+    name, and gives its own status, or the one that `statuses` has for it."""
+    open_ends()
+    try:
+        try:
+            sys.exit(main(sys.argv[1:]))
+        finally:
+            sys.stdout.flush()
+    except Failure as failure:
+        why, status = failure, failure.status
+    except KeyboardInterrupt:
+        signal.signal(signal.SIGINT, signal.SIG_DFL)
+        signal.raise_signal(signal.SIGINT)
+    except BrokenPipeError:
+        end_with_reader()
+        signal.raise_signal(signal.SIGPIPE)
+    except OSError as error:
+        # What is left to be written goes nowhere.
+        os.dup2(os.open(os.devnull, os.O_WRONLY), 1)
+        why, status = f"{error.filename or 'what it tells cannot be written'}: {error.strerror}", NOT_WRITTEN
+    print(*(f"{name}: {line}" for line in str(why).splitlines()), sep="\n", file=sys.stderr)
+    sys.exit((statuses or {}).get(status, status))

@@ -73,6 +73,11 @@ class Answers:
         self.desk = Desk(memory)
         self.seen = self.desk.look()
 
+    def close(self):
+        """Ends the bench. Another one, which is run for the documents, would tell that nothing reads it any more."""
+        self.causes.reader.join()
+        self.desk.bench.close()
+
     def calls(self):
         """The answers by the names that requests have."""
         return {"state": self.state, "do": self.do, "import": self.bring_in, "export": self.take_out, "deck": self.deck,

@@ -352,15 +352,16 @@ class Assembled(Source):
         faults = [f"{whole.place(fault.at)}: {fault}" for fault in self.faults] + whole.faults
         if faults:
             raise Faulty("\n".join(faults))
-        if self.size > PAGE_SIZE:
-            raise Faulty(f"{path}: ! 04 BadImage: it has {self.size:,} words, and a page {PAGE_SIZE:,}")
+        # A word or a label past FFFF is a fault of its line, and comes first.
         self.words, fault = assemble(without_comments(whole.at_page(page)), int(page, 16) << 12)
         if fault:
             raise Faulty(f"{whole.place(fault[0])}: {Fault(fault[0], self.texts[fault[0]], fault[1])}")
+        if self.size > PAGE_SIZE:
+            raise Faulty(f"{path}: ! 04 BadImage: it has {self.size:,} words, and a page {PAGE_SIZE:,}")
 
     def address(self, place):
-        """The address of a place in the page."""
-        return f"{self.page}{place:03X}"
+        """The address of a place in the page, or just behind it."""
+        return f"{(int(self.page, 16) << 12) + place:04X}"
 
     def words_of_line(self, at):
         """The words that a line gives."""
@@ -523,6 +524,12 @@ def operands():
             for name in codes_of(instructions)}
 
 
+def may_be_of_others(kind):
+    """Whether a line of this kind, for which there is a cause, may be one of another dialect all the same: a directive, or one
+    whose instruction takes a field or nothing."""
+    return kind == "a directive of others" or isinstance(kind, frozenset) and not kind.isdisjoint((b"", b"ALL"))
+
+
 def of_another_dialect(own):
     """What is told of a line of another dialect, by what it is here."""
     return "a line of another dialect, which tools/import " + ("leaves out" if own.startswith(";") else f"reads: `{own}`")
@@ -547,11 +554,11 @@ def tell_causes(faults):
                 and one.may_be_as(row, kind)]
         if kind == "another dialect":
             fault.told.append(f"{one.first.decode()} is a name of another dialect, which tools/import reads: `{others[one.first]}`")
-        elif like:
+        elif like and not may_be_of_others(kind):
             fault.told.append(max(like)[-1])
-        elif one.refusal == OF_THE_LINE[0]:
-            unknown.append(fault)
+        elif like or one.refusal == OF_THE_LINE[0]:
+            unknown.append((fault, max(like)[-1] if like else "no such label, mnemonic or directive can be read"))
         else:
             fault.told += [f"`{name}` takes {takes[name]}" for name in one.names() if name in takes]
-    for fault, own in zip(unknown, as_own([fault.text for fault in unknown])):
-        fault.told.append(of_another_dialect(own) if own else "no such label, mnemonic or directive can be read")
+    for (fault, cause), own in zip(unknown, as_own([fault.text for fault, _ in unknown])):
+        fault.told.append(of_another_dialect(own) if own else cause)

@@ -33,6 +33,7 @@ NUMBER = re.compile(r"([0-9]{1,2}|[A-F])(?:[(/](.)\)?)?", re.I)
 ADDRESS = re.compile(r"(?:0x|\$|->)?([0-9A-F]{4})H?", re.I)
 WORD = re.compile(r"(0x|\$)?([0-9A-F]{1,4}?)(H)?", re.I)
 DISTANCE = re.compile(r"([+-])([0-9A-F]{1,2})", re.I)
+JUMP = re.compile(rf".*\bGO\s*TO\s+({NAME})", re.A | re.I)
 PAIR = re.compile(r"(?:\.?CON:?)?\s*([$0-9A-Z]+)", re.I)
 # Lines of other assemblers that give no word.
 WITHOUT_WORDS = re.compile(r"""LEGAL|EJECT|LIST|UNLIST|TITLE\s*["'].*|\.(?:TITLE|EJECT|LIST|UNLIST|HP|JDA|ZENCODE)(?:\s.*)?""",
@@ -117,8 +118,16 @@ class Names:
                 touches = upper[end - 1] == "=" or re.match(r"[-+(\[:0-9]", upper[end:])
                 if upper[:end] in self.names and (end in ends if apart else end not in ends and touches):
                     name = self.names[upper[:end]]
-                    yield from ((f"{name} {operand}".rstrip(), remark)
+                    other = self.no_jump(code) if name.startswith("GOTO ") else ""
+                    yield from ((f"{name} {operand}".rstrip(), remark or other)
                                 for operand, remark in self.kinds.get(name, self.nothing)(flat[end:]))
+
+    def no_jump(self, code):
+        """What is told of a line that is GOTO KEY or GOTO ADR, where it may be a jump to a label; nothing else."""
+        found = JUMP.fullmatch(code)
+        names = [found[1], *sorted(self.labels)] if found else []
+        label = next((name for name in names if name in self.labels and name.upper() == found[1].upper()), None)
+        return f"no jump to the label {label}, which is JNC :{label}" if label else ""
 
     # What an operand may be, each with how it was read.
 
@@ -255,7 +264,7 @@ class Dialect:
             parts.append(("", f"CON {labelled[2]}"))
         if in_front and not labelled and in_front[2] and self.may_be_label(in_front[1]):
             parts.append(in_front.groups())
-        yield from (Text(label, rest) for label, rest in parts if label and rest)
+        yield from (Text(label, rest, self.names.no_jump(rest)) for label, rest in parts if label and rest)
         yield from (Text(label, text, remark) for label, rest in parts for text, remark in self.codes_of(rest))
 
     def may_be_label(self, name):
@@ -325,9 +334,9 @@ class Dialect:
         for at, code in enumerate(self.codes):
             if code in own or at in changed:
                 continue
-            jump = re.fullmatch(rf".*\bGOTO ({NAME})", code, re.A)
-            if changed and jump and jump[1] in self.names.labels:
-                self.told.append((at + 1, f"{code.strip()} (no jump to the label {jump[1]}, which is JNC :{jump[1]})"))
+            remark = self.names.no_jump(code) if changed else ""
+            if remark:
+                self.told.append((at + 1, f"{code.strip()} ({remark})"))
             found = re.fullmatch(rf"((?:\s*{NAME}:)?\s*)((?:LDI|CON|JC|JNC)\s+[+-]?)([0-9]+)", code, re.A)
             number, remark = self.names.number("", found[3], len(found[3])) if found else ("", "")
             if remark and self.names.is_decimal:

@@ -32,6 +32,7 @@ REFERENCE = re.compile(rf":?\[?\(?:?({NAME})\)?\]?", re.A)
 NUMBER = re.compile(r"([0-9]{1,2}|[A-F])(?:[(/](.)\)?)?", re.I)
 ADDRESS = re.compile(r"(?:0x|\$|->)?([0-9A-F]{4})H?", re.I)
 WORD = re.compile(r"(0x|\$)?([0-9A-F]{1,4}?)(H)?", re.I)
+GAP = re.compile(r"(?<=\S)(?:\s{2,}|\t)(?=\S)")
 DISTANCE = re.compile(r"([+-])([0-9A-F]{1,2})", re.I)
 JUMP = re.compile(rf".*\bGO\s*TO\s+({NAME})", re.A | re.I)
 PAIR = re.compile(r"(?:\.?CON:?)?\s*([$0-9A-Z]+)", re.I)
@@ -57,12 +58,18 @@ def pairs():
 
 @dataclass
 class Text:
-    """What a line may be, in parts, and how it was read. The comment is what stood without its `;`."""
+    """What a line may be, in parts, and how it was read. The comment is what stood without its `;`. A joined one has an operand
+    in whose middle two blanks or a tab stood."""
 
     label: str
     code: str
     remark: str = ""
     comment: str = ""
+    joined: bool = False
+
+    def refers_to(self):
+        """The label that it refers to; none where it refers to none."""
+        return self.code.partition(" :")[2] or None
 
     def line(self):
         return f"{self.label}: {self.code}".rstrip() if self.label else f" {self.code}"
@@ -103,12 +110,13 @@ class Names:
 
     def codes(self, code):
         """What an instruction may be, the likeliest first: a name, which may be spelled without its blanks, and an operand. Each
-        with how it was read."""
+        with how it was read, and whether two blanks or a tab stand within the operand."""
         flat, upper = key_of(code, False), key_of(code)
         for pattern, here in self.patterns:
             found = pattern.fullmatch(upper)
             if found:
-                yield f"{here}{int(found[1])}", ""
+                yield f"{here}{int(found[1])}", "", False
+        gaps = [len(key_of(code[:gap.start()])) for gap in GAP.finditer(code)]
         ends, at = set(), 0
         for word in code.split():
             at += len(word)
@@ -119,7 +127,7 @@ class Names:
                 if upper[:end] in self.names and (end in ends if apart else end not in ends and touches):
                     name = self.names[upper[:end]]
                     other = self.no_jump(code) if name.startswith("GOTO ") else ""
-                    yield from ((f"{name} {operand}".rstrip(), remark or other)
+                    yield from ((f"{name} {operand}".rstrip(), remark or other, any(end < gap for gap in gaps))
                                 for operand, remark in self.kinds.get(name, self.nothing)(flat[end:]))
 
     def no_jump(self, code):
@@ -188,7 +196,7 @@ class Names:
 def fronts(code):
     """A line, and what stands in it before two blanks or a tab, the longest first: what stands behind may be a comment."""
     yield code, ""
-    for gap in reversed(list(re.finditer(r"(?<=\S)(?:\s{2,}|\t)(?=\S)", code))):
+    for gap in reversed(list(GAP.finditer(code))):
         yield code[:gap.start()], code[gap.end():]
 
 
@@ -217,9 +225,9 @@ class Dialect:
         found.update(self.pairs(found))
         wrong = self.unread({text.line() for texts in found.values() for text in texts if text})
         for at, texts in sorted(found.items()):
-            text = next((text for text in texts if text is None or text.line() not in wrong), False)
-            if text is not False:
-                self.change(at, text)
+            texts = [text for text in texts if text is None or text.line() not in wrong]
+            if texts:
+                self.change(at, texts[0] and self.with_other(*texts))
         if self.comments:
             self.notes.append(f"lines that begin with * or // are comments: {len(self.comments)}")
         self.read_others(own, [at for at in found if self.lines[at] != lines[at]])
@@ -237,12 +245,12 @@ class Dialect:
         return {label[1] for label in found if label}
 
     def is_referred_to(self, name):
-        """Whether a line ends in a name, as one that jumps there does."""
+        """Whether a line ends in a name, as one that jumps there does. A comment may stand behind it."""
         last = rf".*[\s:(\[]{name}[)\]]?"
-        return any(re.fullmatch(last, code) for code in self.codes)
+        return any(re.fullmatch(last, front) for code in self.codes for front, _ in fronts(code))
 
     def spellings(self, at):
-        """What a line may be; none for one that gives no word."""
+        """What a line may be, the joined ones last; none for one that gives no word."""
         code = "".join(SIGNS.get(letter, letter) for letter in self.codes[at])
         if code.lstrip().startswith(("*", "//")):
             self.comments.append(at)
@@ -254,7 +262,15 @@ class Dialect:
         alone = IN_FRONT.fullmatch(code)
         if not found and alone and not alone[2] and self.is_referred_to(alone[1]):
             found.append(Text(alone[1], ""))
-        return found
+        return sorted(found, key=lambda text: text.joined)
+
+    def with_other(self, text, *others):
+        """A text, of which is told what it is where its comment is part of the operand."""
+        labels = {*self.names.labels, None}
+        joined = next((other for other in others if other.joined and other.code != text.code and other.refers_to() in labels), None)
+        if text.joined or not joined:
+            return text
+        return replace(text, remark="; ".join(filter(None, [text.remark, f"a comment; without its blanks it is {joined.code}"])))
 
     def texts_of(self, code):
         """What a line may be without a comment: one with an instruction or a directive."""
@@ -265,22 +281,21 @@ class Dialect:
         if in_front and not labelled and in_front[2] and self.may_be_label(in_front[1]):
             parts.append(in_front.groups())
         yield from (Text(label, rest, self.names.no_jump(rest)) for label, rest in parts if label and rest)
-        yield from (Text(label, text, remark) for label, rest in parts for text, remark in self.codes_of(rest))
+        yield from (Text(label, text, remark, "", joined) for label, rest in parts for text, remark, joined in self.codes_of(rest))
 
     def may_be_label(self, name):
         """Whether a name without a colon may be a label: one that is an instruction has to be referred to."""
         return next(self.codes_of(name), None) is None or self.is_referred_to(name)
 
     def may_be_comment(self, text):
-        """Whether a text is neither an instruction nor an operand."""
-        first = (text.split() or [""])[0]
-        return not text or not WORD.fullmatch(first) and next(self.codes_of(text), None) is None
+        """Whether a text is no instruction."""
+        return next(self.codes_of(text), None) is None
 
     def codes_of(self, code):
         """What an instruction or directive may be."""
         named = re.fullmatch(r'\.?NAME\s*(".*")', code, re.I)
         if named:
-            yield f"NAME {named[1]}", ""
+            yield f"NAME {named[1]}", "", False
         elif '"' not in code:
             yield from self.names.codes(code.lstrip(".") if re.match(r"\.CON\b", code, re.I) else code)
 
@@ -306,7 +321,7 @@ class Dialect:
     def load_of(self, code):
         """A line that is LDI without its number; none where it is another."""
         for front, comment in fronts(code):
-            if not self.may_be_comment(comment):
+            if WORD.fullmatch((comment.split() or [""])[0]) or not self.may_be_comment(comment):
                 continue
             labelled = LABEL.fullmatch(front) or IN_FRONT.fullmatch(front)
             for label, rest in [("", front), *([labelled.groups()] if labelled else [])]:

@@ -21,6 +21,10 @@ PAGE_SIZE = 4096
 # Where sources are assembled for their places, which are the same at each origin: there is room for what is put behind them.
 ORIGIN = 0x4000
 
+# What a file may end with, and a line.
+END_MARK = b"\x1a"
+CR_ALONE = re.compile(rb"\r(?!\n)")
+
 NAME = rb"[A-Za-z][0-9A-Za-z_]{0,11}"
 LABEL = re.compile(rb"(" + NAME + rb"):(?:[ \t]+|\Z)")
 REFERENCE = re.compile(rb":(" + NAME + rb")\Z")
@@ -49,12 +53,17 @@ class Faulty(Failure):
     """A source has faults: its text has a line for each, and what is known of it."""
 
 
+def with_ends(data):
+    """A text with LF where CR alone ends a line, and without ^Z at its end."""
+    return CR_ALONE.sub(b"\n", data.rstrip(END_MARK))
+
+
 def text_in(path):
-    """The bytes of a text, which is not in UTF-16."""
+    """The text of a file, which is not in UTF-16."""
     data = bytes_of(path)
     if data.startswith(MARKS_OF_UTF16):
         raise Faulty(f"{path}: the text is in UTF-16: save it as UTF-8")
-    return data
+    return with_ends(data)
 
 
 def source_lines(data):

@@ -331,6 +331,22 @@ class Whole:
         """A line as it is told: its file and its number there."""
         return "{}:{}".format(*self.origins[at])
 
+    def faults_of(self, source):
+        """What is told of the faults of the source that the lines are, and where no page has room for them."""
+        return self.faults_of_lines(source) or self.faults_of_size(source)
+
+    def faults_of_lines(self, source):
+        """What is told of the faults that lines have."""
+        return [f"{self.place(fault.at)}: {fault}" for fault in source.faults] + self.faults
+
+    def faults_of_size(self, source):
+        """What is told where no page has room for the words."""
+        full = next((at for at, behind in enumerate(source.places[1:]) if behind > PAGE_SIZE), None)
+        if full is None:
+            return []
+        return [f"{self.place(full)}: ! 04 BadImage: there are {source.size:,} words, and a page has {PAGE_SIZE:,}: "
+                f"{shown(self.told[full].strip(BLANKS))}"]
+
     def at_page(self, page):
         """The lines at a page, with the checksum of the words before it, where one is wanted."""
         if self.checksum is None:
@@ -358,15 +374,16 @@ class Assembled(Source):
         whole = Whole(path, text_in(path), end)
         super().__init__(whole.data())
         self.page, self.whole = page, whole
-        faults = [f"{whole.place(fault.at)}: {fault}" for fault in self.faults] + whole.faults
+        faults = whole.faults_of_lines(self)
         if faults:
             raise Faulty("\n".join(faults))
-        # A word or a label past FFFF is a fault of its line, and comes first.
+        # A word or a label past FFFF is a fault of its line, and comes before those of the page.
         self.words, fault = assemble(without_comments(whole.at_page(page)), int(page, 16) << 12)
         if fault:
             raise Faulty(f"{whole.place(fault[0])}: {Fault(fault[0], self.texts[fault[0]], fault[1])}")
-        if self.size > PAGE_SIZE:
-            raise Faulty(f"{path}: ! 04 BadImage: it has {self.size:,} words, and a page {PAGE_SIZE:,}")
+        faults = whole.faults_of_size(self)
+        if faults:
+            raise Faulty("\n".join(faults))
 
     def address(self, place):
         """The address of a place in the page, or just behind it."""

@@ -257,7 +257,7 @@ class Dialect:
             return [None]
         if WITHOUT_WORDS.fullmatch(code.strip()) or END.fullmatch(code.strip()) and self.is_last(at):
             return [None]
-        found = [replace(text, comment=comment) for front, comment in fronts(code) if self.may_be_comment(comment)
+        found = [replace(text, comment=comment) for front, comment in fronts(code) if self.may_be_comment(front, comment)
                  for text in self.texts_of(front)]
         alone = IN_FRONT.fullmatch(code)
         if not found and alone and not alone[2] and self.is_referred_to(alone[1]):
@@ -287,9 +287,12 @@ class Dialect:
         """Whether a name without a colon may be a label: one that is an instruction has to be referred to."""
         return next(self.codes_of(name), None) is None or self.is_referred_to(name)
 
-    def may_be_comment(self, text):
-        """Whether a text is no instruction."""
-        return next(self.codes_of(text), None) is None
+    def may_be_comment(self, front, text):
+        """Whether a text behind what stands in front is no instruction, and its first word makes none of another name of that."""
+        words = text.split()
+        texts = self.texts_of(f"{front}  {words[0]}") if words[1:] else []
+        longer = {one.code for one in texts if not one.joined and not GAP.search(one.code)}
+        return next(self.codes_of(text), None) is None and longer <= {one.code for one in self.texts_of(front)}
 
     def codes_of(self, code):
         """What an instruction or directive may be."""
@@ -321,7 +324,7 @@ class Dialect:
     def load_of(self, code):
         """A line that is LDI without its number; none where it is another."""
         for front, comment in fronts(code):
-            if WORD.fullmatch((comment.split() or [""])[0]) or not self.may_be_comment(comment):
+            if WORD.fullmatch((comment.split() or [""])[0]) or not self.may_be_comment(front, comment):
                 continue
             labelled = LABEL.fullmatch(front) or IN_FRONT.fullmatch(front)
             for label, rest in [("", front), *([labelled.groups()] if labelled else [])]:

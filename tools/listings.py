@@ -146,7 +146,7 @@ class Listing:
         reasons = {line: next((why for text, why in found if text is None or text in good), "")
                    for line, found in causes.items()}
         if kept:
-            more = f", as {len(kept) - 1} more that are none" if kept[1:] else ""
+            more = f", as {len(kept) - 1} more that {'are' if kept[2:] else 'is'} none" if kept[1:] else ""
             reasons[kept[0][1]] = f"it has a number in front{more}"
         self.bad = [(number, line, reasons[line]) for number, line in self.bad if (number, line) not in kept[1:]]
 

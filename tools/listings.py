@@ -64,6 +64,8 @@ class Listing:
             return lines
         follows = [False] + [ENDED.fullmatch(lines[at]) is not None for at in places[:-1]]
         begins = {at for at, ended in zip(places, follows) if ended and found[at] and int(found[at][1]) <= 1}
+        anew = begin_anew([(int(found[at][1]), at) for at in numbered], begins)
+        begins |= anew
         rising = ascending([(int(found[at][1]), at) for at in numbered], begins)
         wrong = [at for at in places if at not in rising]
         if len(wrong) * FEW > len(places):
@@ -85,8 +87,9 @@ class Listing:
         missing = f"; behind {gaps[0][0]} stands {gaps[0][1]}" if gaps else ""
         missing += f", and there are {len(gaps)} such gaps" if gaps[1:] else ""
         but = f", but for {len(wrong)}" if wrong else ""
-        self.notes.append(f"each line has a number in front{but}, {found[numbered[0]][1]} to {found[numbered[-1]][1]}: they are "
-                          f"taken off{missing}")
+        last = max((found[at][1] for at in rising), key=int)
+        self.notes.append(f"each line has a number in front{but}, {found[numbered[0]][1]} to {last}: they are taken off{missing}")
+        self.notes += [f"the numbers begin again in line {at + 1}: is an END missing before it?" for at in sorted(anew)]
         for at in wrong:
             self.told.append((at + 1, f"{shown(lines[at])} (its number does not ascend, and is taken off too)" if found[at] else
                               f"{shown(lines[at])} (it has no number in front, and stays as it is)"))
@@ -194,6 +197,13 @@ class Listing:
         if re.fullmatch(r"[A-Z][A-Z0-9<>=#?+*/^-]*", name) and len(name) <= 7:
             yield None, ("no function of the calculator or of a module that is known; one of another module is written by its "
                          f'numbers, as XROM 05,01, and a label is called by XEQ "{name}"')
+
+
+def begin_anew(numbers, begins):
+    """Of these numbers, each with its place, the places where they begin again at 0 or 1 and go on from there, but for those
+    behind an END. One that is wrong is not followed by the next."""
+    return {at for (last, _), (number, at), (behind, _) in zip(numbers, numbers[1:], numbers[2:])
+            if at not in begins and number <= min(last, 1) and number < behind <= max(last, number + 1)}
 
 
 def ascending(numbers, begins):

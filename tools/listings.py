@@ -4,6 +4,7 @@ from bisect import bisect_left
 
 from decks import LONGEST_LINE, Failure, block, refused, shown, words_of
 from documents import codes_of, section_of, tables_of
+from programs import fates
 from spellings import DOCUMENT, Speller, read_tables, remark_on
 
 # A number in front of a line, and what stands behind it.
@@ -109,22 +110,37 @@ class Listing:
                   if line not in good and not self.is_comment(number, line)}
         tried = [text for found in others.values() for text, _ in found or []]
         good |= readable(tried + [function for function in map(speller.function_called, tried) if function])
+        calls = []
         for number, line in enumerate(self.lines, 1):
             if self.is_comment(number, line):
                 self.texts.append(line)
             elif line in others:
                 self.texts.append(self.spelled(number, line, others[line], good))
                 function = speller.function_called(self.texts[-1])
-                if function and function not in good:
-                    function = next((text for text, _ in speller.named(function)), None)
                 if function and not QUOTED.search(line):
-                    self.told.append((number, f"{self.texts[-1]} calls a label; the function is the line {function}"))
+                    calls.append((number, self.texts[-1], function if function in good else None))
             else:
                 self.texts.append(line)
                 if remark_on(line):
                     self.told.append((number, f"{line} ({remark_on(line)})"))
+        self.tell_calls(speller, calls)
         self.told.sort(key=lambda told: told[0])
         self.give_reasons(speller, others)
+
+    def tell_calls(self, speller, calls):
+        """Tells of calls by a name without quotes what they call, where a function has it: of each its line's number, its text,
+        and the line that a function of the calculator would be."""
+        asked = [text for _, text, function in calls if function]
+        nowhere = fates(asked, b"")[1] if asked else set()
+        for number, text, function in calls:
+            line = function or next((line for line, _ in speller.named(speller.function_called(text))), None)
+            if function and text not in nowhere:
+                self.told.append((number, f"{text} calls a label of that name where one is in memory, else the function"))
+            elif line and not function and f'XEQ "{speller.functions.names[line]}"' == text:
+                self.told.append((number, f"{text} calls a label of that name where one is in memory, else the function where its "
+                                          f"module is plugged; as a line that is {line}"))
+            elif line:
+                self.told.append((number, f"{text} calls a label; the function is the line {line}"))
 
     def spelled(self, number, line, spellings, good):
         """The text of a line by its first spelling that is good."""

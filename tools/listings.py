@@ -19,6 +19,10 @@ CHARACTER = re.compile(r"\\[0-9A-F]{2}|.")
 TOUCHING = re.compile(r"([^\s0-9]+)([0-9]{1,2})")
 WITH_NUMBER = re.compile(r"(.+ )([0-9]{2,3})")
 
+# What the name of a function may be, and what is proposed as the name of a label.
+FUNCTION = re.compile(r"[A-Z][A-Z0-9<>=#?+*/^-]{0,6}")
+CALLED = re.compile(r"[A-Z][A-Z0-9]{0,6}")
+
 ENDED = re.compile(r"(?:[0-9]+\S*\s+)?\.?END\.?(?:\s.*)?", re.I)
 
 
@@ -207,12 +211,25 @@ class Listing:
             operated = WITH_NUMBER.fullmatch(found)
             if operated:
                 yield f"{operated[1]}00", f"{operated[2]} is no operand there"
+        yield from self.parts(text, speller)
         several = speller.functions.lines(name) if speller.functions else []
         if several:
             yield None, f"functions of modules have this name: {' and '.join(several)}"
-        if re.fullmatch(r"[A-Z][A-Z0-9<>=#?+*/^-]*", name) and len(name) <= 7:
+        if FUNCTION.fullmatch(speller.tables.name(steps[0])) and (not steps[1:] or speller.function(text)):
+            called = f', and a label is called by XEQ "{name}"' if CALLED.fullmatch(name) and not steps[1:] else ""
             yield None, ("no function of the calculator or of a module that is known; one of another module is written by its "
-                         f'numbers, as XROM 05,01, and a label is called by XEQ "{name}"')
+                         f"numbers, as XROM 05,01{called}")
+
+    @staticmethod
+    def parts(text, speller):
+        """Why a line of several words may be none, by the first of them."""
+        first, *behind = text.split(maxsplit=1)
+        if not behind:
+            return
+        name = speller.tables.name(first)
+        quotes = f'; a name stands in quotes, as {name} "SUB"' if name in ("LBL", "GTO", "XEQ") else ""
+        yield f"{name} 00", f"{behind[0]} is no operand there{quotes}"
+        yield from ((found, f"{first} is a line of its own, with nothing behind it") for found, _ in speller.spellings(first) or [])
 
 
 def begin_anew(numbers, begins):

@@ -5,7 +5,7 @@ from bisect import bisect_left
 from decks import LONGEST_LINE, Failure, block, refused, shown, words_of
 from documents import codes_of, section_of, tables_of
 from programs import fates
-from spellings import DOCUMENT, Speller, read_tables, remark_on
+from spellings import DOCUMENT, Speller, read_tables
 
 # A number in front of a line, and what stands behind it.
 NUMBERED = re.compile(r"([0-9]{1,4})(?:[.:)]?\s+|(?=[*♦◆▸▶►•●>]\s*LBL\b))(\S.*)", re.I)
@@ -119,14 +119,14 @@ class Listing:
             if self.is_comment(number, line):
                 self.texts.append(line)
             elif line in others:
-                self.texts.append(self.spelled(number, line, others[line], good))
+                self.texts.append(self.spelled(number, line, speller, others[line], good))
                 function = speller.function_called(self.texts[-1])
                 if function and not QUOTED.search(line):
                     calls.append((number, self.texts[-1], function if function in good else None))
             else:
                 self.texts.append(line)
-                if remark_on(line):
-                    self.told.append((number, f"{line} ({remark_on(line)})"))
+                if speller.remark_on(line):
+                    self.told.append((number, f"{line} ({speller.remark_on(line)})"))
         self.tell_calls(speller, calls)
         self.told.sort(key=lambda told: told[0])
         self.give_reasons(speller, others)
@@ -146,7 +146,7 @@ class Listing:
             elif line:
                 self.told.append((number, f"{text} calls a label; the function is the line {line}"))
 
-    def spelled(self, number, line, spellings, good):
+    def spelled(self, number, line, speller, spellings, good):
         """The text of a line by its first spelling that is good."""
         if spellings is None:
             self.told.append((number, f"{shown(line)} -> nothing"))
@@ -155,7 +155,7 @@ class Listing:
         if text is None:
             self.bad.append((number, line))
             return ""
-        remark = remark or remark_on(text)
+        remark = remark or speller.remark_on(text)
         self.told.append((number, f"{shown(line)} -> {text}{f' ({remark})' if remark else ''}"))
         return text
 

@@ -36,6 +36,7 @@ HEAD = re.compile(r"\{.*\}")
 NUMBER = re.compile(r"([+-]?)([0-9.,]*)(?:\s*[Eeᴇ]\s*([+-]?)\s*([0-9]*))?")
 GROUPS = re.compile(r"[1-9][0-9]{0,2}(?:,[0-9]{3})+(?:\.[0-9]*)?")
 GROUPS_OF_POINTS = re.compile(r"[1-9][0-9]{0,2}(?:\.[0-9]{3})+,[0-9]*")
+THOUSAND_OF_POINT = re.compile(r"[1-9][0-9]{0,2}\.[0-9]{3}")
 DECIMAL_COMMA = re.compile(r"[0-9]*,[0-9]*")
 
 
@@ -229,17 +230,23 @@ class Speller:
         found = [(self.tables.name(line), "")]
         return found + [(self.tables.name(f"{line}?"), "a test without its mark")] if TEST.fullmatch(line) else found
 
-
-def remark_on(line):
-    """How a line that the bench reads may be meant otherwise; nothing where it may not."""
-    found = ONE_LETTER.fullmatch(line)
-    if found:
-        return f'the label {found[1]} of one letter; a name stands in quotes, "{found[1]}"'
-    if line.startswith('"|-'):
-        return f'a text that begins with |-; appended it is >"{line[3:]}'
-    if NUMBER.fullmatch(line) and line.count(".") > 1:
-        return "a number with two points, as it stands"
-    return ""
+    def remark_on(self, line):
+        """How a line that the bench reads may be meant otherwise; nothing where it may not."""
+        found = ONE_LETTER.fullmatch(line)
+        if found:
+            return f'the label {found[1]} of one letter; a name stands in quotes, "{found[1]}"'
+        if line.startswith('"|-'):
+            return f'a text that begins with |-; appended it is >"{line[3:]}'
+        found = NUMBER.fullmatch(line)
+        if not found:
+            return ""
+        if line.count(".") > 1:
+            return "a number with two points, as it stands"
+        if len(found[4] or "") > 2:
+            return f"an exponent has two digits: this is {line[:-len(found[4])]}{found[4][:2]}"
+        if self.comma_is_point and THOUSAND_OF_POINT.fullmatch(found[2]):
+            return f"the point is the decimal point; where it parts thousands write {line.replace('.', '')}"
+        return ""
 
 
 def printed(tables, line, names):

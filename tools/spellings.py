@@ -24,6 +24,9 @@ ONE_LETTER = re.compile(r"(?:LBL|GTO|XEQ) ([A-Za-z])")
 OPERATED = re.compile(r"(.+?)(?:\s+|(?<=[-+*/×÷])(?=IND))(?:(IND)\s*)?(?:ST\s+)?"
                       r"([0-9]{1,3}|[A-Za-z]|[\[\\\]↑^_]|[├⊢]|\|-|APPEND)", re.I)
 
+# X<>Y with blanks. `X<> Y` is no such one, but the line of two bytes.
+EXCHANGE = re.compile(r"X\s*[↔⇄]\s*Y|X\s+<>\s*Y", re.I)
+
 # How the calculator itself shows the registers M to Q in a line.
 SHOWN_REGISTERS = {"[": "M", "\\": "N", "]": "O", "↑": "P", "^": "P", "_": "Q"}
 
@@ -187,7 +190,7 @@ class Speller:
     def function(self, line):
         """A function with its operand."""
         found = OPERATED.fullmatch(line)
-        if not found:
+        if not found or EXCHANGE.fullmatch(line):
             return []
         name, indirect, operand = found.groups()
         return [(f"{self.tables.name(name)} {'IND ' if indirect else ''}{self.operand(operand)}", "")]

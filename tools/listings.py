@@ -205,6 +205,8 @@ class Listing:
         steps = text.split()
         if len(steps) > 1:
             yield " ".join(steps).replace(" ", ""), "a number has no blanks in it"
+        yield from ((found[:16], f"a number has at most 16 characters, and this one {len(found)}")
+                    for found, _ in speller.number(text) if len(found) > 16)
         name = speller.tables.name(text)
         yield f"{name} 00", "its operand is missing"
         for found, _ in spellings:

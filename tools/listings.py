@@ -16,6 +16,7 @@ FEW = 8
 # Parts of a line that is none.
 IN_QUOTES = re.compile(r'(>?|[A-Z]+ )"(.*)"')
 CHARACTER = re.compile(r"\\[0-9A-F]{2}|.")
+COUNTED = re.compile(r"([0-9]{1,4})([^0-9\s].*)")
 TOUCHING = re.compile(r"([^\s0-9]+)([0-9]{1,2})")
 WITH_NUMBER = re.compile(r"(.+ )([0-9]{2,3})")
 
@@ -23,7 +24,7 @@ WITH_NUMBER = re.compile(r"(.+ )([0-9]{2,3})")
 FUNCTION = re.compile(r"[A-Z][A-Z0-9<>=#?+*/^-]{0,6}")
 CALLED = re.compile(r"[A-Z][A-Z0-9]{0,6}")
 
-ENDED = re.compile(r"(?:[0-9]+\S*\s+)?\.?END\.?(?:\s.*)?", re.I)
+ENDED = re.compile(r"\.?END\.?(?:\s.*)?", re.I)
 
 
 def readable(texts):
@@ -64,10 +65,12 @@ class Listing:
         """The lines without the numbers in front, where each has one, but for a few that are told."""
         places = [at for at, line in enumerate(lines) if not is_comment(line) and not line.startswith(";")]
         found = {at: NUMBERED.fullmatch(lines[at]) for at in places}
+        if not all(found.values()):
+            found = dict(zip(places, counted([lines[at] for at in places]))) or found
         numbered = [at for at in places if found[at]]
         if not places or 2 * len(numbered) <= len(places):
             return lines
-        follows = [False] + [ENDED.fullmatch(lines[at]) is not None for at in places[:-1]]
+        follows = [False] + [ENDED.fullmatch(found[at][2] if found[at] else lines[at]) is not None for at in places[:-1]]
         begins = {at for at, ended in zip(places, follows) if ended and found[at] and int(found[at][1]) <= 1}
         anew = begin_anew([(int(found[at][1]), at) for at in numbered], begins)
         begins |= anew
@@ -198,6 +201,10 @@ class Listing:
         command = re.sub(r" ?\.", " .", found[0]) if found else ""
         if command in commands():
             yield None, f"a command, and no line of a program{commands()[command]}"
+        counted_line = COUNTED.fullmatch(line)
+        if counted_line:
+            apart = f"a blank stands behind a number in front: {shown(f'{counted_line[1]} {counted_line[2]}')}"
+            yield from ((found, apart) for found, _ in speller.spellings(counted_line[2]) or [])
         touching = TOUCHING.fullmatch(text)
         if touching:
             apart = f"{speller.tables.name(touching[1])} {int(touching[2]):02}"
@@ -232,6 +239,21 @@ class Listing:
         quotes = f'; a name stands in quotes, as {name} "SUB"' if name in ("LBL", "GTO", "XEQ") else ""
         yield f"{name} 00", f"{behind[0]} is no operand there{quotes}"
         yield from ((found, f"{first} is a line of its own, with nothing behind it") for found, _ in speller.spellings(first) or [])
+
+
+def counted(lines):
+    """Lines that count from 01, or from 001 or 0001, and from each END anew, without blanks behind their numbers: each as a match,
+    with its number and what stands behind. None where one does not count so."""
+    for width in (2, 3, 4):
+        found = []
+        for line in lines:
+            number = 1 if not found or ENDED.fullmatch(found[-1][2]) else int(found[-1][1]) + 1
+            found.append(re.fullmatch(rf"({number:0{width}})\s*(\S.*)", line))
+            if not found[-1]:
+                break
+        else:
+            return found
+    return []
 
 
 def begin_anew(numbers, begins):

@@ -242,15 +242,16 @@ class Listing:
 
 
 def counted(lines):
-    """Lines that count from 01, or from 001 or 0001, and from each END anew, without blanks behind their numbers: each as a match,
-    with its number and what stands behind. None where one does not count so."""
+    """Lines that count from 01, or from 001 or 0001, without blanks behind their numbers, and may begin anew: each as a match, with
+    its number and what stands behind. None where one does not count so."""
     for width in (2, 3, 4):
         found = []
         for line in lines:
-            number = 1 if not found or ENDED.fullmatch(found[-1][2]) else int(found[-1][1]) + 1
-            found.append(re.fullmatch(rf"({number:0{width}})\s*(\S.*)", line))
-            if not found[-1]:
+            numbers = [1] if not found or ENDED.fullmatch(found[-1][2]) else [int(found[-1][1]) + 1, 1]
+            matches = [re.fullmatch(rf"({number:0{width}})\s*(\S.*)", line) for number in numbers]
+            if not any(matches):
                 break
+            found.append(next(filter(None, matches)))
         else:
             return found
     return []

@@ -10,14 +10,20 @@ def check_out(out, sources):
     """Wants that OUT can be written, and is no other thing than a file of its own. `-` is standard output."""
     if out == "-":
         return
-    if os.path.exists(out):
-        if not os.path.isfile(out):
-            raise Failure(f"{out}: it is no file")
-        for what, path in sources:
-            if path != "-" and os.path.exists(path) and os.path.samefile(path, out):
-                raise Failure(f"{out}: it is {what}")
+    if os.path.exists(out) and not os.path.isfile(out):
+        raise Failure(f"{out}: it is no file")
+    for what, path in sources:
+        if path != "-" and is_same(path, out):
+            raise Failure(f"{out}: it is {what}")
     if not os.path.isdir(os.path.dirname(os.path.realpath(out))):
         raise Failure(f"{out}: its folder is not there")
+
+
+def is_same(one, other):
+    """Whether two paths lead to one file, also where it is not there yet."""
+    if os.path.exists(one) and os.path.exists(other):
+        return os.path.samefile(one, other)
+    return os.path.realpath(one) == os.path.realpath(other)
 
 
 def put(data, out):

@@ -17,7 +17,7 @@ from refusals import Refused, look_into_blocks
 
 TOOLS = os.path.join(TOP, "tools")
 LESSONS = os.path.join(TOP, "examples")
-LESSON = re.compile(r"^- \[([^\]]*)\]\((\S+)\.deck\)(?:, \[([^\]]*)\]\((\S+)\.deck\))?: (.*)$", re.M)
+LESSON = re.compile(r"^\| \[([^\]]*)\]\((\S+)\.deck\) \| (.*) \|$", re.M)
 
 # The walks of the documents, which come first among the lessons.
 WALKS = {"trace": "A carry on its way", "key-to-byte": "A program, from key to byte", "debugged": "A module's function, found by a break"}
@@ -28,13 +28,9 @@ MOST_FILES = 16
 
 
 def lessons():
-    """The examples that docs list, by their names: of each its title, the walks in front."""
+    """The examples that examples/README.md lists, by their names: the title of each, with the walks first."""
     text = bytes_of(os.path.join(LESSONS, "README.md")).decode("utf-8")
-    found = {}
-    for first, path, second, other, title in LESSON.findall(text):
-        found[path] = f"{first}: {title}"
-        if other:
-            found[other] = f"{second}: {title}"
+    found = {path: f"{name}: {title}" for name, path, title in LESSON.findall(text)}
     return {**WALKS, **{name: title for name, title in found.items() if name not in WALKS}}
 
 

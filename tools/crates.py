@@ -1,4 +1,4 @@
-"""The crates that the program stands on, by crates.txt: their sources, and what their proofs take."""
+"""The crates that the program stands on, and those of laws, by crates.txt: their sources, and what their proofs take."""
 import functools
 import hashlib
 import os
@@ -6,6 +6,9 @@ import subprocess
 
 TOP = os.path.realpath(os.path.join(os.path.dirname(os.path.realpath(__file__)), ".."))
 NAME = "h41_bench"
+
+# How the names of crates of tests begin.
+TESTS = "h41_tests"
 
 # The folders and files of a crate that rt reads.
 PARTS, ENDINGS = ("src", "specs", "proofs"), (".rt", ".antt")
@@ -21,7 +24,7 @@ class Crate:
         # The seconds of one core that its proof is likely to take: those that it took, or else by its lines and those that are loaded for
         # it.
         self.work = seconds().get(name) or 12.8 + 0.086 * self.lines + 0.0036 * sum(crate.lines for crate in below)
-        # The work of the longest chain of crates from it up to the program.
+        # The work of the longest chain of crates from it up to one that none stands on.
         self.chain = self.work
 
     def texts(self):
@@ -54,8 +57,9 @@ def kit():
     return subprocess.run(["rt", "version"], stdin=subprocess.DEVNULL, stdout=subprocess.PIPE).stdout
 
 
-def crates_of_program():
-    """The crates that the program stands on, each behind those that it stands on itself, and its own the last."""
+def crates_of_program(laws=False):
+    """The crates that the program stands on, each behind those that it stands on itself, and its own behind these. With `laws` those that
+    it does not stand on follow, likewise, but for crates of tests."""
     rows, crates = {}, {}
     with open(f"{TOP}/crates.txt", encoding="utf-8") as file:
         for line in file:
@@ -71,6 +75,8 @@ def crates_of_program():
             crates[name] = Crate(name, list(dict.fromkeys(below)), rows[name])
 
     add(NAME)
+    for name in filter(lambda name: laws and not name.startswith(TESTS), rows):
+        add(name)
     for crate in reversed(crates.values()):
         for other in crate.below:
             other.chain = max(other.chain, other.work + crate.chain)

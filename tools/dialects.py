@@ -7,7 +7,7 @@ import re
 from dataclasses import dataclass, replace
 
 from decks import LONGEST_LINE, block, refused, shown
-from documents import codes_of, section_of, tables_of
+from documents import codes_of, pairs_of, section_of, tables_of
 
 FIELDS = ("@R", "S&X", "R<", "ALL", "P-Q", "XS", "M", "MS")
 LONG, SHORT = ("?NC XQ", "?C XQ", "?NC GO", "?C GO"), ("JNC", "JC")
@@ -44,7 +44,7 @@ END = re.compile(r"\.?END")
 
 def own_names():
     """The names that the assembler has, as docs/PROCESSOR.md and docs/ASSEMBLER.md have them."""
-    cells = [row[1] for table in tables_of(section_of("PROCESSOR.md", "The words held")) for row in table]
+    cells = [row[1] for table in tables_of(section_of("PROCESSOR.md", "The instruction words")) for row in table]
     names = {re.sub(" (?:n|hhh)$", "", name) for cell in cells for name in codes_of(cell)}
     banks = {f"ENBANK{number}" for number in range(1, 5)}
     return names | banks | {*LONG, *SHORT, *OF_NUMBERS, *OF_LABELS, *OF_WORDS}
@@ -52,8 +52,7 @@ def own_names():
 
 def pairs():
     """The names and operands of other dialects, each with what stands here in its place."""
-    for here, there in tables_of(section_of("ASSEMBLER.md", "Other dialects"))[0]:
-        yield from ((other, own) for own, other in zip(codes_of(here), codes_of(there)))
+    return pairs_of(tables_of(section_of("ASSEMBLER.md", "Other dialects"))[0])
 
 
 @dataclass

@@ -33,6 +33,11 @@ def plain(text):
     return re.sub(r"\[([^]]*)\]\([^)]*\)", r"\1", text).replace("**", "")
 
 
+def pairs_of(table):
+    """The names of a table with one name here and one or more elsewhere in each row: each other name, and the name here."""
+    return [(other, codes_of(here)[0]) for here, there, *_ in table for other in codes_of(there)]
+
+
 def codes_of(cell):
     """The texts between back quotes in a cell."""
     return re.findall(r"`([^`]*)`", cell)

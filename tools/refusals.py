@@ -77,7 +77,7 @@ class Refused:
         if b"\r" in line:
             return "with CR", "CR alone as the line end"
         if BLANKS_THAT_ARE_NONE.search(line.decode(errors="replace")):
-            return "with a blank that is none", "Blanks that are none"
+            return "with a blank that is none", "Characters that look like spaces"
         return None
 
     def shown(self):

@@ -12,7 +12,7 @@ from string import ascii_letters
 from decks import (BENCH, LONGEST_LINE, MARK_OF_UTF8, MARKS_OF_UTF16, NO_ANSWER, Failure, block, bytes_of, items_of, lines_of,
                    refused, shown, text_of, words_of)
 from dialects import as_own
-from documents import codes_of, plain, section_of, tables_of
+from documents import codes_of, pairs_of, plain, section_of, tables_of
 
 BLANKS = b" \t"
 PAGES = "456789ABCDEF"
@@ -540,8 +540,7 @@ class Asked:
 
 def other_names():
     """The names of another dialect that docs/ASSEMBLER.md has, and what stands here in their place."""
-    return {other.encode(): name for here, there in tables_of(section_of("ASSEMBLER.md", "Other dialects"))[0]
-            for name, other in zip(codes_of(here), codes_of(there)) if name != other}
+    return {other.encode(): name for other, name in pairs_of(tables_of(section_of("ASSEMBLER.md", "Other dialects"))[0])}
 
 
 def operands():
@@ -569,7 +568,7 @@ def tell_causes(faults):
         return
     rows, others, takes = [], other_names(), operands()
     for deck, refusal, why in tables_of(section_of("ASSEMBLER.md", "If you see…"))[0]:
-        lines = codes_of(deck)[0].split(" / ")
+        lines = codes_of(deck)
         name, number = codes_of(refusal)[0].rsplit(" ", 1)
         rows.append((Asked(lines[int(number)].encode(), name), plain(why)))
     classes, unknown = classes_of({name for one, _ in rows + asked for name in one.instructions()}), []

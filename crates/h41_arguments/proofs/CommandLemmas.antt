@@ -89,7 +89,7 @@ either_of P a b first second word is = elim (or_cases (bytes_eq word a) (bytes_e
 ]
 
 -- one of the three commands
-command_named : (word : Text) → is_command word ≡ true → (c : CommandName) × (name_text c ≡ word)
+pub command_named : (word : Text) → is_command word ≡ true → (c : CommandName) × (name_text c ≡ word)
 command_named word is = elim (or_cases (bytes_eq (codes "run") word) (bytes_eq (codes "asm") word || bytes_eq (codes "dis") word) is) [
   | inl same ↦ (run_name, (bytes_eq-Decides (codes "run") word).0 same)
   | inr other ↦ elim (or_cases (bytes_eq (codes "asm") word) (bytes_eq (codes "dis") word) other) [
@@ -202,7 +202,7 @@ versions (name ∷ a ∷ b ∷ rest) is = cc
 
 -- ---- words that are wrong
 
-abbrev IsAnswerless : ErrorKind → Type 0
+abbrev pub IsAnswerless : ErrorKind → Type 0
 IsAnswerless k = (k ≡ kind.DisplayHelp → ⊥) × (k ≡ kind.DisplayVersion → ⊥)
 
 -- some kind may come, and none of them is an answer
@@ -218,10 +218,10 @@ refusal kinds x xs is first others = subst IsRefusal (sym is) (record { some = �
     each k (inl same) = subst IsAnswerless (sym same) first
     each k (inr among) = others k among
 
-one_refusal : (kinds : Kinds) (x : ErrorKind) → kinds ≡ x ∷ [] → IsAnswerless x → IsRefusal kinds
+pub one_refusal : (kinds : Kinds) (x : ErrorKind) → kinds ≡ x ∷ [] → IsAnswerless x → IsRefusal kinds
 one_refusal kinds x is first = refusal kinds x [] is first (λ k none. absurd none)
 
-first_kinds : (a b : Kinds) (x : ErrorKind) (xs : Kinds) → a ≡ x ∷ xs → or_else a b ≡ x ∷ xs
+pub first_kinds : (a b : Kinds) (x : ErrorKind) (xs : Kinds) → a ≡ x ∷ xs → or_else a b ≡ x ∷ xs
 first_kinds a b x xs is = ap (λ k. or_else k b) is
 
 -- two FILEs, where the first is taken and the second is not
@@ -322,10 +322,10 @@ failed_by k words e has is = go (subst (λ kinds. HasKind kinds e) is has)
     go (inr (inl own)) = inr own
     go (inr (inr none)) = absurd none
 
-pub failed_mistake : (words : List Text) (e : Error) → HasKind (fault_of bench_app words) e → is_mistake words ≡ true
+pub failed_refusal : (words : List Text) (e : Error) → HasKind (fault_of bench_app words) e → IsRefusal (fault_of bench_app words)
     → IsAnswerless (kind_of e)
-failed_mistake words e (inl memory) is = subst IsAnswerless (sym memory) (λ e. cc, λ e. cc)
-failed_mistake words e (inr among) is = (mistakes words is).no_answers (kind_of e) among
+failed_refusal words e (inl memory) refused = subst IsAnswerless (sym memory) (λ e. cc, λ e. cc)
+failed_refusal words e (inr among) refused = refused.no_answers (kind_of e) among
 
 pub not_taken : (k : ErrorKind) (words : List Text) → FaultIs words k → fault_of bench_app words ≡ [] → ⊥
 not_taken k words is e = let bad : k ∷ [] ≡ [] = sym is ∙ e in cc

@@ -121,7 +121,7 @@ second_plain asm_name file word plain = (plain_turn (leaf asm_name) [] [] (Some 
 second_plain dis_name file word plain = (plain_turn (leaf dis_name) [] [] (Some (codes "FILE", file ∷ [])) 2 word refl plain).0
 
 -- a level of a parse, by its walk
-abbrev level_end : Shape → Walk → Kinds → Bool → Kinds → Kinds
+abbrev pub level_end : Shape → Walk → Kinds → Bool → Kinds → Kinds
 level_end s w kinds has_subcommand below = or_else kinds
     (or_else below (or_else (settle_fault s.rules s.args_override_self w.held)
     (or_else (defaults_fault (settled s.rules w.held).rows s.rules)

@@ -108,3 +108,7 @@ job_in =
 -- the task and the FILE of the command that a parse of these words meets
 abbrev pub job_asked : List Text → Option (Task × Text)
 job_asked words = job_in (subcommand_of bench_app words)
+
+-- the name of that command
+abbrev pub command_asked : List Text → Option Text
+command_asked words = command_in (subcommand_of bench_app words)

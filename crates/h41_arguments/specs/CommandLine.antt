@@ -1,9 +1,12 @@
 -- What the words of a command line ask for. The first word is the program's name.
 use Rattle.std.specs.Prelude.{map, ◌==◌, ◌&&◌, ◌||◌, ℕ, Bool, true, false, not, List, [], ◌∷◌}
-use Rattle.std.specs.Prelude.{Option, Some, None, is_some, if◌then◌else◌, codes, slice_get}
+use Rattle.std.specs.Prelude.{Option, Some, None, is_some, if◌then◌else◌, codes, slice_get, take}
+use Rattle.std.specs.Prelude.{drop, is_none}
 use Rattle.std.specs.Borrow.{Bor}
 use Rattle.std.specs.List.{before_first, list_any}
 use Rattle.std.specs.Str.{bytes_eq, chars}
+use Rattle.h41_arguments.specs.BenchCommand.{origin_value}
+use Rattle.h41_arguments.specs.MemorySizes.{size_written}
 
 -- a hyphen (45), and at least one character after it
 abbrev pub is_flag : List ℕ → Bool
@@ -84,3 +87,36 @@ asm_file words = file_for (codes "asm") (map (λ word. word.now) words)
 
 abbrev pub dis_file : List (Bor (List ℕ)) → Option (List ℕ)
 dis_file words = file_for (codes "dis") (map (λ word. word.now) words)
+
+-- a word gives the option of this command its value, behind `=`
+abbrev pub gives_option : List ℕ → List ℕ → Bool
+gives_option command word = bytes_eq (take 9 word)
+    (if bytes_eq (codes "run") command then codes "--memory=" else codes "--origin=")
+
+-- the words after this command give its option twice, before and behind FILE, or on one side of it
+abbrev pub give_two : List ℕ → List (List ℕ) → Bool
+give_two command (a ∷ b ∷ c ∷ rest) =
+    (gives_option command a && gives_option command b)
+    || ((gives_option command a && (not (is_flag b) && gives_option command c))
+    || (not (is_flag a) && (gives_option command b && gives_option command c)))
+give_two command _ = false
+
+abbrev pub gives_twice : List (List ℕ) → Bool
+gives_twice [] = false
+gives_twice (name ∷ []) = false
+gives_twice (name ∷ command ∷ rest) = is_command command && give_two command rest
+
+-- the words after this command are FILE and its option, in any order, with such a value
+abbrev pub give_value : (List ℕ → Bool) → List ℕ → List (List ℕ) → Bool
+give_value wrong command (a ∷ b ∷ []) =
+    (gives_option command a && (wrong (drop 9 a) && not (is_flag b)))
+    || (not (is_flag a) && (gives_option command b && wrong (drop 9 b)))
+give_value wrong command _ = false
+
+-- they are FILE and a size of memory, or an origin, that is none
+abbrev pub gives_wrong_value : List (List ℕ) → Bool
+gives_wrong_value [] = false
+gives_wrong_value (name ∷ []) = false
+gives_wrong_value (name ∷ command ∷ rest) = is_command command
+    && give_value (λ text. if bytes_eq (codes "run") command
+    then is_none (size_written text) else is_none (origin_value text)) command rest

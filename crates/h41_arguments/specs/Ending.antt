@@ -1,8 +1,10 @@
 -- What the words of a command line are answered with: a job, or how the program ends.
-use Rattle.std.specs.Prelude.{◌≡◌, ◌≢◌, ◌⊎◌, ℕ, List, [], Option, MatchOption, Result}
-use Rattle.std.specs.Prelude.{MatchResult, IfOk, IsErrAnd}
-use Rattle.clap.specs.Words.{fault_of}
-use Rattle.h41_arguments.specs.BenchCommand.{bench_app, job_asked}
+use Rattle.std.specs.Prelude.{◌≡◌, ◌≢◌, ◌⊎◌, ℕ, List, [], Option, Some, None, MatchOption, Result}
+use Rattle.std.specs.Prelude.{MatchResult, IfNone, IfOk, IsErrAnd, codes, if◌then◌else◌}
+use Rattle.std.specs.Prelude.{string_bytes}
+use Rattle.std.specs.Str.{bytes_eq}
+use Rattle.clap.specs.Words.{IsAmong, Kinds, Text, fault_of}
+use Rattle.h41_arguments.specs.BenchCommand.{bench_app, command_asked, job_asked}
 use Rattle.clap.specs.declared.error.kind.ErrorKind.{ErrorKind}
 use Rattle.clap.specs.declared.error.kind.ErrorKind.TheVariants as kinds
 use Rattle.h41_arguments.specs.declared.arguments.Ending.{Ending}
@@ -22,6 +24,18 @@ status_of endings.OutOfMemory = 3
 abbrev pub EndsWith : ℕ → Ending → Type 0
 EndsWith status ending = (status_of ending ≡ status) ⊎ (ending ≡ endings.OutOfMemory)
 
+-- the status that an error of a parse ends with, by its kind: help and the version are asked for,
+-- and any other is a mistake
+abbrev pub kind_status : ErrorKind → ℕ
+kind_status kinds.DisplayHelp = 0
+kind_status kinds.DisplayVersion = 0
+kind_status other = 2
+
+-- the status of one of these kinds, where memory did not run out
+abbrev pub EndsByKind : Kinds → Ending → Type 0
+EndsByKind kinds ending =
+    (kind : ErrorKind) × IsAmong kind kinds × (status_of ending ≡ kind_status kind)
+
 -- an error of this kind is neither help nor the version
 pub record IsNoHelp (kind : ErrorKind) : Type 0 where
   pub no_help : kind ≢ kinds.DisplayHelp
@@ -30,6 +44,38 @@ pub record IsNoHelp (kind : ErrorKind) : Type 0 where
 -- no job, and this status
 abbrev pub EndsAtOnce : ℕ → Result Job Ending → Type 0
 EndsAtOnce status result = IsErrAnd result (EndsWith status)
+
+-- where a parse refuses the words, no job, and the status of a kind that its error may have
+abbrev pub RefusedByKind : List (List ℕ) → Result Job Ending → Type 0
+RefusedByKind words result = fault_of bench_app words ≢ []
+    → IsErrAnd result
+    (λ ending. (ending ≡ endings.OutOfMemory) ⊎ EndsByKind (fault_of bench_app words) ending)
+
+-- what is said of a command's option that has a wrong value: a size of memory of a run, and else an
+-- origin
+abbrev pub memory_mistake : List ℕ
+memory_mistake =
+    codes "error: the memory is none of 64, 128, 192, 256 and 320 registers\n"
+
+abbrev pub origin_mistake : List ℕ
+origin_mistake = codes "error: the origin has not four hexadecimal digits\n"
+
+abbrev pub option_mistake : Option Text → List ℕ
+option_mistake None = origin_mistake
+option_mistake (Some command) =
+    if bytes_eq command (codes "run") then memory_mistake else origin_mistake
+
+-- the words are wrong, which this text says, where memory did not run out
+abbrev pub SaysMistake : List ℕ → Ending → Type 0
+SaysMistake text (endings.Help said) = ⊥
+SaysMistake text (endings.Mistake said) = string_bytes said ≡ text
+SaysMistake text endings.OutOfMemory = Unit {0}
+
+-- where a parse takes the words and the value of the option is wrong, this is what is said
+abbrev pub SaysWrongOption : List (List ℕ) → Result Job Ending → Type 0
+SaysWrongOption words result = fault_of bench_app words ≡ []
+    → IfNone (job_asked words)
+    (IsErrAnd result (SaysMistake (option_mistake (command_asked words))))
 
 -- the job has this task and this file
 pub record IsJob (job : Job) (task : Task) (file : List ℕ) : Type 0 where

@@ -1,21 +1,24 @@
 //! Reads the command line.
 
-ghost use Rattle.std.specs.Prelude.{◌≡◌, ◌≢◌, [], true, false, codes, map, IfOk, IfSome, IfNone};
-ghost use Rattle.std.specs.Prelude.{IsErr, option_map};
+ghost use Rattle.std.specs.Prelude.{◌≡◌, [], true, false, codes, map, IfOk, IfSome, IfNone};
+ghost use Rattle.std.specs.Prelude.{IsErrAnd, option_map};
 ghost use Rattle.clap.specs.Words.{App, FailsBy, HasMatchesOf, app_of, fault_of, first_of};
 ghost use Rattle.clap.specs.Words.{found_of, new_app, with_subcommand};
 ghost use Rattle.clap.specs.Words.{kind_of, rows_of, rule_of};
 ghost use Rattle.clap.specs.Words.{subcommand_rows_of};
 ghost use Rattle.clap.specs.declared.error.kind.ErrorKind.TheVariants as kind;
 ghost use Rattle.h41_arguments.specs.BenchCommand.{bench_app, empty_bench, file_rule};
-ghost use Rattle.h41_arguments.specs.BenchCommand.{has_globals, job_in};
+ghost use Rattle.h41_arguments.specs.BenchCommand.{command_in, has_globals, job_in};
 ghost use Rattle.h41_arguments.specs.BenchCommand.{memory_asked, memory_in, option_app};
 ghost use Rattle.h41_arguments.specs.BenchCommand.{origin_app, origin_asked, origin_in};
 ghost use Rattle.h41_arguments.specs.BenchCommand.{origin_rule, option_rule, run_app, task_asked};
 ghost use Rattle.h41_arguments.specs.CommandLine.{asks_help, asks_version, asm_file, dis_file};
-ghost use Rattle.h41_arguments.specs.CommandLine.{file_to_run, give_memory, is_mistake};
+ghost use Rattle.h41_arguments.specs.CommandLine.{file_to_run, give_memory, gives_twice};
+ghost use Rattle.h41_arguments.specs.CommandLine.{gives_wrong_value, is_mistake};
 ghost use Rattle.h41_arguments.specs.Ending.{AsksForNoRun, AsksTo, AsksToRun, EndsAtOnce, EndsWith};
-ghost use Rattle.h41_arguments.specs.Ending.{GivesJob, GivesJobOf, IsNoHelp, parts_of, status_of};
+ghost use Rattle.h41_arguments.specs.Ending.{GivesJob, GivesJobOf, IsNoHelp, RefusedByKind};
+ghost use Rattle.h41_arguments.specs.Ending.{SaysMistake, SaysWrongOption, option_mistake};
+ghost use Rattle.h41_arguments.specs.Ending.{parts_of, status_of};
 
 use crate::memory::{MemorySize, written_size};
 use crate::origin::origin_value;
@@ -375,7 +378,10 @@ fn origin_of(command: &ArgMatches<'_>) -> Option<u16>
 
 /// The job that the matches have, or how the program ends where a size of memory or an origin is wrong.
 fn job_or_mistake<'a>(alloc: Global, matches: &ArgMatches<'a>) -> Result<Job<'a>, Ending>
-    ensures { GivesJob (job_in (subcommand_rows_of matches.now)) result }
+    ensures job { GivesJob (job_in (subcommand_rows_of matches.now)) result }
+    ensures option { IfNone (job_in (subcommand_rows_of matches.now))
+        (IsErrAnd result
+        (SaysMistake (option_mistake (command_in (subcommand_rows_of matches.now))))) }
 {
     match job_of(matches) {
         Some(job) => Ok(job),
@@ -385,15 +391,23 @@ fn job_or_mistake<'a>(alloc: Global, matches: &ArgMatches<'a>) -> Result<Job<'a>
 
 /// How the program ends where an option of this command is wrong.
 fn wrong_option(alloc: Global, command: Option<&str>) -> Ending
-    ensures { EndsWith 2 result }
+    ensures status { EndsWith 2 result }
+    ensures text { SaysMistake (option_mistake (option_map (λ name. name.now) command.entry))
+        result }
 {
-    let text = match command {
-        Some("run") => WRONG_MEMORY,
-        _ => WRONG_ORIGIN,
-    };
-    match String::from_str(alloc, text) {
+    match String::from_str(alloc, wrong_option_text(command)) {
         Ok(text) => Ending::Mistake(text),
         Err(_) => Ending::OutOfMemory,
+    }
+}
+
+/// What is said of a wrong option of this command.
+fn wrong_option_text(command: Option<&str>) -> &'static str
+    ensures { result.now ≡ option_mistake (option_map (λ name. name.now) command.entry) }
+{
+    match command {
+        Some("run") => WRONG_MEMORY,
+        _ => WRONG_ORIGIN,
     }
 }
 
@@ -430,11 +444,14 @@ pub fn read_words<'a>(alloc: Global, words: &'a [&'a str]) -> Result<Job<'a>, En
     ensures help { asks_help (map (λ w. w.now) words.now) ≡ true → EndsAtOnce 0 result }
     ensures version { asks_version (map (λ w. w.now) words.now) ≡ true → EndsAtOnce 0 result }
     ensures mistake { is_mistake (map (λ w. w.now) words.now) ≡ true → EndsAtOnce 2 result }
+    ensures twice { gives_twice (map (λ w. w.now) words.now) ≡ true → EndsAtOnce 2 result }
+    ensures value { gives_wrong_value (map (λ w. w.now) words.now) ≡ true → EndsAtOnce 2 result }
 
-    // Where the words are taken, the job is that of the command, the FILE and the option in them, and a wrong option ends the
-    // program.
-    ensures refused { fault_of bench_app (map (λ w. w.now) words.now) ≢ [] → IsErr result }
+    // Where a parse refuses the words, the status is that of its error's kind: 0 of help and the version, and 2 of any other.
+    // Where it takes them, the job is that of the command, the FILE and the option in them, and a wrong option ends the program.
+    ensures refused { RefusedByKind (map (λ w. w.now) words.now) result }
     ensures job { GivesJobOf (map (λ w. w.now) words.now) result }
+    ensures option { SaysWrongOption (map (λ w. w.now) words.now) result }
 {
     match matched(alloc, words) {
         Ok(matches) => job_or_mistake(alloc, &matches),

@@ -7,7 +7,7 @@ use Rattle.std.proofs.lemmas.Bool.{cases_Bool}
 use Rattle.h41_asm.specs.Assembly.{address_count}
 use Rattle.h41_asm.specs.Faults.{has_label, line_length}
 use Rattle.h41_asm.specs.Placing.{Labels}
-use Rattle.h41_asm.specs.LabelTable.{IsReady}
+use Rattle.h41_asm.specs.private.LabelTable.{IsReady}
 use Rattle.h41_asm.specs.SourceLines.{SourceLine, labels_of}
 use Rattle.h41_asm.proofs.Faultless.{AreFaultless, IsNew, new_before}
 use Rattle.h41_asm.proofs.Walks.{address_from}

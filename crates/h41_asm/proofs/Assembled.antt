@@ -20,7 +20,7 @@ use Rattle.h41_asm.specs.AssemblyLaws.{HasWordsOrFault, NeverBoth}
 use Rattle.h41_asm.specs.Faults.{assembly_fault, at_line, first_fault, label_address, line_length, missing_fault, numbered_lines}
 use Rattle.h41_asm.specs.Faults.{own_fault_at, reach_fault, read_fault, reference_fault, reference_fault_at}
 use Rattle.h41_asm.specs.Placing.{IsDisplacement, Labels, LinesSpell, StatementSpells, SpellsRead, entry_words}
-use Rattle.h41_asm.specs.LabelTable.{IsReady}
+use Rattle.h41_asm.specs.private.LabelTable.{IsReady}
 use Rattle.h41_asm.specs.SourceLines.{SourceLine, labels_of, source_lines}
 use Rattle.h41_asm.specs.Statements.{Statement, Words, OutOfReach, LongJumpTo, ShortJumpTo, EntryAt, is_in_reach, long_jump_words}
 use Rattle.h41_asm.specs.Statements.{reading_of}

@@ -10,10 +10,11 @@ use Rattle.h41_asm.specs.declared.fault.SpellError.TheVariants as spell_errors
 use Rattle.h41_asm.specs.declared.kept.KeptLine.{KeptLine}
 use Rattle.h41_asm.specs.declared.statement.Statement as code
 use Rattle.h41_asm.specs.Assembly.{address_count}
-use Rattle.h41_asm.specs.CodeStatements.{in_code, in_form}
+use Rattle.h41_asm.specs.private.CodeStatements.{in_code, in_form}
 use Rattle.h41_asm.specs.Faults.{FaultOnLine, at_line, read_fault, read_length, reference_fault}
-use Rattle.h41_asm.specs.KeptLines.{AreReady, Said, SaidSpell, kept_lines, kept_names, kept_said, said_faults, said_from, with_words}
-use Rattle.h41_asm.specs.LabelTable.{IsReady, SpellsNext}
+use Rattle.h41_asm.specs.private.KeptLines.{AreReady, Said, SaidSpell, kept_lines, kept_names, kept_said, said_faults, said_from}
+use Rattle.h41_asm.specs.private.KeptLines.{with_words}
+use Rattle.h41_asm.specs.private.LabelTable.{IsReady, SpellsNext}
 use Rattle.h41_asm.specs.Placing.{Labels, LinesSpell, SpellsRead}
 use Rattle.h41_asm.specs.Refusals.{IsFault, IsRefusal, refusal_of}
 use Rattle.h41_asm.specs.SourceLines.{SourceLine}

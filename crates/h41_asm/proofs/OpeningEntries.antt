@@ -28,7 +28,7 @@ use Rattle.h41_asm.specs.declared.table.Opening.TheVariants.{Data, Single, Taker
 use Rattle.h41_asm.specs.declared.table.Taking.TheVariants.{Field}
 use Rattle.h41_asm.specs.declared.table.TheConstants.{OPENINGS, PLACES}
 use Rattle.h41_asm.specs.Statements.{singles, takers}
-use Rattle.h41_asm.specs.Openings.{TableEntry, IsTable, OpensAs, TellsWords}
+use Rattle.h41_asm.specs.private.Openings.{TableEntry, IsTable, OpensAs, TellsWords}
 use Rattle.h41_asm.proofs.OpeningTable.{carry_sound, fetch_sound, goto_sound, logic_sound, no_carry_sound, peripheral_sound, pop_sound}
 use Rattle.h41_asm.proofs.OpeningTable.{push_sound, ram_sound, read_sound, select_sound, single, write_sound}
 use Rattle.h41_asm.proofs.Openings.{begins_nothing}

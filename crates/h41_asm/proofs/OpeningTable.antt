@@ -16,11 +16,11 @@ use Rattle.h41_asm.specs.declared.fault.SourceFault.{SourceFault}
 use Rattle.h41_asm.specs.declared.fault.SourceFault.TheVariants.{BadLine, BadOperand}
 use Rattle.h41_asm.specs.declared.table.Opening.TheVariants.{Data, Fetch, GoTo, If, Logic, Peripheral, Pop, Push, Ram, Select, Single}
 use Rattle.h41_asm.specs.declared.table.Numbered.TheVariants as numbers
-use Rattle.h41_asm.specs.CodeStatements.{takes_numbered}
+use Rattle.h41_asm.specs.private.CodeStatements.{takes_numbered}
 use Rattle.h41_asm.specs.Statements.{Statement, Taking, Words, words_behind, is_begun, one_word, reading_of, single_among, singles}
 use Rattle.h41_asm.specs.Statements.{statement_by}
 use Rattle.h41_asm.specs.Statements.{taken_among, takers, takes_address}
-use Rattle.h41_asm.specs.Openings.{OpensAs, without_operand, at_carry, pair}
+use Rattle.h41_asm.specs.private.Openings.{OpensAs, without_operand, at_carry, pair}
 
 -- what words say by the single mnemonic that they are, by the one that they begin with, and by whether they begin with a single
 abbrev answer : Option Row → Option (Result Statement SourceFault) → Bool → Result Statement SourceFault

@@ -10,7 +10,7 @@ use Rattle.std.proofs.lemmas.Slice.Eq.{bytes_eq-Decides}
 use Rattle.h41_asm.specs.declared.table.Opening.{Opening}
 use Rattle.h41_asm.specs.SourceLines.{words_of}
 use Rattle.h41_asm.specs.Statements.{begins, is_whole, singles, takers}
-use Rattle.h41_asm.specs.Openings.{TableEntry, IsTable, OpensAs, TellsWords, entries_in, hash_of, place_count}
+use Rattle.h41_asm.specs.private.Openings.{TableEntry, IsTable, OpensAs, TellsWords, entries_in, hash_of, place_count}
 
 -- the word of the entry to which a word's hash leads
 abbrev pub slot : List TableEntry → List ℕ → TableEntry → List ℕ → List ℕ

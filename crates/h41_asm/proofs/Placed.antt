@@ -15,7 +15,7 @@ use Rattle.h41_asm.specs.Assembly.{address_count}
 use Rattle.h41_asm.specs.Faults.{at_line, first_fault, has_label, is_labelled_twice, is_past, label_address, line_length, numbered_lines}
 use Rattle.h41_asm.specs.Faults.{own_fault, own_fault_at}
 use Rattle.h41_asm.specs.Placing.{Labels}
-use Rattle.h41_asm.specs.LabelTable.{is_held, with_label}
+use Rattle.h41_asm.specs.private.LabelTable.{is_held, with_label}
 use Rattle.h41_asm.specs.SourceLines.{SourceLine}
 use Rattle.h41_asm.specs.Statements.{reading_of}
 use Rattle.h41_asm.proofs.Found.{both_false, not_then_some, or_none, or_nothing, unfound}

@@ -3,13 +3,10 @@ pub use Rattle.h41_lines.specs.Numbers
 pub use Rattle.h41_lines.specs.Words
 pub mod Assembly
 pub mod AssemblyLaws
-pub mod CodeStatements
 pub mod Faults
-pub mod KeptLines
-pub mod LabelTable
-pub mod Openings
 pub mod Operands
 pub mod Placing
 pub mod Refusals
 pub mod SourceLines
 pub mod Statements
+pub mod private

@@ -4,12 +4,13 @@ ghost use Rattle.std.specs.Prelude.{◌≡◌, ℕ, ◌-ℤ◌, pos, ◌<◌, �
 ghost use Rattle.std.specs.Prelude.{IfErr, List, OnOk, length};
 ghost use Rattle.std.specs.Option.{ok_or};
 ghost use Rattle.h41_asm.specs.Assembly.{Assembles, address_count};
-ghost use Rattle.h41_asm.specs.CodeStatements.{entry_bits, in_label};
+ghost use Rattle.h41_asm.specs.private.CodeStatements.{entry_bits, in_label};
 ghost use Rattle.h41_asm.specs.Faults.{assembly_fault, is_past, missing_fault, reach_fault};
-ghost use Rattle.h41_asm.specs.KeptLines.{AreReadyFrom, KeepsLines, Says, SpellsBy, first_fault_by};
-ghost use Rattle.h41_asm.specs.LabelTable.{AddsLabel, AddsName, AddsOwn, HoldsLabels, fault_by};
-ghost use Rattle.h41_asm.specs.LabelTable.{first_own_fault, is_held, is_held_in, jump_word};
-ghost use Rattle.h41_asm.specs.LabelTable.{SpellsNext, labels_in, line_fault_in};
+ghost use Rattle.h41_asm.specs.private.KeptLines.{AreReadyFrom, KeepsLines, Says, SpellsBy};
+ghost use Rattle.h41_asm.specs.private.KeptLines.{first_fault_by};
+ghost use Rattle.h41_asm.specs.private.LabelTable.{AddsLabel, AddsName, AddsOwn, HoldsLabels};
+ghost use Rattle.h41_asm.specs.private.LabelTable.{fault_by, first_own_fault, is_held, is_held_in};
+ghost use Rattle.h41_asm.specs.private.LabelTable.{SpellsNext, jump_word, labels_in, line_fault_in};
 ghost use Rattle.h41_asm.specs.Refusals.{IsFault, IsRefusal};
 ghost use Rattle.h41_asm.specs.Statements.{EntryAt, LongJumpTo, ShortJumpTo};
 

@@ -2,7 +2,7 @@
 
 ghost use Rattle.std.specs.Prelude.{◌≡◌, ◌%◌, ◌<◌, [], ◌∷◌, ◌++◌, map, reverse, OnOk};
 ghost use Rattle.h41_words.specs.Counts.{word_count};
-ghost use Rattle.h41_asm.specs.CodeStatements.{backward_words, entry_bits};
+ghost use Rattle.h41_asm.specs.private.CodeStatements.{backward_words, entry_bits};
 ghost use Rattle.h41_asm.specs.Placing.{entry_words as words_of_entry};
 ghost use Rattle.h41_asm.specs.Statements.{name_words};
 

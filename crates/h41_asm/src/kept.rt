@@ -1,7 +1,7 @@
 //! What the first pass keeps of the lines that have words, so that the second reads no line again.
 
 ghost use Rattle.std.specs.Prelude.{◌≡◌, ◌++◌, OnOk};
-ghost use Rattle.h41_asm.specs.KeptLines.{kept_lines, kept_names};
+ghost use Rattle.h41_asm.specs.private.KeptLines.{kept_lines, kept_names};
 
 use crate::statement::{Form, Statement};
 use std::alloc::AllocError;

@@ -1,8 +1,8 @@
 //! Finding what a line's first word begins.
 
 ghost use Rattle.std.specs.Prelude.{◌≡◌, ◌<◌, IfSome};
-ghost use Rattle.h41_asm.specs.Openings.{IsTable, OpensAs, TellsWords, entries_in, hash_of};
-ghost use Rattle.h41_asm.specs.Openings.{place_count};
+ghost use Rattle.h41_asm.specs.private.Openings.{IsTable, OpensAs, TellsWords, entries_in, hash_of};
+ghost use Rattle.h41_asm.specs.private.Openings.{place_count};
 
 use crate::table::{OPENINGS, Opening, PLACES};
 use h41_lines::hashes::word_hash;

@@ -1,7 +1,7 @@
 //! A line of a source: its label, and the words behind that.
 
 ghost use Rattle.std.specs.Prelude.{◌≡◌, ◌<◌, ◌≤◌, ◌∷◌, drop, length};
-ghost use Rattle.h41_asm.specs.CodeStatements.{in_line};
+ghost use Rattle.h41_asm.specs.private.CodeStatements.{in_line};
 ghost use Rattle.h41_asm.specs.SourceLines.{line_of, lines, words_of};
 
 use crate::names::label_in;

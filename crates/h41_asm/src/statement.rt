@@ -5,12 +5,12 @@ ghost use Rattle.std.specs.Option.{ok_or, option_map};
 ghost use Rattle.h41_words.specs.Counts.{place_count, status_bit_count};
 ghost use Rattle.h41_words.specs.WordTable.{number_of};
 ghost use Rattle.h41_asm.specs.declared.fault.SourceFault.TheVariants.{BadOperand};
-ghost use Rattle.h41_asm.specs.CodeStatements.{found_in_code, in_code, in_form, in_line};
-ghost use Rattle.h41_asm.specs.CodeStatements.{read_in_code, taken_operand, takes_in_code};
-ghost use Rattle.h41_asm.specs.CodeStatements.{takes_numbered};
-ghost use Rattle.h41_asm.specs.Openings as openings;
+ghost use Rattle.h41_asm.specs.private.CodeStatements.{found_in_code, in_code, in_form, in_line};
+ghost use Rattle.h41_asm.specs.private.CodeStatements.{read_in_code, taken_operand, takes_in_code};
+ghost use Rattle.h41_asm.specs.private.CodeStatements.{takes_numbered};
+ghost use Rattle.h41_asm.specs.private.Openings as openings;
 ghost use Rattle.h41_asm.specs.Operands.{number_in};
-ghost use Rattle.h41_asm.specs.Openings.{Reads, ReadsSecond};
+ghost use Rattle.h41_asm.specs.private.Openings.{Reads, ReadsSecond};
 ghost use Rattle.h41_asm.specs.SourceLines.{words_of};
 ghost use Rattle.h41_asm.specs.Statements as spec;
 

@@ -6,8 +6,8 @@ use Rattle.std.proofs.lemmas.Bool.{or_parts, or_left, or_right}
 use Rattle.std.proofs.lemmas.Grind.{common_steps}
 use Rattle.std.proofs.lemmas.List.Folds.{list_any-append}
 use Rattle.h41_commands.specs.declared.commands.BlockKind.{BlockKind}
-use Rattle.h41_commands.specs.Blocks.{TakenBlock}
-use Rattle.h41_commands.specs.Entries.{IsTaken}
+use Rattle.h41_commands.specs.private.TakenBlocks.{TakenBlock}
+use Rattle.h41_commands.specs.private.Entries.{IsTaken}
 use Rattle.h41_commands.specs.DeckLines.{is_end}
 
 -- The lines inside so far are no end, the block has taken them, and the rest follows them.

@@ -6,7 +6,7 @@ use Rattle.h41_asm.specs.Faults.{assembly_fault}
 use Rattle.h41_asm.specs.declared.fault.SourceFault.{SourceFault}
 use Rattle.h41_commands.specs.declared.commands.PageKind.TheVariants.{Asm}
 use Rattle.h41_commands.specs.declared.refusal.LineRefusal.{LineRefusal}
-use Rattle.h41_commands.specs.Contents.{values_in}
+use Rattle.h41_commands.specs.private.Contents.{values_in}
 use Rattle.h41_commands.specs.PageBlocks.{Fills, words_of_page, page_address}
 use Rattle.h41_commands.specs.declared.refusal.LineRefusal.TheVariants.{Source}
 

@@ -7,14 +7,14 @@ use Rattle.h41_ends.specs.InputLines.{line_in}
 use Rattle.h41_ends.specs.declared.fault.LineReadFault.{LineReadFault}
 use Rattle.h41_ends.specs.declared.input_lines.InputLines.{InputLines}
 use Rattle.h41_ends.proofs.InputReading.{reads_both}
-use Rattle.h41_commands.specs.BlockReading.{ReadsBlock}
+use Rattle.h41_commands.specs.private.BlockReading.{ReadsBlock}
 use Rattle.h41_commands.specs.Blocks.{block_values}
 use Rattle.h41_commands.specs.Commands.{and_then, command_of, is_opening, kind_of, kind_of_word, plain_of_word, read_plain}
 use Rattle.h41_commands.specs.DeckLines.{is_long, is_skipped, longest_line}
-use Rattle.h41_commands.specs.Entries.{what_is_spelled}
+use Rattle.h41_commands.specs.private.Entries.{what_is_spelled}
 use Rattle.h41_commands.specs.Faults.{of_line}
 use Rattle.h41_commands.specs.FirstLines.{first_word, kind_by_words, line_kind, opens_block, word_by}
-use Rattle.h41_commands.specs.ItemReading.{is_unended, ReadsFirst, ReadsNext, Spell, SpellNothing}
+use Rattle.h41_commands.specs.private.ItemReading.{is_unended, ReadsFirst, ReadsNext, Spell, SpellNothing}
 use Rattle.h41_commands.specs.Items.{Spelled, is_open, line_spelled, spelled_by, with_values}
 use Rattle.h41_commands.specs.declared.commands.BlockKind.{BlockKind}
 use Rattle.h41_commands.specs.declared.commands.Command.{Command}

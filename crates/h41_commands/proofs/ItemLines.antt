@@ -8,12 +8,13 @@ use Rattle.std.proofs.lemmas.List.Folds.{list_any-append}
 use Rattle.h41_ends.specs.InputLines.{MayFollow}
 use Rattle.h41_ends.specs.declared.fault.LineReadFault.{LineReadFault}
 use Rattle.h41_ends.specs.declared.fault.LineReadFault.TheVariants as read
-use Rattle.h41_commands.specs.BlockReading.{AreTaken}
-use Rattle.h41_commands.specs.Blocks.{TakenBlock, Takes, block_values, judgement, kept_of, said_by, short_lines, unless_long, whole_said}
+use Rattle.h41_commands.specs.private.BlockReading.{AreTaken}
+use Rattle.h41_commands.specs.Blocks.{block_values, said_by, short_lines, unless_long, whole_said}
+use Rattle.h41_commands.specs.private.TakenBlocks.{TakenBlock, Takes, judgement, kept_of}
 use Rattle.h41_commands.specs.Commands.{and_then, command_of, is_opening, kind_of}
 use Rattle.h41_commands.specs.DeckLines.{is_end, is_long, is_skipped}
-use Rattle.h41_commands.specs.Entries.{IsTaken}
-use Rattle.h41_commands.specs.ItemReading.{Spell, SpellNext, SpellNothing, opened_by}
+use Rattle.h41_commands.specs.private.Entries.{IsTaken}
+use Rattle.h41_commands.specs.private.ItemReading.{Spell, SpellNext, SpellNothing, opened_by}
 use Rattle.h41_commands.specs.Items.{Spelled, commands, opened_block, opens_first, spelled_by, with_values, without_open_block}
 use Rattle.h41_commands.specs.declared.commands.BlockKind.{BlockKind}
 use Rattle.h41_commands.specs.declared.commands.Command.{Command}

@@ -13,7 +13,7 @@ use Rattle.h41_commands.specs.Commands.{and_then, break_location, command_by, co
 use Rattle.h41_commands.specs.Commands.{list_command, listing_of, load_command, location_by, named_in, opening_command, plain_command}
 use Rattle.h41_commands.specs.Commands.{plain_of_word, plug_at, plug_command, read_plain, view_named, view_of, views_by_name}
 use Rattle.h41_commands.specs.Commands.{most_position, most_registers, most_steps, most_words}
-use Rattle.h41_commands.specs.ItemReading.{is_unended}
+use Rattle.h41_commands.specs.private.ItemReading.{is_unended}
 use Rattle.h41_commands.specs.Numbers.{count_up_to, hexadecimal, number_up_to}
 use Rattle.h41_commands.specs.declared.commands.BlockKind.{BlockKind}
 use Rattle.h41_commands.specs.declared.commands.BlockKind.TheVariants.{Page, Program}

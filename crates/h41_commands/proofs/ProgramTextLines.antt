@@ -14,7 +14,7 @@ use Rattle.h41_commands.specs.declared.refusal.LineRefusal.{LineRefusal}
 use Rattle.h41_commands.specs.declared.refusal.LineRefusal.TheVariants.{BadText}
 use Rattle.h41_commands.specs.ProgramBlocks.{IsBadText, SayLines, SaysLine, texts_of, with_more}
 use Rattle.h41_commands.specs.declared.blocks.program_text.Packed.{Packed}
-use Rattle.h41_commands.specs.ProgramTexts.{IsPacked, null_between}
+use Rattle.h41_commands.specs.private.ProgramTexts.{IsPacked, null_between}
 use Rattle.h41_lines.proofs.Positions.{position_none, position_some}
 
 -- the first text, and those behind it

@@ -15,7 +15,7 @@ use Rattle.h41_commands.specs.Blocks.{word_values, block_words, page_of_words}
 use Rattle.h41_lines.specs.Words.{words_of}
 use Rattle.h41_commands.specs.DeckLines.{is_skipped}
 use Rattle.h41_lines.specs.Numbers.{is_hexadecimal}
-use Rattle.h41_commands.specs.Contents.{unless_fault}
+use Rattle.h41_commands.specs.private.Contents.{unless_fault}
 use Rattle.h41_commands.specs.declared.refusal.LineRefusal.{LineRefusal}
 use Rattle.h41_commands.specs.declared.refusal.LineRefusal.TheVariants.{BadNumber, BadImage}
 

@@ -1,8 +1,8 @@
 -- What the lines of a block say, by the block's kind, or why they are refused. The language is this
 -- project's own.
-use Rattle.std.specs.Prelude.{◌≡◌, ℕ, ◌-◌, Bool, not, ◌||◌, List, [], ◌∷◌, ◌++◌, map, length}
+use Rattle.std.specs.Prelude.{ℕ, ◌-◌, Bool, not, ◌||◌, List, [], ◌∷◌, ◌++◌, map, length}
 use Rattle.std.specs.Prelude.{replicate, filter, flat_map, nat_lt, if◌then◌else◌, Option, Some}
-use Rattle.std.specs.Prelude.{None, Result, Ok, Err, is_ok, codes, take}
+use Rattle.std.specs.Prelude.{None, Result, Ok, Err, is_ok, codes}
 use Rattle.std.specs.Result.{result_unwrap_or}
 use Rattle.std.specs.List.{list_any, list_all}
 use Rattle.std.specs.Str.Parse.{digits_value}
@@ -104,43 +104,3 @@ block_values kind lines = unless_long (list_any is_long lines) (content_of kind 
 -- words of a page, filled with 000 to its end
 abbrev pub page_of_words : List ℕ → List ℕ
 page_of_words words = words ++ replicate (page_size - length words) 0
-
--- what a block tells of the lines that it has taken
-pub record TakenBlock : Type 0 where
-  pub kind : Option BlockKind
-  pub has_long : Bool
-  pub content : Result (List ℕ) LineRefusal
-
--- of the bytes of an image it keeps no more than show that they are too many
-abbrev pub most_kept : ℕ
-most_kept = 8193
-
-abbrev pub kept_bytes : Result (List ℕ) LineRefusal → Result (List ℕ) LineRefusal
-kept_bytes (Ok bytes) = Ok (take most_kept bytes)
-kept_bytes (Err refusal) = Err refusal
-
-abbrev pub kept_of : Option BlockKind → Result (List ℕ) LineRefusal → Result (List ℕ) LineRefusal
-kept_of None said = said
-kept_of (Some (Page Words)) said = said
-kept_of (Some (Page Image)) said = kept_bytes said
-kept_of (Some (Page Asm)) said = said
-kept_of (Some (Program kind)) said = said
-
--- these are the lines that it has taken
-pub record HasTaken (block : TakenBlock) (lines : List (List ℕ)) : Type 0 where
-  pub long : block.has_long ≡ list_any is_long lines
-  pub content : block.content ≡ kept_of block.kind (said_by block.kind (short_lines lines))
-
--- a block of this kind that has taken no lines
-pub record IsNew (kind : Option BlockKind) (block : TakenBlock) : Type 0 where
-  pub kind_is : block.kind ≡ kind
-  pub none : HasTaken block []
-
--- whatever lines it had taken, it has taken one more, and its kind stays
-pub record Takes (old : TakenBlock) (line : List ℕ) (new : TakenBlock) : Type 0 where
-  pub kind_is : new.kind ≡ old.kind
-  pub more : (lines : List (List ℕ)) → HasTaken old lines → HasTaken new (lines ++ line ∷ [])
-
--- its judgement
-abbrev pub judgement : TakenBlock → Result (List ℕ) LineRefusal
-judgement block = unless_long block.has_long (whole_said block.kind block.content)

@@ -1,16 +1,12 @@
 pub mod BlockLaws
-pub mod BlockReading
 pub mod Blocks
 pub mod Commands
-pub mod Contents
 pub mod DeckLines
-pub mod Entries
 pub mod Faults
 pub mod FirstLines
-pub mod ItemReading
 pub mod Items
 pub mod LineLaws
 pub mod Numbers
 pub mod PageBlocks
 pub mod ProgramBlocks
-pub mod ProgramTexts
+pub mod private

@@ -3,9 +3,9 @@
 ghost use Rattle.std.specs.Prelude.{◌≡◌, ◌≤◌, IfOk, None, vec_len};
 ghost use Rattle.std.specs.Result.{result_err};
 ghost use Rattle.h41_pages.specs.Addresses.{page_size};
-ghost use Rattle.h41_commands.specs.Blocks.{IsNew, Takes, judgement};
+ghost use Rattle.h41_commands.specs.private.TakenBlocks.{IsNew, Takes, judgement};
 ghost use Rattle.h41_commands.specs.Commands.{kind_of};
-ghost use Rattle.h41_commands.specs.Contents.{FillsBy, IsForPage, IsForProgram, MeansBy};
+ghost use Rattle.h41_commands.specs.private.Contents.{FillsBy, IsForPage, IsForProgram, MeansBy};
 
 use crate::blocks::hex_bytes::HexBytes;
 use crate::blocks::image_bytes::ImageBytes;
@@ -48,8 +48,8 @@ enum Content {
 }
 
 impl Model for Block {
-    ghost use Rattle.h41_commands.specs.Blocks.{TakenBlock};
-    ghost use Rattle.h41_commands.specs.Contents.{content_in, kind_in};
+    ghost use Rattle.h41_commands.specs.private.TakenBlocks.{TakenBlock};
+    ghost use Rattle.h41_commands.specs.private.Contents.{content_in, kind_in};
 
     ghost Value = { TakenBlock };
 

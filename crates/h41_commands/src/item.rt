@@ -1,7 +1,7 @@
 //! What lines of a deck are: a command with its block, or lines that are refused.
 
 ghost use Rattle.std.specs.Prelude.{◌≡◌, false};
-ghost use Rattle.h41_commands.specs.Blocks.{judgement};
+ghost use Rattle.h41_commands.specs.private.TakenBlocks.{judgement};
 ghost use Rattle.h41_commands.specs.Commands.{kind_of};
 ghost use Rattle.h41_commands.specs.Items.{is_open, with_values};
 

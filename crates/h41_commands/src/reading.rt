@@ -5,12 +5,12 @@ ghost use Rattle.std.specs.Prelude.{length};
 ghost use Rattle.std.specs.Io.KnownBytes.{Keeps};
 ghost use Rattle.h41_ends.specs.InputLines.{IsCounted, IsStopped, IsTold, line_in, most_left};
 ghost use Rattle.h41_lines.specs.Words.{words_of};
-ghost use Rattle.h41_commands.specs.BlockReading.{ReadsBlock, ReadsTaken};
-ghost use Rattle.h41_commands.specs.Blocks.{HasTaken};
-ghost use Rattle.h41_commands.specs.Entries.{what_is_spelled};
+ghost use Rattle.h41_commands.specs.private.BlockReading.{ReadsBlock, ReadsTaken};
+ghost use Rattle.h41_commands.specs.private.TakenBlocks.{HasTaken};
+ghost use Rattle.h41_commands.specs.private.Entries.{what_is_spelled};
 ghost use Rattle.h41_commands.specs.Commands.{command_of};
-ghost use Rattle.h41_commands.specs.ItemReading.{LeavesFewer, ReadsFirst, TellsFirst};
-ghost use Rattle.h41_commands.specs.ItemReading.{is_unended, kind_told};
+ghost use Rattle.h41_commands.specs.private.ItemReading.{LeavesFewer, ReadsFirst, TellsFirst};
+ghost use Rattle.h41_commands.specs.private.ItemReading.{is_unended, kind_told};
 ghost use Rattle.h41_commands.specs.DeckLines.{longest_line};
 ghost use Rattle.h41_commands.specs.Items.{is_open, spelled_by};
 

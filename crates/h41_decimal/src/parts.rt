@@ -39,13 +39,6 @@ pub struct Magnitude {
 }
 
 impl Magnitude {
-    /// The digits, as a number from which others are computed.
-    pub fn digits(self) -> u128
-        ensures { result ≡ self.mantissa.digits }
-    {
-        u128::from(self.mantissa.digits)
-    }
-
     /// The exponent, counted from -99: 0 to 198.
     pub fn steps(self) -> u32
         ensures { result ≡ self.exponent.biased }

@@ -240,16 +240,6 @@ impl Ten {
         }
     }
 
-    /// Whether the number is below zero, zero, or above it.
-    pub fn cmp_zero(self) -> Ordering
-        ensures { result ≡ int_cmp (units self) (pos 0) }
-    {
-        match self {
-            Ten::Zero => Ordering::Equal,
-            Ten::Nonzero(sign, x) => against_zero(sign, x),
-        }
-    }
-
     /// Which of two numbers is greater.
     pub fn cmp(self, other: Self) -> Ordering
         ensures { result ≡ int_cmp (units self) (units other) }

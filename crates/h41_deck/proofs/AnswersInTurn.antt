@@ -16,12 +16,12 @@ use Rattle.h41_deck.specs.declared.replies.Outcome.TheVariants.{Accepted, Refuse
 use Rattle.h41_commands.specs.Items.{Spelled, commands}
 use Rattle.h41_debug.specs.Bench.{BenchState, start}
 use Rattle.h41_lines.specs.Lines.{lines}
-use Rattle.h41_deck.specs.AnsweredItems.{outcome_and}
+use Rattle.h41_deck.specs.private.AnsweredItems.{outcome_and}
 use Rattle.h41_deck.specs.Answers.{Answer, printed_text}
 use Rattle.h41_deck.specs.Deck.{AnswersInTurn, FirstReplies, LeavesOf, MayBeRefused, commands_ended, outcome_of}
 use Rattle.h41_deck.specs.Replies.{item_takes_memory}
 use Rattle.h41_refusals.specs.Faults.{of_command}
-use Rattle.h41_deck.specs.Writing.{Leaves, Replies, RepliesInPart, outcome_in}
+use Rattle.h41_deck.specs.private.Writing.{Leaves, Replies, RepliesInPart, outcome_in}
 
 -- What a deck has told so far: its answers to the items that are done, which are written and of which the outcome tells, and
 -- which go on, from the state now, with the answers to further items.

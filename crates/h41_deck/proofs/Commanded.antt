@@ -15,9 +15,9 @@ use Rattle.h41_commands.specs.declared.commands.Command.{Command}
 use Rattle.h41_commands.specs.declared.commands.Command.TheVariants.{Plug, Load}
 use Rattle.h41_commands.specs.declared.commands.Command.TheVariants as commands
 use Rattle.h41_commands.specs.declared.commands.View.{View}
-use Rattle.h41_commands.specs.Blocks.{TakenBlock}
+use Rattle.h41_commands.specs.private.TakenBlocks.{TakenBlock}
 use Rattle.h41_commands.specs.Commands.{kind_of}
-use Rattle.h41_commands.specs.Contents.{MeansBy, values_in}
+use Rattle.h41_commands.specs.private.Contents.{MeansBy, values_in}
 use Rattle.h41_commands.specs.ProgramBlocks.{Means}
 use Rattle.h41_commands.specs.declared.refusal.LineRefusal.{LineRefusal}
 use Rattle.h41_commands.specs.Items.{Spelled, with_values}
@@ -30,10 +30,10 @@ use Rattle.h41_deck.specs.Answers.{ending_line, ends_by, printed_text, says_or_e
 use Rattle.h41_pages.specs.PageMap.{PageMap}
 use Rattle.h41_refusals.specs.declared.fault.CommandFault.{CommandFault}
 use Rattle.h41_deck.specs.Listings.{listing_at}
-use Rattle.h41_deck.specs.Blocks.{LoadsTaken, PlugsTaken}
+use Rattle.h41_deck.specs.private.Blocks.{LoadsTaken, PlugsTaken}
 use Rattle.h41_deck.specs.Replies.{LoadsBlock, LoadsBytes, Plugs, Reply}
-use Rattle.h41_deck.specs.Writing.{SaysAlone, IsListed, IsRefusalOf, IsShown, LeavesText, Replies, RepliesInPart, SaysText, item_of}
-use Rattle.h41_deck.specs.Writing.{made_text, outcome_in, text_in}
+use Rattle.h41_deck.specs.private.Writing.{SaysAlone, IsListed, IsRefusalOf, IsShown, LeavesText, Replies, RepliesInPart, SaysText, item_of}
+use Rattle.h41_deck.specs.private.Writing.{made_text, outcome_in, text_in}
 
 -- a block that is refused
 pub refused_text : (values : Result (List ℕ) LineRefusal) (command : Command)

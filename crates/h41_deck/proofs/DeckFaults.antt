@@ -6,7 +6,7 @@ use Rattle.std.proofs.KnownBytes.{Appends-kept}
 use Rattle.std.proofs.lemmas.Bool.{ltb-true}
 use Rattle.std.proofs.lemmas.List.{append-nil, take_all}
 use Rattle.h41_commands.proofs.FirstLines.{first_fault}
-use Rattle.h41_commands.specs.ItemReading.{ReadsFirst, ReadsNext}
+use Rattle.h41_commands.specs.private.ItemReading.{ReadsFirst, ReadsNext}
 use Rattle.h41_commands.specs.Items.{Spelled, commands}
 use Rattle.h41_commands.specs.declared.fault.ItemFault.{ItemFault}
 use Rattle.h41_commands.specs.declared.fault.ItemFault.TheVariants as item
@@ -24,7 +24,7 @@ use Rattle.h41_deck.specs.Answers.{printed_text}
 use Rattle.h41_deck.specs.Deck.{AnswersInTurn, Deck, DeckEnds, FaultLeaves, WritesText}
 use Rattle.h41_refusals.specs.Faults.{of_command, of_item, of_line}
 use Rattle.h41_deck.specs.Replies.{item_takes_memory}
-use Rattle.h41_deck.specs.Writing.{Leaves}
+use Rattle.h41_deck.specs.private.Writing.{Leaves}
 use Rattle.h41_deck.specs.private.AnsweredLines.{AnswersLines}
 use Rattle.h41_refusals.specs.declared.fault.CommandFault.{CommandFault}
 use Rattle.h41_refusals.specs.declared.fault.CommandFault.TheVariants as command

@@ -8,7 +8,7 @@ use Rattle.std.proofs.lemmas.Bool.{false_from_ne_true, ltb-false, or_from, or_pa
 use Rattle.std.proofs.lemmas.List.{append-nil, length-append, take_all}
 use Rattle.std.proofs.lemmas.List.Elements.{filter-append}
 use Rattle.std.proofs.lemmas.List.Folds.{list_any-append}
-use Rattle.h41_commands.specs.ItemReading.{ReadsNext, Spell}
+use Rattle.h41_commands.specs.private.ItemReading.{ReadsNext, Spell}
 use Rattle.h41_commands.specs.Commands.{is_opening}
 use Rattle.h41_commands.specs.DeckLines.{is_long, is_skipped}
 use Rattle.h41_commands.specs.Items.{Spelled, commands, is_open, opens_first, without_open_block}

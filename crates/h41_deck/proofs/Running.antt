@@ -17,7 +17,7 @@ use Rattle.h41_refusals.specs.declared.refusal.Refusal.{Refusal}
 use Rattle.h41_refusals.specs.declared.refusal.Refusal.TheVariants.{Calculator}
 use Rattle.h41_deck.specs.Answers.{Answer, ending_line, printed_text, says_and_ends}
 use Rattle.h41_deck.specs.Runs.{run_answer, ran_text, stop_refusal}
-use Rattle.h41_deck.specs.Writing.{RepliesInPart, SaysText, IsTraceLine}
+use Rattle.h41_deck.specs.private.Writing.{RepliesInPart, SaysText, IsTraceLine}
 use Rattle.h41_deck.proofs.Commanded.{later_part, part_longer}
 
 -- a run is told

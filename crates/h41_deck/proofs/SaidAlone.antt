@@ -7,7 +7,7 @@ use Rattle.h41_debug.specs.Bench.{BenchState}
 use Rattle.h41_refusals.specs.declared.fault.CommandFault.{CommandFault}
 use Rattle.h41_refusals.specs.declared.fault.CommandFault.TheVariants.{OutOfMemory, WriteFault}
 use Rattle.h41_refusals.specs.declared.refusal.Refusal.{Refusal}
-use Rattle.h41_deck.specs.Writing.{LeavesText, RepliesInPart}
+use Rattle.h41_deck.specs.private.Writing.{LeavesText, RepliesInPart}
 
 -- what holds whatever values a block would have holds of the command that it is
 pub alone_is : (P : Spelled → Type 0) (command other : Command) → command ≡ other → ((values : List ℕ) → P (Ok (other, values)))

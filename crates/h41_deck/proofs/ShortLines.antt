@@ -4,12 +4,12 @@ use Rattle.std.proofs.Common.{IfOk, ap, le-ltb, refl, sym, subst}
 use Rattle.std.proofs.KnownBytes.{Appends-nil}
 use Rattle.std.specs.Io.KnownBytes.{Appends}
 use Rattle.h41_commands.proofs.FirstLines.{block_fault, first_block, named_short, named_spelled}
-use Rattle.h41_commands.specs.BlockReading.{ReadsBlock}
+use Rattle.h41_commands.specs.private.BlockReading.{ReadsBlock}
 use Rattle.h41_commands.specs.Commands.{command_of}
 use Rattle.h41_commands.specs.DeckLines.{longest_line}
-use Rattle.h41_commands.specs.Entries.{what_is_spelled}
+use Rattle.h41_commands.specs.private.Entries.{what_is_spelled}
 use Rattle.h41_commands.specs.FirstLines.{line_kind, opens_block}
-use Rattle.h41_commands.specs.ItemReading.{ReadsFirst, ReadsNext}
+use Rattle.h41_commands.specs.private.ItemReading.{ReadsFirst, ReadsNext}
 use Rattle.h41_commands.specs.declared.fault.ItemFault.{ItemFault}
 use Rattle.h41_commands.specs.declared.item.Item.{Item}
 use Rattle.h41_commands.specs.declared.line.LineKind.{LineKind}
@@ -27,11 +27,11 @@ use Rattle.h41_debug.specs.Bench.{BenchState}
 use Rattle.h41_debug.specs.Positions.{position_text}
 use Rattle.h41_ends.specs.Ends.{AppendsPart, Writes}
 use Rattle.h41_ends.specs.declared.fault.WriteFault as fault
-use Rattle.h41_deck.specs.AnsweredItems.{AnswersWritten, plain_spelled}
+use Rattle.h41_deck.specs.private.AnsweredItems.{AnswersWritten, plain_spelled}
 use Rattle.h41_deck.specs.Answers.{ending_line, ends_by, says}
 use Rattle.h41_deck.specs.Replies.{ItemReply}
 use Rattle.h41_deck.specs.Views.{line_of}
-use Rattle.h41_deck.specs.Writing.{EndsAs, Replies, RepliesInPart, SaysText, outcome_in}
+use Rattle.h41_deck.specs.private.Writing.{EndsAs, Replies, RepliesInPart, SaysText, outcome_in}
 use Rattle.h41_commands.specs.declared.refusal.LineRefusal.{LineRefusal}
 use Rattle.h41_commands.specs.declared.refusal.LineRefusal.TheVariants.{LineTooLong}
 use Rattle.h41_refusals.specs.declared.refusal.Refusal.{Refusal}

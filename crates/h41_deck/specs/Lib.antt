@@ -1,10 +1,7 @@
-pub mod AnsweredItems
 pub mod Answers
-pub mod Blocks
 pub mod Deck
 pub mod Listings
 pub mod Replies
 pub mod Runs
 pub mod Views
-pub mod Writing
 pub mod private

@@ -4,7 +4,7 @@ ghost use Rattle.std.specs.Prelude.{◌≡◌, ◌≢◌, ◌≤◌, true, false
 ghost use Rattle.std.specs.Prelude.{Err, IfOk, OnErr, OnOk, Some};
 ghost use Rattle.h41_ends.specs.Ends.{Writes};
 ghost use Rattle.h41_commands.specs.DeckLines.{longest_line};
-ghost use Rattle.h41_commands.specs.Entries.{what_is_spelled};
+ghost use Rattle.h41_commands.specs.private.Entries.{what_is_spelled};
 ghost use Rattle.h41_commands.specs.FirstLines.{first_line, line_kind, opens_block};
 ghost use Rattle.h41_commands.specs.Items.{line_spelled};
 ghost use Rattle.h41_commands.specs.declared.commands.FirstWord.TheVariants.{Plain};
@@ -12,11 +12,11 @@ ghost use Rattle.h41_commands.specs.declared.commands.PlainKind.TheVariants as p
 ghost use Rattle.h41_commands.specs.declared.refusal.LineRefusal.TheVariants.{BadCommand};
 ghost use Rattle.h41_commands.specs.declared.line.LineKind.TheVariants.{Named};
 ghost use Rattle.h41_lines.specs.Words.{words_of};
-ghost use Rattle.h41_deck.specs.AnsweredItems.{AnswersItem, AnswersLine, AnswersPlain};
-ghost use Rattle.h41_deck.specs.AnsweredItems.{AnswersWritten, plain_takes_memory};
+ghost use Rattle.h41_deck.specs.private.AnsweredItems.{AnswersItem, AnswersLine, AnswersPlain};
+ghost use Rattle.h41_deck.specs.private.AnsweredItems.{AnswersWritten, plain_takes_memory};
 ghost use Rattle.h41_deck.specs.Answers.{ending_line};
 ghost use Rattle.h41_deck.specs.Replies.{item_takes_memory};
-ghost use Rattle.h41_deck.specs.Writing.{EndsAs};
+ghost use Rattle.h41_deck.specs.private.Writing.{EndsAs};
 ghost use Rattle.h41_refusals.specs.declared.refusal.Refusal.TheVariants as refusals;
 
 use crate::replies::running::{run, set_break, unbreak};

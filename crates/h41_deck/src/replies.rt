@@ -3,17 +3,17 @@
 ghost use Rattle.std.specs.Prelude.{◌≡◌, ◌≢◌, true, false, Err, IfOk, None, Ok, OnOk, OnErr};
 ghost use Rattle.std.specs.Prelude.{length, vec_len, ◌≤◌, ℕ, List, []};
 ghost use Rattle.h41_commands.specs.Commands.{kind_of};
-ghost use Rattle.h41_commands.specs.Contents.{IsForPage, IsForProgram};
+ghost use Rattle.h41_commands.specs.private.Contents.{IsForPage, IsForProgram};
 ghost use Rattle.h41_commands.specs.declared.commands.Command.TheVariants as commands;
 ghost use Rattle.h41_ends.specs.Ends.{Writes};
 ghost use Rattle.h41_pages.specs.Addresses.{page_size};
 ghost use Rattle.h41_deck.specs.Answers.{ending_line, ends_by};
 ghost use Rattle.h41_refusals.specs.Refusals.{refusal_line};
 ghost use Rattle.h41_deck.specs.Views.{line_of};
-ghost use Rattle.h41_deck.specs.Blocks.{LoadsTaken, PlugsTaken, PlugsWordsOf};
+ghost use Rattle.h41_deck.specs.private.Blocks.{LoadsTaken, PlugsTaken, PlugsWordsOf};
 ghost use Rattle.h41_deck.specs.Replies.{LoadsBytes, Reply, is_silent, takes_memory};
-ghost use Rattle.h41_deck.specs.Writing.{Acts, SaysAlone, Says, EndsAs, IsAccepted, IsRefusalOf};
-ghost use Rattle.h41_deck.specs.Writing.{made_text};
+ghost use Rattle.h41_deck.specs.private.Writing.{Acts, SaysAlone, Says, EndsAs, IsAccepted};
+ghost use Rattle.h41_deck.specs.private.Writing.{IsRefusalOf, made_text};
 
 use crate::replies::listing::listed;
 use crate::replies::running::{run, set_break, trace, unbreak};
@@ -44,7 +44,7 @@ pub enum Outcome {
 }
 
 impl Outcome {
-    ghost use Rattle.h41_deck.specs.AnsweredItems.{outcome_and};
+    ghost use Rattle.h41_deck.specs.private.AnsweredItems.{outcome_and};
 
     /// How a deck ends that goes on so.
     pub(crate) fn and(self, next: Self) -> Self

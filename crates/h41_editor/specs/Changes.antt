@@ -2,7 +2,8 @@
 -- away; in memory alone, in a page 14. Each change shows the new line, or the one
 -- before, and leaves nothing to return to. Where lines come, and what BACK does at line 00 and
 -- .END., is this project's choice but for what the Owner's Handbook shows.
-use Rattle.std.specs.Prelude.{◌≡◌, ℕ, [], MatchBool, Option, Some, None, Result, Ok, Err}
+use Rattle.std.specs.Prelude.{◌≡◌, ℕ, Bool, false, not, ◌&&◌, [], MatchBool, Option, Some, None}
+use Rattle.std.specs.Prelude.{Result, Ok, Err}
 use Rattle.h41_codes.specs.declared.line.Line.{Line}
 use Rattle.h41_editor.specs.Moves.{is_last}
 use Rattle.h41_editor.specs.NumberedLines.{HasNumbered}
@@ -20,6 +21,7 @@ use Rattle.h41_positions.specs.declared.position.Position.{Position}
 use Rattle.h41_positions.specs.declared.position.Position.TheVariants.{Memory, Page}
 use Rattle.h41_program.specs.declared.refusal.ProgramRefusal.{ProgramRefusal}
 use Rattle.h41_program.specs.declared.refusal.ProgramRefusal.TheVariants.{BrokenProgram}
+use Rattle.h41_ram.specs.RamState.{RamState, MarksIf}
 use Rattle.h41_ram.specs.RegisterMap.{RegisterMap}
 
 -- what a change gives: memory, or why there is none
@@ -124,3 +126,17 @@ Deletes pages machine made =
     ((first : Result PlacedLine ProgramRefusal)
     × LineAt pages machine.memory machine.focal.position first
     × DeletesLine machine first made)
+
+-- whether BACK removes the line at the position: .END. stays
+abbrev pub removes_line : Result PlacedLine ProgramRefusal → Bool
+removes_line (Ok first) = not (is_final_end first.line)
+removes_line (Err refusal) = false
+
+-- the dirty flag of memory after BACK, accepted or refused: memory is written if a line is removed,
+-- and never at line 00
+abbrev pub MarksDeletion : Bool → PageMap → Machine → RamState → RamState → Type 0
+MarksDeletion done pages machine old new =
+    MatchBool machine.focal.at_line_00 (MarksIf false old new)
+    ((first : Result PlacedLine ProgramRefusal)
+    × LineAt pages machine.memory machine.focal.position first
+    × MarksIf (removes_line first && done) old new)

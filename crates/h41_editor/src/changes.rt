@@ -1,12 +1,13 @@
 //! Lines inserted, replaced and deleted by keys.
-ghost use Rattle.std.specs.Prelude.{◌≡◌, IfErr, IfOk, IsTrue, OnErr};
-ghost use Rattle.h41_editor.specs.Changes.{Deletes, Inserts, InsertsAt, Replaces, with_line_shown};
+ghost use Rattle.std.specs.Prelude.{◌≡◌, is_ok, IfErr, IfOk, IsTrue, OnErr};
+ghost use Rattle.h41_editor.specs.Changes.{Deletes, Inserts, InsertsAt, MarksDeletion, Replaces};
+ghost use Rattle.h41_editor.specs.Changes.{with_line_shown};
 ghost use Rattle.h41_editor.specs.Moves.{made_as};
 ghost use Rattle.h41_editor.specs.private.Placing.{HasNoNext};
 ghost use Rattle.h41_positions.specs.FocalState.{machine_with};
 ghost use Rattle.h41_positions.specs.declared.position.Position.TheVariants.{Memory};
 ghost use Rattle.h41_program.specs.Lines.{is_inner};
-ghost use Rattle.h41_ram.specs.RamState.{KeepsMark};
+ghost use Rattle.h41_ram.specs.RamState.{KeepsMark, MarksIf};
 ghost use Rattle.h41_ram.specs.RegisterMap.{is_sound};
 
 use crate::moves::is_last;
@@ -35,6 +36,7 @@ pub fn insert_line<const REGS: usize>(
         ≡ machine_with ram.old.registers focal.old.state) }
     ensures sound { IsTrue (is_sound ram.new.registers) }
     ensures mark { KeepsMark ram.old ram.new }
+    ensures marked { MarksIf (is_ok result) ram.old ram.new }
     ensures labels { focal.new.labels ≡ focal.old.labels }
 {
     positions_are_read();
@@ -90,6 +92,7 @@ pub fn replace_line<const REGS: usize>(
         ≡ machine_with ram.old.registers focal.old.state) }
     ensures sound { IsTrue (is_sound ram.new.registers) }
     ensures mark { KeepsMark ram.old ram.new }
+    ensures marked { MarksIf (is_ok result) ram.old ram.new }
     ensures labels { focal.new.labels ≡ focal.old.labels }
 {
     match focal.position {
@@ -117,6 +120,8 @@ pub fn delete_line<const REGS: usize>(
         ≡ machine_with ram.old.registers focal.old.state) }
     ensures sound { IsTrue (is_sound ram.new.registers) }
     ensures mark { KeepsMark ram.old ram.new }
+    ensures marked { MarksDeletion (is_ok result) pages.now
+        (machine_with ram.old.registers focal.old.state) ram.old ram.new }
     ensures labels { focal.new.labels ≡ focal.old.labels }
 {
     let position = focal.position;

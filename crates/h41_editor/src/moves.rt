@@ -1,9 +1,10 @@
 //! What SST, BST and `GTO . .` do to the position.
-ghost use Rattle.std.specs.Prelude.{◌≡◌, IsTrue, Ok, OnErr};
+ghost use Rattle.std.specs.Prelude.{◌≡◌, is_ok, IsTrue, Ok, OnErr};
 ghost use Rattle.h41_editor.specs.Moves.{GoesToEnd, ShowsBefore, ShowsEnd, ShowsNext, ShowsStart};
 ghost use Rattle.h41_editor.specs.Moves.{made_as};
 ghost use Rattle.h41_editor.specs.Moves as spec;
 ghost use Rattle.h41_positions.specs.FocalState.{machine_with};
+ghost use Rattle.h41_program.specs.LastProgram.{MarksClosing};
 ghost use Rattle.h41_ram.specs.RamState.{KeepsMark};
 ghost use Rattle.h41_ram.specs.RegisterMap.{is_sound};
 
@@ -81,6 +82,7 @@ pub fn go_to_end<const REGS: usize>(
         ≡ machine_with ram.old.registers focal.old.state) }
     ensures sound { IsTrue (is_sound ram.new.registers) }
     ensures mark { KeepsMark ram.old ram.new }
+    ensures marked { MarksClosing (is_ok result) ram.old ram.new }
     ensures labels { focal.new.labels ≡ focal.old.labels }
 {
     lists_are_determined();

@@ -1,2 +1,4 @@
 pub mod InputLemmas
+pub mod OneText
+pub mod PrintedWords
 pub mod WordLemmas

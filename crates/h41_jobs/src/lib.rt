@@ -6,6 +6,7 @@ mod assemble;
 mod ended;
 mod ending;
 mod input;
+pub mod laws;
 mod list;
 mod numbers;
 mod output;

@@ -1,6 +1,6 @@
 pub mod Characters
-pub mod Hashes
 pub mod Laws
 pub mod Lines
 pub mod Numbers
 pub mod Words
+pub mod private

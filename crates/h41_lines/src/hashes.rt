@@ -1,7 +1,7 @@
 //! Hashes, by which the words of a table are found.
 
 ghost use Rattle.std.specs.Prelude.{◌≡◌};
-ghost use Rattle.h41_lines.specs.Hashes as spec;
+ghost use Rattle.h41_lines.specs.private.Hashes as spec;
 
 /// The hash of a word, 0 to 255. It begins as `first`; each byte is added to it, and the sum is multiplied by `factor`, modulo
 /// 65536. The upper byte of that is answered. A table has two numbers by which no two of its words have one hash.

@@ -1,11 +1,13 @@
 -- Why a word that is about the processor alone is carried out as its row says.
-use Rattle.std.proofs.Common.{◌≡◌, ◌==◌, ◌<◌, ◌≤◌, Bool, true, false, None, Result, Ok, Err, OnOk, ap, arith}
+use Rattle.std.proofs.Common.{◌≡◌, ◌==◌, ◌<◌, ◌≤◌, ◌&&◌, Bool, true, false, None, Result, Ok, Err, OnOk, refl, ap, arith}
+use Rattle.std.specs.Prelude.{is_ok}
 use Rattle.std.proofs.lemmas.Bool.{false≢true}
 use Rattle.std.proofs.lemmas.Bool.Decides.{nat_tests}
 use Rattle.h41_words.specs.declared.rows.Row.{Row}
 use Rattle.h41_words.specs.declared.rows.Row.TheVariants as rows
 use Rattle.h41_pages.specs.Addresses.{first_address}
 use Rattle.h41_pages.specs.PageMap.{PageMap}
+use Rattle.h41_ram.specs.RamState.{MarksIf, RamState}
 use Rattle.h41_ram.specs.RegisterMap.{RegisterMap}
 use Rattle.h41_nut.specs.Addresses.{end_of_function}
 use Rattle.h41_nut.specs.Arrivals.{next_address, arrival_refusal, at_address}
@@ -14,7 +16,7 @@ use Rattle.h41_nut.specs.declared.refusal.WordRefusal.{WordRefusal}
 use Rattle.h41_nut.specs.private.ProcessorSteps.{Goes}
 use Rattle.h41_nut.specs.private.RowStep.{Ran, RanWithin, is_within}
 use Rattle.h41_nut.specs.Processor.{Processor}
-use Rattle.h41_nut.specs.WordStep.{Nut, RefusesOr, nut_of, answer, registers_after}
+use Rattle.h41_nut.specs.WordStep.{Nut, RefusesOr, nut_of, answer, registers_after, row_writes_program}
 
 -- a processor that goes on, with the memory, the pages and the keyboard as they are
 gone : {T : Type 0} {Change : Nut → Nut → Type 0} (carry : Bool) (changed s t : Processor) (ram : RegisterMap) (pages : PageMap)
@@ -58,6 +60,16 @@ ran_within rows.GoToKey s t ram pages keys result within ran = absurd (false≢t
 ran_within row s t ram pages keys result within ran =
     gone (answer row (nut_of s ram pages keys)) (registers_after row (nut_of s ram pages keys)) s t ram pages keys result
     (λ after same. same) (ran ram pages)
+
+-- it writes no register of the program
+within_writes_none : (row : Row) (s : Nut) → is_within row ≡ true → row_writes_program row s ≡ false
+within_writes_none (rows.Write register) s within = absurd (false≢true within)
+within_writes_none rows.WriteData s within = absurd (false≢true within)
+within_writes_none row s within = refl
+
+pub within_marks : {T : Type 0} (row : Row) (s : Nut) (ram : RamState) (result : Result T WordRefusal) → is_within row ≡ true
+    → MarksIf (row_writes_program row s && is_ok result) ram ram
+within_marks row s ram result within = rw (within_writes_none row s within) refl
 
 -- where it goes on, no function ends
 pub ends_nowhere : {T : Type 0} (carry : Bool) (changed s t : Processor) (result : Result T WordRefusal)

@@ -11,6 +11,7 @@ use Rattle.h41_words.specs.SecondWord.{second_of}
 use Rattle.h41_words.specs.WordTable.{row_of}
 use Rattle.h41_pages.specs.Addresses.{page_of}
 use Rattle.h41_pages.specs.PageMap.{PageMap, with_chosen}
+use Rattle.h41_ram.specs.RamState.{sets_mark}
 use Rattle.h41_ram.specs.RegisterMap.{RegisterMap}
 use Rattle.h41_nut.specs.Arithmetic.{OperatesOn}
 use Rattle.h41_nut.specs.declared.base.Base.TheVariants.{Hexadecimal, Decimal}
@@ -133,6 +134,14 @@ ram_after rows.WriteData s = memory.with_c_at s.ram s.processor.selected s.proce
 ram_after (rows.Write register) s = memory.with_c_in_block s.ram register s.processor
 ram_after row s = s.ram
 
+-- whether a word writes a register of the program, which sets the dirty flag of memory: WRIT DATA
+-- and WRIT n do, if the register that they write is one
+abbrev pub row_writes_program : Row → Nut → Bool
+row_writes_program rows.WriteData s = sets_mark s.ram s.processor.selected
+row_writes_program (rows.Write register) s =
+    sets_mark s.ram (memory.block_address register s.processor)
+row_writes_program row s = false
+
 -- the pages after a word: WROM writes the word in C at the address in C; ENBANK1 to ENBANK4 choose
 -- a bank of the page of the word itself
 abbrev pub pages_after : Row → Nut → PageMap
@@ -200,6 +209,10 @@ refused s =
 pub record Micro (s t : Nut) : Type 0 where
   pub accepted : refused s ≡ None
   pub effect : WordEffect (row_of (word_of s)) s t
+
+-- whether the word of the step writes a register of the program, unless it is refused
+abbrev pub writes_program : Nut → Bool
+writes_program s = row_writes_program (row_of (word_of s)) s
 
 -- from s to t with an answer: refused for this reason and then not changed, or with this change
 pub record RefusesOr {T : Type 0} (reason : Option WordRefusal) (Change : Nut → Nut → Type 0)

@@ -1,6 +1,6 @@
 //! One step: the word at the processor's address, and what it changes.
 
-ghost use Rattle.std.specs.Prelude.{◌≡◌, ◌<◌, ◌≤◌, ◌==◌, false, true, IfOk, OnOk};
+ghost use Rattle.std.specs.Prelude.{◌≡◌, ◌<◌, ◌≤◌, ◌==◌, ◌&&◌, false, true, is_ok, IfOk, OnOk};
 ghost use Rattle.h41_words.specs.WordTable.{row_of};
 ghost use Rattle.h41_words.specs.declared.rows.Bank.{Bank};
 ghost use Rattle.h41_words.specs.declared.rows.Row.TheVariants.{EnableBank};
@@ -10,8 +10,8 @@ ghost use Rattle.h41_nut.specs.Addresses.{end_of_function};
 ghost use Rattle.h41_nut.specs.private.ProcessorSteps.{TellsEnd};
 ghost use Rattle.h41_nut.specs.private.RowStep.{Changed, Ran, RanWithin, is_jump, is_test};
 ghost use Rattle.h41_nut.specs.private.RowStep.{is_within};
-ghost use Rattle.h41_nut.specs.WordStep.{Stepped};
-ghost use Rattle.h41_ram.specs.RamState.{KeepsMark};
+ghost use Rattle.h41_nut.specs.WordStep.{Stepped, nut_of, row_writes_program, writes_program};
+ghost use Rattle.h41_ram.specs.RamState.{KeepsMark, MarksIf};
 
 use crate::base::Base;
 use crate::cpu::Cpu;
@@ -43,6 +43,8 @@ pub fn step<const REGS: usize>(
     ensures change { Stepped result cpu.old ram.old.registers pages.old keys.old cpu.new
         ram.new.registers pages.new keys.new }
     ensures mark { KeepsMark ram.old ram.new }
+    ensures marked { MarksIf (writes_program (nut_of cpu.old ram.old.registers pages.old keys.old)
+        && is_ok result) ram.old ram.new }
 {
     step_to_end(cpu, ram, pages, keys)?;
     Ok(())
@@ -59,6 +61,8 @@ pub fn step_to_end<const REGS: usize>(
     ensures change { Stepped result cpu.old ram.old.registers pages.old keys.old cpu.new
         ram.new.registers pages.new keys.new }
     ensures mark { KeepsMark ram.old ram.new }
+    ensures marked { MarksIf (writes_program (nut_of cpu.old ram.old.registers pages.old keys.old)
+        && is_ok result) ram.old ram.new }
     ensures end { IfOk result (λ ends. ends ≡ (cpu.new.pc == end_of_function)) }
 {
     let word = fetch(pages, cpu.pc())?;
@@ -81,6 +85,8 @@ fn execute_row<const REGS: usize>(
     ensures change { Ran row result cpu.old ram.old.registers pages.old keys.old cpu.new
         ram.new.registers pages.new keys.new }
     ensures mark { KeepsMark ram.old ram.new }
+    ensures marked { MarksIf (row_writes_program row (nut_of cpu.old ram.old.registers pages.old
+        keys.old) && is_ok result) ram.old ram.new }
     ensures end { TellsEnd result cpu.new }
 {
     match row {
@@ -116,6 +122,8 @@ fn execute_straight<const REGS: usize>(
     ensures change { Ran row result cpu.old ram.old.registers pages.old keys.old cpu.new
         ram.new.registers pages.new keys.new }
     ensures mark { KeepsMark ram.old ram.new }
+    ensures marked { MarksIf (row_writes_program row (nut_of cpu.old ram.old.registers pages.old
+        keys.old) && is_ok result) ram.old ram.new }
     ensures end { OnOk result ((cpu.new.pc == end_of_function) ≡ false) }
 {
     let address = cpu.pc();

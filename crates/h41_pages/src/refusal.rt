@@ -11,10 +11,10 @@ use thiserror::Error;
 /// Why words were not plugged.
 #[derive(Clone, Copy, Debug, PartialEq, Eq, Error)]
 pub enum PlugRefusal {
-    /// 1: the page is not 4 to F, or the bank is not 1.
+    /// 1: the page is not 4 to F, or the bank is not 1 to 4.
     #[error("there is no such page")]
     NoSuchPage,
-    /// 2: the page's bank is plugged.
+    /// 2: something is plugged at the page's bank.
     #[error("the page is plugged")]
     Occupied,
     /// 4: there are not 4,096 words, or one is above 3FF.
@@ -69,10 +69,10 @@ pub enum ReadRefusal {
 /// Why an image was not written as bytes.
 #[derive(Clone, Copy, Debug, PartialEq, Eq, Error)]
 pub enum ImageRefusal {
-    /// 1: the page is not 4 to F, or the bank is not 1.
+    /// 1: the page is not 4 to F, or the bank is not 1 to 4.
     #[error("there is no such page")]
     NoSuchPage,
-    /// 3: the page's bank is not plugged.
+    /// 3: nothing is plugged at the page's bank.
     #[error("the page is not plugged")]
     NotPlugged,
     /// 21: memory was refused.

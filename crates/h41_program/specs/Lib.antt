@@ -1,4 +1,3 @@
-pub mod ByteReading
 pub mod Dependence
 pub mod Edits
 pub mod GivenLines

@@ -1,5 +1,5 @@
 //! Lines inserted, replaced and deleted.
-ghost use Rattle.std.specs.Prelude.{◌≡◌, slice_get, IsTrue, IfOk, IfSome, OnOk, OnErr};
+ghost use Rattle.std.specs.Prelude.{◌≡◌, slice_get, is_ok, IsTrue, IfOk, IfSome, OnOk, OnErr};
 ghost use Rattle.h41_codes.specs.ByteGrammar.{IsLine};
 ghost use Rattle.h41_ram.specs.RegisterMap.{is_sound};
 ghost use Rattle.h41_program.specs.Edits.{Edits, LeavesChanged, Stands, StandsBefore, StandsNew};
@@ -15,7 +15,7 @@ ghost use Rattle.h41_program.specs.private.Packers.{Puts, line_if};
 ghost use Rattle.h41_program.specs.ProgramLines.{behind};
 ghost use Rattle.h41_program.specs.private.Reading.{AnswersFrom};
 ghost use Rattle.h41_program.specs.declared.editing.Change.TheVariants.{Put};
-ghost use Rattle.h41_ram.specs.RamState.{KeepsMark};
+ghost use Rattle.h41_ram.specs.RamState.{KeepsMark, MarksIf};
 
 use crate::kinds::{is_end, is_final_end};
 use crate::packer::Packer;
@@ -72,6 +72,7 @@ pub fn insert<const REGS: usize>(
     ensures stands { IfOk result (Stands ram.new.registers line) }
     ensures unchanged { OnErr result (ram.new ≡ ram.old) }
     ensures mark { KeepsMark ram.old ram.new }
+    ensures marked { MarksIf (is_ok result) ram.old ram.new }
 {
     place_line(ram, before, line, Placement::Before)
 }
@@ -89,6 +90,7 @@ pub fn delete<const REGS: usize>(ram: &mut Ram<REGS>, at: u16) -> Result<InFront
     ensures answer { IfOk result (StandsBefore ram.old.registers at ram.new.registers) }
     ensures unchanged { OnErr result (ram.new ≡ ram.old) }
     ensures mark { KeepsMark ram.old ram.new }
+    ensures marked { MarksIf (is_ok result) ram.old ram.new }
 {
     byte_round_trip();
     let count = change_at(ram, at, Change::Delete)?;
@@ -114,6 +116,7 @@ pub fn replace<const REGS: usize>(
     ensures stands { IfOk result (Stands ram.new.registers line) }
     ensures unchanged { OnErr result (ram.new ≡ ram.old) }
     ensures mark { KeepsMark ram.old ram.new }
+    ensures marked { MarksIf (is_ok result) ram.old ram.new }
 {
     place_line(ram, at, line, Placement::Instead)
 }
@@ -138,6 +141,7 @@ fn place_line<const REGS: usize>(
     ensures stands { IfOk result (Stands ram.new.registers line) }
     ensures unchanged { OnErr result (ram.new ≡ ram.old) }
     ensures mark { KeepsMark ram.old ram.new }
+    ensures marked { MarksIf (is_ok result) ram.old ram.new }
 {
     byte_round_trip();
     know_ranges(&line);
@@ -160,6 +164,7 @@ fn change_at<const REGS: usize>(
     ensures count { IfOk result (Counts ram.old.registers at) }
     ensures unchanged { OnErr result (ram.new ≡ ram.old) }
     ensures mark { KeepsMark ram.old ram.new }
+    ensures marked { MarksIf (is_ok result) ram.old ram.new }
 {
     let place = line_at(ram, at)?.position;
     let count = lines_before(ram, place);

@@ -1,15 +1,15 @@
 //! Programs loaded behind those in memory.
-ghost use Rattle.std.specs.Prelude.{◌≡◌, ◌≤◌, IsTrue, IfOk, OnOk, OnErr};
+ghost use Rattle.std.specs.Prelude.{◌≡◌, ◌≤◌, is_ok, IsTrue, IfOk, OnOk, OnErr};
 ghost use Rattle.std.specs.Option.{ForSome};
 ghost use Rattle.h41_codes.specs.ByteGrammar.{IsLine};
 ghost use Rattle.h41_ram.specs.RegisterMap.{is_sound};
 ghost use Rattle.h41_program.specs.Edits.{Closes, Loads};
-ghost use Rattle.h41_program.specs.LastProgram.{LeavesClosed, open_in};
+ghost use Rattle.h41_program.specs.LastProgram.{LeavesClosed, MarksClosing, open_in};
 ghost use Rattle.h41_program.specs.private.LoadSteps.{PacksProgram, PutsLoaded};
 ghost use Rattle.h41_program.specs.private.LoadSteps.{listed_option, kept_option};
 ghost use Rattle.h41_program.specs.private.Packers.{Puts};
 ghost use Rattle.h41_program.specs.ProgramLines.{AnswersOf};
-ghost use Rattle.h41_ram.specs.RamState.{KeepsMark};
+ghost use Rattle.h41_ram.specs.RamState.{KeepsMark, MarksIf};
 
 use crate::given::{are_nulls, line_in};
 use crate::kinds::{is_end, is_final_end};
@@ -31,6 +31,7 @@ pub fn load<const REGS: usize>(ram: &mut Ram<REGS>, bytes: &[u8]) -> Result<u16,
     ensures sound { IsTrue (is_sound ram.new.registers) }
     ensures unchanged { OnErr result (ram.new ≡ ram.old) }
     ensures mark { KeepsMark ram.old ram.new }
+    ensures marked { MarksIf (is_ok result) ram.old ram.new }
 {
     let mut packer = packed_program(ram)?;
     packer.close();
@@ -60,6 +61,7 @@ pub fn close_last<const REGS: usize>(ram: &mut Ram<REGS>) -> Result<(), ProgramR
     ensures read { OnOk result (LeavesClosed ram.old.registers ram.new.registers) }
     ensures unchanged { OnErr result (ram.new ≡ ram.old) }
     ensures mark { KeepsMark ram.old ram.new }
+    ensures marked { MarksClosing (is_ok result) ram.old ram.new }
 {
     changes_are_read();
     let mut packer = packed_program(ram)?;

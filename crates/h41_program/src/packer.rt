@@ -1,6 +1,6 @@
 //! Lines packed one behind the other.
 ghost use Rattle.std.specs.Prelude.{◌≡◌, ◌+◌, ◌∷◌, [], ◌≤◌, List, length, IsTrue, not, false};
-ghost use Rattle.std.specs.Prelude.{OnErr};
+ghost use Rattle.std.specs.Prelude.{is_ok, OnErr};
 ghost use Rattle.std.specs.Option.{option_map_or};
 ghost use Rattle.h41_program.specs.Lines.{is_number, is_end};
 ghost use Rattle.h41_codes.specs.ByteGrammar.{spelling, IsLine};
@@ -10,7 +10,7 @@ ghost use Rattle.h41_program.specs.private.EditSteps.{Writes};
 ghost use Rattle.h41_ram.specs.RegisterMap.{curtain_of, is_sound, main_start};
 ghost use Rattle.h41_program.specs.private.Packers.{Packs, Pushes, Puts, null_between};
 ghost use Rattle.h41_program.specs.Packing.{filled_up};
-ghost use Rattle.h41_ram.specs.RamState.{KeepsMark};
+ghost use Rattle.h41_ram.specs.RamState.{KeepsMark, MarksIf};
 
 use crate::kinds::{is_end, is_number};
 use crate::refusal::ProgramRefusal;
@@ -84,6 +84,7 @@ impl Packer {
         ensures small { curtain_of ram.old.registers ≤ main_start + 320 }
         ensures unchanged { OnErr result (ram.new ≡ ram.old) }
         ensures mark { KeepsMark ram.old ram.new }
+        ensures marked { MarksIf (is_ok result) ram.old ram.new }
     {
         let Packer { bytes, full, .. } = self;
         let curtain = ram.curtain();

@@ -3,7 +3,8 @@ ghost use Rattle.h41_codes.specs.ByteGrammar.{IsLine};
 
 use h41_codes::{Line, Operand};
 
-/// The parts of each line are in their ranges, as their types say: this makes it known.
+/// The parts of each line are in their ranges, as their types say: this makes it known, and does nothing else. No tactic finds it
+/// without these calls, because a type with a model tells of its values only to what calls one of its methods.
 pub fn know_ranges(line: &Line)
     ensures { IsLine line.now }
 {

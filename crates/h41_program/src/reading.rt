@@ -5,7 +5,7 @@ ghost use Rattle.std.specs.Prelude.{IsTrue, IfSome, IfNone};
 ghost use Rattle.std.specs.List.{range_with_len};
 ghost use Rattle.h41_digits.specs.Register.{number_byte};
 ghost use Rattle.h41_ram.specs.RegisterMap.{is_sound};
-ghost use Rattle.h41_program.specs.ByteReading.{ReadsAt};
+ghost use Rattle.h41_program.specs.private.ByteReading.{ReadsAt};
 ghost use Rattle.h41_program.specs.ProgramBytes.{byte_count, final_position, program_byte};
 ghost use Rattle.h41_program.specs.ProgramBytes as spec;
 ghost use Rattle.h41_program.specs.ProgramLines.{AnswersFirst, HasFirst, HasNoLine};
@@ -232,6 +232,8 @@ fn fitting<const REGS: usize>(ram: &Ram<REGS>, at: u16, limit: u16, size: u16) -
     if size > limit - at {
         return None;
     }
+    // They are read for the proof alone, which needs that each is below 256. No tactic finds that: the value of a memory is lists of
+    // numbers, and only a register that is read is known to have digits.
     for position in at..at + size {
         let _byte = byte_at(ram, position);
     }
@@ -282,6 +284,7 @@ fn final_place<const REGS: usize>(ram: &Ram<REGS>, last: u16) -> LinePlace
     requires sound { IsTrue (is_sound ram.now.registers) }
     ensures { BeginsAt ram.now.registers last (last + 3) result }
 {
+    // For the proof alone, as in `fitting`: the register's digits are below 16.
     let _digits = ram.read(ram.end_register()).to_u64();
     LinePlace {
         position: last,
@@ -341,6 +344,7 @@ fn linked_at<const REGS: usize>(ram: &Ram<REGS>, at: u16, limit: u16) -> Option<
     if limit - at < END_BYTES {
         return None;
     }
+    // For the proof alone, as in `fitting`: both are below 256.
     let _first = byte_at(ram, at);
     let _second = byte_at(ram, at + 1);
     let third = byte_at(ram, at + 2);

@@ -1,5 +1,5 @@
 //! Program memory written anew.
-ghost use Rattle.std.specs.Prelude.{◌≡◌, ◌<◌, length};
+ghost use Rattle.std.specs.Prelude.{◌≡◌, ◌<◌, length, true};
 ghost use Rattle.h41_ram.specs.RegisterMap.{IsMemory, top_of};
 ghost use Rattle.h41_program.specs.private.ProgramPlaces.{IsPlace};
 ghost use Rattle.h41_program.specs.Rewriting.{with_program_bytes, rewritten_register};
@@ -18,6 +18,7 @@ pub fn rewrite<const REGS: usize>(ram: &mut Ram<REGS>, bytes: &[u8], end: u16)
     requires memory { IsMemory REGS ram.old.registers }
     ensures change { ram.new.registers ≡ with_program_bytes ram.old.registers bytes.now }
     ensures mark { KeepsMark ram.old ram.new }
+    ensures marked { ram.new.touched ≡ true }
 {
     let c = with_address(ram.status(usize::from(C)), END_PLACE, end);
     let mut main = ram.main_memory();

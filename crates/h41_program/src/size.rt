@@ -1,10 +1,10 @@
 //! The number of data registers.
-ghost use Rattle.std.specs.Prelude.{◌≡◌, ◌-◌, ◌<◌, IsTrue, OnErr};
+ghost use Rattle.std.specs.Prelude.{◌≡◌, ◌-◌, ◌<◌, true, is_ok, IsTrue, OnErr};
 ghost use Rattle.h41_ram.specs.RegisterMap.{IsMemory, is_sound, top_of};
 ghost use Rattle.h41_program.specs.private.ProgramPlaces.{IsMove};
 ghost use Rattle.h41_program.specs.Rewriting.{HasOutcome};
 ghost use Rattle.h41_program.specs.Size.{with_size, resized_c, resized_register, size_outcome};
-ghost use Rattle.h41_ram.specs.RamState.{KeepsMark};
+ghost use Rattle.h41_ram.specs.RamState.{KeepsMark, MarksIf};
 
 use crate::refusal::ProgramRefusal;
 use crate::registers::{
@@ -25,6 +25,7 @@ pub fn set_size<const REGS: usize>(ram: &mut Ram<REGS>, size: u16) -> Result<(),
     ensures sound { IsTrue (is_sound ram.new.registers) }
     ensures unchanged { OnErr result (ram.new ≡ ram.old) }
     ensures mark { KeepsMark ram.old ram.new }
+    ensures marked { MarksIf (is_ok result) ram.old ram.new }
 {
     let curtain = ram.curtain();
     let end = ram.end_register();
@@ -46,6 +47,7 @@ fn resize<const REGS: usize>(ram: &mut Ram<REGS>, curtain: u16, end: u16)
     ensures change { ram.new.registers ≡ with_size ram.old.registers
         (top_of ram.old.registers - curtain) }
     ensures mark { KeepsMark ram.old ram.new }
+    ensures marked { ram.new.touched ≡ true }
 {
     let c = moved_addresses(ram, curtain, end);
     let mut main = ram.main_memory();

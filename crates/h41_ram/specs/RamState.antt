@@ -1,5 +1,5 @@
--- What a contract sees of a memory: its registers, and a mark by which it is known whether its
--- program may have changed. The mark is this project's own: the calculator has none.
+-- What a contract sees of a memory: its registers, and a dirty flag that tells whether its program
+-- may have changed. The flag is this project's own: the calculator has none.
 use Rattle.std.specs.Prelude.{◌≡◌, ℕ, ◌<◌, ◌≤◌, Bool, true, ◌&&◌, ◌||◌, List, [], ◌∷◌}
 use Rattle.std.specs.Prelude.{length, nat_lt, nat_le, ◌==◌, IsTrue, IsFalse}
 use Rattle.std.specs.List.{list_any}
@@ -10,7 +10,7 @@ use Rattle.h41_ram.specs.RegisterMap.{with_register}
 
 pub record RamState : Type 0 where
   pub registers : RegisterMap
-  -- whether a register of the program was written since the mark was cleared
+  -- the dirty flag: whether a register of the program was written since the flag was cleared
   pub touched : Bool
 
 -- whether a register stands at an address
@@ -25,8 +25,8 @@ is_of_program memory address =
     address == c_address
     || nat_le (end_of memory) address && nat_lt address (curtain_of memory)
 
--- a write at an address sets the mark where a register stands there that is of the program, as this
--- is before the write
+-- a write at an address sets the dirty flag if there is a register and it is of the program, as the
+-- program is before the write
 abbrev pub sets_mark : RegisterMap → ℕ → Bool
 sets_mark memory address = exists_at memory address && is_of_program memory address
 
@@ -34,7 +34,7 @@ sets_mark memory address = exists_at memory address && is_of_program memory addr
 abbrev pub marked_by : List ℕ → RamState → Bool
 marked_by addresses ram = ram.touched || list_any (sets_mark ram.registers) addresses
 
--- the start: the mark is set
+-- the start: the dirty flag is set
 abbrev pub start_state : ℕ → RamState
 start_state registers = record { registers = start registers; touched = true }
 
@@ -69,6 +69,11 @@ with_main_written ram main = record {
   touched = ram.touched || has_main_program ram.registers;
 }
 
+-- a call that writes a register of the program exactly if this holds: afterwards the dirty flag is
+-- set exactly if this holds or it was set before
+abbrev pub MarksIf : Bool → RamState → RamState → Type 0
+MarksIf writes old new = new.touched ≡ (writes || old.touched)
+
 -- two memories of one size have the same program: the same register c, and the same registers from
 -- that of .END. to below the curtain
 pub record SameProgram (memory other : RegisterMap) : Type 0 where
@@ -77,8 +82,8 @@ pub record SameProgram (memory other : RegisterMap) : Type 0 where
   pub program : (address : ℕ) → end_of memory ≤ address → address < curtain_of memory
       → register_at memory address ≡ register_at other address
 
--- what every call promises that changes a memory: a mark that is set stays set, and where none is
--- set behind it the program is as it was
+-- what every call promises that changes a memory: a dirty flag that is set stays set, and if it is
+-- clear afterwards the program is as it was
 pub record KeepsMark (old new : RamState) : Type 0 where
   pub set : IsTrue old.touched → IsTrue new.touched
   pub clear : IsFalse new.touched → SameProgram old.registers new.registers

@@ -252,16 +252,6 @@ impl<const REGS: usize> Ram<REGS> {
         }
     }
 
-    /// Writes the data register with a number, below `size`.
-    pub fn set_data(&mut self, n: u16, register: Reg)
-        requires { n < named.size_of self.old.registers }
-        ensures written { self.new
-            ≡ state.with_written self.old (named.data_address self.old.registers n) register }
-        ensures mark { KeepsMark self.old self.new }
-    {
-        self.write(self.curtain() + n, register);
-    }
-
     /// A flag, 0 to 55: bit 55 - `flag` of register d.
     pub fn flag(&self, flag: usize) -> bool
         requires { flag < 56 }

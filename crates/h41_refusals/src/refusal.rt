@@ -17,11 +17,11 @@ pub use line::Detail;
 /// one that is refused.
 #[derive(Clone, Copy, Debug, PartialEq, Eq)]
 pub enum Refusal {
-    /// 1: the page is not 4 to F.
+    /// 1: the page is not 4 to F, or its bank is not 1 to 4.
     NoSuchPage,
-    /// 2: the page is plugged.
+    /// 2: something is plugged at the page's bank.
     Occupied,
-    /// 3: no bank of the page is plugged.
+    /// 3: nothing is plugged at the page's bank, or, where the page is to be unplugged, at any of its banks.
     NotPlugged,
     /// 6 to 8 and 10 to 17, and 24: the calculator refuses it. 8 and 9: an address whose word cannot be read.
     Calculator(CalculatorRefusal),

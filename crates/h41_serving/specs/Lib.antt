@@ -1,3 +1,5 @@
+pub mod Causes
+pub mod Program
 pub mod Statuses
 pub mod Tasks
 pub mod private

@@ -16,6 +16,7 @@ use Rattle.h41_arguments.specs.declared.arguments.Task.TheVariants as tasks
 use Rattle.h41_arguments.specs.MemorySizes.{registers_of}
 use Rattle.h41_jobs.specs.declared.ended.Ended.{Ended}
 use Rattle.h41_jobs.specs.declared.ended.Ended.TheVariants.{Accepted, Refused, WrongWord}
+use Rattle.h41_jobs.specs.Outputs.{AppendsFront}
 use Rattle.h41_jobs.specs.Texts.{AssemblyEnds, AssemblyText, HasNoWrongWord, IsNotRefused}
 use Rattle.h41_jobs.specs.Texts.{ListingEnds, ListingText, mistake_line}
 
@@ -189,19 +190,22 @@ JobLeavesFront status job source sink before after old new =
     status ≡ 3 → sink.failed new ≡ true
     → LeavesFront job.task source sink before after old new
 
--- where the end for faults did not fail, the number of the wrong word is told, and nothing else
+-- a text is told: it is written whole and flushed, or where the end for faults fails a front of it
+-- is written, and nothing after that
+pub record Tells {E : Type 0} (told : sinks.Ghosts E) (old new : E) (text : List ℕ) : Type 0 where
+  pub whole : told.failed new ≡ false → Appended told.contents old new text
+  pub flushed : told.failed new ≡ false → told.flushed new ≡ true
+  pub front : told.failed new ≡ true → AppendsFront told.contents old new text
+
+-- the number of the wrong word is told, and nothing else
 abbrev pub TellsMistake : {E : Type 0} → Task → Option (List ℕ) → sinks.Ghosts E → E → E → Type 0
-TellsMistake task known told old new = told.failed new ≡ false
-    → (number : ℕ)
+TellsMistake task known told old new =
+    (number : ℕ)
     × IfSome known (TaskEnds task (WrongWord number))
-    × Appended told.contents old new (mistake_line number)
+    × Tells told old new (mistake_line number)
 
 -- where a job has the status of a wrong word
 abbrev pub TellsWord : {R E : Type 0} → ℕ → Job → sources.Ghosts R → sinks.Ghosts E → R → E → E
     → Type 0
 TellsWord status job source told before old new =
     status ≡ 2 → TellsMistake job.task (source.remaining before) told old new
-
--- a text is told, as far as the end for faults takes it
-abbrev pub Tells : {E : Type 0} → sinks.Ghosts E → E → E → List ℕ → Type 0
-Tells told old new text = told.failed new ≡ false → Appended told.contents old new text

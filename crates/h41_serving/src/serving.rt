@@ -1,8 +1,7 @@
 //! Does a job from one end to another, and tells how it went by a status.
 
-ghost use Rattle.std.specs.Prelude.{◌≡◌, ◌≢◌, ◌≤◌, true, false, OnOk, OnErr, IfSome};
+ghost use Rattle.std.specs.Prelude.{◌≡◌, ◌≢◌, ◌≤◌, true, false, IfSome};
 ghost use Rattle.std.specs.Io.KnownBytes.{Keeps};
-ghost use Rattle.h41_ends.specs.Ends.{Appended};
 ghost use Rattle.h41_jobs.specs.Texts.{mistake_line};
 ghost use Rattle.h41_serving.specs.Statuses.{EndsJob, IsTaskStatus, TellsFault, TellsMark};
 ghost use Rattle.h41_serving.specs.Statuses.{fault_line};
@@ -14,7 +13,7 @@ use crate::inputs::{assemble_source, list_words};
 use crate::memory::run_with;
 use h41_arguments::{Job, Task};
 use h41_deck::Outcome;
-use h41_ends::{Sink, Source, WriteFault};
+use h41_ends::{Sink, Source};
 use h41_jobs::{Ended, mistake_line, write_text};
 use h41_refusals::Fault;
 use std::alloc::Global;
@@ -115,7 +114,7 @@ fn tell_mistake<E: Sink>(number: usize, faults: &mut E) -> u8
     ensures status { result ≡ 2 }
     ensures line { Tells E.Sink faults.old faults.new (mistake_line number) }
 {
-    let _ = write_text(faults, mistake_line(number).as_str().as_bytes());
+    tell_text(mistake_line(number).as_str(), faults);
     MISTAKEN
 }
 
@@ -125,16 +124,14 @@ pub fn tell<E: Sink>(fault: Fault, faults: &mut E) -> u8
     ensures status { result ≡ 3 }
     ensures line { Tells E.Sink faults.old faults.new (fault_line fault) }
 {
-    let _ = report(fault, faults);
+    tell_text(fault.refusal().line().as_str(), faults);
     FAILED
 }
 
-/// Writes a fault's line.
-fn report<E: Sink>(fault: Fault, faults: &mut E) -> Result<(), WriteFault>
+/// Writes a text to the end for faults, and flushes it. Where that end fails, nothing more is written to it.
+pub(crate) fn tell_text<E: Sink>(text: &str, faults: &mut E)
     requires { E.failed faults.old ≡ false }
-    ensures line { OnOk result (Appended E.contents faults.old faults.new (fault_line fault)) }
-    ensures flushed { OnOk result (E.flushed faults.new ≡ true) }
-    ensures mark { OnErr result (E.failed faults.new ≡ true) }
+    ensures { Tells E.Sink faults.old faults.new text.now }
 {
-    write_text(faults, fault.refusal().line().as_str().as_bytes())
+    let _ = write_text(faults, text.as_bytes());
 }

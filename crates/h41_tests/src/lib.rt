@@ -15,6 +15,8 @@ mod libraries;
 #[cfg(test)]
 mod pieces;
 #[cfg(test)]
+mod program;
+#[cfg(test)]
 mod serving;
 #[cfg(test)]
 mod sizes;

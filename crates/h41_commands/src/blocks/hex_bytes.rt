@@ -2,7 +2,7 @@
 
 ghost use Rattle.std.specs.Prelude.{◌≡◌, IfOk};
 ghost use Rattle.h41_commands.specs.Blocks.{line_digits};
-ghost use Rattle.h41_commands.specs.Contents.{AreBytesOf};
+ghost use Rattle.h41_commands.specs.private.Contents.{AreBytesOf};
 
 use crate::line::is_skipped;
 use crate::refusal::LineRefusal;
@@ -22,7 +22,7 @@ impl HexBytes {
     ghost use Rattle.std.specs.Prelude.{◌≡◌, [], IfOk, None, Ok};
     ghost use Rattle.std.specs.Result.{result_err};
     ghost use Rattle.h41_commands.specs.Blocks.{block_bytes};
-    ghost use Rattle.h41_commands.specs.Contents.{TakesBytes, bytes_in};
+    ghost use Rattle.h41_commands.specs.private.Contents.{TakesBytes, bytes_in};
 
     /// No bytes.
     pub fn new(alloc: Global) -> Self

@@ -1,7 +1,7 @@
 //! The bytes of a page's image, as the lines of an `image` block give them.
 
 ghost use Rattle.std.specs.Prelude.{◌≤◌, vec_len};
-ghost use Rattle.h41_commands.specs.Blocks.{most_kept};
+ghost use Rattle.h41_commands.specs.private.TakenBlocks.{most_kept};
 
 use crate::blocks::hex_bytes::line_bytes;
 use crate::line::is_skipped;
@@ -25,8 +25,9 @@ impl ImageBytes {
     ghost use Rattle.std.specs.Prelude.{◌≡◌, ◌≤◌, [], IfOk, None, Ok, vec_len};
     ghost use Rattle.std.specs.Result.{result_err};
     ghost use Rattle.h41_pages.specs.Addresses.{page_size};
-    ghost use Rattle.h41_commands.specs.Blocks.{block_bytes, image_content, kept_bytes};
-    ghost use Rattle.h41_commands.specs.Contents.{KeepsMore, TakesImage, image_in};
+    ghost use Rattle.h41_commands.specs.Blocks.{block_bytes, image_content};
+    ghost use Rattle.h41_commands.specs.private.TakenBlocks.{kept_bytes};
+    ghost use Rattle.h41_commands.specs.private.Contents.{KeepsMore, TakesImage, image_in};
 
     /// No bytes.
     pub fn new(alloc: Global) -> Self

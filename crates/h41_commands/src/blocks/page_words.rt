@@ -28,7 +28,7 @@ impl PageWords {
     ghost use Rattle.std.specs.Prelude.{◌≡◌, ◌≤◌, [], IfOk, None, Ok, vec_len};
     ghost use Rattle.std.specs.Result.{result_err};
     ghost use Rattle.h41_commands.specs.Blocks.{word_values};
-    ghost use Rattle.h41_commands.specs.Contents.{TakesLine, TakesWord, words_in};
+    ghost use Rattle.h41_commands.specs.private.Contents.{TakesLine, TakesWord, words_in};
 
     /// A page of no words.
     pub fn new(alloc: Global) -> Self

@@ -3,9 +3,10 @@
 ghost use Rattle.std.specs.Iterator.{YieldsFirstRef, item_count};
 ghost use Rattle.std.specs.Prelude.{◌≡◌, ◌++◌, [], IfOk, OnOk};
 ghost use Rattle.h41_codes.specs.ByteGrammar.{IsLine, spelling};
-ghost use Rattle.h41_commands.specs.Contents.{values_in};
+ghost use Rattle.h41_commands.specs.private.Contents.{values_in};
 ghost use Rattle.h41_program.specs.Lines as lines;
-ghost use Rattle.h41_commands.specs.ProgramTexts.{IsPacked, PushesLine, null_between, texts_left};
+ghost use Rattle.h41_commands.specs.private.ProgramTexts.{IsPacked, PushesLine, null_between};
+ghost use Rattle.h41_commands.specs.private.ProgramTexts.{texts_left};
 ghost use Rattle.h41_commands.specs.ProgramBlocks.{TextSpells, texts_of};
 
 use crate::refusal::LineRefusal;

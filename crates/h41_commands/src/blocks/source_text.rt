@@ -2,7 +2,7 @@
 
 ghost use Rattle.std.specs.Prelude.{◌≡◌, ◌≤◌, IfOk, vec_len};
 ghost use Rattle.h41_pages.specs.Addresses.{page_size};
-ghost use Rattle.h41_commands.specs.Contents.{values_in};
+ghost use Rattle.h41_commands.specs.private.Contents.{values_in};
 ghost use Rattle.h41_commands.specs.PageBlocks.{words_of_page};
 
 use crate::blocks::page_words::PAGE_WORDS;
@@ -29,8 +29,8 @@ impl SourceText {
     ghost use Rattle.std.specs.Prelude.{◌≡◌, ◌≤◌, [], IfOk, vec_len};
     ghost use Rattle.h41_pages.specs.Addresses.{page_size};
     ghost use Rattle.h41_commands.specs.Blocks.{block_source};
-    ghost use Rattle.h41_commands.specs.Contents.{TakesSource, source_in};
-    ghost use Rattle.h41_commands.specs.Contents.{FillsFrom, values_in};
+    ghost use Rattle.h41_commands.specs.private.Contents.{TakesSource, source_in};
+    ghost use Rattle.h41_commands.specs.private.Contents.{FillsFrom, values_in};
     ghost use Rattle.h41_commands.specs.ProgramBlocks.{TextSpells};
 
     /// A text of no lines.

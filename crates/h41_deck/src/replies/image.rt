@@ -1,7 +1,7 @@
 //! The image of a page's bank, as `show image` prints it.
 
 ghost use Rattle.std.specs.Prelude.{IfOk};
-ghost use Rattle.h41_deck.specs.Writing.{IsImageShown};
+ghost use Rattle.h41_deck.specs.private.Writing.{IsImageShown};
 
 use h41_pages::{ImageRefusal, Pages};
 use h41_refusals::Refusal;

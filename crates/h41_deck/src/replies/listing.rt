@@ -3,7 +3,7 @@
 ghost use Rattle.std.specs.Prelude.{◌≡◌, IfOk};
 ghost use Rattle.std.specs.Result.{result_err};
 ghost use Rattle.h41_deck.specs.Listings as spec;
-ghost use Rattle.h41_deck.specs.Writing.{IsListed};
+ghost use Rattle.h41_deck.specs.private.Writing.{IsListed};
 
 use h41_commands::LineRefusal;
 use h41_dis::listing;

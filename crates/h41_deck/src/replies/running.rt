@@ -5,7 +5,7 @@ ghost use Rattle.h41_commands.specs.declared.commands.Command.TheVariants as com
 ghost use Rattle.h41_deck.specs.Answers.{ends_by};
 ghost use Rattle.h41_deck.specs.Replies.{Reply};
 ghost use Rattle.h41_deck.specs.Runs as spec;
-ghost use Rattle.h41_deck.specs.Writing.{RunsAlone, IsTraceLine, TracesAlone};
+ghost use Rattle.h41_deck.specs.private.Writing.{RunsAlone, IsTraceLine, TracesAlone};
 
 use arrayvec::ArrayString;
 use h41_breakpoints::Location;

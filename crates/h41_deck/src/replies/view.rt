@@ -2,7 +2,7 @@
 
 ghost use Rattle.std.specs.Prelude.{◌≡◌, ◌++◌, IfOk};
 ghost use Rattle.h41_deck.specs.Views.{line_of};
-ghost use Rattle.h41_deck.specs.Writing.{IsShown};
+ghost use Rattle.h41_deck.specs.private.Writing.{IsShown};
 
 use crate::replies::image::image_shown;
 use h41_commands::View;

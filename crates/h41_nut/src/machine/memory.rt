@@ -1,10 +1,10 @@
 //! The words that write and read the memory.
 
-ghost use Rattle.std.specs.Prelude.{◌≡◌, ◌≤◌, OnOk, OnErr};
+ghost use Rattle.std.specs.Prelude.{◌≡◌, ◌≤◌, ◌&&◌, is_ok, OnOk, OnErr};
 ghost use Rattle.h41_pages.specs.Addresses.{first_address};
 ghost use Rattle.h41_nut.specs.private.ProcessorSteps.{GoesOn};
 ghost use Rattle.h41_nut.specs.MemoryWords as spec;
-ghost use Rattle.h41_ram.specs.RamState.{KeepsMark};
+ghost use Rattle.h41_ram.specs.RamState.{KeepsMark, MarksIf, sets_mark};
 
 use crate::cpu::Cpu;
 use crate::refusal::WordRefusal;
@@ -23,6 +23,8 @@ pub fn write_register<const REGS: usize>(
         ≡ spec.with_c_in_block ram.old.registers register cpu.old) }
     ensures unchanged { OnErr result (ram.new.registers ≡ ram.old.registers) }
     ensures mark { KeepsMark ram.old ram.new }
+    ensures marked { MarksIf (sets_mark ram.old.registers (spec.block_address register cpu.old)
+        && is_ok result) ram.old ram.new }
 {
     let address = cpu.block_address(register.number());
     cpu.go_on()?;
@@ -54,6 +56,8 @@ pub fn write_data<const REGS: usize>(cpu: &mut Cpu, ram: &mut Ram<REGS>) -> Resu
         ≡ spec.with_c_at ram.old.registers cpu.old.selected cpu.old) }
     ensures unchanged { OnErr result (ram.new.registers ≡ ram.old.registers) }
     ensures mark { KeepsMark ram.old ram.new }
+    ensures marked { MarksIf (sets_mark ram.old.registers cpu.old.selected && is_ok result) ram.old
+        ram.new }
 {
     cpu.go_on()?;
     ram.write(cpu.selected(), cpu.c());

@@ -2,7 +2,7 @@
 use Rattle.std.specs.Prelude.{◌≡◌, ℕ, ◌<◌, false, length, slice_index, slice_index_or, All, List}
 use Rattle.std.specs.Prelude.{Some, None}
 use Rattle.std.specs.Str.{bytes_eq}
-use Rattle.h41_lines.specs.Hashes.{word_hash}
+use Rattle.h41_lines.specs.private.Hashes.{word_hash}
 use Rattle.h41_text.specs.private.TextParts.{with_text}
 
 abbrev pub name_hash : List ℕ → ℕ

@@ -1,8 +1,8 @@
 use Rattle.std.proofs.Common.{◌≡◌, ℕ, List, None, arith, ap, sym, ◌∙◌, subst}
 use Rattle.std.proofs.lemmas.Result.{IfOk-weaker}
 use Rattle.h41_asm.specs.Faults.{assembly_fault, first_fault, label_address, numbered_lines, own_fault_at}
-use Rattle.h41_asm.specs.KeptLines.{Said, SaidSpell, said_faults, said_from}
-use Rattle.h41_asm.specs.LabelTable.{IsReady, labels_in}
+use Rattle.h41_asm.specs.private.KeptLines.{Said, SaidSpell, said_faults, said_from}
+use Rattle.h41_asm.specs.private.LabelTable.{IsReady, labels_in}
 use Rattle.h41_asm.specs.Placing.{Labels}
 use Rattle.h41_asm.specs.SourceLines.{source_lines}
 use Rattle.h41_asm.proofs.Assembled.{assembles_by, fault_by_labels, ready_by}

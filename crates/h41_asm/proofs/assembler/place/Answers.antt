@@ -1,8 +1,8 @@
 use Rattle.std.proofs.Common.{◌≡◌, ◌∷◌, ◌++◌, List, ℕ, arith, refl, sym, ◌∙◌, ap, drop, length, length-append, map}
-use Rattle.h41_asm.specs.CodeStatements.{in_line}
+use Rattle.h41_asm.specs.private.CodeStatements.{in_line}
 use Rattle.h41_asm.specs.Faults.{line_length, read_length}
-use Rattle.h41_asm.specs.KeptLines.{kept_lines, kept_names, kept_said, said_from}
-use Rattle.h41_asm.specs.LabelTable.{labels_in}
+use Rattle.h41_asm.specs.private.KeptLines.{kept_lines, kept_names, kept_said, said_from}
+use Rattle.h41_asm.specs.private.LabelTable.{labels_in}
 use Rattle.h41_asm.specs.Placing.{Labels}
 use Rattle.h41_asm.specs.SourceLines.{SourceLine, line_of, source_lines, words_of}
 use Rattle.h41_lines.proofs.LineCount.{length-lines}

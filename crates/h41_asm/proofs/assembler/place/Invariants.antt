@@ -1,6 +1,6 @@
 use Rattle.std.proofs.Common.{◌≡◌, ◌+◌, ◌-◌, ◌≤◌, ◌++◌, drop, length}
-use Rattle.h41_asm.specs.KeptLines.{kept_said, said_from}
-use Rattle.h41_asm.specs.LabelTable.{labels_in}
+use Rattle.h41_asm.specs.private.KeptLines.{kept_said, said_from}
+use Rattle.h41_asm.specs.private.LabelTable.{labels_in}
 use Rattle.h41_asm.specs.SourceLines.{lines, source_lines}
 use Rattle.h41_asm.proofs.Placed.{IsPlaced}
 use Rattle.h41_asm.proofs.assembler.place.Given as goal

@@ -2,10 +2,10 @@ use Rattle.std.proofs.Common.{◌≡◌, ℕ, ◌+◌, Ok, List, [], ◌∷◌, 
 use Rattle.std.specs.Borrow.{Bor}
 use Rattle.std.proofs.lemmas.List.{drop_all, drop_more}
 use Rattle.h41_asm.specs.declared.kept.KeptLine.{KeptLine}
-use Rattle.h41_asm.specs.CodeStatements.{in_code}
+use Rattle.h41_asm.specs.private.CodeStatements.{in_code}
 use Rattle.h41_asm.specs.Faults.{read_length}
-use Rattle.h41_asm.specs.KeptLines.{AreReady, Said, kept_said, said_faults}
-use Rattle.h41_asm.specs.LabelTable.{labels_in}
+use Rattle.h41_asm.specs.private.KeptLines.{AreReady, Said, kept_said, said_faults}
+use Rattle.h41_asm.specs.private.LabelTable.{labels_in}
 use Rattle.h41_asm.specs.Placing.{Labels}
 use Rattle.h41_asm.proofs.Keeping.{faults_next, refused_first, said_at, spelled_next}
 use Rattle.h41_asm.proofs.assembler.spell.Goals as goal

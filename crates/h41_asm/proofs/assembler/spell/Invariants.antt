@@ -1,6 +1,6 @@
 use Rattle.std.proofs.Common.{◌≡◌, ◌≤◌, ℕ, List, ◌++◌, drop}
-use Rattle.h41_asm.specs.KeptLines.{AreReady, SaidSpell, first_fault_by, kept_said, said_faults}
-use Rattle.h41_asm.specs.LabelTable.{labels_in}
+use Rattle.h41_asm.specs.private.KeptLines.{AreReady, SaidSpell, first_fault_by, kept_said, said_faults}
+use Rattle.h41_asm.specs.private.LabelTable.{labels_in}
 use Rattle.h41_asm.proofs.assembler.spell.Given as goal
 
 abbrev pub invariant-loop-i : goal.invariant-loop-i

@@ -1,5 +1,5 @@
 use Rattle.std.proofs.Common.{◌≡◌, ◌<◌, ℕ, sym, ◌∙◌, subst, slice_index}
-use Rattle.h41_asm.specs.Openings.{hash_of, place_count}
+use Rattle.h41_asm.specs.private.Openings.{hash_of, place_count}
 use Rattle.h41_asm.proofs.Openings.{found_at, missed_at, words_at}
 use Rattle.h41_asm.proofs.opening.opening_among.Goals as goal
 

@@ -1,5 +1,5 @@
 use Rattle.std.proofs.Common.{sym, ap, ◌∙◌}
-use Rattle.h41_commands.specs.ItemReading.{is_unended}
+use Rattle.h41_commands.specs.private.ItemReading.{is_unended}
 use Rattle.h41_commands.proofs.ParsedCommands.{never_unended}
 use Rattle.h41_commands.proofs.reading.line_item.Goals as goal
 

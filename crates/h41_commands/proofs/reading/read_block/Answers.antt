@@ -3,12 +3,12 @@ use Rattle.std.specs.Result.{result_ok}
 use Rattle.h41_ends.specs.InputLines.{MayFollow}
 use Rattle.h41_commands.specs.Commands.{command_of, kind_of}
 use Rattle.h41_commands.proofs.ItemLines.{block_given, block_open, block_refused}
-use Rattle.h41_commands.specs.BlockReading.{SpellBlock}
+use Rattle.h41_commands.specs.private.BlockReading.{SpellBlock}
 use Rattle.h41_lines.specs.Words.{words_of}
 use Rattle.h41_commands.specs.declared.fault.ItemFault.{ItemFault}
 use Rattle.h41_commands.specs.declared.item.Item.TheVariants.{Refused}
 use Rattle.h41_commands.specs.declared.refusal.LineRefusal.{LineRefusal}
-use Rattle.h41_commands.specs.ItemReading.{is_unended}
+use Rattle.h41_commands.specs.private.ItemReading.{is_unended}
 use Rattle.h41_commands.proofs.ParsedCommands.{never_unended}
 use Rattle.std.proofs.lemmas.Result.{err_from_is_err_and}
 use Rattle.h41_commands.specs.declared.fault.ItemFault.TheVariants as faults

@@ -1,7 +1,7 @@
 use Rattle.std.proofs.Common.{◌≡◌, ◌≤◌, ℕ, false, List}
 use Rattle.std.specs.Io.KnownBytes.{Keeps}
 use Rattle.h41_ends.specs.InputLines.{IsCounted, ReadsMore, most_left}
-use Rattle.h41_commands.specs.ItemReading.{SpellNothing}
+use Rattle.h41_commands.specs.private.ItemReading.{SpellNothing}
 use Rattle.h41_commands.proofs.reading.read_first_line.Given as goal
 
 -- the lines so far say nothing

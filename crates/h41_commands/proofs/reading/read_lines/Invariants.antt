@@ -3,7 +3,7 @@ use Rattle.std.specs.List.{list_any}
 use Rattle.std.specs.Io.KnownBytes.{Keeps}
 use Rattle.h41_ends.specs.InputLines.{IsCounted, ReadsMore, most_left}
 use Rattle.h41_commands.specs.DeckLines.{is_end}
-use Rattle.h41_commands.specs.Entries.{IsTaken}
+use Rattle.h41_commands.specs.private.Entries.{IsTaken}
 use Rattle.h41_commands.proofs.reading.read_lines.Given as goal
 
 -- the block has taken the lines so far, of which none is an end

@@ -2,7 +2,7 @@ use Rattle.std.proofs.Common.{◌∷◌, ◌++◌, [], Err, ap, refl, rules, sym
 use Rattle.std.proofs.lemmas.Bool.{false≢true}
 use Rattle.std.proofs.lemmas.Result.{err_from_is_err_and}
 use Rattle.h41_commands.proofs.FirstLines.{first_line, first_none, shut_line}
-use Rattle.h41_commands.specs.Entries.{what_is_spelled}
+use Rattle.h41_commands.specs.private.Entries.{what_is_spelled}
 use Rattle.h41_commands.specs.Items.{line_spelled}
 use Rattle.h41_ends.proofs.InputReading.{consumes-nothing}
 use Rattle.h41_ends.specs.InputLines.{line_in}

@@ -6,7 +6,7 @@ use Rattle.h41_commands.specs.declared.commands.FirstWord.TheVariants.{Plain}
 use Rattle.h41_commands.specs.declared.commands.PlainKind.{PlainKind}
 use Rattle.h41_commands.specs.declared.commands.PlainKind.TheVariants as plain
 use Rattle.h41_commands.specs.declared.line.LineKind.TheVariants.{Named}
-use Rattle.h41_deck.specs.Writing.{Leaves}
+use Rattle.h41_deck.specs.private.Writing.{Leaves}
 use Rattle.h41_deck.proofs.ShortLines.{plain_part, plain_reply}
 use Rattle.h41_deck.proofs.lines.answer_plain.Goals as goal
 

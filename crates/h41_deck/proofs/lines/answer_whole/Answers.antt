@@ -2,7 +2,7 @@ use Rattle.std.proofs.Common.{◌≡◌, Err, true, subst, sym, ◌∙◌}
 use Rattle.h41_commands.specs.Items.{Spelled}
 use Rattle.h41_refusals.specs.declared.fault.CommandFault.TheVariants.{OutOfMemory}
 use Rattle.h41_deck.specs.Replies.{item_takes_memory}
-use Rattle.h41_deck.specs.Writing.{Leaves}
+use Rattle.h41_deck.specs.private.Writing.{Leaves}
 use Rattle.h41_deck.proofs.ShortLines.{short_spelled}
 use Rattle.h41_deck.proofs.lines.answer_whole.Goals as goal
 

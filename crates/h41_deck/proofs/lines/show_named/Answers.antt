@@ -8,8 +8,8 @@ use Rattle.h41_commands.specs.declared.commands.View.{View}
 use Rattle.h41_commands.specs.declared.refusal.LineRefusal.{LineRefusal}
 use Rattle.h41_commands.proofs.FirstLines.{plain_spelled as spelled_alone}
 use Rattle.h41_lines.specs.Words.{words_of}
-use Rattle.h41_deck.specs.AnsweredItems.{plain_spelled}
-use Rattle.h41_deck.specs.Writing.{Replies, RepliesInPart}
+use Rattle.h41_deck.specs.private.AnsweredItems.{plain_spelled}
+use Rattle.h41_deck.specs.private.Writing.{Replies, RepliesInPart}
 use Rattle.h41_refusals.specs.declared.refusal.Refusal.TheVariants.{Line}
 use Rattle.h41_deck.proofs.Commanded.{ends_part, ends_reply}
 use Rattle.h41_deck.proofs.ShortLines.{refused_said}

@@ -6,7 +6,7 @@ use Rattle.h41_commands.specs.declared.commands.PlainKind.TheVariants as plain
 use Rattle.h41_commands.specs.declared.refusal.LineRefusal.{LineRefusal}
 use Rattle.h41_commands.proofs.FirstLines.{plain_spelled as spelled_alone}
 use Rattle.h41_lines.specs.Words.{words_of}
-use Rattle.h41_deck.specs.AnsweredItems.{plain_spelled}
+use Rattle.h41_deck.specs.private.AnsweredItems.{plain_spelled}
 use Rattle.h41_refusals.specs.declared.refusal.Refusal.TheVariants.{Line}
 use Rattle.h41_deck.proofs.ShortLines.{ends_written, refused_said, silent}
 use Rattle.h41_deck.proofs.lines.unbreak_placed.Goals as goal

@@ -1,5 +1,5 @@
 use Rattle.std.proofs.Common.{ap}
-use Rattle.h41_commands.specs.Contents.{values_in}
+use Rattle.h41_commands.specs.private.Contents.{values_in}
 use Rattle.h41_deck.proofs.Commanded.{loads_taken}
 use Rattle.h41_deck.proofs.replies.load.Goals as goal
 

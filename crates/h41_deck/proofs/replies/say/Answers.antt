@@ -1,6 +1,6 @@
 use Rattle.h41_deck.proofs.SaidAlone.{nothing_said}
 use Rattle.std.proofs.lemmas.Result.{err_from_is_err_and}
-use Rattle.h41_commands.specs.Blocks.{judgement}
+use Rattle.h41_commands.specs.private.TakenBlocks.{judgement}
 use Rattle.h41_deck.proofs.Commanded.{load_text, plug_text, refused_text}
 use Rattle.h41_deck.proofs.replies.say.Goals as goal
 

@@ -1,6 +1,6 @@
 use Rattle.h41_commands.specs.Items.{Spelled}
 use Rattle.h41_commands.specs.declared.commands.Command.TheVariants as commands
-use Rattle.h41_deck.specs.Writing.{LeavesText, RepliesInPart, SaysText}
+use Rattle.h41_deck.specs.private.Writing.{LeavesText, RepliesInPart, SaysText}
 use Rattle.h41_deck.proofs.SaidAlone.{alone_is, nothing_said, part_said}
 use Rattle.std.proofs.Common.{ap, ◌∙◌, refl}
 use Rattle.std.proofs.lemmas.Result.{err_from_is_err_and}

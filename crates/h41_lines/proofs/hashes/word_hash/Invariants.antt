@@ -1,5 +1,5 @@
 use Rattle.std.proofs.Common.{◌≡◌, ◌<◌, drop}
-use Rattle.h41_lines.specs.Hashes.{hash_from}
+use Rattle.h41_lines.specs.private.Hashes.{hash_from}
 use Rattle.h41_lines.proofs.hashes.word_hash.Given as goal
 
 -- the bytes that are left make the hash of all

@@ -1,6 +1,6 @@
 use Rattle.std.proofs.Common.{◌≡◌, ◌-◌, ◌<◌, ◌≤◌, ◌^◌, ℕ}
 use Rattle.h41_codes.specs.Heads.{IsIn}
-use Rattle.h41_program.specs.ByteReading.{ReadsAt}
+use Rattle.h41_program.specs.private.ByteReading.{ReadsAt}
 use Rattle.h41_program.specs.ProgramBytes.{program_byte}
 use Rattle.h41_plain_numbers.specs.private.PlainReading.{bytes_from, no_digits, with_codes}
 use Rattle.h41_plain_numbers.proofs.plain.plain_digits.Given as goal

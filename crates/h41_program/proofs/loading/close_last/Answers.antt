@@ -2,7 +2,7 @@ use Rattle.std.proofs.Common.{◌≡◌, Ok, Err, refl, sym, ◌∙◌, rules}
 use Rattle.std.proofs.lemmas.Result.{err_from_is_err_and}
 use Rattle.h41_program.specs.Edits.{before_end, with_last_end}
 use Rattle.h41_program.proofs.ClosedRead.{close_leaves}
-use Rattle.h41_program.proofs.Closings.{close_err, close_ok, close_sound, closed_none, closed_some, open_test}
+use Rattle.h41_program.proofs.Closings.{close_err, close_ok, close_sound, closed_none, closed_some, open_err, open_ok, open_test}
 use Rattle.h41_program.proofs.loading.close_last.Goals as goal
 
 pub returns-clause-lines : goal.returns-clause-lines
@@ -69,3 +69,41 @@ returns-clause-unchanged g c = c.write.ensures.unchanged
 
 pub returns-clause-mark : goal.returns-clause-mark
 returns-clause-mark g c = c.write.ensures.mark
+
+pub returns-in_err-packer-clause-marked : goal.returns-in_err-packer-clause-marked
+returns-in_err-packer-clause-marked g c =
+    let packs = c.packed_program.ensures in (
+      Err c.in_err-packer.field-0.0,
+      (
+        packs.0,
+        packs.1,
+        open_err (before_end packs.0) c.packed_program.result c.in_err-packer.field-0.0 packs.2 c.in_err-packer.was,
+      ),
+      refl,
+    )
+
+pub returns-then-not-is_open-clause-marked : goal.returns-then-not-is_open-clause-marked
+returns-then-not-is_open-clause-marked g c =
+    let packs = c.packed_program.ensures in (
+      Ok c.is_open.result,
+      (
+        packs.0,
+        packs.1,
+        open_ok (before_end packs.0) c.packed_program.result c.in_ok-packer.packer c.is_open.result packs.2 c.in_ok-packer.was
+            c.is_open.ensures,
+      ),
+      rw c.if-not-is_open.true refl,
+    )
+
+pub returns-clause-marked : goal.returns-clause-marked
+returns-clause-marked g c =
+    let packs = c.packed_program.ensures in (
+      Ok c.is_open.result,
+      (
+        packs.0,
+        packs.1,
+        open_ok (before_end packs.0) c.packed_program.result c.in_ok-packer.packer c.is_open.result packs.2 c.in_ok-packer.was
+            c.is_open.ensures,
+      ),
+      rw c.if-not-is_open.false c.write.ensures.marked,
+    )

@@ -1,6 +1,6 @@
 use Rattle.std.proofs.Common.{◌≡◌, ◌-◌, map, length}
 use Rattle.std.specs.List.{range_with_len}
-use Rattle.h41_program.specs.ByteReading.{ReadsAt}
+use Rattle.h41_program.specs.private.ByteReading.{ReadsAt}
 use Rattle.h41_program.specs.ProgramBytes.{program_byte}
 use Rattle.h41_program.proofs.reading.window.Given as goal
 

@@ -2,7 +2,7 @@ use Rattle.std.proofs.Common.{◌∷◌, [], ◌++◌, ℕ, List, Ok, Err, lengt
 use Rattle.std.proofs.lemmas.Bool.{eqb-false, eqb-true}
 use Rattle.h41_codes.specs.declared.line.Line.{Line}
 use Rattle.h41_commands.specs.declared.refusal.LineRefusal.TheVariants.{BadText}
-use Rattle.h41_commands.specs.ProgramTexts.{IsPacked, texts_left}
+use Rattle.h41_commands.specs.private.ProgramTexts.{IsPacked, texts_left}
 use Rattle.h41_commands.specs.ProgramBlocks.{texts_of}
 use Rattle.h41_commands.proofs.ProgramTextLines.{Tells, count_texts, is_bad, says_line, says_nothing, tells_all, tells_bad, tells_more}
 use Rattle.h41_commands.proofs.ProgramTextLines.{tells_none}

@@ -1,6 +1,6 @@
 use Rattle.std.proofs.Common.{◌+◌, ◌≤◌, List, length}
 use Rattle.h41_codes.specs.declared.line.Line.{Line}
-use Rattle.h41_commands.specs.ProgramTexts.{IsPacked, texts_left}
+use Rattle.h41_commands.specs.private.ProgramTexts.{IsPacked, texts_left}
 use Rattle.h41_commands.specs.ProgramBlocks.{texts_of}
 use Rattle.h41_commands.proofs.ProgramTextLines.{Tells}
 use Rattle.h41_commands.proofs.blocks.program_text.program_bytes.Given as goal

@@ -1,6 +1,6 @@
 use Rattle.std.proofs.Common.{inl, inr, ◌∙◌, ◌-◌, length, arith, refl}
 use Rattle.std.proofs.lemmas.Bool.{cases_lt}
-use Rattle.h41_commands.specs.Blocks.{most_kept}
+use Rattle.h41_commands.specs.private.TakenBlocks.{most_kept}
 use Rattle.h41_commands.proofs.KeptBytes.{fits_more}
 use Rattle.h41_commands.proofs.blocks.image_bytes.ImageBytes.keep.Goals as goal
 

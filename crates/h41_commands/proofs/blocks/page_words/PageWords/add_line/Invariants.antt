@@ -1,6 +1,6 @@
 use Rattle.std.proofs.Common.{◌≡◌, ◌++◌, List, ℕ, map}
 use Rattle.h41_commands.specs.Blocks.{word_values}
-use Rattle.h41_commands.specs.Contents.{words_in}
+use Rattle.h41_commands.specs.private.Contents.{words_in}
 use Rattle.h41_commands.proofs.blocks.page_words.PageWords.add_line.Given as goal
 
 abbrev pub invariant-loop-word : goal.invariant-loop-word

@@ -1,6 +1,6 @@
 use Rattle.std.proofs.Common.{◌++◌, List, ℕ, ap, ◌∙◌}
 use Rattle.h41_codes.specs.ByteGrammar.{spelling}
-use Rattle.h41_commands.specs.ProgramTexts.{null_between}
+use Rattle.h41_commands.specs.private.ProgramTexts.{null_between}
 use Rattle.h41_commands.proofs.ProgramTextLines.{pushed}
 use Rattle.h41_commands.proofs.blocks.program_text.Packed.push.Goals as goal
 

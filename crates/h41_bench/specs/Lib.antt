@@ -1,2 +1,0 @@
-pub mod ProgramWords
-pub mod Statuses

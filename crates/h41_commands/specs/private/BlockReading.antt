@@ -1,0 +1,55 @@
+-- What the code that reads a block's lines answers. It only connects the code with the other
+-- definitions.
+use Rattle.std.specs.Prelude.{◌≡◌, ℕ, Bool, true, false, List, [], ◌∷◌, ◌++◌, Option, Some, None}
+use Rattle.std.specs.Prelude.{Result, Ok, Err}
+use Rattle.std.specs.List.{list_any, after_first}
+use Rattle.h41_commands.specs.declared.commands.BlockKind.{BlockKind}
+use Rattle.h41_commands.specs.declared.commands.Command.{Command}
+use Rattle.h41_commands.specs.declared.item.Item.{Item}
+use Rattle.h41_commands.specs.declared.refusal.LineRefusal.{LineRefusal}
+use Rattle.h41_commands.specs.private.TakenBlocks.{TakenBlock}
+use Rattle.h41_commands.specs.DeckLines.{is_end}
+use Rattle.h41_commands.specs.private.Entries.{IsTaken, what_is_spelled}
+use Rattle.h41_commands.specs.private.ItemReading.{opened_by}
+use Rattle.h41_ends.specs.InputLines.{MayFollow, ReadsMore}
+use Rattle.h41_ends.specs.declared.input_lines.InputLines.{InputLines}
+
+-- these lines are those of a block and its end, and the block has taken the former
+pub record AreTaken (kind : Option BlockKind)
+    (lines : List (List ℕ)) (block : TakenBlock) : Type 0 where
+  pub inside : List (List ℕ)
+  pub last : List ℕ
+  pub parts : lines ≡ inside ++ last ∷ []
+  pub endless : list_any is_end inside ≡ false
+  pub ended : is_end last ≡ true
+  pub taken : IsTaken kind inside block
+
+-- they are those of a block, or have no end
+abbrev pub TakeBlock : {E : Type 0} → Option BlockKind → Result (Option TakenBlock) E
+    → List (List ℕ) → Type 0
+TakeBlock kind (Ok (Some block)) lines = AreTaken kind lines block
+TakeBlock kind (Ok None) lines = list_any is_end lines ≡ false
+TakeBlock kind (Err fault) lines = list_any is_end lines ≡ false
+
+pub record ReadsTaken {E : Type 0} (result : Result (Option TakenBlock) E)
+    (kind : Option BlockKind) (before after : Option (List ℕ)) (old new : InputLines)
+    : Type 0 where
+  pub lines : List (List ℕ)
+  pub reads : ReadsMore before after old new lines
+  pub taken : TakeBlock kind result lines
+
+-- they are the block of a command, whatever lines follow
+abbrev pub SpellBlock : {E : Type 0} → Result Command LineRefusal → Result Item E → Bool
+    → List (List ℕ) → Type 0
+SpellBlock command (Ok item) at_end lines =
+    (more : List (List ℕ)) → MayFollow at_end more
+    → (opened_by command (lines ++ more) ≡ what_is_spelled item)
+    × (after_first is_end (lines ++ more) ≡ more)
+SpellBlock command (Err fault) at_end lines = list_any is_end lines ≡ false
+
+pub record ReadsBlock {E : Type 0} (result : Result Item E)
+    (command : Result Command LineRefusal) (before after : Option (List ℕ))
+    (old new : InputLines) : Type 0 where
+  pub lines : List (List ℕ)
+  pub reads : ReadsMore before after old new lines
+  pub spelled : SpellBlock command result new.at_end lines

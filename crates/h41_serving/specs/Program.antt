@@ -1,0 +1,215 @@
+-- What the program does with the words of its command line: what it reads, prints and tells, and
+-- its status.
+use Rattle.std.specs.Prelude.{◌≡◌, ◌≢◌, ◌⊎◌, ℕ, ◌≤◌, Bool, true, false, List, [], ◌∷◌, ◌++◌, codes}
+use Rattle.std.specs.Prelude.{drop, Result, IfNone, IfSome, MatchBool, MatchResult, string_bytes}
+use Rattle.std.specs.Borrow.{Bor}
+use Rattle.std.specs.Fn.{CalledAt, Mut}
+use Rattle.std.specs.Io.KnownBytes.{Keeps}
+use Rattle.std.specs.Str.{bytes_eq}
+use Rattle.clap.specs.Words.{IsAmong, Kinds, fault_of}
+use Rattle.clap.specs.declared.error.kind.ErrorKind.{ErrorKind}
+use Rattle.h41_ends.specs.declared.sink.Sink as sinks
+use Rattle.h41_ends.specs.declared.source.FromRead.{FromRead}
+use Rattle.h41_ends.specs.declared.source.Source as sources
+use Rattle.h41_ends.specs.Ends.{has_read_failed, reader_of}
+use Rattle.h41_refusals.specs.declared.fault.Fault.{Fault}
+use Rattle.h41_refusals.specs.declared.fault.Fault.TheVariants.{OutOfMemory, ReadFault, WriteFault}
+use Rattle.h41_arguments.specs.BenchCommand.{bench_app, command_asked, job_asked}
+use Rattle.h41_arguments.specs.CommandLine.{asks_help, asks_version, file_for, gives_twice}
+use Rattle.h41_arguments.specs.CommandLine.{gives_wrong_value, is_mistake}
+use Rattle.h41_arguments.specs.Ending.{kind_status, option_mistake, parts_of}
+use Rattle.h41_arguments.specs.declared.arguments.Ending.{Ending}
+use Rattle.h41_arguments.specs.declared.arguments.Ending.TheVariants as endings
+use Rattle.h41_arguments.specs.declared.arguments.Job.{Job}
+use Rattle.h41_arguments.specs.declared.arguments.Task.{Task}
+use Rattle.h41_arguments.specs.declared.arguments.Task.TheVariants as tasks
+use Rattle.h41_arguments.specs.declared.memory.MemorySize.TheVariants as sizes
+use Rattle.h41_serving.specs.Causes.{IsSaid, cause_line}
+use Rattle.h41_serving.specs.Statuses.{EndsJob, IsCause, IsTaskStatus, TellsMark, fault_line}
+use Rattle.h41_serving.specs.Tasks.{JobBegun, JobLeavesFront, JobLeavesUnread, JobPassedOn}
+use Rattle.h41_serving.specs.Tasks.{JobWritesText, Tells, TellsWord}
+
+-- the words, of which the first is the program's own name, whatever that was
+abbrev pub behind_name : List (List ℕ) → List (List ℕ)
+behind_name words = codes "bench" ∷ drop 1 words
+
+-- what is said where a word is no text
+abbrev pub no_text : List ℕ
+no_text = codes "error: a word of the command line is not UTF-8\n"
+
+-- the status where a text is told of wrong words, and where a text is printed that was asked for: 3
+-- where the end for it failed
+abbrev pub mistake_status : Bool → ℕ
+mistake_status false = 2
+mistake_status true = 3
+
+abbrev pub print_status : Bool → ℕ
+print_status false = 0
+print_status true = 3
+
+-- a fault's line, and then what the system said of a file that cannot be opened
+abbrev pub TellsUnopened : {E : Type 0} → sinks.Ghosts E → E → E → List ℕ → Type 0
+TellsUnopened told old new file =
+    (cause : List ℕ) × Tells told old new (fault_line ReadFault ++ cause_line file cause)
+
+-- ---- where there is no job
+
+module _ {W E : Type 0} (sink : sinks.Ghosts W) (told : sinks.Ghosts E) (old new : W)
+    (told_old told_new : E) (status : ℕ) where
+  -- a text is printed that was asked for, and where that fails the fault is told
+  pub record PrintsText (text : List ℕ) : Type 0 where
+    pub ends : status ≡ print_status (sink.failed new)
+    pub printed : Tells sink old new text
+    pub silent : sink.failed new ≡ false → told_new ≡ told_old
+    pub fault : sink.failed new ≡ true → Tells told told_old told_new (fault_line WriteFault)
+
+  -- a text is told of wrong words, and nothing printed
+  pub record TellsWrong (text : List ℕ) : Type 0 where
+    pub ends : status ≡ mistake_status (told.failed told_new)
+    pub line : Tells told told_old told_new text
+    pub silent : new ≡ old
+
+  -- it is told that memory ran out, and nothing printed
+  pub record TellsOut : Type 0 where
+    pub ends : status ≡ 3
+    pub line : Tells told told_old told_new (fault_line OutOfMemory)
+    pub silent : new ≡ old
+
+  abbrev pub EndsAtOnce : Ending → Type 0
+  EndsAtOnce (endings.Help text) = PrintsText (string_bytes text)
+  EndsAtOnce (endings.Mistake text) = TellsWrong (string_bytes text)
+  EndsAtOnce endings.OutOfMemory = TellsOut
+
+-- ---- a job over what a reader gives
+
+module _ {R W E : Type 0} (source : sources.Ghosts R) (sink : sinks.Ghosts W)
+    (told : sinks.Ghosts E) (before after : R) (old new : W) (told_old told_new : E)
+    (status : ℕ) where
+  -- a fault came for its cause, and its line is told, with what the system said of the job's file
+  -- behind it where a read failed
+  pub record TellsFaultOf (job : Job) : Type 0 where
+    pub fault : Fault
+    pub cause : IsCause fault job.task source sink before after old new
+    pub said : List ℕ
+    pub says : IsSaid job.file.now (source.failed after) said
+    pub line : Tells told told_old told_new (fault_line fault ++ said)
+
+  -- what `serve` promises, with that
+  pub record ServesNamed (job : Job) : Type 0 where
+    pub ends : IsTaskStatus job.task status
+    pub text : JobWritesText status job source sink before old new
+    pub flushed : status ≢ 3 → sink.flushed new ≡ true
+    pub outcome : status ≢ 3 → IfSome (source.remaining before) (EndsJob job status)
+    pub silent : status ≤ 1 → Keeps (told.contents told_old) (told.contents told_new)
+    pub mistake : TellsWord status job source told before told_old told_new
+    pub reader : TellsMark status (source.failed after)
+    pub writer : TellsMark status (sink.failed new)
+    pub begun : JobBegun status job source sink before after old new
+    pub unread : JobLeavesUnread job source sink before after old new
+    pub cut : JobLeavesFront status job source sink before after old new
+    pub passed : JobPassedOn status job (sink.failed new) (sink.flushed new)
+    pub fault : status ≡ 3 → TellsFaultOf job
+
+-- ---- the program, with what opens a file, standard input, the output and the end for faults
+
+module _ {O R X W E : Type 0} (opener : Mut O (Bor (List ℕ) × Unit {0}) (Result R X))
+    (source : sources.Ghosts (FromRead R)) (sink : sinks.Ghosts W) (told : sinks.Ghosts E)
+    (opener_old opener_new : O) (input_old input_new : FromRead R) (old new : W)
+    (told_old told_new : E) (status : ℕ) where
+  -- no file is opened, and nothing read of standard input
+  pub record LeavesInputs : Type 0 where
+    pub unopened : opener_new ≡ opener_old
+    pub unread : input_new ≡ input_old
+
+  -- memory ran out before there was anything to do
+  pub record RunsOut : Type 0 where
+    pub inputs : LeavesInputs
+    pub out : TellsOut sink told old new told_old told_new status
+
+  -- a text is printed that was asked for
+  pub record EndsPrinted (text : List ℕ) : Type 0 where
+    pub inputs : LeavesInputs
+    pub prints : PrintsText sink told old new told_old told_new status text
+
+  -- the words are wrong, which a text says
+  pub record EndsMistaken (text : List ℕ) : Type 0 where
+    pub inputs : LeavesInputs
+    pub tells : TellsWrong sink told old new told_old told_new status text
+
+  -- a job over standard input, and no file is opened
+  pub record DoesJobOfInput (job : Job) : Type 0 where
+    pub unopened : opener_new ≡ opener_old
+    pub serves :
+        ServesNamed source sink told input_old input_new old new told_old told_new status job
+
+  -- a job over a file that was opened, from its begin
+  pub record DoesJobOver (job : Job) (file : R) : Type 0 where
+    pub before : FromRead R
+    pub after : FromRead R
+    pub reader : reader_of before ≡ file
+    pub clear : has_read_failed before ≡ false
+    pub serves : ServesNamed source sink told before after old new told_old told_new status job
+
+  -- the file cannot be opened
+  pub record IsUnopened (job : Job) : Type 0 where
+    pub ends : status ≡ 3
+    pub silent : new ≡ old
+    pub line : TellsUnopened told told_old told_new job.file.now
+
+  -- a job over the file of its name, which is opened, and nothing is read of standard input
+  pub record DoesJobOfFile (job : Job) : Type 0 where
+    pub unread : input_new ≡ input_old
+    pub opened : Result R X
+    pub opens : CalledAt opener opener_old job.file.now opened opener_new
+    pub does : MatchResult opened (DoesJobOver job) (λ error. IsUnopened job)
+
+  -- the name of standard input is `-`
+  abbrev pub DoesJob : Job → Type 0
+  DoesJob job =
+      MatchBool (bytes_eq job.file.now (codes "-")) (DoesJobOfInput job) (DoesJobOfFile job)
+
+  pub record DoesJobOf (parts : Task × List ℕ) : Type 0 where
+    pub job : Job
+    pub parts_are : parts_of job ≡ parts
+    pub does : DoesJob job
+
+  -- a parse refuses the words, by an error of one of these kinds
+  pub record EndsRefused (kinds : Kinds) : Type 0 where
+    pub kind : ErrorKind
+    pub among : IsAmong kind kinds
+    pub text : List ℕ
+    pub asked : kind_status kind ≡ 0 → EndsPrinted text
+    pub mistaken : kind_status kind ≡ 2 → EndsMistaken text
+
+  -- what is done for the words of any command line: the job that a parse of them meets, where it
+  -- takes them, or what is said of the option's wrong value; else help, the version or a mistake
+  pub record AnswersWords (words : List (List ℕ)) : Type 0 where
+    pub job :
+        fault_of bench_app words ≡ []
+        → IfSome (job_asked words) (λ parts. RunsOut ⊎ DoesJobOf parts)
+    pub option :
+        fault_of bench_app words ≡ []
+        → IfNone (job_asked words)
+        (RunsOut ⊎ EndsMistaken (option_mistake (command_asked words)))
+    pub refused :
+        fault_of bench_app words ≢ [] → RunsOut ⊎ EndsRefused (fault_of bench_app words)
+
+  -- and in plain words, where help, the version or a job without an option is asked for, or a
+  -- command or FILE is missing, or there are two, or the option is given twice or has a wrong value
+  pub record AnswersPlainly (words : List (List ℕ)) : Type 0 where
+    pub run :
+        IfSome (file_for (codes "run") words)
+        (λ file. RunsOut ⊎ DoesJobOf (tasks.Run sizes.Cv, file))
+    pub asm :
+        IfSome (file_for (codes "asm") words)
+        (λ file. RunsOut ⊎ DoesJobOf (tasks.Assemble 0x8000, file))
+    pub dis :
+        IfSome (file_for (codes "dis") words)
+        (λ file. RunsOut ⊎ DoesJobOf (tasks.List 0x8000, file))
+    pub help : asks_help words ≡ true → RunsOut ⊎ ((text : List ℕ) × EndsPrinted text)
+    pub version : asks_version words ≡ true → RunsOut ⊎ ((text : List ℕ) × EndsPrinted text)
+    pub mistake : is_mistake words ≡ true → RunsOut ⊎ ((text : List ℕ) × EndsMistaken text)
+    pub twice : gives_twice words ≡ true → RunsOut ⊎ ((text : List ℕ) × EndsMistaken text)
+    pub value :
+        gives_wrong_value words ≡ true
+        → RunsOut ⊎ EndsMistaken (option_mistake (command_asked words))

@@ -1,0 +1,204 @@
+//! The program: what it does with the words of its command line, a file or standard input, and its two outputs.
+
+ghost use Rattle.std.specs.Prelude.{◌≡◌, ◌≢◌, ◌≤◌, false, IfErr, IfOk, List, ℕ, map, string_bytes};
+ghost use Rattle.std.specs.Fn.{TakesAt};
+ghost use Rattle.std.specs.IoError.{error_kind};
+ghost use Rattle.h41_ends.specs.Ends.{has_read_failed};
+ghost use Rattle.h41_serving.specs.Program.{AnswersPlainly, AnswersWords, DoesJob, EndsAtOnce};
+ghost use Rattle.h41_serving.specs.Program.{EndsMistaken, PrintsText, RunsOut, ServesNamed};
+ghost use Rattle.h41_serving.specs.Program.{TellsUnopened, behind_name, mistake_status, no_text};
+ghost use Rattle.h41_serving.specs.Tasks.{Tells};
+
+use crate::causes::{NAME, tell_cause};
+use crate::serving::{ACCEPTED, FAILED, MISTAKEN, serve, tell, tell_text};
+use h41_arguments::{Ending, Job, read_words};
+use h41_ends::{FromRead, Sink, Source};
+use h41_refusals::Fault;
+use std::alloc::{AllocError, Global};
+use std::io::{self, ErrorKind, Read};
+
+/// What is said where a word of the command line is no text.
+const NO_TEXT: &str = "error: a word of the command line is not UTF-8\n";
+
+/// Does what the words of the command line ask for, of which the first is the program's name: a job over the file that
+/// it names, which `open_file` opens, or over standard input where its name is `-`. What it prints goes to `output`, as do help and the
+/// version; what is wrong with the words, and faults, go to `faults`. The marks of the three ends are clear before. Answers the
+/// program's status: that of the job, 0 of help and the version, 2 of wrong words, 3 where memory or an end failed.
+pub fn run_program<O: FnMut(&str) -> io::Result<R>, R: Read + Drop, W: Sink, E: Sink>(
+    alloc: Global,
+    words: io::Result<Vec<String>>,
+    open_file: &mut O,
+    input: &mut FromRead<R>,
+    output: &mut W,
+    faults: &mut E,
+) -> u8
+    requires opens { (file : List ℕ) → TakesAt O.FnMut open_file.old file }
+    requires input_clear { has_read_failed input.old ≡ false }
+    requires output_clear { W.failed output.old ≡ false }
+    requires faults_clear { E.failed faults.old ≡ false }
+    ensures words { IfOk words (λ all. AnswersWords
+        O.FnMut ⟦<FromRead<R> as Source>⟧ W.Sink E.Sink open_file.old open_file.new
+        input.old input.new output.old output.new faults.old faults.new result
+        (behind_name (map string_bytes all.items))) }
+    ensures plainly { IfOk words (λ all. AnswersPlainly
+        O.FnMut ⟦<FromRead<R> as Source>⟧ W.Sink E.Sink open_file.old open_file.new
+        input.old input.new output.old output.new faults.old faults.new result
+        (behind_name (map string_bytes all.items))) }
+    ensures no_memory { IfErr words (λ error. error_kind error ≡ ErrorKind.OutOfMemory
+        → RunsOut
+        O.FnMut ⟦<FromRead<R> as Source>⟧ W.Sink E.Sink open_file.old open_file.new
+        input.old input.new output.old output.new faults.old faults.new result) }
+    ensures no_text { IfErr words (λ error. error_kind error ≢ ErrorKind.OutOfMemory
+        → EndsMistaken
+        O.FnMut ⟦<FromRead<R> as Source>⟧ W.Sink E.Sink open_file.old open_file.new
+        input.old input.new output.old output.new faults.old faults.new result no_text) }
+    ensures bound { result ≤ 3 }
+{
+    match words {
+        Ok(words) => run_words(alloc, words.as_slice(), open_file, input, output, faults),
+        Err(error) if error.kind() == ErrorKind::OutOfMemory => tell(Fault::OutOfMemory, faults),
+        Err(_) => tell_wrong(NO_TEXT, faults),
+    }
+}
+
+/// The same, where each word is a text.
+fn run_words<O: FnMut(&str) -> io::Result<R>, R: Read + Drop, W: Sink, E: Sink>(
+    alloc: Global,
+    words: &[String],
+    open_file: &mut O,
+    input: &mut FromRead<R>,
+    output: &mut W,
+    faults: &mut E,
+) -> u8
+    requires opens { (file : List ℕ) → TakesAt O.FnMut open_file.old file }
+    requires input_clear { has_read_failed input.old ≡ false }
+    requires output_clear { W.failed output.old ≡ false }
+    requires faults_clear { E.failed faults.old ≡ false }
+    ensures words { AnswersWords
+        O.FnMut ⟦<FromRead<R> as Source>⟧ W.Sink E.Sink open_file.old open_file.new
+        input.old input.new output.old output.new faults.old faults.new result
+        (behind_name (map string_bytes words.now)) }
+    ensures bound { result ≤ 3 }
+{
+    let Ok(words) = named(alloc, words) else {
+        return tell(Fault::OutOfMemory, faults);
+    };
+    match read_words(alloc, words.as_slice()) {
+        Ok(job) => run_job(alloc, job, open_file, input, output, faults),
+        Err(ending) => end(&ending, output, faults),
+    }
+}
+
+/// The words with the program's own name for the first, under whatever name it was started.
+fn named(alloc: Global, words: &[String]) -> Result<Vec<&str>, AllocError>
+    ensures { IfOk result (λ all. map (λ w. w.now) all.items
+        ≡ behind_name (map string_bytes words.now)) }
+{
+    let mut named = Vec::new(alloc);
+    named.push(NAME)?;
+    if let [_, others @ ..] = words {
+        for word in others {
+            named.push(word.as_str())?;
+        }
+    }
+    Ok(named)
+}
+
+/// Prints or tells what there is to say in place of a job. Answers the status.
+fn end<W: Sink, E: Sink>(ending: &Ending, output: &mut W, faults: &mut E) -> u8
+    requires output_clear { W.failed output.old ≡ false }
+    requires faults_clear { E.failed faults.old ≡ false }
+    ensures { EndsAtOnce W.Sink E.Sink output.old output.new faults.old faults.new result
+        ending.now }
+{
+    match ending {
+        Ending::Help(text) => print(text.as_str(), output, faults),
+        Ending::Mistake(text) => tell_wrong(text.as_str(), faults),
+        Ending::OutOfMemory => tell(Fault::OutOfMemory, faults),
+    }
+}
+
+/// Prints a text that was asked for. Answers the status 0, or 3 where the output fails, which is told.
+fn print<W: Sink, E: Sink>(text: &str, output: &mut W, faults: &mut E) -> u8
+    requires output_clear { W.failed output.old ≡ false }
+    requires faults_clear { E.failed faults.old ≡ false }
+    ensures { PrintsText W.Sink E.Sink output.old output.new faults.old faults.new result text.now }
+{
+    tell_text(text, output);
+    if output.failed() {
+        tell(Fault::WriteFault, faults)
+    } else {
+        ACCEPTED
+    }
+}
+
+/// Tells what is wrong with the words. Answers the status 2, or 3 where it cannot be told.
+fn tell_wrong<E: Sink>(text: &str, faults: &mut E) -> u8
+    requires { E.failed faults.old ≡ false }
+    ensures status { result ≡ mistake_status (E.failed faults.new) }
+    ensures line { Tells E.Sink faults.old faults.new text.now }
+{
+    tell_text(text, faults);
+    if faults.failed() { FAILED } else { MISTAKEN }
+}
+
+/// Does the job over its file, or over standard input where the file's name is `-`. Answers its status.
+fn run_job<O: FnMut(&str) -> io::Result<R>, R: Read + Drop, W: Sink, E: Sink>(
+    alloc: Global,
+    job: Job<'_>,
+    open_file: &mut O,
+    input: &mut FromRead<R>,
+    output: &mut W,
+    faults: &mut E,
+) -> u8
+    requires opens { (file : List ℕ) → TakesAt O.FnMut open_file.old file }
+    requires input_clear { has_read_failed input.old ≡ false }
+    requires output_clear { W.failed output.old ≡ false }
+    requires faults_clear { E.failed faults.old ≡ false }
+    ensures { DoesJob
+        O.FnMut ⟦<FromRead<R> as Source>⟧ W.Sink E.Sink open_file.old open_file.new
+        input.old input.new output.old output.new faults.old faults.new result job.entry }
+{
+    if job.file == "-" {
+        return serve_named(alloc, job, input, output, faults);
+    }
+    match open_file(job.file) {
+        Ok(file) => serve_named(alloc, job, &mut FromRead::new(file), output, faults),
+        Err(error) => tell_unopened(job.file, &error, faults),
+    }
+}
+
+/// Tells that a file cannot be opened, and what the system said of it. Answers the status 3.
+fn tell_unopened<E: Sink>(file: &str, error: &io::Error, faults: &mut E) -> u8
+    requires { E.failed faults.old ≡ false }
+    ensures status { result ≡ 3 }
+    ensures line { TellsUnopened E.Sink faults.old faults.new file.now }
+{
+    let status = tell(Fault::ReadFault, faults);
+    tell_cause(file, error, faults);
+    status
+}
+
+/// Does the job with what a reader gives, and tells what the system said of the file where a read failed. Answers the job's status.
+fn serve_named<R: Read, W: Sink, E: Sink>(
+    alloc: Global,
+    job: Job<'_>,
+    reader: &mut FromRead<R>,
+    output: &mut W,
+    faults: &mut E,
+) -> u8
+    requires reader_clear { has_read_failed reader.old ≡ false }
+    requires output_clear { W.failed output.old ≡ false }
+    requires faults_clear { E.failed faults.old ≡ false }
+    ensures { ServesNamed ⟦<FromRead<R> as Source>⟧ W.Sink E.Sink reader.old reader.new
+        output.old output.new faults.old faults.new result job.entry }
+{
+    let status = serve(alloc, job, reader, output, faults);
+    match reader.error() {
+        Some(error) => {
+            tell_cause(job.file, error, faults);
+            status
+        }
+        None => status,
+    }
+}

@@ -1,0 +1,265 @@
+//! The program's command lines, over files and ends of a test: what is read, printed and told, and the status.
+
+use crate::decks::{DECK, TEXT};
+use crate::ends::writer;
+use crate::judge::wants;
+use h41_deck::FromRead;
+use h41_serving::run_program;
+use std::alloc::{AllocError, Global};
+use std::io::{self, ErrorKind, Read};
+use std::process::Abort;
+use std::test::Fail;
+
+/// A file, or standard input, of which each read after `calls` of them fails.
+#[derive(Drop)]
+struct Text {
+    rest: &'static [u8],
+    calls: usize,
+}
+
+impl Read for Text {
+    fn read(&mut self, buffer: &mut [u8]) -> io::Result<usize> {
+        if self.calls == 0 {
+            return Err(io::Error::new(ErrorKind::Other, "it is torn"));
+        }
+        self.calls -= 1;
+        let count = self.rest.len().min(buffer.len());
+        buffer[..count].copy_from_slice(&self.rest[..count]);
+        self.rest = &self.rest[count..];
+        Ok(count)
+    }
+}
+
+/// A text whose reads do not fail.
+fn text(of: &'static str) -> Text {
+    Text {
+        rest: of.as_bytes(),
+        calls: 1000,
+    }
+}
+
+/// The file of a name.
+fn open(name: &str) -> io::Result<Text> {
+    match name {
+        "deck" => Ok(text(DECK)),
+        "source" => Ok(text("LDI 123\nRTN\n")),
+        "words" => Ok(text("130 123 3E0")),
+        "wrong" => Ok(text("130 123 400")),
+        "torn" => Ok(Text {
+            rest: b"fly\n",
+            calls: 0,
+        }),
+        _ => Err(io::Error::new(ErrorKind::NotFound, "there is none")),
+    }
+}
+
+/// The words behind the program's name; how many calls the output and the end for faults take; the status, what is printed, and
+/// what is told. A text that ends in `..` is a part of it.
+type ProgramRow = (
+    &'static [&'static str],
+    usize,
+    usize,
+    u8,
+    &'static str,
+    &'static str,
+);
+
+/// Standard input is a deck of one wrong command.
+const INPUT: &str = "fly\n";
+
+/// What it prints.
+const REPLY: &str = "! 50 BadCommand\n";
+
+/// What is told of a file that is missing.
+const MISSING: &str = "! 22 ReadFault\nbench: none: there is none\n";
+
+/// What is told of a wrong size of memory, and of a wrong origin.
+const MEMORY: &str = "error: the memory is none of 64, 128, 192, 256 and 320 registers\n";
+
+const ORIGIN: &str = "error: the origin has not four hexadecimal digits\n";
+
+const USAGE: &str = "Usage: bench..";
+
+/// Each row ends so.
+fn end(rt: &impl Abort, alloc: Global, rows: &[ProgramRow]) -> Result<(), Fail> {
+    for (words, writes, tells, status, printed, told) in rows {
+        let mut open_file = |name: &str| open(name);
+        let mut input = FromRead::new(text(INPUT));
+        let mut output = writer(alloc, 10_000, *writes);
+        let mut faults = writer(alloc, 10_000, *tells);
+        let given = Ok(strings(alloc, words)?);
+        let answered = run_program(
+            alloc,
+            given,
+            &mut open_file,
+            &mut input,
+            &mut output,
+            &mut faults,
+        );
+        assert!(rt; answered == *status, "status {answered} of {words:?}");
+        wants(rt, printed, is_text(output.taken.as_slice(), printed));
+        wants(rt, told, is_text(faults.taken.as_slice(), told));
+    }
+    Ok(())
+}
+
+/// The program's own name and these words.
+fn strings(alloc: Global, words: &[&str]) -> Result<Vec<String>, AllocError> {
+    let mut all = Vec::new(alloc);
+    all.push(String::from_str(alloc, "/bin/bench")?)?;
+    for word in words {
+        all.push(String::from_str(alloc, word)?)?;
+    }
+    Ok(all)
+}
+
+/// The bytes are this text, or have this part.
+fn is_text(bytes: &[u8], text: &str) -> bool {
+    match text.strip_suffix("..") {
+        Some(part) => match std::str::from_utf8(bytes) {
+            Ok(said) => said.contains(part),
+            Err(_) => false,
+        },
+        None => bytes == text.as_bytes(),
+    }
+}
+
+#[test]
+fn reads_its_input(rt: HostRuntime) -> Result<(), Fail> {
+    let rows: [ProgramRow; 8] = [
+        (&["run", "deck"], 100, 100, 1, TEXT, ""),
+        (&["run", "--memory", "64", "deck"], 100, 100, 1, TEXT, ""),
+        (&["run", "-"], 100, 100, 1, REPLY, ""),
+        (&["run", "--memory=64", "-"], 100, 100, 1, REPLY, ""),
+        (&["asm", "source"], 100, 100, 0, "130\n123\n3E0\n", ""),
+        (
+            &["asm", "source", "--origin", "9000"],
+            100,
+            100,
+            0,
+            "130\n123\n3E0\n",
+            "",
+        ),
+        (&["dis", "words"], 100, 100, 0, "LDI 123\nRTN\n", ""),
+        (&["asm", "-"], 100, 100, 1, "! 30 BadLine 1\n", ""),
+    ];
+    end(&rt, rt.alloc(), &rows)
+}
+
+#[test]
+fn tells_what_fails(rt: HostRuntime) -> Result<(), Fail> {
+    let wrong = "error: word 3 is not a hexadecimal number up to 3FF\n";
+    let rows: [ProgramRow; 9] = [
+        (&["run", "none"], 100, 100, 3, "", MISSING),
+        (&["asm", "none"], 100, 100, 3, "", MISSING),
+        (&["run", "none"], 100, 0, 3, "", ""),
+        (&["run", "none"], 100, 3, 3, "", "! 22 ReadFault\nbench: "),
+        (
+            &["run", "torn"],
+            100,
+            100,
+            3,
+            "",
+            "! 22 ReadFault\nbench: torn: it is torn\n",
+        ),
+        (&["run", "deck"], 0, 100, 3, "", "! 23 WriteFault\n"),
+        (&["run", "torn"], 0, 0, 3, "", ""),
+        (&["dis", "wrong"], 100, 100, 2, "", wrong),
+        (&["dis", "wrong"], 100, 0, 2, "", ""),
+    ];
+    end(&rt, rt.alloc(), &rows)
+}
+
+#[test]
+fn prints_what_is_asked_for(rt: HostRuntime) -> Result<(), Fail> {
+    let rows: [ProgramRow; 6] = [
+        (&["--help"], 100, 100, 0, USAGE, ""),
+        (&["help"], 100, 100, 0, USAGE, ""),
+        (&["run", "-h"], 100, 100, 0, USAGE, ""),
+        (
+            &["--version"],
+            100,
+            100,
+            0,
+            "bench 0.1.0, proved with rattle-kit-..",
+            "",
+        ),
+        (&["--help"], 0, 100, 3, "", "! 23 WriteFault\n"),
+        (&["-V"], 0, 0, 3, "", ""),
+    ];
+    end(&rt, rt.alloc(), &rows)
+}
+
+#[test]
+fn tells_wrong_words(rt: HostRuntime) -> Result<(), Fail> {
+    let rows: [ProgramRow; 13] = [
+        (&[], 100, 100, 2, "", USAGE),
+        (&["walk"], 100, 100, 2, "", USAGE),
+        (&["run"], 100, 100, 2, "", USAGE),
+        (&["run", "-", "-"], 100, 100, 2, "", USAGE),
+        (&["run", "--walk"], 100, 100, 2, "", USAGE),
+        (
+            &["run", "--memory=64", "--memory=64", "-"],
+            100,
+            100,
+            2,
+            "",
+            USAGE,
+        ),
+        (
+            &["dis", "--origin", "9000", "-", "--origin", "9000"],
+            100,
+            100,
+            2,
+            "",
+            USAGE,
+        ),
+        (
+            &["run", "-", "--memory"],
+            100,
+            100,
+            2,
+            "",
+            "a value is required..",
+        ),
+        (&["run", "--memory", "65", "-"], 100, 100, 2, "", MEMORY),
+        (&["run", "--memory=", "-"], 100, 100, 2, "", MEMORY),
+        (&["asm", "--origin", "900", "-"], 100, 100, 2, "", ORIGIN),
+        (&["walk"], 100, 0, 3, "", ""),
+        (&["run", "--memory", "65", "-"], 100, 1, 3, "", MEMORY),
+    ];
+    end(&rt, rt.alloc(), &rows)
+}
+
+#[test]
+fn tells_words_that_cannot_be_had(rt: HostRuntime) {
+    let rows = [
+        (
+            ErrorKind::InvalidData,
+            2,
+            "error: a word of the command line is not UTF-8\n",
+        ),
+        (ErrorKind::OutOfMemory, 3, "! 21 OutOfMemory\n"),
+    ];
+    for (kind, status, told) in rows {
+        let mut open_file = |name: &str| open(name);
+        let mut input = FromRead::new(text(INPUT));
+        let mut output = writer(rt.alloc(), 1, 100);
+        let mut faults = writer(rt.alloc(), 1, 100);
+        let words = Err(io::Error::from(kind));
+        let answered = run_program(
+            rt.alloc(),
+            words,
+            &mut open_file,
+            &mut input,
+            &mut output,
+            &mut faults,
+        );
+        assert!(rt; answered == status, "status {answered}");
+        wants(
+            &rt,
+            told,
+            faults.taken.as_slice() == told.as_bytes() && output.taken.is_empty(),
+        );
+    }
+}

@@ -31,7 +31,7 @@ impl Read for Text {
 }
 
 /// A text whose reads do not fail.
-fn text(of: &'static str) -> Text {
+fn sound_text(of: &'static str) -> Text {
     Text {
         rest: of.as_bytes(),
         calls: 1000,
@@ -41,10 +41,10 @@ fn text(of: &'static str) -> Text {
 /// The file of a name.
 fn open(name: &str) -> io::Result<Text> {
     match name {
-        "deck" => Ok(text(DECK)),
-        "source" => Ok(text("LDI 123\nRTN\n")),
-        "words" => Ok(text("130 123 3E0")),
-        "wrong" => Ok(text("130 123 400")),
+        "deck" => Ok(sound_text(DECK)),
+        "source" => Ok(sound_text("LDI 123\nRTN\n")),
+        "words" => Ok(sound_text("130 123 3E0")),
+        "wrong" => Ok(sound_text("130 123 400")),
         "torn" => Ok(Text {
             rest: b"fly\n",
             calls: 0,
@@ -84,7 +84,7 @@ const USAGE: &str = "Usage: bench..";
 fn end(rt: &impl Abort, alloc: Global, rows: &[ProgramRow]) -> Result<(), Fail> {
     for (words, writes, tells, status, printed, told) in rows {
         let mut open_file = |name: &str| open(name);
-        let mut input = FromRead::new(text(INPUT));
+        let mut input = FromRead::new(sound_text(INPUT));
         let mut output = writer(alloc, 10_000, *writes);
         let mut faults = writer(alloc, 10_000, *tells);
         let given = Ok(strings(alloc, words)?);
@@ -243,7 +243,7 @@ fn tells_words_that_cannot_be_had(rt: HostRuntime) {
     ];
     for (kind, status, told) in rows {
         let mut open_file = |name: &str| open(name);
-        let mut input = FromRead::new(text(INPUT));
+        let mut input = FromRead::new(sound_text(INPUT));
         let mut output = writer(rt.alloc(), 1, 100);
         let mut faults = writer(rt.alloc(), 1, 100);
         let words = Err(io::Error::from(kind));

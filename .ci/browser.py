@@ -10,7 +10,7 @@ import time
 import urllib.error
 import urllib.request
 
-# The seconds that anything may take. They pass only where something fails.
+# The timeout of each request, in seconds. Only a request that fails takes as long.
 PATIENCE = 300
 
 ELEMENT = "element-6066-11e4-a52e-4f735466cecf"

@@ -29,7 +29,7 @@ WAITING |= {name: (2, False, False) for name in ("SF", "CF", "FS?")}
 WAITING |= {name: (1, False, False) for name in ("FIX", "SCI", "ENG")}
 WAITING |= {name: (2, False, True) for name in ("GTO", "XEQ", "LBL")}
 
-# Lines whose key is printed otherwise, and functions of keys that are left out.
+# Lines whose key has another legend, and functions of keys that are not supported.
 LINE_OF_KEY = {"SIGMA+": "S+", "ENTER": "ENTER^"}
 LEFT_OUT = {"S+", "S-", "Y^X", "LOG", "10^X", "LN", "E^X", "CLS", "SIN", "ASIN", "COS", "ACOS", "TAN", "ATAN", "P-R", "R-P"}
 
@@ -110,7 +110,7 @@ class Calculator:
         self.shift = self.program_mode = False
         self.message = None
         # What is being typed: a number as its characters, None where there is none; a text, "" where there is none, "letters"
-        # behind a letter, "append" behind SHIFT XEQ.
+        # after a letter, "append" after SHIFT XEQ.
         self.number, self.text = None, ""
         # The function that waits for its parameter, and what is typed of it.
         self.waiting, self.indirect, self.digits, self.point, self.name = None, False, "", False, None
@@ -192,7 +192,7 @@ class Calculator:
     # ---- Lines in memory
 
     def pack(self):
-        """Where each line stands: a null is between two numbers, and .END. ends its register."""
+        """The address of each line: there is a null between two numbers, and .END. ends its register."""
         at, before, self.places = 0, "", []
         for line in self.lines[:-1]:
             at += bool(NUMBER.fullmatch(before) and NUMBER.fullmatch(line))
@@ -521,7 +521,7 @@ class Calculator:
             self.go(index - 1)
 
     def go_to_end(self):
-        """GTO . . puts an END behind a last program that has lines, and goes behind it."""
+        """GTO . . adds an END after a last program that has lines, and goes to the line after it."""
         if self.lines[-2:-1] not in ([], ["END"]):
             self.changed(self.lines[:-1] + ["END", ".END."], len(self.lines))
         self.go_top(len(self.lines) - 1)
@@ -529,7 +529,7 @@ class Calculator:
     # ---- Lines that are typed, and stepped
 
     def line(self, line):
-        """A line is typed: it is stored in program mode, else carried out where it stands."""
+        """A line is typed: in program mode it is stored, otherwise it is executed at once."""
         if self.program_mode:
             self.text = ""
             if found := re.fullmatch(r'XEQ "(.*)"', line):
@@ -540,7 +540,7 @@ class Calculator:
         self.failing(lambda: self.carry_out(line, None), False)
 
     def failing(self, change, stepped):
-        """A fault changes nothing but the message and the mark of line 00; with flag 25 this flag, and the next line comes."""
+        """An error changes only the message and the line 00 flag; if flag 25 is set, only that flag, and execution continues."""
         before = self.copy()
         try:
             change()
@@ -559,7 +559,7 @@ class Calculator:
                 self.mode = "Idle"
 
     def pass_line(self, count=1):
-        """The position goes behind the line, or behind so many; at .END. it stays."""
+        """The position moves past the line, or past this many lines; at .END. it does not move."""
         self.go(min(self.index() + count, len(self.lines) - 1))
 
     def step(self):

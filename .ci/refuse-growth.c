@@ -1,5 +1,5 @@
-// Loaded before a program, it refuses the growth of memory that REFUSED_GROWTH counts, from 1. Where the program asks for
-// fewer, it ends with status 99.
+// Preloaded into a program, it lets the allocation with the number REFUSED_GROWTH, counted from 1, fail. If the program makes fewer
+// allocations, it ends with status 99.
 #include <stdlib.h>
 #include <unistd.h>
 

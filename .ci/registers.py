@@ -13,7 +13,7 @@ PI = Decimal("3.141592654")
 
 
 class Fault(Exception):
-    """A line's fault: the message that the display shows."""
+    """A line's error: the message that the display shows."""
 
 
 def nearest(exact, bounded):
@@ -28,7 +28,7 @@ def nearest(exact, bounded):
 
 def typed(text):
     """What a whole number line is worth: the digits before the E as one whole number, times ten to the exponent less the count
-    of digits behind the point. Past exponent 99 that is the greatest number, below -99 zero."""
+    of digits after the point. Past exponent 99 that is the greatest number, below -99 zero."""
     sign, front, _, behind, turned, exponent = re.fullmatch(r"(-?)(\d*)(\.?)(\d*)(?:E(-?)(\d*))?", text).groups()
     digits = (front + behind).lstrip("0")
     scale = int(exponent or 0) * (-1 if turned else 1) - len(behind)
@@ -85,7 +85,7 @@ def register_text(value, flags):
 
 
 def number(value):
-    """A register's number; ALPHA data is a fault."""
+    """A register's number; ALPHA data is an error."""
     if isinstance(value, str):
         raise Fault("ALPHA DATA")
     return value

@@ -55,10 +55,10 @@ RefusedByKind words result = fault_of bench_app words ≢ []
 -- origin
 abbrev pub memory_mistake : List ℕ
 memory_mistake =
-    codes "error: the memory is none of 64, 128, 192, 256 and 320 registers\n"
+    codes "error: wrong value of --memory: expected 64, 128, 192, 256 or 320\n"
 
 abbrev pub origin_mistake : List ℕ
-origin_mistake = codes "error: the origin has not four hexadecimal digits\n"
+origin_mistake = codes "error: wrong value of --origin: expected four hexadecimal digits\n"
 
 abbrev pub option_mistake : Option Text → List ℕ
 option_mistake None = origin_mistake

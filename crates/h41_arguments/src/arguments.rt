@@ -78,10 +78,10 @@ const MEMORY: MemorySize = MemorySize::Cv;
 const VERSION: &str = "0.1.0, proved with rattle-kit-13f logic dac8208d650f15bf";
 
 /// What a wrong origin is answered with.
-const WRONG_ORIGIN: &str = "error: the origin has not four hexadecimal digits\n";
+const WRONG_ORIGIN: &str = "error: wrong value of --origin: expected four hexadecimal digits\n";
 
 /// What a wrong size of memory is answered with.
-const WRONG_MEMORY: &str = "error: the memory is none of 64, 128, 192, 256 and 320 registers\n";
+const WRONG_MEMORY: &str = "error: wrong value of --memory: expected 64, 128, 192, 256 or 320\n";
 
 /// How the program is started.
 const USAGE: &str = "\
@@ -91,7 +91,7 @@ bench run [--memory N] FILE
 
 /// What help tells behind the usage.
 const DECKS: &str = "\
-A deck is a text file of commands, one a line. Such as:
+A deck is a text file of commands, one a line. For example:
 
     words 8
     130 123 226 3E0
@@ -102,23 +102,23 @@ A deck is a text file of commands, one a line. Such as:
 
   words P [bN] [rw]  fills bank N of page P, 4 to F, with the words up to `end`
   image P [bN] [rw]  likewise with the bytes of an image file, in hexadecimal
-  asm P [bN] [rw]  likewise with the words that the source on these lines spells
-  unplug P      takes the page out again
+  asm P [bN] [rw]  likewise with the words of the source on these lines
+  unplug P      unplugs page P with all its banks
   load          loads a keystroke program from the bytes up to `end`
-  program       likewise from its text, a line of the program on each line
+  program       likewise from its text, one program line on each line
   size n        sets the number of data registers
-  reset         begins anew; pages stay plugged
-  call hhhh     begins the function at an address
+  reset         restores the initial state; pages stay plugged
+  call hhhh     starts the function at an address
   key NAME ..   presses keys in turn, by what is printed on them
-  step [n]      carries out n instructions or lines, one where n is missing
-  run n         the same up to a reason to stop, which it tells
-  trace n       the same as step, and tells each before it is made
+  step [n]      executes n instructions or program lines, one if n is missing
+  run n         the same, but stops earlier if there is a reason, and prints it
+  trace n       the same as step, and prints each of them before its execution
   break w hhhh  sets a breakpoint at a word of a function
-  break l n     sets one at a line of a program, by its position
-  break p hhhh  sets one at a line of a program in a page
-  unbreak w hhhh  takes the breakpoint at a word away
-  unbreak l n   takes the one at a line away
-  unbreak p hhhh  takes the one at a line in a page away
+  break l n     sets one at a program line in memory, by its position
+  break p hhhh  sets one at a program line in a page, by its address
+  unbreak w hhhh  removes the breakpoint at a word
+  unbreak l n   removes the one at a program line in memory
+  unbreak p hhhh  removes the one at a program line in a page
   list hhhh n   prints n words from an address on, as instructions
   show cpu      prints the processor
   show ram hhh  prints the register at an address in memory
@@ -126,47 +126,47 @@ A deck is a text file of commands, one a line. Such as:
   show flags    prints the numbers of the flags that are set
   show alpha    prints the text of ALPHA
   show display  prints what the display shows
-  show pos      prints whether a function runs, and where
+  show pos      prints what runs, a function or a program, and the position
   show lines    prints the lines of program memory
   show image P [bN]  prints the image at page P in hexadecimal
   show functions  prints the functions of plugged modules
-  # ...         is a comment, where # is the first character of the line
+  # ...         is a comment if # is the first character of the line
 
-A refused command prints a line such as `! 24 Busy`, and the deck goes on.
+A refused command prints a line such as `! 24 Busy`, and the next one follows.
 
-The program ends with status 0 where nothing was refused, 1 where a refusal was
-printed, 2 at a wrong command line, and 3 where the deck could not be read, its
-output could not be written, or memory was refused.
+The program ends with status 0 if nothing was refused, 1 if a refusal was
+printed, 2 if the command line is wrong, and 3 if the deck could not be read,
+the output could not be written, or an allocation failed.
 
-Beside the program's sources, README.md is the place to begin, docs/DECK.md has
-the whole deck language with each refusal and its usual causes, examples/ has
-decks to try, and tools/where tells which lines of a deck were refused.";
+In the folder of the sources, README.md is the introduction, docs/DECK.md
+describes the whole deck language with each refusal and its usual causes,
+examples/ has decks to try, and tools/where prints which lines were refused.";
 
 /// What help tells of `asm`, behind the usage.
 const SOURCES: &str = "\
 A source is a text file of instructions, one a line, in the mnemonics of this
 project's table, docs/PROCESSOR.md. A label ends with a colon, a reference to it
-begins with one, and a comment begins with a semicolon. Such as:
+begins with one, and a comment begins with a semicolon. For example:
 
     BACK: LDI 123
           C=C+1 S&X
           JNC :BACK ; until the carry is set
           RTN
 
-The words of it are printed, each three hexadecimal digits on a line of its own.
-A source with a fault prints a line such as `! 30 BadLine 2`, which tells the
-fault's line, and ends with status 1.";
+Its words are printed, each as three hexadecimal digits on a line of its own. If
+the source has an error, a line such as `! 30 BadLine 2` is printed, which gives
+the number of the wrong line, and the status is 1.";
 
 /// What help tells of `dis`, behind the usage.
 const WORDS: &str = "\
-The words are hexadecimal numbers up to 3FF, which blanks, tabs and line ends
-part. Such as:
+The words are hexadecimal numbers up to 3FF, separated by spaces, tabs and line
+ends. For example:
 
     130 123 226 3E0
 
 They are printed as instructions, one a line. The origin changes none of them,
-since a jump tells its address or its distance. A word that is none ends the
-program with status 2, and nothing is listed.";
+because a jump is printed with its address or its distance. If one of them is no
+such number, nothing is listed and the program ends with status 2.";
 
 /// The command `bench` with its subcommands.
 fn bench<'a>(alloc: Global) -> Result<Command<'a>, AllocError>
@@ -181,7 +181,7 @@ fn bench<'a>(alloc: Global) -> Result<Command<'a>, AllocError>
 fn empty_bench<'a>(alloc: Global) -> Command<'a>
     ensures { app_of result ≡ empty_bench }
 {
-    let about = "Runs decks of commands of the bench, assembles sources, lists words";
+    let about = "Runs decks of commands for the HP-41 bench, assembles sources, lists words";
     told_command(alloc, "bench", about, USAGE, DECKS)
         .version(VERSION)
         .subcommand_required(true)
@@ -205,7 +205,7 @@ fn run_command<'a>(alloc: Global) -> Result<Command<'a>, AllocError>
     ensures local { IfOk result (λ command. has_globals command ≡ false) }
 {
     let usage = "bench run [--memory N] FILE";
-    let help = "The registers of memory: 64, 128, 192, 256 or 320, and 320 if not given";
+    let help = "The number of registers of memory: 64, 128, 192, 256 or 320 [default: 320]";
     let memory = option_argument(alloc, "memory", "N", help);
     option_command(
         alloc,
@@ -285,7 +285,7 @@ fn origin_argument<'a>(alloc: Global) -> Arg<'a>
     ensures rule { rule_of result ≡ origin_rule }
     ensures local { result.global ≡ false }
 {
-    let help = "The address of the first word, in four hexadecimal digits: 8000 if not given";
+    let help = "The address of the first word, four hexadecimal digits [default: 8000]";
     option_argument(alloc, "origin", "HHHH", help)
 }
 

@@ -74,9 +74,9 @@ const REPLY: &str = "! 50 BadCommand\n";
 const MISSING: &str = "! 22 ReadFault\nbench: none: there is none\n";
 
 /// What is told of a wrong size of memory, and of a wrong origin.
-const MEMORY: &str = "error: the memory is none of 64, 128, 192, 256 and 320 registers\n";
+const MEMORY: &str = "error: wrong value of --memory: expected 64, 128, 192, 256 or 320\n";
 
-const ORIGIN: &str = "error: the origin has not four hexadecimal digits\n";
+const ORIGIN: &str = "error: wrong value of --origin: expected four hexadecimal digits\n";
 
 const USAGE: &str = "Usage: bench..";
 

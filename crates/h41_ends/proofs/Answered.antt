@@ -1,4 +1,4 @@
--- What a read answers: whether there is more, or a fault, and which.
+-- What a read returns: whether there is more, or which error.
 use Rattle.std.proofs.Common.{◌≡◌, Bool, true, false, Result, Ok, Err}
 use Rattle.h41_ends.specs.declared.fault.LineReadFault.{LineReadFault}
 use Rattle.h41_ends.specs.declared.fault.LineReadFault.TheVariants.{ReadFault, WriteFault}

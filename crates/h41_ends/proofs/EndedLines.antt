@@ -1,4 +1,4 @@
--- The lines that have their end in what was read, where reading stops.
+-- The lines whose end was read, when reading stops.
 use Rattle.std.proofs.Common.{inl, inr, not, ◌≡◌, ◌⊎◌, ℕ, ◌+◌, ◌-◌, ◌<◌, ◌≤◌, ◌==◌, Bool, true, false, cond, nat_lt, List, [], ◌∷◌, ◌++◌}
 use Rattle.std.proofs.Common.{length}
 use Rattle.std.proofs.Common.{map, take, get_or, Some, None, refl, sym, subst, ap, ◌∙◌, arith, append_assoc, append-nil}
@@ -17,7 +17,7 @@ use Rattle.h41_ends.specs.declared.input_lines.InputLines.{InputLines}
 use Rattle.h41_ends.specs.InputLines.{HasRead, IsStopped, IsUnended, MayFollow, bytes_within, held_in, told_lines, told_part}
 use Rattle.h41_ends.proofs.ToldLines.{is_end, no_place}
 
--- the parts between line ends, of bytes behind a line end
+-- The parts between line ends, of bytes that follow a line end.
 onto_join : (x : ℕ) (parts others : List (List ℕ)) → 0 < length parts → onto_first x (parts ++ others) ≡ onto_first x parts ++ others
 onto_join x [] others some = absurd (omega (arith, some))
 onto_join x (part ∷ parts) others some = refl
@@ -47,7 +47,7 @@ lines_join xs zs =
     ∙ parts_join (slice_split is_end xs) (slice_split is_end zs) (omega (arith, length-slice_split is_end xs))
     (omega (arith, length-slice_split is_end zs))
 
--- no part of bytes without a line end has one
+-- If bytes contain no line end, none of their parts does.
 none_at : (bytes : List ℕ) → IsUnended bytes → (k : ℕ) → k < length bytes → (get_or bytes k 0 == 10) ≡ false
 none_at bytes none k below =
     let all : position_or_len is_end bytes ≡ length bytes = position_none is_end bytes (sym none) in
@@ -59,7 +59,7 @@ one_line bytes none =
     fails_before_first is_end bytes k d (omega (arith, position_none is_end bytes (sym none), below)) in
     lines_join bytes [] ∙ ap (λ (parts : List (List ℕ)). map strip_carriage_return parts ++ []) (slice_split_none is_end bytes all)
 
--- bytes by their last line end
+-- The bytes up to their last line end.
 record HasLastEnd (bytes : List ℕ) : Type 0 where
   front : List ℕ
   tail : List ℕ
@@ -114,7 +114,7 @@ ended_some front tail none =
     (λ some. ap (λ (k : ℕ). get_or (front ++ 10 ∷ tail) k 0) (sym last) ∙ get_or-append_seam front 10 tail 0))
     ∙ (λ i. take (size i) (whole i)) ∙ take-append_seam (front ++ 10 ∷ []) tail
 
--- with one more line end there is one more line
+-- One more line end makes one more line.
 record HasOneMore (bytes : List ℕ) : Type 0 where
   line : List ℕ
   more : told_lines (bytes ++ 10 ∷ []) ≡ told_lines (ended_lines bytes) ++ line ∷ []
@@ -150,7 +150,7 @@ same_front xs ys x y same =
     let size : length xs ≡ length ys = omega (arith, ap length same, length-append xs (x ∷ []), length-append ys (y ∷ [])) in
     sym (take-append_seam xs (x ∷ [])) ∙ (λ i. take (size i) (same i)) ∙ take-append_seam ys (y ∷ [])
 
--- where reading stops, the lines that were told are those that have their end in what was read
+-- When reading stops, the lines that were returned are those whose end was read.
 pub stopped_lines : (bytes : List ℕ) (told : List (List ℕ)) (input : InputLines) → HasRead bytes told input → IsStopped input
     → told_lines (ended_lines (bytes_within bytes)) ≡ told
 stopped_lines bytes told input read stopped =

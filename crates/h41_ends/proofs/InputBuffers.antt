@@ -1,4 +1,4 @@
--- What stands in the block of an input's bytes.
+-- The bytes in the buffer of an input.
 use Rattle.std.proofs.Common.{inl, inr, ◌≡◌, ℕ, ◌+◌, ◌-◌, ◌<◌, ◌≤◌, ◌==◌, List, [], ◌++◌, length, slice_index, take, drop, min, sym, ap}
 use Rattle.std.proofs.Common.{◌∙◌, arith, length-append, length-take, length-drop, refl}
 use Rattle.std.specs.List.{copy_within}
@@ -12,7 +12,7 @@ use borrow.Rule.Slice.PartMut.{put_mid}
 use Rattle.h41_ends.proofs.InputReading.{front_of}
 use Rattle.h41_ends.proofs.ToldLines.{take_within}
 
--- the bytes between two places
+-- The bytes between two indices.
 between_is : (buffer : List ℕ) (start stop : ℕ) → start ≤ stop → drop start (take stop buffer) ≡ take (stop - start) (drop start buffer)
 between_is buffer start stop order =
     ap (λ (k : ℕ). drop start (take k buffer)) (omega (arith, order)) ∙ drop-take start (stop - start) buffer
@@ -41,7 +41,7 @@ front_told buffer start stop most order within =
     ∙ sym (front_of most (stop - start) (drop start buffer) (omega (arith, length-drop start buffer, within, order)))
     ∙ ap (take most) (sym (between_is buffer start stop order))
 
--- a line that has its end
+-- A line with its line end.
 pub line_told : (buffer : List ℕ) (start stop end long most : ℕ) → start ≤ stop → stop ≤ length buffer → end < stop - start
     → long ≡ length (strip_carriage_return (take end (drop start (take stop buffer))))
     → drop start (take (start + min long most) buffer) ≡ take most (strip_carriage_return (take end (drop start (take stop buffer))))
@@ -66,7 +66,7 @@ pub held_behind : (buffer : List ℕ) (start stop end : ℕ) → drop (start + (
     stop buffer))
 held_behind buffer start stop end = sym (drop-drop (end + 1) start (take stop buffer))
 
--- the last line
+-- The last line.
 pub last_line : (buffer : List ℕ) (start stop most : ℕ) → start ≤ stop → stop ≤ length buffer
     → drop start (take (start + min (stop - start) most) buffer) ≡ take most (drop start (take stop buffer))
 last_line buffer start stop most order within = front_told buffer start stop most order within
@@ -74,7 +74,7 @@ last_line buffer start stop most order within = front_told buffer start stop mos
 pub nothing_behind : (buffer : List ℕ) (stop : ℕ) → drop stop (take stop buffer) ≡ []
 nothing_behind buffer stop = drop_all stop (take stop buffer) (omega (arith, length-take stop buffer))
 
--- what is moved to the front
+-- The bytes that are moved to the start of the buffer.
 pub moved_front : (buffer : List ℕ) (start stop most kept : ℕ) → start ≤ stop → stop ≤ length buffer → kept ≡ min (stop - start) most
     → take kept (copy_within buffer start (start + kept) 0) ≡ take most (drop start (take stop buffer))
 moved_front buffer start stop most kept order within is =
@@ -94,7 +94,7 @@ moved_front buffer start stop most kept order within is =
     ∙ sym (front_of most (stop - start) (drop start buffer) (omega (arith, length-drop start buffer, within, order)))
     ∙ ap (take most) (sym (between_is buffer start stop order))
 
--- what was read behind it
+-- The bytes that were read after them.
 pub read_behind : (buffer tail : List ℕ) (end more taken : ℕ) → end ≤ length buffer → taken ≤ length tail
     → take (end + taken) (put_mid end more buffer tail) ≡ take end buffer ++ take taken tail
 read_behind buffer tail end more taken within fits =

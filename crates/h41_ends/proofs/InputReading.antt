@@ -1,4 +1,4 @@
--- What was read of an input and told of its lines, over the calls of one line.
+-- The bytes that were read of an input and the lines that were returned, over several calls.
 use Rattle.std.proofs.Common.{◌≡◌, inl, inr, ℕ, ◌+◌, ◌-◌, ◌<◌, ◌≤◌, Bool, true, false, nat_lt, List, [], ◌∷◌, ◌++◌, length, take}
 use Rattle.std.proofs.Common.{drop, min, ◌==◌, Option, Some, None, IfSome, refl, sym, subst, ap, ◌∙◌, arith, append_assoc, append-nil}
 use Rattle.std.proofs.Common.{length-append}
@@ -16,7 +16,7 @@ use Rattle.h41_ends.specs.InputLines.{line_in, told_lines, told_part}
 use Rattle.h41_ends.specs.private.ReadingOn.{IsSameReading, ReachesEnd, TellsEnded, TellsLast}
 use Rattle.h41_ends.proofs.ToldLines.{take_within, told_ended, told_last, told_shortened, unended_front}
 
--- no byte was read
+-- No byte was read.
 consumes-none : (known new : Option (List ℕ)) → Keeps known new → Consumes known new []
 consumes-none None new kept = tt
 consumes-none (Some xs) None kept = absurd kept
@@ -42,7 +42,7 @@ keeps-both (Some us) None third p q = absurd p
 keeps-both (Some us) (Some bs) None p q = absurd q
 keeps-both (Some us) (Some bs) (Some cs) p q = q ∙ p
 
--- one more line
+-- One more line.
 pub reads_line : (known : Option (List ℕ)) (old new : InputLines) (n : ℕ) → Some n ≡ position (λ byte. byte == 10) (held_in old)
     → TellsEnded old n new → ReadsMore known known old new (line_in new ∷ [])
 reads_line known old new n at tells = record {
@@ -77,7 +77,7 @@ same_test a b c d less more = elim (cases_lt a b) [
   | inr is ↦ le-ltb a b is ∙ sym (le-ltb c d (more is))
 ]
 
--- the last line, or none
+-- The last line, or none.
 last_told : (old new : InputLines) (said : Bool) (more : List ℕ) → IsUnended (held_in old) → TellsLast old said new → more ≡ []
     → told_lines (held_in old ++ more) ≡ line_if said new ++ told_lines (held_in new ++ more)
 last_told old new said more none tells end =
@@ -113,7 +113,7 @@ reads_last known old new said goes end tells = record {
   stays = λ at. let never : true ≡ false = sym at ∙ goes in cc;
 }
 
--- nothing was read
+-- Nothing was read.
 pub reads_nothing : (known : Option (List ℕ)) (input : InputLines) → ReadsMore known known input input []
 reads_nothing known input = record {
   bytes = [];
@@ -125,7 +125,7 @@ reads_nothing known input = record {
   stays = λ end. (end, refl);
 }
 
--- a read failed, and what is held was shortened
+-- A read failed after the buffered bytes were shortened.
 pub reads_failed : (known after : Option (List ℕ)) (old new : InputLines) → IsUnended (held_in old) → old.at_end ≡ false
     → held_in new ≡ take 202 (held_in old) → IsSameReading old new → Keeps known after → ReadsMore known after old new []
 reads_failed known after old new none goes held same kept = record {
@@ -151,7 +151,7 @@ stopped_short old new none goes held same = record {
   goes_on = same ∙ goes;
 }
 
--- both calls read
+-- Both calls read bytes.
 pub end_stays : (known middle after : Option (List ℕ)) (xs ys : List ℕ) → Consumes known middle xs → IfSome known (λ all. IsAtEnd middle)
     → Consumes middle after ys → ys ≡ [] → IfSome known (λ all. IsAtEnd after)
 end_stays None middle after xs ys first end second none = tt
@@ -188,7 +188,7 @@ reads_both first second third old mid new told more p q = record {
       (behind.0, (λ i. before.1 i ++ behind.1 i));
 }
 
--- some bytes were read
+-- Some bytes were read.
 pub front_of : (a b : ℕ) (xs : List ℕ) → b ≤ length xs → take a (take b xs) ≡ take (min b a) xs
 front_of a b xs within = elim (cases_lt b a) [
   | inl less ↦
@@ -234,7 +234,7 @@ reads_some known after old new count tail none goes clear held total over on con
   stays = λ ends. let never : true ≡ false = sym ends ∙ goes in cc;
 }
 
--- nothing was read, which is the end
+-- Nothing was read, which is the end of the input.
 pub reaches_end : (known : Option (List ℕ)) (old new : InputLines) (count : ℕ) (tail : List ℕ) → IsUnended (held_in old)
     → held_in new ≡ take 202 (held_in old) ++ take (min count (most_bytes - old.count)) tail
     → new.is_over ≡ nat_lt (most_bytes - old.count) count → count ≡ 0 → IsAtEnd known → ReachesEnd known new
@@ -253,7 +253,7 @@ reaches_end known old new count tail none held over zero end = record {
         none_taken : min 0 (most_bytes - old.count) ≡ 0
         none_taken = omega arith
 
--- the bytes that the reader has given
+-- The number of bytes that the reader has delivered.
 pub counted_same : (old new : InputLines) (given : ℕ) → IsCounted old given → new.count ≡ old.count → new.is_over ≡ old.is_over
     → IsCounted new given
 counted_same old new given counted count over =

@@ -1,4 +1,4 @@
--- The first line end of a text, by what stands before it.
+-- The first line end of a text, by the bytes before it.
 use Rattle.std.proofs.Common.{inl, inr, ◌≡◌, ℕ, ◌+◌, ◌-◌, ◌<◌, ◌≤◌, ◌%◌, ◌^◌, Bool, true, false, cond, eqb, get_or, List, length, map}
 use Rattle.std.proofs.Common.{not, drop, take, replicate, Some, None, refl, sym, ap, ◌∙◌, arith, w8}
 use Rattle.std.specs.List.{position, position_or_len}
@@ -14,11 +14,11 @@ use Rattle.h41_lines.proofs.Positions.{position_none, position_some}
 abbrev pub is_end_byte : ℕ → Bool
 is_end_byte byte = eqb byte 10
 
--- no line ends before this place
+-- No line ends before this index.
 abbrev pub NoneBefore : List ℕ → ℕ → Type 0
 NoneBefore text at = (k : ℕ) → k < at → is_end_byte (get_or text k 0) ≡ false
 
--- the bit of each of the first bytes
+-- The bit of each of the first bytes.
 pub bit_of_byte : (text : List ℕ) (k : ℕ) → 16 ≤ length text
     → bit_at (mask_l (map (top 7) (zip2 (λ a b. cond (eqb a b) 255 0) (take 16 text) (replicate 16 10))) % 2 ^ 64) k
     ≡ cond (is_end_byte (get_or (take 16 text) k 0)) 1 0
@@ -34,7 +34,7 @@ pub unset_is_none : (b : Bool) → cond {A = ℕ} b 1 0 ≡ 0 → b ≡ false
 unset_is_none true e = cc
 unset_is_none false e = refl
 
--- the line ends at the first place that was found
+-- The line ends at the first index that was found.
 pub ends_at : (text : List ℕ) (at : ℕ) → at < length text → NoneBefore text at → is_end_byte (get_or text at 0) ≡ true
     → Some at ≡ position is_end_byte text
 ends_at text at within none here =
@@ -43,7 +43,7 @@ ends_at text at within none here =
     ap (λ (n : ℕ). Some n) (sym first)
     ∙ sym (cond-true _ _ _ (lt-ltb (position_or_len is_end_byte text) (length text) (omega (arith, first))))
 
--- where none stands before a place, it is looked for behind
+-- If there is no line end before an index, the search goes on after it.
 pub ends_behind : (text : List ℕ) (at : ℕ) → at ≤ length text → NoneBefore text at
     → position_or_len is_end_byte text ≡ at + position_or_len is_end_byte (drop at text)
 ends_behind text at within none =
@@ -61,7 +61,7 @@ ends_behind text at within none =
     ap is_end_byte (sym (get_or-drop at text n 0))
     ∙ passes_at_first is_end_byte (drop at text) 0 (omega (arith, length-drop at text)))
 
--- what was found behind is found, and nothing where nothing is
+-- What is found after that index is the first line end, and if nothing is found there is none.
 pub found_behind : (text : List ℕ) (at : ℕ) (end : ℕ) → at ≤ length text → NoneBefore text at
     → Some end ≡ position is_end_byte (drop at text) → Some (at + end) ≡ position is_end_byte text
 found_behind text at end within none found =
@@ -78,7 +78,7 @@ none_behind text at within none found =
     ends_behind text at within none ∙ omega (arith, past, length-drop at text) in
     sym (cond-false _ _ _ (le-ltb (position_or_len is_end_byte text) (length text) (omega (arith, end))))
 
--- none stands in what was looked at
+-- There is no line end in the bytes that were compared.
 pub none_more : (text : List ℕ) (at n : ℕ) → NoneBefore text at
     → ((k : ℕ) → k < n → is_end_byte (get_or (drop at text) k 0) ≡ false) → NoneBefore text (at + n)
 none_more text at n none more k l = elim (cases_lt k at) [
@@ -89,6 +89,6 @@ none_more text at n none more k l = elim (cases_lt k at) [
       ∙ more (k - at) (omega arith)
 ]
 
--- a bit that is not set is that of another byte
+-- A bit that is not set belongs to a byte that is not LF.
 pub other_byte : (bit byte : ℕ) → bit ≡ 0 → (byte ≡ 10 → bit ≡ 1) → is_end_byte byte ≡ false
 other_byte bit byte unset set = ne_eqb byte 10 (λ same. absurd (omega (arith, unset, set same)))

@@ -1,4 +1,4 @@
--- What was read of an input when it ends or is too long.
+-- The bytes that were read of an input when it ends or is too long.
 use Rattle.std.proofs.Common.{◌≡◌, ◌⊎◌, ◌≤◌, ◌<◌, ℕ, ◌+◌, ◌-◌, List, [], ◌++◌, length, take, min, Option, Some, None, IfSome, inl, inr, sym}
 use Rattle.std.proofs.Common.{ap, ◌∙◌, arith}
 use Rattle.std.proofs.Math.Seq.{take-append-add}
@@ -24,7 +24,7 @@ all_is : (most count : ℕ) (xs ys zs bytes buffer : List ℕ) → xs ≡ bytes 
     → length bytes ≤ most → bytes ++ take (min count (most - length bytes)) buffer ≡ take most xs
 all_is most count xs ys zs bytes buffer first second none end short = grind (arith, common_steps)
 
--- the bytes that were read, and as many of the last piece as there is room for, are the front of the input
+-- The bytes that were read, with as many of the last piece as there is room for, are a prefix of the input.
 pub input_front : (old mid new : Option (List ℕ)) (bytes buffer items : List ℕ) (most count room taken : ℕ) → Consumes old mid bytes
     → Consumes mid new (take count buffer) → (count ≡ 0 → 0 < length buffer → IsAtEnd new) → 0 < length buffer → count ≤ length buffer
     → length bytes ≤ most → room ≡ most - length bytes → taken ≡ min count room → items ≡ bytes ++ take taken buffer

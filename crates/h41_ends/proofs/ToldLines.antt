@@ -1,4 +1,4 @@
--- The lines of what is held, whatever follows.
+-- The lines of the buffered bytes, whatever bytes follow.
 use Rattle.std.proofs.Common.{inl, inr, not, ◌≡◌, ℕ, ◌+◌, ◌-◌, ◌<◌, ◌≤◌, Bool, true, false, nat_lt, List, [], ◌∷◌, ◌++◌, length, take}
 use Rattle.std.proofs.Common.{drop, map, ◌==◌, slice_index, Some, None, refl, sym, ap, ◌∙◌, arith}
 use Rattle.std.proofs.Common.{length-append, length-take}
@@ -20,7 +20,7 @@ take_within n m xs less within =
     sym (take-append-le n (take m xs) (drop m xs) (omega (arith, less, within, length-take m xs)))
     ∙ ap (take n) (take-append-drop m xs)
 
--- where the first line end stands, in front of more bytes and behind others
+-- The index of the first line end, with more bytes after it and others before it.
 pub place_before : (xs ys : List ℕ) (n : ℕ) → Some n ≡ position is_end xs → Some n ≡ position is_end (xs ++ ys)
 place_before xs ys n e =
     let at = position_some is_end xs n e in
@@ -63,7 +63,7 @@ unended_front n xs none =
       | inr past ↦ cond-false _ _ _ past
     ]
 
--- a line that has its end
+-- A line with its line end.
 pub told_ended : (held more : List ℕ) (n : ℕ) → Some n ≡ position is_end held
     → told_lines (held ++ more) ≡ told_part (strip_carriage_return (take n held)) ∷ told_lines (drop (n + 1) held ++ more)
 told_ended held more n e =
@@ -73,18 +73,18 @@ told_ended held more n e =
     ap (map told_part) (lines_at (held ++ more) n (place_before held more n e))
     ∙ (λ i. told_part (strip_carriage_return (front i)) ∷ told_lines (back i))
 
--- the last line, which has none
+-- The last line, which has no line end.
 pub told_last : (held : List ℕ) → IsUnended held → 0 < length held → told_lines held ≡ told_part held ∷ []
 told_last held none some = ap (map told_part) (lines_last held (sym none) (λ e. absurd (omega (arith, some, e))))
 
--- of a line with more bytes than are told it makes no difference whether it ends in a CR
+-- For a line with more bytes than are returned it makes no difference whether it ends in a CR.
 stripped_part : (line : List ℕ) → 202 ≤ length line → told_part (strip_carriage_return line) ≡ told_part line
 stripped_part line long = elim (cases_Bool (slice_index line (length line - 1) == 13)) [
   | inl ends ↦ ap told_part (cond-true _ _ _ ends) ∙ take_within 201 (length line - 1) line (omega (arith, long)) (omega arith)
   | inr other ↦ ap told_part (cond-false _ _ _ other)
 ]
 
--- only so many bytes of what is held count where it has no line end
+-- Only the first 202 buffered bytes matter if there is no line end among them.
 part_same : (held x : List ℕ) → 202 ≤ length held → told_part (take 202 held ++ x) ≡ told_part (held ++ x)
 part_same held x long =
     take-append-le 201 (take 202 held) x (omega (arith, length-take 202 held)) ∙ take_within 201 202 held (omega arith) long
@@ -96,7 +96,7 @@ line_same held x long =
     stripped_part (take 202 held ++ x) (omega (arith, length-append (take 202 held) x, length-take 202 held))
     ∙ part_same held x long ∙ sym (stripped_part (held ++ x) (omega (arith, length-append held x)))
 
--- the first line of what is held and of what follows
+-- The first line of the buffered bytes and of the bytes that follow.
 behind_ended : (held more : List ℕ) (m : ℕ) → IsUnended held → Some m ≡ position is_end more
     → told_lines (held ++ more) ≡ told_part (strip_carriage_return (held ++ take m more)) ∷ told_lines (drop (m + 1) more)
 behind_ended held more m none e =

@@ -1,4 +1,4 @@
--- What a write after other writes has written in all.
+-- What several writes have written together.
 use Rattle.std.proofs.Common.{◌≡◌, ℕ, ◌+◌, ◌-◌, List, ◌++◌, length, take, drop, Option, Some, None, arith, sym, ap, ◌∙◌, append_assoc}
 use Rattle.std.proofs.Math.Seq.{take-add}
 use Rattle.std.proofs.lemmas.Grind.{common_steps}
@@ -7,7 +7,7 @@ use Rattle.std.specs.Io.KnownBytes.{Appends}
 pub whole_rest : (i : ℕ) (xs : List ℕ) → take (length xs - i) (drop i xs) ≡ drop i xs
 whole_rest i xs = grind (arith, common_steps)
 
--- a front of the bytes, and then a front of the rest
+-- A prefix of the bytes, and then a prefix of the rest.
 pub appends-front : (a b c : Option (List ℕ)) (xs : List ℕ) (i n : ℕ) → Appends a b (take i xs)
     → Appends b c (take n (take (length xs - i) (drop i xs))) → Appends a c (take (i + n) xs)
 appends-front None b c xs i n first second = tt

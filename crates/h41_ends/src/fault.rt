@@ -1,4 +1,5 @@
-//! What can fail at an end, each type as narrow as that.
+//! The I/O errors of reading and writing. Each type lists only the errors that its functions can
+//! return.
 
 ghost use Rattle.std.specs.Prelude.{◌≡◌};
 ghost use Rattle.h41_ends.specs.declared.fault.InputFault.TheVariants as input;
@@ -6,16 +7,16 @@ ghost use Rattle.h41_ends.specs.declared.fault.LineReadFault.TheVariants as line
 
 use std::alloc::{AllocError, AllocFailed};
 
-/// 23: the output cannot be written.
+/// The error WriteFault (23): the output cannot be written.
 #[derive(Clone, Copy, Debug, PartialEq, Eq)]
 pub struct WriteFault;
 
-/// Why an input was not read to its end.
+/// Why an input was not read completely.
 #[derive(Clone, Copy, Debug, PartialEq, Eq)]
 pub enum InputFault {
-    /// 21: no memory is left.
+    /// OutOfMemory (21): allocation failed.
     OutOfMemory,
-    /// 22: the input cannot be read.
+    /// ReadFault (22): a read failed.
     ReadFault,
 }
 
@@ -35,12 +36,12 @@ impl<T: Drop> From<AllocFailed<T>> for InputFault {
     }
 }
 
-/// Why the next line of an input was not read to its end.
+/// Why the next line of an input was not read completely.
 #[derive(Clone, Copy, Debug, PartialEq, Eq)]
 pub enum LineReadFault {
-    /// 22: the input cannot be read, or is too long.
+    /// ReadFault (22): a read failed, or the input has more than 67,108,864 bytes.
     ReadFault,
-    /// 23: the output cannot be passed on.
+    /// WriteFault (23): the output could not be flushed before a read.
     WriteFault,
 }
 

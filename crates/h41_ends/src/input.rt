@@ -1,4 +1,4 @@
-//! Reads an input whole.
+//! Reads an input completely.
 
 ghost use Rattle.std.specs.Prelude.{◌≡◌, ◌≢◌, ◌≤◌, ◌<◌, true, false, IfOk, Err, vec_len};
 ghost use Rattle.h41_ends.specs.Ends.{IsFront, SaysWhole, most_bytes};
@@ -7,26 +7,27 @@ use crate::fault::InputFault;
 use crate::source::Source;
 use std::alloc::Global;
 
-/// The most bytes that an input may have: 64 MiB.
+/// The greatest size of an input: 67,108,864 bytes (64 MiB).
 pub const MOST_BYTES: usize = 67_108_864;
 
-/// How many bytes one read asks for.
+/// The size of the buffer of one read, in bytes.
 const BLOCK: usize = 4096;
 
-/// What was read of an input.
+/// The bytes that were read of an input, and whether they are all of it.
 #[derive(Debug, Drop)]
 pub struct ReadInput {
-    /// Its bytes, up to `MOST_BYTES` of them.
+    /// The bytes of the input, at most the first `MOST_BYTES`.
     pub bytes: Vec<u8>,
-    /// Whether these are all.
+    /// Whether `bytes` is the complete input. If not, the input has more than `MOST_BYTES` bytes.
     pub is_whole: bool,
 }
 
-/// Reads to the end of the input, or until it is too long.
+/// Reads to the end of the input, or until more than `MOST_BYTES` bytes were read. The result says
+/// which of the two happened.
 ///
 /// # Errors
 ///
-/// `ReadFault` (22) where a read fails, and `OutOfMemory` (21).
+/// `ReadFault` (22) if a read fails, and `OutOfMemory` (21) if allocation failed.
 pub fn read_whole<R: Source>(alloc: Global, reader: &mut R) -> Result<ReadInput, InputFault>
     requires { R.failed reader.old ≡ false }
     ensures bytes { IfOk result (λ input. IsFront (R.remaining reader.old) input.bytes.items) }

@@ -1,4 +1,4 @@
-//! The lines of an input, one at a time, over reads of any size.
+//! Reads the lines of an input one at a time, over reads of any size.
 
 ghost use Rattle.std.specs.Prelude.{◌≡◌, ◌≤◌, true, false};
 ghost use Rattle.h41_ends.specs.Ends.{most_bytes};
@@ -11,31 +11,33 @@ use crate::sink::Sink;
 use crate::source::Source;
 use h41_lines::lines::without_return;
 
-/// The most bytes of a line that are told: one more than a line of a deck may have.
+/// The most bytes of a line that `line` returns: 201, one more than a deck line may have, so that a caller sees that a line is
+/// too long.
 pub const MOST_TOLD: usize = 201;
 
-/// How many bytes of a line are kept: with one more a line is too long even where the last is a CR.
+/// How many bytes of an unfinished line are kept between reads: 202. A longer line is too long even if its last byte is a CR.
 const KEPT: usize = MOST_TOLD + 1;
 
-/// How many bytes are held at most.
+/// The size of the buffer, in bytes.
 const BLOCK: usize = 4096;
 
-/// What is held of an input between two of its lines: a block of its bytes.
+/// Reads an input line by line. It keeps a block of the bytes that were read and not yet returned.
 #[derive(Debug, Drop)]
 pub struct InputLines {
     buffer: [u8; BLOCK],
-    /// The bytes from here on are held ..
+    /// The first buffered byte.
     start: usize,
-    /// .. up to here.
+    /// The end of the buffered bytes.
     end: usize,
-    /// The line that was told last.
+    /// Where the line that was returned last begins.
     line_start: usize,
+    /// Where the line that was returned last ends.
     line_end: usize,
-    /// How many bytes were read.
+    /// How many bytes were read, at most `MOST_BYTES`.
     count: usize,
-    /// Whether there were more than may be read.
+    /// Whether the input has more than `MOST_BYTES` bytes.
     is_over: bool,
-    /// Whether the end was reached.
+    /// Whether the end of the input was reached.
     at_end: bool,
     ghost held: { start ≤ end },
     ghost held_end: { end ≤ 4096 },
@@ -55,7 +57,7 @@ impl InputLines {
     ghost use Rattle.h41_ends.specs.private.ReadingOn.{Shortens, TakesRead, TellsEnded, TellsLast};
     ghost use Rattle.h41_ends.specs.private.ReadingOn.{ReachesEnd, reads_left};
 
-    /// Of an input of which nothing was read.
+    /// Returns a reader of lines that has read nothing.
     pub fn new() -> Self
         ensures nothing { HasRead [] [] result }
         ensures counted { (given : ℕ) → IsCounted result given }
@@ -73,7 +75,7 @@ impl InputLines {
         }
     }
 
-    /// The line that was told last, without its end; of one of more bytes the first 201.
+    /// Returns the line that `next_line` read last, without its line end. Of a longer line it returns the first 201 bytes.
     #[inline(always)]
     pub fn line(&self) -> &[u8]
         ensures { result.now ≡ line_in self.now }
@@ -81,12 +83,12 @@ impl InputLines {
         &self.buffer[self.line_start..self.line_end]
     }
 
-    /// Reads up to the end of the next line, and says whether there is one: `line` is it then. Of a longer line than is told the
-    /// rest is passed over and not kept. The writer is flushed before each read, unless it is.
+    /// Reads up to the end of the next line and returns whether there is one; `line` then returns it. Of a line of more than 201
+    /// bytes the rest is skipped and not kept. The writer is flushed before each read, unless it is flushed already.
     ///
     /// # Errors
     ///
-    /// `ReadFault` (22) where a read fails, or more than 67,108,864 bytes come before the line's end; `WriteFault` (23) where the
+    /// `ReadFault` (22) if a read fails, or if the line's end is not within the first 67,108,864 bytes; `WriteFault` (23) if the
     /// writer cannot be flushed.
     #[inline(always)]
     pub fn next_line<R: Source, W: Sink>(
@@ -103,7 +105,7 @@ impl InputLines {
         ensures bound { OnOk result (most_left self.new ≤ most_left self.old) }
         ensures fewer { result ≡ Ok true → most_left self.new < most_left self.old }
 
-        // A read fault comes for its cause, behind a flush.
+        // ReadFault (22) is returned only if a read failed or the input is too long, and only after a flush.
         ensures stopped { result ≡ Err LineReadFault.ReadFault → IsStopped self.new }
         ensures cause { result ≡ Err LineReadFault.ReadFault
             → (R.failed reader.new ≡ true) ⊎ (self.new.is_over ≡ true) }
@@ -129,7 +131,7 @@ impl InputLines {
         }
     }
 
-    /// The bytes that are held.
+    /// Returns the buffered bytes: those that were read and are not part of a returned line.
     #[inline(always)]
     fn held(&self) -> &[u8]
         ensures { result.now ≡ held_in self.now }
@@ -137,7 +139,8 @@ impl InputLines {
         &self.buffer[self.start..self.end]
     }
 
-    /// Tells the line whose end stands at this place of what is held.
+    /// Makes the bytes up to the LF at `end`, counted from the first buffered byte, the line that `line` returns. A CR before the
+    /// LF is not part of the line.
     #[inline(always)]
     fn tell_ended(&mut self, end: usize)
         requires { Some end ≡ position (λ byte. byte == 10) (held_in self.old) }
@@ -149,7 +152,7 @@ impl InputLines {
         self.start += end + 1;
     }
 
-    /// Tells what is held as the last line, if there is something, and says so. The end was reached.
+    /// Makes the buffered bytes the last line, if there are any, and returns whether there are. The end of the input was reached.
     #[inline(never)]
     fn tell_last(&mut self) -> bool
         requires { self.old.is_over ≡ false }
@@ -163,7 +166,7 @@ impl InputLines {
         count > 0
     }
 
-    /// Reads some bytes behind what is held, which is shortened to what counts of a line. Says whether there were any.
+    /// Shortens the unfinished line in the buffer to 202 bytes, and reads more bytes after it. Returns whether there were any.
     #[inline(never)]
     fn read_more<R: Source, W: Sink>(
         &mut self,
@@ -205,7 +208,7 @@ impl InputLines {
         }
     }
 
-    /// Moves what is held to the front, without what stands behind the bytes that count of a line.
+    /// Moves the buffered bytes to the start of the buffer, and drops those after the first 202.
     fn shorten(&mut self)
         ensures { Shortens self.old self.new }
     {
@@ -217,7 +220,7 @@ impl InputLines {
         self.line_end = 0;
     }
 
-    /// Holds the bytes that were read behind those that are held, as far as they are within the bound.
+    /// Adds the bytes that were just read to the buffered bytes, as many as the limit of 67,108,864 bytes permits.
     fn take_read(&mut self, count: usize)
         requires room { self.old.end + count ≤ 4096 }
         requires clear { self.old.is_over ≡ false }

@@ -1,4 +1,5 @@
-//! The two ends of a task: where its bytes are read from, and where its text is written to.
+//! Input and output streams of a job: sources that deliver its bytes, and sinks that accept its
+//! text.
 #![tactic(auto)]
 
 mod fault;

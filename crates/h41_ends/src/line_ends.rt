@@ -1,4 +1,4 @@
-//! Where the first line of some bytes ends: sixteen bytes are looked at at once, as long as there are as many.
+//! Finds the first line end of a text. It compares sixteen bytes at once as long as there are sixteen.
 
 ghost use Rattle.std.specs.Prelude.{◌≡◌, ◌≢◌, ◌≤◌, ◌<◌, ◌==◌, ℕ, length, position};
 ghost use Rattle.std.specs.Int.{bit_at};
@@ -7,10 +7,10 @@ ghost use Rattle.h41_ends.specs.private.LineEndBits.{MarksEnds};
 use h41_lines::lines;
 use std::simd::prelude::*;
 
-/// How many bytes are looked at at once.
+/// How many bytes are compared at once.
 const LANES: usize = 16;
 
-/// Where the first LF of a text stands, if it has one: the place of its byte, counted from 0.
+/// Returns the index of the first LF of a text, counted from 0, or `None` if it has none.
 #[inline(always)]
 pub fn line_end(text: &[u8]) -> Option<usize>
     ensures { result ≡ position (λ byte. byte == 10) text.now }
@@ -29,7 +29,7 @@ pub fn line_end(text: &[u8]) -> Option<usize>
     }
 }
 
-/// Which of the first sixteen bytes end a line, each by a bit.
+/// Returns a number whose bit k is set if byte k of the text is an LF, for the first sixteen bytes.
 #[inline(always)]
 fn line_ends(text: &[u8]) -> u64
     requires { 16 ≤ length text.now }
@@ -41,7 +41,7 @@ fn line_ends(text: &[u8]) -> u64
         .to_bitmask()
 }
 
-/// The lowest bit that is set.
+/// Returns the number of the lowest bit that is set.
 #[inline(always)]
 fn lowest(bits: u64) -> usize
     requires { bits ≢ 0 }

@@ -1,4 +1,4 @@
-//! Writes an output whole.
+//! Writes an output completely.
 
 ghost use Rattle.std.specs.Prelude.{◌≡◌, true, false, OnOk, OnErr};
 ghost use Rattle.std.specs.Io.KnownBytes.{Keeps};
@@ -7,11 +7,12 @@ ghost use Rattle.h41_ends.specs.Ends.{Writes};
 use crate::fault::WriteFault;
 use crate::sink::Sink;
 
-/// Writes all the bytes, over writes that take a part of them.
+/// Writes all bytes, over writes that accept only a part of them.
 ///
 /// # Errors
 ///
-/// `WriteFault` (23) where a write fails or takes nothing. A front of the bytes is then written.
+/// `WriteFault` (23) if a write fails or accepts no byte. A prefix of the bytes, and not all of
+/// them, is written then.
 pub fn write_whole<W: Sink>(writer: &mut W, bytes: &[u8]) -> Result<(), WriteFault>
     requires { W.failed writer.old ≡ false }
     ensures written { Writes result W.contents writer.old writer.new bytes.now }
@@ -28,11 +29,11 @@ pub fn write_whole<W: Sink>(writer: &mut W, bytes: &[u8]) -> Result<(), WriteFau
     Ok(())
 }
 
-/// Passes on what the sink's buffer still holds, by a flush of the sink.
+/// Flushes the sink, so that bytes in its buffer are passed on.
 ///
 /// # Errors
 ///
-/// `WriteFault` (23) where the sink fails.
+/// `WriteFault` (23) if the flush fails.
 pub fn flush<W: Sink>(writer: &mut W) -> Result<(), WriteFault>
     requires { W.failed writer.old ≡ false }
     ensures bytes { Keeps (W.contents writer.old) (W.contents writer.new) }
@@ -46,7 +47,11 @@ pub fn flush<W: Sink>(writer: &mut W) -> Result<(), WriteFault>
     }
 }
 
-/// The same, unless there is nothing to flush.
+/// Flushes the sink as `flush` does, unless nothing was written since the last flush.
+///
+/// # Errors
+///
+/// `WriteFault` (23) if the flush fails.
 #[inline(always)]
 pub fn flush_rest<W: Sink>(writer: &mut W) -> Result<(), WriteFault>
     requires { W.failed writer.old ≡ false }

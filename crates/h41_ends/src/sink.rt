@@ -1,4 +1,4 @@
-//! Where bytes are written to.
+//! The sinks that bytes are written to.
 
 ghost use Rattle.std.specs.Prelude.{◌≡◌, ◌||◌, ℕ, Bool, Option, false, List, is_err, is_ok};
 ghost use Rattle.std.specs.Io.{WritesAtMost};
@@ -7,44 +7,44 @@ ghost use Rattle.std.specs.Io.KnownBytes.{Keeps, WriteAppends};
 use std::io;
 use std::io::Write;
 
-/// An end that bytes are written to, as `std::io::Write`, with a mark that says whether a call has
-/// failed, and one that says whether it was flushed after its last write. An interrupted call is a failing call like every other.
+/// An output stream like `std::io::Write`, with an error flag that says whether a call has failed, and a flag that says whether
+/// it was flushed after its last write. An interrupted call is a failed call like any other.
 pub trait Sink {
     ghost use Rattle.h41_ends.specs.Ends.{is_failed_write};
 
-    // The bytes that the sink has taken, where they are known.
+    // The bytes that the sink has accepted, if they are known.
     ghost contents: { Self → Option (List ℕ) };
 
-    // The mark.
+    // The error flag.
     ghost failed: { Self → Bool };
 
-    // Whether it was flushed after its last write.
+    // Whether the sink was flushed after its last write.
     ghost flushed: { Self → Bool };
 
-    /// Writes some bytes of the front of `bytes` and says how many. A failing call writes nothing
-    /// and sets the mark, and so does one that takes none of some bytes. No call clears it.
+    /// Writes a prefix of `bytes` and returns its length. A call that fails writes nothing and sets the error flag. A call that
+    /// accepts no byte of a text that is not empty sets the flag too. No call clears it.
     fn write(&mut self, bytes: &[u8]) -> io::Result<usize>
         ensures bound { WritesAtMost result bytes.now }
         ensures bytes { WriteAppends (contents self.old) (contents self.new) result bytes.now }
         ensures mark { failed self.new ≡ (failed self.old || is_failed_write result bytes.now) }
         ensures flushed { flushed self.new ≡ false };
 
-    /// Passes on what a buffer still holds. A failing call sets the mark.
+    /// Passes on the bytes that are still in a buffer. A call that fails sets the error flag.
     fn flush(&mut self) -> io::Result<()>
         ensures bytes { Keeps (contents self.old) (contents self.new) }
         ensures mark { failed self.new ≡ (failed self.old || is_err result) }
         ensures flushed { flushed self.new ≡ is_ok result };
 
-    /// Whether a call has failed.
+    /// Returns the error flag: whether a call has failed.
     fn failed(&self) -> bool
         ensures { result ≡ failed self.now };
 
-    /// Whether it was flushed after its last write.
+    /// Returns whether the sink was flushed after its last write.
     fn is_flushed(&self) -> bool
         ensures { result ≡ flushed self.now };
 }
 
-/// A writer of `std` with its mark.
+/// A `Sink` that writes to a `Write` of the standard library, with its error flag.
 #[derive(Drop)]
 pub struct ToWrite<W> {
     writer: W,
@@ -55,7 +55,7 @@ pub struct ToWrite<W> {
 impl<W> ToWrite<W> {
     ghost use Rattle.h41_ends.specs.Ends.{writer_of, has_write_failed, is_write_flushed};
 
-    /// Makes a sink of a writer, with a clear mark.
+    /// Returns a sink for a writer, with a clear error flag. It is not flushed yet.
     pub fn new(writer: W) -> Self
         ensures writer { writer_of result ≡ writer }
         ensures clear { has_write_failed result ≡ false }
@@ -68,7 +68,7 @@ impl<W> ToWrite<W> {
         }
     }
 
-    /// Gives the writer back, without its mark.
+    /// Returns the writer, without the flags.
     pub fn into_inner(self) -> W
         ensures { result ≡ writer_of self }
     {

@@ -1,4 +1,4 @@
-//! Where bytes are read from.
+//! The sources that bytes are read from.
 
 ghost use Rattle.std.specs.Prelude.{◌≡◌, ◌||◌, ℕ, Bool, Option, false, List, is_err, is_some};
 ghost use Rattle.std.specs.Io.{ReadsAtMost};
@@ -8,47 +8,48 @@ use crate::input::MOST_BYTES;
 use std::io;
 use std::io::Read;
 
-/// An end that bytes are read from, as `std::io::Read`, with a mark that says whether a call has
-/// failed. An interrupted call is a failing call like every other.
+/// An input stream like `std::io::Read`, with an error flag that says whether a call has failed. An
+/// interrupted call is a failed call like any other.
 pub trait Source {
     ghost use Rattle.h41_ends.specs.Ends.{given_more};
 
-    // The bytes that reads will give from here on, where they are known.
+    // The bytes that further reads will deliver, if they are known.
     ghost remaining: { Self → Option (List ℕ) };
 
-    // The mark.
+    // The error flag.
     ghost failed: { Self → Bool };
 
-    // How many bytes its reads have given, counted up to one more than an input may have.
+    // How many bytes its reads have delivered, counted up to one more than the limit of an input.
     ghost given: { Self → ℕ };
 
-    /// Reads some bytes into the front of `buffer` and says how many; 0, where the buffer has room,
-    /// is the end of the input. A failing call reads nothing and sets the mark, which no call
-    /// clears.
+    /// Reads some bytes into the beginning of `buffer` and returns how many. 0 is the end of the
+    /// input if the buffer has room. A call that fails reads nothing and sets the error flag, which
+    /// no call clears.
     fn read(&mut self, buffer: &mut [u8]) -> io::Result<usize>
         ensures bound { ReadsAtMost result buffer.new }
         ensures bytes { ReadConsumes (remaining self.old) (remaining self.new) result buffer.new }
         ensures mark { failed self.new ≡ (failed self.old || is_err result) }
         ensures given { given self.new ≡ given_more (given self.old) result };
 
-    /// Whether a call has failed.
+    /// Returns the error flag: whether a call has failed.
     fn failed(&self) -> bool
         ensures { result ≡ failed self.now };
 }
 
-/// A reader of `std` with its mark, which is the error of a call that has failed.
+/// A `Source` that reads from a `Read` of the standard library, with its error flag, which is the
+/// error of the failed call.
 #[derive(Drop)]
 pub struct FromRead<R> {
     reader: R,
     error: Option<io::Error>,
-    /// How many bytes it has given, up to one more than an input may have.
+    /// How many bytes it has delivered, up to one more than the limit of an input.
     given: usize,
 }
 
 impl<R> FromRead<R> {
     ghost use Rattle.h41_ends.specs.Ends.{reader_of, has_read_failed};
 
-    /// Makes a source of a reader, with a clear mark.
+    /// Returns a source for a reader, with a clear error flag.
     pub fn new(reader: R) -> Self
         ensures reader { reader_of result ≡ reader }
         ensures clear { has_read_failed result ≡ false }
@@ -60,14 +61,14 @@ impl<R> FromRead<R> {
         }
     }
 
-    /// Gives the reader back, without its mark.
+    /// Returns the reader, without the error flag.
     pub fn into_inner(self) -> R
         ensures { result ≡ reader_of self }
     {
         self.reader
     }
 
-    /// What the system said of a call that has failed, if one has.
+    /// Returns the operating system's error of the last call that failed, if one has.
     pub fn error(&self) -> Option<&io::Error>
         ensures { is_some result ≡ has_read_failed self.now }
     {

@@ -2,7 +2,7 @@ use Rattle.std.proofs.Common.{◌≡◌, false, vec_len, ◌≤◌, ◌-◌}
 use Rattle.std.specs.Io.KnownBytes.{Consumes}
 use Rattle.h41_ends.proofs.input.read_whole.Given as goal
 
--- the bytes so far are those that the reader has given
+-- The bytes so far are those that the reader has delivered.
 abbrev pub invariant-loop-count : goal.invariant-loop-count
 invariant-loop-count g l =
     (vec_len l.bytes ≤ 67108864) × (g.R.Source.failed l.reader ≡ false)

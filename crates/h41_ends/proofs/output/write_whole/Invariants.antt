@@ -2,7 +2,7 @@ use Rattle.std.proofs.Common.{length, ◌-◌, ◌≡◌, false, take, ◌≤◌
 use Rattle.std.specs.Io.KnownBytes.{Appends}
 use Rattle.h41_ends.proofs.output.write_whole.Given as goal
 
--- the bytes before `written` are written
+-- The bytes before `written` are written.
 abbrev pub invariant-loop-written : goal.invariant-loop-written
 invariant-loop-written g l =
     (l.written ≤ length l.bytes) × (g.W.Sink.failed l.writer ≡ false)

@@ -4,7 +4,7 @@ use Rattle.h41_ends.specs.InputLines.{IsCounted, ReadsMore, most_left}
 use Rattle.h41_ends.specs.private.ReadingOn.{reads_left}
 use Rattle.h41_ends.proofs.input_lines.InputLines.next_line.Given as goal
 
--- no line was told yet
+-- No line was returned yet.
 abbrev pub invariant-loop-end : goal.invariant-loop-end
 invariant-loop-end g l = record {
   reads : ReadsMore (g.R.Source.remaining l.fn.reader) (g.R.Source.remaining l.reader) l.fn.self l.self [];

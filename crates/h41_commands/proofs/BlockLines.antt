@@ -10,7 +10,8 @@ use Rattle.h41_commands.specs.private.TakenBlocks.{TakenBlock}
 use Rattle.h41_commands.specs.private.Entries.{IsTaken}
 use Rattle.h41_commands.specs.DeckLines.{is_end}
 
--- The lines inside so far are no end, the block has taken them, and the rest follows them.
+-- None of the lines inside so far ends the block, the block has taken them, and the rest follows
+-- them.
 pub record ReadsBlock (kind : Option BlockKind) (inside all rest : List (List ℕ)) (block : TakenBlock) : Type 0 where
   pub parts : all ≡ inside ++ rest
   pub endless : list_any is_end inside ≡ false
@@ -40,7 +41,7 @@ back (other ∷ inside) rest line n e =
     let on : n + 1 ≡ suc (length inside + 1) = omega arith in
     rw on (back inside rest line (length inside) refl)
 
--- at the block's end
+-- The line that ends the block was read.
 pub record EndsBlock (kind : Option BlockKind) (all rest : List (List ℕ)) (block : TakenBlock) : Type 0 where
   pub ended : true ≡ list_any is_end all
   pub taken : IsTaken kind (before_first is_end all) block

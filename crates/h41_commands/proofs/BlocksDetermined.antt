@@ -1,4 +1,5 @@
--- Why a block leaves nothing open, where a source's words and a text's line are determined.
+-- Why a block determines its result, since the words of a source and the line of a text are
+-- determined.
 use Rattle.std.proofs.Common.{inl, inr, ◌≡◌, ℕ, suc, Result, option_map, IsSome, Option, Some, None, Ok, Err, List, [], ◌∷◌, refl, sym, ap}
 use Rattle.std.proofs.Common.{◌∙◌}
 use Rattle.h41_asm.specs.AssemblyLaws.{NeverBoth, WordsAreDetermined}
@@ -22,13 +23,13 @@ same_fault : (fault other : Option (asm.SourceFault × ℕ)) (why : LineRefusal)
 same_fault None other why e same = cc
 same_fault (Some found) other why e same = rw (sym same) refl
 
--- a text that is bad says nothing
+-- A text that is bad defines no line.
 not_both : (text : List ℕ) (said : List Line) → IsBadText text → SaysLine text said → ⊥
 not_both [] said bad says = bad
 not_both (byte ∷ rest) said bad says = bad says.0 says.1
 
 module _ (never_both : NeverBoth) (same_words : WordsAreDetermined) (same_line : OneLineOfText) where
-  -- what texts say
+  -- What texts define.
   same_said : (text : List ℕ) (a b : List Line) → SaysLine text a → SaysLine text b → a ≡ b
   same_said [] a b p q = p ∙ sym q
   same_said (byte ∷ rest) a b p q = p.2 ∙ ap (λ (line : Line). line ∷ []) (same_line (byte ∷ rest) p.0 q.0 p.1 q.1) ∙ sym q.2
@@ -53,7 +54,7 @@ module _ (never_both : NeverBoth) (same_words : WordsAreDetermined) (same_line :
       (same_say 1 (texts_of values) p.0 q.0 p.1 q.1)
       ∙ sym q.2
 
-  -- what a source gives
+  -- What a source makes.
   same_given : (source : List ℕ) (origin : ℕ) (one other : Result (List ℕ) LineRefusal) → SourceMakes source origin one
       → SourceMakes source origin other → one ≡ other
   same_given source origin (Ok one) (Ok other) p q = ap Ok (same_words source origin one other p q)

@@ -12,7 +12,7 @@ use Rattle.h41_commands.specs.declared.refusal.LineRefusal.TheVariants.{LineTooL
 after_first-le : (lines : List (List ℕ)) (most : ℕ) → length lines ≤ most → length (after_first is_end lines) ≤ most
 after_first-le lines most short = omega (arith, length-drop (position_or_len is_end lines + 1) lines)
 
--- a bound that is large enough changes nothing
+-- A bound that is large enough changes nothing.
 spelled_within-enough : (m n : ℕ) (lines : List (List ℕ)) → length lines ≤ m → length lines ≤ n
     → spelled_within m lines ≡ spelled_within n lines
 spelled_within-enough zero zero lines p q = refl

@@ -32,7 +32,7 @@ use Rattle.h41_commands.proofs.ParsedCommands.{never_unended}
 use Rattle.h41_commands.proofs.ItemLines.{fault_before, fault_inside, nothing_still, skips_more, spells_block, spells_line, spells_long}
 use Rattle.h41_lines.specs.Words.{words_of}
 
--- a line that says something is too long, or has words
+-- A line that is not skipped is too long, or has words.
 by_words : (long skipped : Bool) (words : List (List ℕ)) (kind : LineKind)
     → (if long then Some Long else (if skipped then None else kind_by_words words)) ≡ Some kind
     → ((long ≡ true) × (kind ≡ Long)) ⊎ ((long ≡ false) × (skipped ≡ false) × (kind_by_words words ≡ Some kind))
@@ -45,7 +45,7 @@ pub says : (line : List ℕ) (kind : LineKind) → line_kind line ≡ Some kind
     ⊎ ((is_long line ≡ false) × (is_skipped line ≡ false) × (kind_by_words (words_of line) ≡ Some kind))
 says line kind e = by_words (is_long line) (is_skipped line) (words_of line) kind e
 
--- a line with a name
+-- A line with a first word.
 pub named : (line : List ℕ) (word : FirstWord) → line_kind line ≡ Some (Named word)
     → (is_long line ≡ false) × (is_skipped line ≡ false) × (kind_by_words (words_of line) ≡ Some (Named word))
 named line word e = elim (says line (Named word) e) [
@@ -53,7 +53,7 @@ named line word e = elim (says line (Named word) e) [
   | inr short ↦ short
 ]
 
--- a line that says nothing
+-- A line that is skipped.
 unsaid : (long skipped : Bool) (words : List (List ℕ)) → (skipped ≡ false → length words ≡ 0 → ⊥)
     → (if long then Some Long else (if skipped then None else kind_by_words words)) ≡ None → (long ≡ false) × (skipped ≡ true)
 unsaid true skipped words some e = cc
@@ -109,7 +109,7 @@ unknown_words (name ∷ operands) e =
     let own = unknown_by (kind_of_word name) (plain_of_word name) word in
     (ap is_some own.0, rw (own.0, own.1) refl)
 
--- what a line spells that opens no block
+-- What a line that opens no block specifies.
 pub long_spelled : (line : List ℕ) → line_kind line ≡ Some Long → line_spelled line ≡ Err LineTooLong
 long_spelled line e = elim (says line Long e) [
   | inl long ↦ cond-true (is_long line) _ _ long.0
@@ -127,7 +127,7 @@ unknown_spelled line e =
     ∙ ap (λ (command : Result Command LineRefusal). and_then command (λ given. with_values (block_values (kind_of given) []) given))
     (unknown_words (words_of line) parts.2).1
 
--- a command without a block that its operands spell
+-- A command without a block, from its operands.
 abbrev pub plain_spelled : Result Command LineRefusal → Spelled
 plain_spelled command = and_then command (λ given. with_values (block_values (kind_of given) []) given)
 
@@ -143,7 +143,7 @@ short_spelled line short = cond-false (is_long line) _ _ (le-ltb longest_line (l
 pub named_short : (line : List ℕ) (word : FirstWord) → line_kind line ≡ Some (Named word) → length line ≤ longest_line
 named_short line word e = ltb-false longest_line (length line) (named line word e).0
 
--- it is no block that is open
+-- It is not an open block.
 shut_command : (command : Result Command LineRefusal) → is_unended command ≡ false → is_open (plain_spelled command) ≡ false
 shut_command (Ok given) shut = shut_said given false (kind_of given) []
 shut_command (Err why) shut = shut
@@ -155,7 +155,7 @@ shut_line line = by_length (is_long line)
     by_length true = refl
     by_length false = shut_command (command_of (words_of line)) (never_unended (words_of line))
 
--- it is too long, or a line of its own
+-- The line is too long, or is an item of its own.
 shut_words : (words : List (List ℕ)) (kind : LineKind) → kind_by_words words ≡ Some kind → opens_block kind ≡ false
     → is_opening words ≡ false
 shut_words [] kind e shut = cc
@@ -200,7 +200,7 @@ module _ (before after : Option (List ℕ)) (old new : InputLines) where
     spelled = spells kind first shut;
   }
 
--- a block, and one that was not read to its end
+-- A block, and one that was not read to its end.
 module _ (before mid after : Option (List ℕ)) (old first_at new : InputLines) (kind : BlockKind)
     (first : ReadsFirst {E = LineReadFault} (Ok (Some (Named (Opening kind)))) before mid old first_at) where
   parts : (is_long (line_in first_at) ≡ false) × (is_skipped (line_in first_at) ≡ false)

@@ -1,4 +1,4 @@
--- What the lines of an item spell, whatever lines follow.
+-- What the lines of an item specify, whatever lines follow.
 use Rattle.std.proofs.Common.{◌≡◌, ℕ, Bool, true, false, if◌then◌else◌, List, [], ◌∷◌, ◌++◌, length, Option}
 use Rattle.std.proofs.Common.{Result, Ok, Err, refl, sym, ap, ◌∙◌, append_assoc, append-nil, arith}
 use Rattle.std.specs.List.{after_first, before_first, list_any, position_or_len}
@@ -34,7 +34,7 @@ skips_more lines line before short skipped more =
     ap commands (append_assoc lines (line ∷ []) more) ∙ before (line ∷ more)
     ∙ commands-cons line more ∙ cond-false (is_long line) _ _ short ∙ cond-true (is_skipped line) _ _ skipped
 
--- an item of one line
+-- An item of one line.
 pub spells_long : (at_end : Bool) (lines : List (List ℕ)) (line : List ℕ) → SpellNothing lines → is_long line ≡ true
     → Spell at_end (lines ++ line ∷ []) (Err LineTooLong ∷ [])
 spells_long at_end lines line before long more may =
@@ -47,7 +47,7 @@ spells_line at_end lines line item before short says other is more may =
     ap commands (append_assoc lines (line ∷ []) more) ∙ before (line ∷ more) ∙ commands-line line more short says other
     ∙ ap (λ (first : Spelled). first ∷ commands more) (sym is)
 
--- an item with a block
+-- An item with a block.
 pub spells_block : (at_end : Bool) (lines inside : List (List ℕ)) (line : List ℕ) (command : Result Command LineRefusal) (item : Spelled)
     → SpellNothing lines → is_long line ≡ false → is_skipped line ≡ false → is_opening (words_of line) ≡ true
     → command ≡ command_of (words_of line)
@@ -62,7 +62,7 @@ spells_block at_end lines inside line command item before short says opening is 
     ∙ (λ i. opened_by (sym is i) (inside ++ more) ∷ commands (own.1 i))
     ∙ ap (λ (first : Spelled). first ∷ commands more) own.0
 
--- a block that is open
+-- An open block.
 pub spells_open : (lines inside : List (List ℕ)) (line : List ℕ) → SpellNothing lines → is_long line ≡ false → is_skipped line ≡ false
     → is_opening (words_of line) ≡ true → list_any is_end inside ≡ false
     → without_open_block (commands ((lines ++ line ∷ []) ++ inside)) ≡ []
@@ -77,7 +77,7 @@ spells_open lines inside line before short says opening endless =
 pub spells_none : (lines : List (List ℕ)) → SpellNothing lines → without_open_block (commands lines) ≡ []
 spells_none lines nothing = ap without_open_block (ap commands (sym (append-nil lines)) ∙ nothing [])
 
--- what a block tells of the lines that it has taken
+-- The values of a block from the lines that it has taken.
 block_judged : (kind : Option BlockKind) (lines : List (List ℕ)) (block : TakenBlock) → IsTaken kind lines block
     → block_values kind lines ≡ judgement block
 block_judged kind lines block taken =
@@ -87,7 +87,7 @@ block_judged kind lines block taken =
     kept : kept_of kind (said_by kind (short_lines lines)) ≡ block.content
     kept = sym (taken.lines_are.content ∙ ap (λ (of : Option BlockKind). kept_of of (said_by of (short_lines lines))) taken.kind_is)
 
--- a block whose end was read
+-- A block whose end was read.
 block_ended : (kind : Option BlockKind) (lines : List (List ℕ)) (block : TakenBlock) (more : List (List ℕ)) → AreTaken kind lines block
     → EndsBlock kind (lines ++ more) more block
 block_ended kind lines block more taken = ends_block kind taken.last taken.inside (lines ++ more) more block
@@ -136,7 +136,7 @@ block_open lines command more endless none =
       ap (after_first is_end) all ∙ drop_all _ lines (omega (arith, end)) ∙ sym none,
     )
 
--- one more line that is no end
+-- One more line that does not end the block.
 pub takes_more : (kind : Option BlockKind) (lines : List (List ℕ)) (line : List ℕ) (block next : TakenBlock) → IsTaken kind lines block
     → Takes block line next → IsTaken kind (lines ++ line ∷ []) next
 takes_more kind lines line block next taken takes = record {
@@ -151,11 +151,11 @@ endless_more lines line before other = list_any-append is_end lines (line ∷ []
 pub endless_still : (lines : List (List ℕ)) → list_any is_end lines ≡ false → list_any is_end (lines ++ []) ≡ false
 endless_still lines before = ap (list_any is_end) (append-nil lines) ∙ before
 
--- nothing more was told
+-- No further line was returned.
 pub nothing_still : (lines : List (List ℕ)) → SpellNothing lines → SpellNothing (lines ++ [])
 nothing_still lines before more = ap (λ (all : List (List ℕ)). commands (all ++ more)) (append-nil lines) ∙ before more
 
--- lines that spell nothing are passed over
+-- Lines that specify nothing are skipped.
 says_none : (long skipped opening : Bool) (refused block other : Spelled) (rest after : List Spelled)
     → (if long then refused ∷ rest else (if skipped then rest else (if opening then block ∷ after else other ∷ rest))) ≡ []
     → (long ≡ false) × (skipped ≡ true) × (rest ≡ [])
@@ -172,7 +172,7 @@ passed_over (line ∷ lines) more e =
     (λ i. if none.0 i then false else (if none.1 i then opens_first (lines ++ more) else is_opening (words_of line)))
     ∙ passed_over lines more none.2
 
--- a fault, before an item and in its block
+-- An I/O error before an item, and within its block.
 pub fault_before : (why : LineReadFault) (at_end : Bool) (lines : List (List ℕ)) → SpellNothing lines
     → SpellNext (Err (of_line why)) at_end lines
 fault_before read.ReadFault at_end lines before = spells_none lines before

@@ -1,4 +1,4 @@
--- An image by no more of its bytes than are kept.
+-- An image, from only those of its bytes that are kept.
 use Rattle.std.proofs.Common.{inl, inr, ◌≡◌, ℕ, zero, suc, Bool, true, false, not, cond, List, [], ◌∷◌, ◌++◌, length, length-take, take}
 use Rattle.std.proofs.Common.{◌⊎◌, ◌+◌, ◌≤◌, ◌&&◌, if◌then◌else◌, flat_map, is_ok, Option, Some, None, Result, Ok, Err, refl, append-nil}
 use Rattle.std.proofs.Common.{sym, ap, ◌∙◌, arith}
@@ -35,7 +35,7 @@ kept_image bytes = elim (cases_lt most_kept (length bytes)) [
   | inr short ↦ ap (λ (all : List ℕ). image_content (Ok all)) (take_all most_kept bytes (omega (arith, short)))
 ]
 
--- what a block says is judged alike by what it keeps of it
+-- The values of a block are the same from what it keeps.
 pub whole_kept : (kind : Option BlockKind) (said : Result (List ℕ) LineRefusal) → whole_said kind (kept_of kind said) ≡ whole_said kind said
 whole_kept None said = refl
 whole_kept (Some (Page Words)) said = refl
@@ -44,7 +44,7 @@ whole_kept (Some (Page Image)) (Err refusal) = refl
 whole_kept (Some (Page Asm)) said = refl
 whole_kept (Some (Program kind)) said = refl
 
--- one more line that is a row of bytes
+-- One more line of bytes.
 abbrev more_of : Result (List ℕ) LineRefusal → List ℕ → Result (List ℕ) LineRefusal
 more_of (Ok bytes) more = Ok (bytes ++ more)
 more_of (Err refusal) more = Err refusal
@@ -86,7 +86,7 @@ kept-more : (said : Result (List ℕ) LineRefusal) (more : List ℕ)
 kept-more (Ok bytes) more = ap (λ (kept : List ℕ). Ok kept) (take_more most_kept bytes more)
 kept-more (Err refusal) more = refl
 
--- whatever was kept, it is now kept with one line more
+-- Whatever was kept, one line more is now kept.
 pub takes_row : (lines : List (List ℕ)) (line bytes : List ℕ) (old new : Result (List ℕ) LineRefusal) → is_skipped line ≡ false
     → line_bytes line ≡ Ok bytes → new ≡ kept_bytes (more_of old bytes) → old ≡ kept_bytes (block_bytes lines)
     → new ≡ kept_bytes (block_bytes (lines ++ line ∷ []))
@@ -105,7 +105,7 @@ stays_wrong old bytes wrong =
     ap (λ (b : Bool). if b then Err BadNumber else Ok old.bytes.items) wrong
     ∙ sym (ap (λ (b : Bool). kept_bytes (more_of (if b then Err BadNumber else Ok old.bytes.items) bytes)) wrong)
 
--- more bytes behind those that are kept, as far as there is room
+-- More bytes after those that are kept, as far as there is room.
 pub fits_more : (kept more : List ℕ) (room count : ℕ) → length kept + room ≡ most_kept
     → (count ≡ room) ⊎ ((count ≡ length more) × (length more ≤ room)) → kept ++ take count more ≡ take most_kept (kept ++ more)
 fits_more kept more room count whole (inl full) =

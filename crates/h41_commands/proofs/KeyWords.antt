@@ -10,7 +10,7 @@ use Rattle.h41_commands.specs.Commands.{and_then, key_command, key_of, keys_of}
 use Rattle.h41_commands.specs.declared.refusal.LineRefusal.{LineRefusal}
 use Rattle.h41_commands.specs.declared.refusal.LineRefusal.TheVariants.{BadCommand}
 
--- the bytes of a line's parts, each with what parts it from the next
+-- The bytes of the parts of a line, each with the separator after it.
 abbrev size : List (List ℕ) → ℕ
 size [] = 0
 size (part ∷ parts) = length part + 1 + size parts
@@ -32,7 +32,7 @@ size-slice_split p (x ∷ line) =
 abbrev is_word : List ℕ → Bool
 is_word word = nat_lt 0 (length word)
 
--- a word takes two bytes at least
+-- A word needs at least two bytes.
 words-cond : (word : List ℕ) (parts rest : List (List ℕ)) (b : Bool) → is_word word ≡ b → 2 * length rest ≤ size parts
     → 2 * length (cond b (word ∷ rest) rest) ≤ length word + 1 + size parts
 words-cond word parts rest true e least = let some : 0 < length word = ltb-true 0 (length word) e in omega (arith, some, least)
@@ -57,13 +57,13 @@ words-first [] others name e = cc
 words-first (word ∷ parts) others name e =
     first-cond word parts (filter is_word parts) others name (is_word word) e (words-size parts) (words-first parts others name)
 
--- and so do those behind the first word of a line
+-- The words after the first word of a line do too.
 pub words_within : (line name : List ℕ) (others : List (List ℕ)) → words_of line ≡ name ∷ others
     → length name + 2 * length others ≤ length line
 words_within line name others e =
     omega (arith, words-first (slice_split is_blank line) others name e, size-slice_split is_blank line)
 
--- the keys so far, and behind them those that the words left name
+-- The keys so far, followed by those that the remaining words name.
 abbrev pub with_more : List Key → List (List ℕ) → Result (List Key) LineRefusal
 with_more keys left = and_then (keys_of left) (λ others. Ok (keys ++ others))
 
@@ -79,6 +79,6 @@ lacks_keys [] keys e none = refl
 lacks_keys (name ∷ names) [] e none = absurd (some (key_of name) (keys_of names) e)
 lacks_keys (name ∷ names) (key ∷ keys) e none = let nothing = eqb-true (length (key ∷ keys)) 0 none in absurd (omega arith)
 
--- once no word is left
+-- No word remains.
 pub all_named : (names left : List (List ℕ)) (keys : List Key) → keys_of names ≡ with_more keys left → left ≡ [] → keys_of names ≡ Ok keys
 all_named names left keys named none = named ∙ ap (with_more keys) none ∙ ap (λ (all : List Key). Ok all) (append-nil keys)

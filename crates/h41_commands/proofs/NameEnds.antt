@@ -1,4 +1,4 @@
--- Where the first word of a line ends, and what stands behind it.
+-- Where the first word of a line ends, and the bytes after it.
 use Rattle.std.proofs.Common.{inl, inr, not, ◌≡◌, ◌≤◌, ℕ, ◌+◌, List, [], drop, get_or, take, true, length, Option, Some, None}
 use Rattle.std.proofs.Common.{refl, sym, ap, ◌∙◌, arith}
 use Rattle.std.specs.List.{position, position_or_len}
@@ -14,7 +14,7 @@ use Rattle.h41_commands.specs.declared.line.FirstLine.{FirstLine}
 use Rattle.h41_commands.specs.declared.line.LineKind.{LineKind}
 use Rattle.h41_commands.specs.declared.line.LineKind.TheVariants.{Long, Named}
 
--- its first byte is no blank
+-- Its first byte is neither a space nor a tab.
 pub end_behind : (line : List ℕ) (start n : ℕ) → Some start ≡ position (λ byte. not (is_blank byte)) line
     → n ≡ position_or_len is_blank (drop (start + 1) line) → 1 + n ≡ position_or_len is_blank (drop start line)
 end_behind line start n found here =
@@ -23,7 +23,7 @@ end_behind line start n found here =
     rw at.0 (passes_at_first (λ byte. not (is_blank byte)) line 0 (omega (arith, at.0, at.1))) in
     rw (drop_more line start 0 at.1, first) (ap (λ (k : ℕ). 1 + k) here)
 
--- a line with a first word is told by that
+-- A line with a first word is classified by it.
 pub named_told : (line : List ℕ) (start n : ℕ) (word : FirstWord) → Some start ≡ position (λ byte. not (is_blank byte)) line
     → n ≡ position_or_len is_blank (drop (start + 1) line) → word ≡ first_word (take (1 + n) (drop start line))
     → Some (record { kind = Named word; name_end = start + 1 + n }) ≡ told_by line (kind_by_words (words_of line))
@@ -35,7 +35,7 @@ named_told line start n word found here is =
     let end : start + 1 + n ≡ name_end line = sum ∙ rw (← at) (ap (λ (k : ℕ). start + k) length) in
     rw (words, is, end) refl
 
--- the bytes behind the first word
+-- The bytes after the first word.
 behind : (line : List ℕ) → drop (name_end line) line
     ≡ drop (position_or_len is_blank (drop (name_start line) line)) (drop (name_start line) line)
 behind line = sym (drop-drop _ (name_start line) line)
@@ -60,7 +60,7 @@ words_behind line = elim (cases_lt (name_start line) (length line)) [
   | inr past ↦ no_word line past
 ]
 
--- what is told of a line
+-- The kind of line in a result.
 abbrev kind_in : Option FirstLine → Option LineKind
 kind_in None = None
 kind_in (Some first) = Some first.kind

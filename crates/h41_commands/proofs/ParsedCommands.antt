@@ -1,4 +1,4 @@
--- A line's command is never refused as an open block.
+-- The command of a line is never refused as an open block.
 use Rattle.std.proofs.Common.{◌≡◌, ℕ, Bool, true, false, if◌then◌else◌, List, [], ◌∷◌, Option, Some, None, Result, Ok}
 use Rattle.std.proofs.Common.{Err, bytes_eq}
 use Rattle.std.proofs.Common.{codes, refl}

@@ -1,4 +1,4 @@
--- Programs' texts: their lines in turn, and the bytes of these.
+-- Texts of programs: their lines in turn, and the bytes of these.
 use Rattle.std.proofs.Common.{inl, inr, ◌≡◌, ℕ, ◌+◌, ◌≤◌, suc, Bool, false, ◌==◌, List, [], ◌∷◌, ◌++◌, length, take, drop, Some, None}
 use Rattle.std.proofs.Common.{Result, Ok, Err, refl, sym, ◌∙◌, ap, subst, append_assoc, append-nil, arith}
 use Rattle.std.specs.List.{position, position_or_len, All}
@@ -17,7 +17,7 @@ use Rattle.h41_commands.specs.declared.blocks.program_text.Packed.{Packed}
 use Rattle.h41_commands.specs.private.ProgramTexts.{IsPacked, null_between}
 use Rattle.h41_lines.proofs.Positions.{position_none, position_some}
 
--- the first text, and those behind it
+-- The first text, and those after it.
 pub texts_at : (text : List ℕ) (n : ℕ) → Some n ≡ position (λ byte. byte == 10) text
     → texts_of text ≡ take n text ∷ texts_of (drop (n + 1) text)
 texts_at text n e =
@@ -41,7 +41,7 @@ last_line-more [] line = refl
 last_line-more (one ∷ []) line = refl
 last_line-more (one ∷ next ∷ lines) line = last_line-more (next ∷ lines) line
 
--- a line behind others, by its bytes
+-- A line after others, by its bytes.
 packed-more : (lines : List Line) (line : Line)
     → packed_lines (lines ++ line ∷ []) ≡ packed_lines lines ++ null_between (ends_with_number lines) (is_number line) ++ spelling line
 packed-more [] line = simp append-nil
@@ -61,7 +61,7 @@ pushed lines line old new packed_is bytes last = record {
   last = last ∙ sym (ap (λ found. option_map_or is_number found false) (last_line-more lines line));
 }
 
--- lines that were told, and more
+-- Lines that are known, and more lines.
 pub with_more-nil : (more : Result (List Line) LineRefusal) → with_more [] more ≡ more
 with_more-nil (Ok lines) = refl
 with_more-nil (Err why) = refl
@@ -71,7 +71,7 @@ with_more-append : (front said : List Line) (more : Result (List Line) LineRefus
 with_more-append front said (Ok lines) = ap (λ (all : List Line). Ok all) (append_assoc front said lines)
 with_more-append front said (Err why) = refl
 
--- what is told of all texts goes on with what is told of those that are left
+-- The result for all texts continues with the result for those that remain.
 abbrev pub Tells : List (List ℕ) → List Line → ℕ → List (List ℕ) → Type 0
 Tells all front number left = (more : Result (List Line) LineRefusal) → SayLines number left more → SayLines 1 all (with_more front more)
 
@@ -92,7 +92,7 @@ tells_bad all left front number text tells bad = tells (Err (BadText number)) (i
 pub tells_all : (all : List (List ℕ)) (front : List Line) (number : ℕ) → Tells all front number [] → SayLines 1 all (Ok front)
 tells_all all front number tells = subst (SayLines 1 all) (ap (λ (lines : List Line). Ok lines) (append-nil front)) (tells (Ok []) refl)
 
--- a text that is left empty says nothing, and another its line, or it is bad
+-- An empty text defines no line; another one defines its line, or is bad.
 pub says_nothing : (text : List ℕ) → length text ≡ 0 → SaysLine text []
 says_nothing [] none = refl
 says_nothing (byte ∷ rest) none = cc
@@ -105,6 +105,6 @@ pub is_bad : (text : List ℕ) → ((line : Line) → IsTextOf text line → ⊥
 is_bad [] none some = absurd (some refl)
 is_bad (byte ∷ rest) none some = none
 
--- a text has no more lines than bytes and one
+-- A text has at most one line more than it has bytes.
 pub count_texts : (text : List ℕ) → length (texts_of text) ≤ length text + 1
 count_texts text = omega (arith, length-slice_split (λ byte. byte == 10) text, count_by-le-length (λ byte. byte == 10) text)

@@ -1,4 +1,4 @@
--- What a fault that `?` passes on says of the fault that it comes from.
+-- What an error that `?` returns says of the error that it comes from.
 use Rattle.std.proofs.Common.{◌≡◌, ◌≢◌, Result, Err, ap, refl, ◌∙◌}
 use Rattle.std.specs.Result.{IsErrAnd}
 use Rattle.std.proofs.lemmas.Result.{err_from_is_err_and}
@@ -31,7 +31,7 @@ module _ {A B E F : Type 0} (of : E → F) (by_own : (one other : E) → of one 
       let same : fault ≡ other = cc in
       not (own.1 ∙ ap (fails {A = B}) (own.2 ∙ ap of same))
 
--- of a line, as an item's
+-- The error of a line, as that of an item.
 pub told_of_line : {A B : Type 0} (result : Result B _) (fault other : LineReadFault) → IsErrAnd result (λ own. own ≡ of_line fault)
     → result ≡ Err (of_line other) → fails {A = A} fault ≡ Err other
 told_of_line {A = A} result fault other passed = told_by {A = A} of_line line_by_own result fault passed other
@@ -40,7 +40,7 @@ pub untold_of_line : {A B : Type 0} (result : Result B _) (fault other : LineRea
     → result ≢ Err (of_line other) → fails {A = A} fault ≢ Err other
 untold_of_line {A = A} result fault other passed = untold_by {A = A} of_line line_by_own result fault passed other
 
--- the same fault
+-- The same error.
 pub told : {A B E : Type 0} (result : Result B E) (fault other : E) → IsErrAnd result (λ own. own ≡ fault)
     → result ≡ Err other → fails {A = A} fault ≡ Err other
 told {A = A} result fault other passed = told_by {A = A} (λ e. e) (λ _ _ e. e) result fault passed other

@@ -1,4 +1,4 @@
--- What lines spell, by no more than the first 201 bytes of each.
+-- The commands that lines specify, from only the first 201 bytes of each.
 use Rattle.std.proofs.Common.{inl, inr, not, ◌≡◌, ℕ, zero, suc, ◌+◌, ◌≤◌, ◌&&◌, ◌||◌, Bool, false, cond, if◌then◌else◌, List, [], ◌∷◌}
 use Rattle.std.proofs.Common.{length, map, take, drop, length-take, Option, Err, refl, sym, ap, ◌∙◌, arith}
 use Rattle.std.specs.List.{after_first, before_first, list_any, position_or_len, take-map}
@@ -14,7 +14,7 @@ use Rattle.h41_commands.specs.declared.commands.BlockKind.{BlockKind}
 use Rattle.h41_commands.specs.declared.refusal.LineRefusal.TheVariants.{LineTooLong, NoEnd}
 use Rattle.h41_lines.specs.Words.{words_of}
 
--- a line that is not too long is told whole, and one that is stays so
+-- A line that is not too long is returned completely, and one that is too long remains so.
 told_whole : (line : List ℕ) → is_long line ≡ false → told_part line ≡ line
 told_whole line short =
     let most : length line ≤ 200 = ltb-false 200 (length line) short in

@@ -28,7 +28,7 @@ value = digits_value 16
 abbrev is_big : List ℕ → Bool
 is_big word = nat_lt 1023 (value word)
 
--- what `word_values` says, by its two tests
+-- The result of `word_values`, by its two tests.
 abbrev judged : Bool → Bool → List ℕ → Result (List ℕ) LineRefusal
 judged hex image values = if not hex then Err BadNumber else (if image then Err BadImage else Ok values)
 
@@ -40,14 +40,14 @@ pushed words word =
     λ i. judged (list_all-append is_hex words (word ∷ []) i)
     (nat_lt 4096 (length (words ++ word ∷ [])) || list_any-append is_big words (word ∷ []) i) (map-append value words (word ∷ []) i)
 
--- a fault stays
+-- An error remains.
 stays : (hex image more : Bool) (values others : List ℕ) (fault : LineRefusal) → (image ≡ true → more ≡ true)
     → Err fault ≡ judged hex image values → Err fault ≡ judged (hex && true) more others
 stays false image more values others fault keeps e = e
 stays true true more values others fault keeps e = rw (keeps refl) e
 stays true false more values others fault keeps e = cc
 
--- and a page with no fault has passed both tests
+-- A page without an error has passed both tests.
 passed : (hex image : Bool) (values taken : List ℕ) → Ok taken ≡ judged hex image values → (hex ≡ true) × (image ≡ false) × (taken ≡ values)
 passed false image values taken e = cc
 passed true true values taken e = cc
@@ -79,7 +79,7 @@ length_values : (words : List (List ℕ)) → length (map value words) ≡ lengt
 length_values [] = refl
 length_values (word ∷ words) = ap (λ (n : ℕ). suc n) (length_values words)
 
--- a word that is too great, or one too many
+-- A word that is too great, or one too many.
 pub word_values-image : (words : List (List ℕ)) (word : List ℕ) (fault : Option LineRefusal) (taken : List ℕ) → is_hex word ≡ true
     → (1023 < value word) ⊎ (length taken ≡ 4096) → unless_fault fault taken ≡ word_values words
     → unless_fault (option_or fault (Some BadImage)) taken ≡ word_values (words ++ word ∷ [])
@@ -96,7 +96,7 @@ word_values-image words word None taken hex over e =
     ] in
     rw (pushed words word, good.0, hex, fault) refl
 
--- what reading one word says
+-- The result of reading one word.
 hex_of : (hex : Bool) (number n : ℕ) → Ok n ≡ (if hex then Ok number else Err BadNumber) → (hex ≡ true) × (n ≡ number)
 hex_of true number n e = (refl, cc)
 hex_of false number n e = cc
@@ -114,7 +114,7 @@ pub hex-Err : (word : List ℕ) (fault : LineRefusal) → Err fault ≡ (if is_h
     → (is_hex word ≡ false) × (fault ≡ BadNumber)
 hex-Err word fault e = no_hex_of (is_hex word) (value word) fault e
 
--- one more line
+-- One more line.
 abbrev says : List ℕ → Bool
 says line = not (is_skipped line)
 
@@ -132,7 +132,7 @@ block_words-push inside line other =
     ∙ flat_map-append words_of (filter says inside) (line ∷ [])
     ∙ ap (λ (words : List (List ℕ)). block_words inside ++ words) (append-nil (words_of line))
 
--- what `resize` makes of a page's words
+-- What `resize` makes of a page's words.
 pub resized : (values items : List ℕ) (count : ℕ) → count ≡ length values → count ≤ page_size
     → items ≡ take page_size values ++ replicate (page_size - count) 0 → items ≡ page_of_words values
 resized values items count same room e =

@@ -6,13 +6,13 @@ use Rattle.h41_commands.specs.declared.refusal.LineRefusal.{LineRefusal}
 use Rattle.h41_commands.specs.PageBlocks.{Fills}
 use Rattle.h41_commands.specs.ProgramBlocks.{Means}
 
--- a block's values fill a page with the same words, or for the same reason with none
+-- A block's values determine the words that fill a page, or the reason why none do.
 abbrev pub FillingIsDetermined : Type 0
 FillingIsDetermined =
     (kind : PageKind) (page : ℕ) (values : List ℕ) (words others : Result (List ℕ) LineRefusal)
     → Fills kind page values words → Fills kind page values others → words ≡ others
 
--- they mean the bytes of the same program, or for the same reason none
+-- A block's values determine the bytes of the program, or the reason why there are none.
 abbrev pub MeaningIsDetermined : Type 0
 MeaningIsDetermined =
     (kind : ProgramKind) (values : List ℕ) (bytes others : Result (List ℕ) LineRefusal)

@@ -13,50 +13,53 @@ use Rattle.h41_commands.specs.Commands.{kind_of_word, plain_of_word}
 use Rattle.h41_commands.specs.DeckLines.{is_long, is_skipped}
 use Rattle.h41_lines.specs.Words.{is_blank, words_of}
 
--- a word that opens a block, or is the name of another command, or of none
+-- A word opens a block, or is the name of another command, or is unknown.
 abbrev pub word_by : Option BlockKind → Option PlainKind → FirstWord
 word_by (Some kind) plain = Opening kind
 word_by None (Some kind) = Plain kind
 word_by None None = Unknown
 
+-- What the first word of a line names.
 abbrev pub first_word : List ℕ → FirstWord
 first_word name = word_by (kind_of_word name) (plain_of_word name)
 
--- a line by its words
+-- A line by its words.
 abbrev pub kind_by_words : List (List ℕ) → Option LineKind
 kind_by_words [] = None
 kind_by_words (name ∷ operands) = Some (Named (first_word name))
 
--- a line that is too long, or that says something
+-- A line is too long, or is skipped, or has a first word.
 abbrev pub line_kind : List ℕ → Option LineKind
 line_kind line =
     if is_long line then Some Long
     else (if is_skipped line then None else kind_by_words (words_of line))
 
--- whether it opens a block
+-- Whether the line opens a block.
 abbrev pub opens_block : LineKind → Bool
 opens_block Long = false
 opens_block (Named (Opening kind)) = true
 opens_block (Named (Plain kind)) = false
 opens_block (Named Unknown) = false
 
--- how many bytes a line has in front of its first word, and up to the end of that: the first blank
--- behind, or the line's end
+-- How many bytes are before the first word of a line.
 abbrev pub name_start : List ℕ → ℕ
 name_start line = position_or_len (λ byte. not (is_blank byte)) line
 
+-- How many bytes there are up to the end of the first word: up to the first space or tab after it,
+-- or the end of the line.
 abbrev pub name_end : List ℕ → ℕ
 name_end line = name_start line + position_or_len is_blank (drop (name_start line) line)
 
--- a line with both
+-- What a line is, with the end of its first word.
 abbrev pub told_as : List ℕ → LineKind → FirstLine
 told_as line Long = record { kind = Long; name_end = 0 }
 told_as line (Named word) = record { kind = Named word; name_end = name_end line }
 
+-- The same for a line that may be skipped.
 abbrev pub told_by : List ℕ → Option LineKind → Option FirstLine
 told_by line None = None
 told_by line (Some kind) = Some (told_as line kind)
 
--- the first line of an item; none where it says nothing
+-- The first line of an item; none if the line is skipped.
 abbrev pub first_line : List ℕ → Option FirstLine
 first_line line = told_by line (line_kind line)

@@ -1,4 +1,5 @@
--- Which commands the lines of a deck spell. No state comes in. The language is this project's own.
+-- The commands that the lines of a deck specify. The state of the calculator plays no part. The
+-- language is this project's own.
 use Rattle.std.specs.Prelude.{ℕ, zero, suc, Bool, true, false, not, List, [], ◌∷◌, length, filter}
 use Rattle.std.specs.Prelude.{if◌then◌else◌, Result, Ok, Err}
 use Rattle.std.specs.List.{list_any, before_first, after_first}
@@ -10,32 +11,33 @@ use Rattle.h41_commands.specs.Commands.{and_then, is_opening, kind_of, command_o
 use Rattle.h41_lines.specs.Words.{words_of}
 use Rattle.h41_commands.specs.DeckLines.{is_end, is_long, is_skipped}
 
--- What lines spell: a command and its block's values (none where it has no block), or why the lines
--- are refused.
+-- What lines specify: a command and the values of its block (none if it has no block), or why the
+-- lines are refused.
 abbrev pub Spelled : Type 0
 Spelled = Result (Command × List ℕ) LineRefusal
 
--- a command whose block is judged so
+-- A command with the values of its block, or the block's refusal.
 abbrev pub with_values : Result (List ℕ) LineRefusal → Command → Spelled
 with_values values command = and_then values (λ values. Ok (command, values))
 
--- what a first line and the lines of its block spell; a fault of the first line comes before all
--- else
+-- What a first line and the lines of its block specify. An error of the first line is reported
+-- before any other.
 abbrev pub spelled_by : List ℕ → List (List ℕ) → Spelled
 spelled_by first inside =
     and_then (command_of (words_of first))
     (λ command. with_values (block_values (kind_of command) inside) command)
 
--- a line that opens a block, and the lines after it
+-- A line that opens a block, with the lines after it. Without an end the block is refused as NoEnd
+-- (52).
 abbrev pub opened_block : List ℕ → List (List ℕ) → Spelled
 opened_block first rest =
     if list_any is_end rest then spelled_by first (before_first is_end rest) else Err NoEnd
 
--- a line that opens none
+-- A line that opens no block.
 abbrev pub line_spelled : List ℕ → Spelled
 line_spelled line = if is_long line then Err LineTooLong else spelled_by line []
 
--- what so many lines at the most spell
+-- What lines specify, in at most so many steps.
 abbrev pub spelled_within : ℕ → List (List ℕ) → List Spelled
 spelled_within zero lines = []
 spelled_within (suc most) [] = []
@@ -46,21 +48,21 @@ spelled_within (suc most) (line ∷ rest) =
     then opened_block line rest ∷ spelled_within most (after_first is_end rest)
     else spelled_by line [] ∷ spelled_within most rest))
 
--- the commands that lines spell, each with its block's values, or refused as 50 to 53 or 4
+-- The commands that lines specify, each with the values of its block, or their refusals.
 abbrev pub commands : List (List ℕ) → List Spelled
 commands lines = spelled_within (length lines) lines
 
--- a block whose end was not read
+-- A block whose end was not read.
 abbrev pub is_open : Spelled → Bool
 is_open (Err NoEnd) = true
 is_open (Err refusal) = false
 is_open (Ok given) = false
 
--- what is spelled but for such a block
+-- The items without such a block.
 abbrev pub without_open_block : List Spelled → List Spelled
 without_open_block items = filter (λ item. not (is_open item)) items
 
--- whether the first of some lines that says something opens a block
+-- Whether the first line that is not skipped opens a block.
 abbrev pub opens_first : List (List ℕ) → Bool
 opens_first [] = false
 opens_first (line ∷ rest) =

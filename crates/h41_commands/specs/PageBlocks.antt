@@ -10,26 +10,26 @@ use Rattle.h41_commands.specs.declared.refusal.LineRefusal.{LineRefusal}
 use Rattle.h41_commands.specs.declared.refusal.LineRefusal.TheVariants.{BadImage, Source}
 use Rattle.h41_commands.specs.Commands.{and_then}
 
--- the first address of a page, which is named by one digit
+-- The first address of a page, which one digit names.
 abbrev pub page_address : ℕ → ℕ
 page_address page = page % page_count * page_size
 
--- why a source spells no words: its first fault, told with its line
+-- Why a source has no words: its first error, with its line.
 abbrev pub source_refusal : List ℕ → ℕ → Option LineRefusal
 source_refusal source origin =
     option_map (λ found. Source found.0 found.1) (assembly_fault source origin)
 
--- what a source gives at an origin: the words that it spells, or its refusal
+-- What a source makes at an origin: the words that it assembles to, or its refusal.
 abbrev pub SourceMakes : List ℕ → ℕ → Result (List ℕ) LineRefusal → Type 0
 SourceMakes source origin (Ok words) = Assembles source origin words
 SourceMakes source origin (Err refusal) = source_refusal source origin ≡ Some refusal
 
--- words for one page: 4 where there are more than it has
+-- The words of one page: BadImage (04) if there are more than it has.
 abbrev pub words_of_page : List ℕ → Result (List ℕ) LineRefusal
 words_of_page words = if nat_lt page_size (length words) then Err BadImage else Ok words
 
--- the words that a block's values say for a page, or why they say none: they are words already, or
--- the source of these
+-- The words that a block's values define for a page, or why they define none. The values are the
+-- words already, or the source of the words.
 abbrev pub Fills : PageKind → ℕ → List ℕ → Result (List ℕ) LineRefusal → Type 0
 Fills Words page values words = words ≡ Ok values
 Fills Image page values words = words ≡ Ok values

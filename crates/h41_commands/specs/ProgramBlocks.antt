@@ -1,5 +1,5 @@
--- The program that the lines of a block say, as bytes or as text. The commands are this project's
--- choice.
+-- The program that the lines of a block define, as bytes or as text. The commands are this
+-- project's choice.
 use Rattle.std.specs.Prelude.{◌≡◌, ◌⊎◌, ℕ, suc, ◌==◌, ◌++◌, List, [], ◌∷◌, Result, Ok, Err}
 use Rattle.std.specs.List.{slice_split}
 use Rattle.h41_codes.specs.declared.line.Line.{Line}
@@ -11,26 +11,26 @@ use Rattle.h41_commands.specs.declared.refusal.LineRefusal.{LineRefusal}
 use Rattle.h41_commands.specs.declared.refusal.LineRefusal.TheVariants.{BadText}
 use Rattle.h41_commands.specs.Commands.{and_then}
 
--- the texts of a program's lines: what stands between line ends (LF)
+-- The texts of a program's lines: the parts between line ends (LF).
 abbrev pub texts_of : List ℕ → List (List ℕ)
 texts_of source = slice_split (λ byte. byte == 10) source
 
--- a text that is that of no line; one that is left empty is not bad, and says nothing
+-- A text that is not that of a program line. An empty text is not bad: it is skipped.
 abbrev pub IsBadText : List ℕ → Type 0
 IsBadText [] = ⊥
 IsBadText (byte ∷ rest) = (line : Line) → IsTextOf (byte ∷ rest) line → ⊥
 
--- the line that a text says, where it is not left empty
+-- The program line that a text defines; an empty text defines none.
 abbrev pub SaysLine : List ℕ → List Line → Type 0
 SaysLine [] said = said ≡ []
 SaysLine (byte ∷ rest) said = (line : Line) × IsTextOf (byte ∷ rest) line × (said ≡ line ∷ [])
 
--- lines, and more lines behind them
+-- Lines, and more lines after them.
 abbrev pub with_more : List Line → Result (List Line) LineRefusal → Result (List Line) LineRefusal
 with_more said more = and_then more (λ lines. Ok (said ++ lines))
 
--- the lines that texts say in turn, or 41 with the number of the first that is that of no line; the
--- first has this number
+-- The lines that texts define in turn, or BadText (41) with the number of the first that is not the
+-- text of a line. The first text has this number.
 abbrev pub SayLines : ℕ → List (List ℕ) → Result (List Line) LineRefusal → Type 0
 SayLines number [] lines = lines ≡ Ok []
 SayLines number (text ∷ texts) lines =
@@ -41,14 +41,15 @@ SayLines number (text ∷ texts) lines =
     × SayLines (suc number) texts more
     × (lines ≡ with_more said more))
 
--- the bytes that a program's text spells: those of its lines, with a null between two numbers
+-- The bytes that a program's text defines: those of its lines, with a null byte between two
+-- numbers.
 abbrev pub TextSpells : List ℕ → Result (List ℕ) LineRefusal → Type 0
 TextSpells source bytes =
     (lines : Result (List Line) LineRefusal)
     × SayLines 1 (texts_of source) lines
     × (bytes ≡ and_then lines (λ lines. Ok (packed_lines lines)))
 
--- the bytes of a block: they are these already, or its text spells them
+-- The bytes of a block: they are its values, or its text defines them.
 abbrev pub Means : ProgramKind → List ℕ → Result (List ℕ) LineRefusal → Type 0
 Means Bytes values bytes = bytes ≡ Ok values
 Means Text source bytes = TextSpells source bytes

@@ -1,4 +1,5 @@
-//! The block of a command: one mechanism for all kinds, which takes the lines one at a time and is judged in one place.
+//! The block of a command. One type takes the lines of every kind of block one at a time, and one function decides whether
+//! they are refused.
 
 ghost use Rattle.std.specs.Prelude.{◌≡◌, ◌≤◌, IfOk, None, vec_len};
 ghost use Rattle.std.specs.Result.{result_err};
@@ -23,27 +24,27 @@ pub mod page_words;
 mod program_text;
 pub mod source_text;
 
-/// The block of a command: what its lines have said so far. A command that has none has an empty one.
+/// The lines that a command's block has taken so far. A command without a block has an empty one.
 #[derive(Debug, Drop)]
 pub struct Block {
     content: Content,
     has_long: bool,
 }
 
-/// What a block's lines have said, by its kind.
+/// The contents of a block's lines, by the kind of block.
 #[derive(Debug, Drop)]
 enum Content {
-    /// There is no block.
+    /// The command has no block.
     Nothing,
-    /// The words of a page.
+    /// The words of a page, from `words`.
     Words(PageWords),
-    /// The bytes of a page's image.
+    /// The bytes of a page's image, from `image`.
     Image(ImageBytes),
-    /// The source of a page's words.
+    /// The source of a page's words, from `asm`.
     Source(SourceText),
-    /// The bytes of a program.
+    /// The bytes of a program, from `load`.
     Bytes(HexBytes),
-    /// The text of a program.
+    /// The text of a program, from `program`.
     Text(SourceText),
 }
 
@@ -61,14 +62,14 @@ impl Model for Block {
 }
 
 impl Block {
-    /// A block for the lines behind a command, of which it has taken none.
+    /// Returns an empty block for the lines after this command.
     pub fn new(alloc: Global, command: Command) -> Self
         ensures { IsNew (kind_of command) result }
     {
         Block::of_kind(alloc, command.block_kind())
     }
 
-    /// A block of a kind that has taken no lines.
+    /// Returns an empty block of this kind.
     pub(crate) fn of_kind(alloc: Global, kind: Option<BlockKind>) -> Self
         ensures { IsNew kind result }
     {
@@ -86,8 +87,11 @@ impl Block {
         }
     }
 
-    /// Takes one more line. One of more than 200 bytes makes the judgement 53. 21 where memory is refused: the block is then
-    /// of no more use.
+    /// Takes one more line. If it has more than 200 bytes, the block is refused as LineTooLong (53).
+    ///
+    /// # Errors
+    ///
+    /// OutOfMemory (21) if allocation failed; the block cannot be used afterwards.
     #[inline(always)]
     pub fn line(&mut self, text: &[u8]) -> Result<(), AllocError>
         ensures { IfOk result (λ _. Takes self.old text.now self.new) }
@@ -106,7 +110,7 @@ impl Block {
         }
     }
 
-    /// Why its lines are refused, if they are. A line that is too long (53) comes before all else.
+    /// Returns why the block's lines are refused, if they are. LineTooLong (53) is reported before any other error.
     pub fn refusal(&self) -> Option<LineRefusal>
         ensures { result ≡ result_err (judgement self.now) }
     {
@@ -119,7 +123,12 @@ impl Block {
         }
     }
 
-    /// The words of a page that its lines say, or why they say none. 21 where memory is refused.
+    /// Returns the words that the lines define for a page, 0 to 15, at most 4,096 of them, or why they define none: an
+    /// assembler error (30 to 35), or BadImage (04) if the source has more words than a page.
+    ///
+    /// # Errors
+    ///
+    /// OutOfMemory (21) if allocation failed.
     pub fn into_words(
         self,
         alloc: Global,
@@ -138,7 +147,11 @@ impl Block {
         }
     }
 
-    /// The bytes of a program that its lines say, or why they say none (41). 21 where memory is refused.
+    /// Returns the bytes of the program that the lines define, or BadText (41) if a line is not the text of a program line.
+    ///
+    /// # Errors
+    ///
+    /// OutOfMemory (21) if allocation failed.
     pub fn into_bytes(self, alloc: Global) -> Result<Result<Vec<u8>, LineRefusal>, AllocError>
         requires kind { IsForProgram self }
         requires accepted { result_err (judgement self) ≡ None }

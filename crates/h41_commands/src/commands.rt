@@ -1,4 +1,4 @@
-//! The commands of a deck, as their first lines give them.
+//! The commands of a deck, as their first lines specify them.
 
 ghost use Rattle.std.specs.Prelude.{◌≡◌};
 
@@ -9,39 +9,39 @@ pub mod keys;
 pub mod number;
 pub mod parse;
 
-/// What a command's block is for.
+/// What the block of a command defines.
 #[derive(Clone, Copy, Debug, PartialEq, Eq)]
 pub enum BlockKind {
-    /// A page.
+    /// The contents of a page.
     Page(PageKind),
     /// A program.
     Program(ProgramKind),
 }
 
-/// What the lines of a page's block are.
+/// What the lines of a page's block contain.
 #[derive(Clone, Copy, Debug, PartialEq, Eq)]
 pub enum PageKind {
-    /// Words of a page, of 1 to 3 hexadecimal digits each.
+    /// `words`: words of a page, of 1 to 3 hexadecimal digits each.
     Words,
-    /// The bytes of a page's image, of 2 hexadecimal digits each.
+    /// `image`: the bytes of a page's image, of 2 hexadecimal digits each.
     Image,
-    /// The source of a page's words, for the assembler.
+    /// `asm`: the source of a page's words, for the assembler.
     Asm,
 }
 
-/// What the lines of a program's block are.
+/// What the lines of a program's block contain.
 #[derive(Clone, Copy, Debug, PartialEq, Eq)]
 pub enum ProgramKind {
     /// `load`: the bytes of a program, of 2 hexadecimal digits each.
     Bytes,
-    /// `program`: the text of a program, a line of it on each.
+    /// `program`: the text of a program, one program line per deck line.
     Text,
 }
 
 impl BlockKind {
     ghost use Rattle.h41_commands.specs.Commands.{kind_of_word};
 
-    /// The kind of the block that a line opens whose first word this is; nothing where it opens none.
+    /// Returns the kind of the block that a deck line opens, by its first word, or `None` if it opens none.
     #[inline(always)]
     #[tactic(auto, unfolding(crate::specs::Commands::kind_of_word))]
     pub(crate) fn of_word(word: &[u8]) -> Option<Self>
@@ -58,12 +58,12 @@ impl BlockKind {
     }
 }
 
-/// What the first word of a line is the name of.
+/// What the first word of a deck line names.
 #[derive(Clone, Copy, Debug, PartialEq, Eq)]
 pub enum FirstWord {
-    /// A line that opens a block.
+    /// A command with a block.
     Opening(BlockKind),
-    /// A command that opens none.
+    /// A command without a block.
     Plain(PlainKind),
     /// No command.
     Unknown,
@@ -72,7 +72,7 @@ pub enum FirstWord {
 impl FirstWord {
     ghost use Rattle.h41_commands.specs.FirstLines.{first_word};
 
-    /// What this word is the name of.
+    /// Returns what a word names as the first word of a deck line.
     #[inline(always)]
     pub(crate) fn of_word(word: &[u8]) -> Self
         ensures { result ≡ first_word word.now }
@@ -87,32 +87,32 @@ impl FirstWord {
     }
 }
 
-/// The commands that open no block.
+/// The commands without a block, by their first word.
 #[derive(Clone, Copy, Debug, PartialEq, Eq)]
 pub enum PlainKind {
-    /// `unplug`.
+    /// `unplug`: unplugs a page.
     Unplug,
-    /// `size`.
+    /// `size`: sets the number of data registers.
     Size,
-    /// `reset`.
+    /// `reset`: restores the initial state.
     Reset,
-    /// `call`.
+    /// `call`: starts a function in microcode.
     Call,
-    /// `step`.
+    /// `step`: makes single steps.
     Step,
-    /// `run`.
+    /// `run`: makes single steps up to a reason to stop.
     Run,
-    /// `trace`.
+    /// `trace`: makes single steps and prints a line before each.
     Trace,
-    /// `break`.
+    /// `break`: sets a breakpoint.
     Break,
-    /// `unbreak`.
+    /// `unbreak`: removes a breakpoint.
     Unbreak,
-    /// `list`.
+    /// `list`: prints a listing of words.
     List,
-    /// `show`.
+    /// `show`: prints a view.
     Show,
-    /// `key`.
+    /// `key`: presses keys.
     Key,
 }
 
@@ -120,7 +120,7 @@ impl PlainKind {
     ghost use Rattle.std.specs.Prelude.{◌≤◌, length, IsSome};
     ghost use Rattle.h41_commands.specs.Commands.{plain_of_word};
 
-    /// The command whose first word this is; nothing where it is that of none.
+    /// Returns the command without a block that this word names, or `None` if it names none.
     #[inline(always)]
     #[tactic(auto, unfolding(crate::specs::Commands::plain_of_word))]
     pub(crate) fn of_word(word: &[u8]) -> Option<Self>
@@ -148,77 +148,84 @@ impl PlainKind {
 /// What `show` prints.
 #[derive(Clone, Copy, Debug, PartialEq, Eq)]
 pub enum View {
-    /// `cpu`: the processor.
+    /// `cpu`: the registers and flags of the processor.
     Cpu,
-    /// `ram hhh`: the register at an address, 000 to FFF.
+    /// `ram hhh`: the memory register at an address, 000 to FFF.
     Register(u16),
-    /// `stack`: the stack and L.
+    /// `stack`: the stack registers and LAST X (L).
     Stack,
-    /// `flags`: the flags that are set.
+    /// `flags`: the numbers of the flags that are set.
     Flags,
-    /// `alpha`: the text of ALPHA.
+    /// `alpha`: the text in the ALPHA register.
     Alpha,
-    /// `display`: what the display shows.
+    /// `display`: the text of the display.
     Display,
-    /// `pos`: the mode, and the position in it.
+    /// `pos`: the mode, and where the calculator is.
     Position,
     /// `lines`: the lines of program memory.
     Lines,
-    /// `image P [bN]`: the image at bank N of page P, 0 to 15; at bank 1 where none is named. Pages 0 to 3 and banks other than
-    /// 1 to 4 are refused when it is carried out.
+    /// `image P [bN]`: the image in bank N of page P, 0 to 15; without `bN` in bank 1. The first value is the page, the second
+    /// the bank. Pages 0 to 3, and banks other than 1 to 4, are refused only when the command is executed.
     Image(u8, u8),
-    /// `functions`: the functions of the modules that are plugged.
+    /// `functions`: the functions of the plugged modules.
     Functions,
 }
 
-/// One command of a deck.
+/// A command of a deck.
 #[derive(Clone, Copy, Debug, PartialEq, Eq)]
 pub enum Command {
-    /// `words P [bN] [rw]`, `image P [bN] [rw]` or `asm P [bN] [rw]`, with a block up to `end`: plugs what the block says at bank
-    /// N of page P, 0 to 15, writable with `rw`; at bank 1 where none is named. Pages 0 to 3 and banks other than 1 to 4 are
-    /// refused when it is carried out.
+    /// `words P [bN] [rw]`, `image P [bN] [rw]` or `asm P [bN] [rw]`, with a block up to `end`: plugs the contents of the block
+    /// into bank N of page P, 0 to 15; without `bN` into bank 1. With `rw` microcode may write to it. Pages 0 to 3, and banks
+    /// other than 1 to 4, are refused only when the command is executed.
     Plug {
+        /// What the lines of the block contain.
         kind: PageKind,
+        /// The page, 0 to 15.
         page: u8,
+        /// The bank, 0 to 9.
         bank: u8,
+        /// Whether microcode may write to it.
         writable: bool,
     },
-    /// `load` or `program`, with a block up to `end`: loads the program that the block says behind those in memory.
+    /// `load` or `program`, with a block up to `end`: loads the program of the block after those in memory.
     Load(ProgramKind),
-    /// `unplug P`: takes out all banks of page P, 0 to 15. Pages 0 to 3 are refused when it is carried out.
+    /// `unplug P`: unplugs all banks of page P, 0 to 15. Pages 0 to 3 are refused only when the command is executed.
     Unplug(u8),
-    /// `size n`: gives memory n data registers, 0 to 9,999. As many as main memory has, and more, are refused when it is carried out.
+    /// `size n`: sets the number of data registers, 0 to 9,999. Numbers of at least the size of main memory are refused only when
+    /// the command is executed.
     Size(u16),
-    /// `reset`: all as at the start, but for the pages, which stay plugged.
+    /// `reset`: restores the initial state, but keeps plugged pages and breakpoints.
     Reset,
-    /// `call hhhh`: begins the function at an address.
+    /// `call hhhh`: starts the function at an address.
     Call(u16),
-    /// `step [n]`: n single steps, 0 to 9,999,999, one where no number is given.
+    /// `step [n]`: makes n single steps, 0 to 9,999,999; without n, one.
     Step(u32),
-    /// `run n`: single steps, at most n, 0 to 9,999,999, up to the first reason to stop.
+    /// `run n`: makes single steps, at most n, 0 to 9,999,999, up to the first reason to stop.
     Run(u32),
-    /// `trace n`: n single steps, 0 to 9,999,999, each told before it is made.
+    /// `trace n`: makes n single steps, 0 to 9,999,999, and prints a line before each.
     Trace(u32),
-    /// `break w hhhh`, `break l n`, `break p hhhh`: sets a breakpoint at the word at an address, at the line at a position of
+    /// `break w hhhh`, `break l n` or `break p hhhh`: sets a breakpoint at the word at an address, at the line at a position of
     /// memory, 0 to 9,999, or at the line at an address of a page.
     Break(Location),
-    /// `unbreak w hhhh`, `unbreak l n`, `unbreak p hhhh`: takes a breakpoint away.
+    /// `unbreak w hhhh`, `unbreak l n` or `unbreak p hhhh`: removes a breakpoint.
     Unbreak(Location),
-    /// `list hhhh n`: prints the listing of n words, 1 to 4,096, of one page from an address on.
+    /// `list hhhh n`: prints the listing of n words, 1 to 4,096, of one page, from an address on.
     List {
+        /// The address of the first word.
         address: u16,
+        /// The number of words, 1 to 4,096.
         count: u16,
     },
     /// `show WHAT`: prints a view.
     Show(View),
-    /// `key NAME ..`: presses keys in turn.
+    /// `key NAME ..`: presses 1 to 98 keys in turn.
     Key(PressedKeys),
 }
 
 impl Command {
     ghost use Rattle.h41_commands.specs.Commands.{kind_of};
 
-    /// The kind of its block, where it has one.
+    /// Returns the kind of the command's block, or `None` if it has no block.
     pub fn block_kind(self) -> Option<BlockKind>
         ensures { result ≡ kind_of self }
     {

@@ -1,4 +1,4 @@
-//! Why the next item of a deck was not read to its end.
+//! The errors that end the reading of a deck.
 
 ghost use Rattle.std.specs.Prelude.{◌≡◌};
 ghost use Rattle.h41_commands.specs.declared.fault.ItemFault.TheVariants as item;
@@ -6,14 +6,14 @@ ghost use Rattle.h41_commands.specs.declared.fault.ItemFault.TheVariants as item
 use h41_ends::LineReadFault;
 use std::alloc::AllocError;
 
-/// Why the next item of a deck was not read to its end.
+/// Why the next item of a deck was not read completely.
 #[derive(Clone, Copy, Debug, PartialEq, Eq)]
 pub enum ItemFault {
-    /// 21: no memory is left.
+    /// OutOfMemory (21): allocation failed.
     OutOfMemory,
-    /// 22: the input cannot be read, or is too long.
+    /// ReadFault (22): a read failed, or the deck has more than 67,108,864 bytes.
     ReadFault,
-    /// 23: the output cannot be passed on.
+    /// WriteFault (23): the output could not be flushed before a read.
     WriteFault,
 }
 

@@ -1,4 +1,4 @@
-//! Laws of lines and of blocks: each is the contract of a function with nothing to do but to call the laws it rests on.
+//! Laws of lines and blocks. Each law is the contract of a function whose body only calls the laws that it depends on.
 
 ghost use Rattle.h41_commands.specs.BlockLaws.{FillingIsDetermined, MeaningIsDetermined};
 ghost use Rattle.h41_commands.specs.LineLaws.{LongLinesAreAlike};
@@ -6,7 +6,8 @@ ghost use Rattle.h41_commands.specs.LineLaws.{LongLinesAreAlike};
 use h41_asm::laws::{words_are_determined, words_or_fault};
 use h41_text::laws::line_text_round_trip;
 
-/// What a block says is determined: the words that it fills a page with, the bytes of its program, or why it says none.
+/// States that the contents of a block determine the words that it fills a page with, or the bytes of its program, or
+/// why it is refused.
 pub fn blocks_are_determined()
     ensures filling { FillingIsDetermined }
     ensures meaning { MeaningIsDetermined }
@@ -16,7 +17,7 @@ pub fn blocks_are_determined()
     line_text_round_trip();
 }
 
-/// What lines spell depends on no more than the first 201 bytes of each.
+/// States that the commands that lines specify depend only on the first 201 bytes of each line.
 pub fn long_lines_are_alike()
     ensures { LongLinesAreAlike }
 {}

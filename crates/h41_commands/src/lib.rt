@@ -1,4 +1,5 @@
-//! The commands of a deck: what its lines spell, and what the lines of blocks say. No state comes in.
+//! Reads the commands of a deck: what its lines specify, and what the lines of blocks contain. The
+//! state of the calculator plays no part.
 #![tactic(auto)]
 
 mod blocks;

@@ -1,4 +1,4 @@
-//! What a line is before its words are read: too long, one that says nothing, or the end of a block.
+//! Classifies a line before its words are read: too long, empty or a comment, or the end of a block.
 
 ghost use Rattle.std.specs.List.{position};
 ghost use Rattle.std.specs.Prelude.{◌≡◌, ◌==◌, length};
@@ -9,22 +9,22 @@ ghost use Rattle.h41_commands.specs.FirstLines.{first_line, kind_by_words, told_
 use crate::commands::FirstWord;
 use h41_lines::words::{LineWords, is_blank, word_start};
 
-/// The most bytes that a line may have.
+/// The most bytes of a line: 200.
 const MOST_BYTES: usize = 200;
 
 /// What the first line of an item is.
 #[derive(Clone, Copy, Debug, PartialEq, Eq)]
 pub enum LineKind {
-    /// It is too long.
+    /// A line that is too long.
     Long,
-    /// It has a first word, which is the name of this.
+    /// A line with a first word, which names this.
     Named(FirstWord),
 }
 
 impl LineKind {
     ghost use Rattle.h41_commands.specs.FirstLines.{opens_block};
 
-    /// Whether it opens a block.
+    /// Returns whether the line opens a block.
     #[inline(always)]
     pub fn opens_block(self) -> bool
         ensures { result ≡ opens_block self }
@@ -33,16 +33,16 @@ impl LineKind {
     }
 }
 
-/// The first line of an item, as it is told before its words are read.
+/// The first line of an item, before its words are read.
 #[derive(Clone, Copy, Debug, PartialEq, Eq)]
 pub struct FirstLine {
-    /// What it is.
+    /// What the line is.
     pub kind: LineKind,
-    /// How many bytes it has up to the end of its first word; 0 where it is too long.
+    /// The number of bytes up to the end of its first word; 0 if the line is too long.
     pub name_end: usize,
 }
 
-/// A line as the first of an item; nothing where it says nothing.
+/// Classifies a line as the first line of an item. Returns `None` if it is empty or a comment.
 #[inline(always)]
 pub(crate) fn first_line(line: &[u8]) -> Option<FirstLine>
     ensures { result ≡ first_line line.now }
@@ -59,7 +59,7 @@ pub(crate) fn first_line(line: &[u8]) -> Option<FirstLine>
     }
 }
 
-/// A line as told by its first word; nothing where it has none.
+/// Classifies a line by its first word. Returns `None` if it has no word.
 #[inline(always)]
 fn named_line(line: &[u8]) -> Option<FirstLine>
     ensures { result ≡ told_by line.now (kind_by_words (words_of line.now)) }
@@ -74,7 +74,7 @@ fn named_line(line: &[u8]) -> Option<FirstLine>
     })
 }
 
-/// Where the first blank of a line stands.
+/// Returns the index of the first space or tab of a line, if it has one.
 #[inline(always)]
 fn word_end(line: &[u8]) -> Option<usize>
     ensures { result ≡ position is_blank line.now }
@@ -82,7 +82,7 @@ fn word_end(line: &[u8]) -> Option<usize>
     line.iter().position(|byte| is_blank(*byte))
 }
 
-/// A line that has too many bytes.
+/// Returns whether a line is too long: whether it has more than 200 bytes.
 #[inline(always)]
 pub fn is_long(line: &[u8]) -> bool
     ensures { result ≡ is_long line.now }
@@ -90,7 +90,8 @@ pub fn is_long(line: &[u8]) -> bool
     line.len() > MOST_BYTES
 }
 
-/// A line that says nothing: a blank one, or a comment.
+/// Returns whether a line is skipped, because it has no word or is a comment, whose first byte is
+/// `#`.
 #[inline(always)]
 pub fn is_skipped(line: &[u8]) -> bool
     ensures { result ≡ is_skipped line.now }
@@ -101,7 +102,7 @@ pub fn is_skipped(line: &[u8]) -> bool
     }
 }
 
-/// A line without a word.
+/// Returns whether a line has no word.
 #[inline(always)]
 fn is_blank_line(line: &[u8]) -> bool
     ensures { result ≡ (length (words_of line.now) == 0) }
@@ -109,19 +110,19 @@ fn is_blank_line(line: &[u8]) -> bool
     word_start(line).is_none()
 }
 
-/// A line that ends a block.
+/// Returns whether a line ends a block: whether its only word is `end` and it is not too long.
 #[inline(always)]
 pub fn is_end(line: &[u8]) -> bool
     ensures { result ≡ is_end line.now }
 {
     match word_start(line) {
-        // Its first byte tells of most lines that they end none.
+        // The first byte of the word rules out most lines without reading further.
         Some(start) if line[start] == b'e' => is_only_end(line) && !is_long(line),
         _ => false,
     }
 }
 
-/// A line whose one word is `end`.
+/// Returns whether the only word of a line is `end`.
 fn is_only_end(line: &[u8]) -> bool
     ensures { result ≡ is_only_end (words_of line.now) }
 {

@@ -1,4 +1,4 @@
-//! The items of a deck, one at a time, over lines that are read as they come.
+//! Reads the items of a deck one at a time.
 
 ghost use Rattle.std.specs.Prelude.{◌≡◌, ◌≢◌, ◌⊎◌, ◌≤◌, [], IfOk, OnOk, Err, Ok, true, false, None};
 ghost use Rattle.std.specs.Prelude.{length};
@@ -24,12 +24,13 @@ use crate::refusal::LineRefusal;
 use h41_ends::{InputLines, LineReadFault, Sink, Source};
 use std::alloc::Global;
 
-/// Reads up to the end of the first line of the next item, and tells what it is and where its first word ends: `input.line()` is that
-/// line. Nothing where no line is left that says something. The writer is flushed before each read, unless it is.
+/// Reads up to the end of the first line of the next item, and returns what that line is and where its first word ends;
+/// `input.line()` then returns the line. Empty lines and comments are skipped. Returns `None` at the end of the deck. The writer
+/// is flushed before each read, unless it is flushed already.
 ///
 /// # Errors
 ///
-/// `ReadFault` (22) where a read fails, or the deck has more than 67,108,864 bytes; `WriteFault` (23) where the writer cannot be
+/// `ReadFault` (22) if a read fails, or the deck has more than 67,108,864 bytes; `WriteFault` (23) if the writer cannot be
 /// flushed.
 #[inline(always)]
 pub fn read_first_line<R: Source, W: Sink>(
@@ -47,7 +48,7 @@ pub fn read_first_line<R: Source, W: Sink>(
     ensures fewer { IfOk result (LeavesFewer input.old input.new) }
     ensures end { result ≡ Ok None → IsTold input.new }
 
-    // A read fault comes for its cause, behind a flush.
+    // ReadFault (22) is returned only if a read failed or the deck is too long, and only after a flush.
     ensures stopped { result ≡ Err LineReadFault.ReadFault → IsStopped input.new }
     ensures cause { result ≡ Err LineReadFault.ReadFault
         → (R.failed reader.new ≡ true) ⊎ (input.new.is_over ≡ true) }
@@ -67,11 +68,12 @@ pub fn read_first_line<R: Source, W: Sink>(
     Ok(None)
 }
 
-/// The item whose first line was told last and opens a block; reads the block's other lines.
+/// Reads the other lines of the item whose first line was read last and opens a block, and returns the item.
 ///
 /// # Errors
 ///
-/// `OutOfMemory` (21), and as above.
+/// `OutOfMemory` (21) if allocation failed; `ReadFault` (22) if a read fails, or the deck has more than 67,108,864 bytes;
+/// `WriteFault` (23) if the writer cannot be flushed.
 #[inline(never)]
 pub fn read_block<R: Source, W: Sink>(
     alloc: Global,
@@ -109,7 +111,7 @@ pub fn read_block<R: Source, W: Sink>(
     })
 }
 
-/// The item of one line, which opens no block and is not too long.
+/// Returns the item of a single line of at most 200 bytes, without a block.
 pub fn line_item(alloc: Global, line: &[u8]) -> Item
     requires { length line.now ≤ longest_line }
     ensures item { what_is_spelled result ≡ spelled_by line.now [] }
@@ -125,7 +127,7 @@ pub fn line_item(alloc: Global, line: &[u8]) -> Item
     }
 }
 
-/// Reads the lines of a block up to its end; nothing where it has none.
+/// Reads the lines of a block up to its end and returns the block, or `None` if the input ends first.
 fn read_lines<R: Source, W: Sink>(
     block: Block,
     input: &mut InputLines,

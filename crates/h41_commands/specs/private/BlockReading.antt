@@ -1,5 +1,5 @@
--- What the code that reads a block's lines answers. It only connects the code with the other
--- definitions.
+-- What the code that reads the lines of a block returns. This file only connects the code with the
+-- other definitions.
 use Rattle.std.specs.Prelude.{◌≡◌, ℕ, Bool, true, false, List, [], ◌∷◌, ◌++◌, Option, Some, None}
 use Rattle.std.specs.Prelude.{Result, Ok, Err}
 use Rattle.std.specs.List.{list_any, after_first}
@@ -14,7 +14,7 @@ use Rattle.h41_commands.specs.private.ItemReading.{opened_by}
 use Rattle.h41_ends.specs.InputLines.{MayFollow, ReadsMore}
 use Rattle.h41_ends.specs.declared.input_lines.InputLines.{InputLines}
 
--- these lines are those of a block and its end, and the block has taken the former
+-- These lines are those of a block and the line that ends it, and the block has taken the former.
 pub record AreTaken (kind : Option BlockKind)
     (lines : List (List ℕ)) (block : TakenBlock) : Type 0 where
   pub inside : List (List ℕ)
@@ -24,13 +24,14 @@ pub record AreTaken (kind : Option BlockKind)
   pub ended : is_end last ≡ true
   pub taken : IsTaken kind inside block
 
--- they are those of a block, or have no end
+-- The lines are those of a block, or none of them ends a block.
 abbrev pub TakeBlock : {E : Type 0} → Option BlockKind → Result (Option TakenBlock) E
     → List (List ℕ) → Type 0
 TakeBlock kind (Ok (Some block)) lines = AreTaken kind lines block
 TakeBlock kind (Ok None) lines = list_any is_end lines ≡ false
 TakeBlock kind (Err fault) lines = list_any is_end lines ≡ false
 
+-- Lines were read, and they are those of a block or have no end.
 pub record ReadsTaken {E : Type 0} (result : Result (Option TakenBlock) E)
     (kind : Option BlockKind) (before after : Option (List ℕ)) (old new : InputLines)
     : Type 0 where
@@ -38,7 +39,7 @@ pub record ReadsTaken {E : Type 0} (result : Result (Option TakenBlock) E)
   pub reads : ReadsMore before after old new lines
   pub taken : TakeBlock kind result lines
 
--- they are the block of a command, whatever lines follow
+-- The lines are the block of a command, whatever lines follow.
 abbrev pub SpellBlock : {E : Type 0} → Result Command LineRefusal → Result Item E → Bool
     → List (List ℕ) → Type 0
 SpellBlock command (Ok item) at_end lines =
@@ -47,6 +48,7 @@ SpellBlock command (Ok item) at_end lines =
     × (after_first is_end (lines ++ more) ≡ more)
 SpellBlock command (Err fault) at_end lines = list_any is_end lines ≡ false
 
+-- Lines were read, and they are the block of this command.
 pub record ReadsBlock {E : Type 0} (result : Result Item E)
     (command : Result Command LineRefusal) (before after : Option (List ℕ))
     (old new : InputLines) : Type 0 where

@@ -1,4 +1,4 @@
-//! The bytes of a program, as the lines of a `load` block give them.
+//! The bytes of a program, from the lines of a `load` block.
 
 ghost use Rattle.std.specs.Prelude.{◌≡◌, IfOk};
 ghost use Rattle.h41_commands.specs.Blocks.{line_digits};
@@ -10,11 +10,12 @@ use h41_lines::words::is_blank;
 use hex::FromHexError;
 use std::alloc::{AllocError, Global};
 
-/// The bytes so far.
+/// The bytes of the lines taken so far.
 #[derive(Debug, Drop)]
 pub struct HexBytes {
     bytes: Vec<u8>,
-    /// Whether a line was no row of bytes: two hexadecimal digits each, of either case, with blanks and tabs anywhere.
+    /// Whether a line had something other than bytes: two hexadecimal digits each, of either case, with spaces and tabs
+    /// anywhere.
     is_wrong: bool,
 }
 
@@ -24,7 +25,7 @@ impl HexBytes {
     ghost use Rattle.h41_commands.specs.Blocks.{block_bytes};
     ghost use Rattle.h41_commands.specs.private.Contents.{TakesBytes, bytes_in};
 
-    /// No bytes.
+    /// Returns a block with no bytes.
     pub fn new(alloc: Global) -> Self
         ensures { bytes_in result ≡ block_bytes [] }
     {
@@ -34,7 +35,7 @@ impl HexBytes {
         }
     }
 
-    /// Takes the bytes of one more line of the block. 21 where memory is refused.
+    /// Takes the bytes of one more line of the block. OutOfMemory (21) if allocation failed.
     pub fn add_line(&mut self, line: &[u8]) -> Result<(), AllocError>
         ensures { IfOk result (λ _. TakesBytes self.old line.now self.new) }
     {
@@ -52,14 +53,14 @@ impl HexBytes {
         Ok(())
     }
 
-    /// Why they are refused, if they are: 51.
+    /// Returns BadNumber (51) if a line had something other than bytes, otherwise `None`.
     pub fn refusal(&self) -> Option<LineRefusal>
         ensures { result ≡ result_err (bytes_in self.now) }
     {
         self.is_wrong.then_some(LineRefusal::BadNumber)
     }
 
-    /// The bytes, where they are not refused.
+    /// Returns the bytes. They must not be refused.
     pub fn into_bytes(self) -> Vec<u8>
         requires { result_err (bytes_in self) ≡ None }
         ensures { bytes_in self ≡ Ok result.items }
@@ -68,8 +69,8 @@ impl HexBytes {
     }
 }
 
-/// The bytes of a line, where it has an even count of hexadecimal digits and nothing else but blanks and tabs. 21 where
-/// memory is refused.
+/// Returns the bytes of a line, or `None` if it has anything but an even number of hexadecimal digits, spaces and tabs.
+/// OutOfMemory (21) if allocation failed.
 pub(super) fn line_bytes(alloc: Global, line: &[u8]) -> Result<Option<Vec<u8>>, AllocError>
     ensures { IfOk result (AreBytesOf line.now) }
 {
@@ -80,7 +81,7 @@ pub(super) fn line_bytes(alloc: Global, line: &[u8]) -> Result<Option<Vec<u8>>, 
     }
 }
 
-/// A line without its blanks and tabs. 21 where memory is refused.
+/// Returns a line without its spaces and tabs. OutOfMemory (21) if allocation failed.
 fn digits_of(alloc: Global, line: &[u8]) -> Result<Vec<u8>, AllocError>
     ensures { IfOk result (λ digits. digits.items ≡ line_digits line.now) }
 {

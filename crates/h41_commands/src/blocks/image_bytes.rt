@@ -1,4 +1,4 @@
-//! The bytes of a page's image, as the lines of an `image` block give them.
+//! The bytes of a page's image, from the lines of an `image` block.
 
 ghost use Rattle.std.specs.Prelude.{◌≤◌, vec_len};
 ghost use Rattle.h41_commands.specs.private.TakenBlocks.{most_kept};
@@ -9,14 +9,16 @@ use crate::refusal::LineRefusal;
 use h41_pages::{ReadRefusal, image_read, is_image_bytes};
 use std::alloc::{AllocError, Global};
 
-/// How many bytes are kept: with one more than an image has they are none.
+/// How many bytes are kept: 8,193, one more than the longest image (8,192 bytes), so that bytes that are too many remain too
+/// many.
 const KEPT: usize = 8193;
 
-/// The bytes so far, of which no more than that are kept.
+/// The bytes of the lines taken so far, at most 8,193 of them.
 #[derive(Debug, Drop)]
 pub struct ImageBytes {
     bytes: Vec<u8>,
-    /// Whether a line was no row of bytes: two hexadecimal digits each, of either case, with blanks and tabs anywhere.
+    /// Whether a line had something other than bytes: two hexadecimal digits each, of either case, with spaces and tabs
+    /// anywhere.
     is_wrong: bool,
     ghost bounded: { vec_len bytes ≤ most_kept },
 }
@@ -29,7 +31,7 @@ impl ImageBytes {
     ghost use Rattle.h41_commands.specs.private.TakenBlocks.{kept_bytes};
     ghost use Rattle.h41_commands.specs.private.Contents.{KeepsMore, TakesImage, image_in};
 
-    /// No bytes.
+    /// Returns a block with no bytes.
     pub fn new(alloc: Global) -> Self
         ensures { image_in result ≡ kept_bytes (block_bytes []) }
     {
@@ -39,8 +41,8 @@ impl ImageBytes {
         }
     }
 
-    /// Takes the bytes of one more line of the block; of those beyond what is kept it says only whether they are such. 21 where
-    /// memory is refused.
+    /// Takes the bytes of one more line of the block. Bytes after the first 8,193 are checked but not kept. OutOfMemory (21) if
+    /// allocation failed.
     pub fn add_line(&mut self, line: &[u8]) -> Result<(), AllocError>
         ensures { IfOk result (λ _. TakesImage self.old line.now self.new) }
     {
@@ -58,7 +60,7 @@ impl ImageBytes {
         Ok(())
     }
 
-    /// Keeps more bytes, as far as there is room. 21 where memory is refused.
+    /// Keeps more bytes, as many as there is room for. OutOfMemory (21) if allocation failed.
     fn keep(&mut self, more: &[u8]) -> Result<(), AllocError>
         ensures { IfOk result (λ _. KeepsMore self.old more.now self.new) }
     {
@@ -67,7 +69,7 @@ impl ImageBytes {
         Ok(())
     }
 
-    /// Why they are refused as an image, if they are: 51 before 4.
+    /// Returns why the bytes are refused as an image, if they are: BadNumber (51), otherwise BadImage (04).
     pub fn refusal(&self) -> Option<LineRefusal>
         ensures { result ≡ result_err (image_content (image_in self.now)) }
     {
@@ -80,7 +82,7 @@ impl ImageBytes {
         }
     }
 
-    /// The words of the image, where the bytes are not refused as one. 21 where memory is refused.
+    /// Returns the words of the image. The bytes must not be refused. OutOfMemory (21) if allocation failed.
     pub fn into_words(self, alloc: Global) -> Result<Vec<u16>, AllocError>
         requires { result_err (image_content (image_in self)) ≡ None }
         ensures words { IfOk result (λ words. image_content (image_in self) ≡ Ok words.items) }

@@ -1,4 +1,4 @@
-//! The words of a page, as the lines of a `words` block give them.
+//! The words of a page, from the lines of a `words` block.
 
 ghost use Rattle.std.specs.Prelude.{◌≤◌, vec_len};
 ghost use Rattle.h41_pages.specs.Addresses.{page_size};
@@ -9,17 +9,18 @@ use crate::refusal::LineRefusal;
 use h41_lines::words::LineWords;
 use std::alloc::{AllocError, Global};
 
-/// How many words a page has.
+/// The number of words of a page: 4,096.
 pub const PAGE_WORDS: usize = 4096;
 
-/// The greatest value of a word.
+/// The greatest value of a word: 3FF, because a word has ten bits.
 const GREATEST: u16 = 0x3FF;
 
-/// The words of a page so far.
+/// The words of the lines taken so far, at most 4,096.
 #[derive(Debug, Drop)]
 pub struct PageWords {
     words: Vec<u16>,
-    /// The gravest fault so far: a word that is no number, or else a page that takes no such words.
+    /// The error so far. BadNumber (51), for a word that is not a number, replaces BadImage (04),
+    /// for a word above 3FF or one word too many.
     fault: Option<LineRefusal>,
     ghost bounded: { vec_len words ≤ page_size },
 }
@@ -30,7 +31,7 @@ impl PageWords {
     ghost use Rattle.h41_commands.specs.Blocks.{word_values};
     ghost use Rattle.h41_commands.specs.private.Contents.{TakesLine, TakesWord, words_in};
 
-    /// A page of no words.
+    /// Returns a page with no words.
     pub fn new(alloc: Global) -> Self
         ensures { words_in result ≡ word_values [] }
     {
@@ -40,7 +41,7 @@ impl PageWords {
         }
     }
 
-    /// Takes the words of one more line of the block. 21 where memory is refused.
+    /// Takes the words of one more line of the block. OutOfMemory (21) if allocation failed.
     pub fn add_line(&mut self, line: &[u8]) -> Result<(), AllocError>
         ensures { IfOk result (λ _. TakesLine self.old line.now self.new) }
     {
@@ -52,7 +53,7 @@ impl PageWords {
         Ok(())
     }
 
-    /// Takes one more word.
+    /// Takes one more word. OutOfMemory (21) if allocation failed.
     fn add(&mut self, word: &[u8]) -> Result<(), AllocError>
         ensures { IfOk result (λ _. TakesWord self.old word.now self.new) }
     {
@@ -70,14 +71,14 @@ impl PageWords {
         Ok(())
     }
 
-    /// Why the words are refused, if they are: 51 before 4.
+    /// Returns why the words are refused, if they are: BadNumber (51), otherwise BadImage (04).
     pub fn refusal(&self) -> Option<LineRefusal>
         ensures { result ≡ result_err (words_in self.now) }
     {
         self.fault
     }
 
-    /// The words, where they are not refused.
+    /// Returns the words. They must not be refused.
     pub fn into_words(self) -> Vec<u16>
         requires { result_err (words_in self) ≡ None }
         ensures words { words_in self ≡ Ok result.items }

@@ -1,4 +1,4 @@
-//! The bytes of a program, by the text of its lines.
+//! Translates the text of a program's lines into the bytes of the program.
 
 ghost use Rattle.std.specs.Iterator.{YieldsFirstRef, item_count};
 ghost use Rattle.std.specs.Prelude.{◌≡◌, ◌++◌, [], IfOk, OnOk};
@@ -16,17 +16,17 @@ use h41_lines::lines::line_end;
 use h41_text::{BadText, read_line};
 use std::alloc::{AllocError, Global};
 
-/// The texts that are left of a program's text, each without its line end (LF).
+/// An iterator over the lines of a program's text that remain, each without its line end (LF).
 #[derive(Debug, Drop)]
 struct Texts<'a> {
-    /// The bytes that are left.
+    /// The bytes that remain.
     rest: &'a [u8],
-    /// Whether the last of them was taken.
+    /// Whether the last line was returned.
     is_done: bool,
 }
 
 impl<'a> Texts<'a> {
-    /// All texts of a program's text.
+    /// Returns an iterator over all lines of a program's text.
     fn new(text: &'a [u8]) -> Self
         ensures { texts_left result ≡ texts_of text.now }
     {
@@ -62,17 +62,17 @@ impl<'a> Iterator for Texts<'a> {
     }
 }
 
-/// Lines one behind the other, as they are loaded.
+/// Program lines in sequence, encoded as they are loaded.
 #[derive(Debug, Drop)]
 struct Packed {
-    /// Their bytes, with a null between two numbers.
+    /// The bytes of the lines, with a null byte between two numbers.
     bytes: Vec<u8>,
-    /// Whether the last of them is a number.
+    /// Whether the last line is a number.
     ends_with_number: bool,
 }
 
 impl Packed {
-    /// No lines.
+    /// Returns a sequence of no lines.
     fn new(alloc: Global) -> Self
         ensures { IsPacked [] result }
     {
@@ -82,7 +82,7 @@ impl Packed {
         }
     }
 
-    /// Puts a line behind the others. 21 where memory is refused.
+    /// Appends a line. OutOfMemory (21) if allocation failed.
     fn push(&mut self, line: &Line) -> Result<(), AllocError>
         requires { IsLine line.now }
         ensures { OnOk result (PushesLine self.old line.now self.new) }
@@ -95,7 +95,7 @@ impl Packed {
         Ok(())
     }
 
-    /// Puts the bytes of a line behind the others. 21 where memory is refused.
+    /// Appends the bytes of a line. OutOfMemory (21) if allocation failed.
     fn push_spelling(&mut self, line: &Line) -> Result<(), AllocError>
         requires { IsLine line.now }
         ensures { OnOk result (self.new.bytes.items ≡ self.old.bytes.items ++ spelling line.now) }
@@ -107,14 +107,15 @@ impl Packed {
     }
 }
 
-/// Whether a line is a number.
+/// Returns whether a line is a number.
 fn is_number(line: &Line) -> bool
     ensures { result ≡ lines.is_number line.now }
 {
     matches!(line, Line::Number(_))
 }
 
-/// What parts a line from those before it: a null between two numbers.
+/// Returns the bytes between a line and the line before it: a null byte between two numbers, because their digits would run
+/// together; otherwise none.
 fn gap(ends_with_number: bool, is_number: bool) -> &'static [u8]
     ensures { result.now ≡ null_between ends_with_number is_number }
 {
@@ -125,8 +126,9 @@ fn gap(ends_with_number: bool, is_number: bool) -> &'static [u8]
     }
 }
 
-/// The bytes of a program: those of its lines, with a null between two numbers; or 41 with the number of the first line that
-/// is the text of none, counted from 1. One that is left empty says nothing. 21 where memory is refused.
+/// Returns the bytes of a program: those of its lines, with a null byte between two numbers. If a text line is not the text
+/// of a program line, returns BadText (41) with the number of the first such line, counted from 1. Empty lines are skipped.
+/// OutOfMemory (21) if allocation failed.
 pub fn program_bytes(alloc: Global, text: &[u8]) -> Result<Result<Vec<u8>, LineRefusal>, AllocError>
     ensures { IfOk result (λ made. TextSpells text.now (values_in made)) }
 {

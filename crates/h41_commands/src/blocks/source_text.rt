@@ -1,4 +1,4 @@
-//! The source of a page's words and the text of a program, as the lines of an `asm` or a `program` block are.
+//! The source of a page's words and the text of a program, from the lines of an `asm` or a `program` block.
 
 ghost use Rattle.std.specs.Prelude.{◌≡◌, ◌≤◌, IfOk, vec_len};
 ghost use Rattle.h41_pages.specs.Addresses.{page_size};
@@ -13,13 +13,13 @@ use h41_asm::{AssembleError, assemble};
 use h41_words::Word;
 use std::alloc::{AllocError, Global};
 
-/// How many bytes room is made for with the first line: sixteen for each word of a page.
+/// How many bytes are reserved when the first line is taken: sixteen for each word of a page.
 const ROOM: usize = 16 * PAGE_WORDS;
 
-/// How many pages there are.
+/// The number of pages: 16.
 const PAGES: u8 = 16;
 
-/// The source or the text so far.
+/// The text of the lines taken so far.
 #[derive(Debug, Drop)]
 pub struct SourceText {
     text: Vec<u8>,
@@ -33,7 +33,7 @@ impl SourceText {
     ghost use Rattle.h41_commands.specs.private.Contents.{FillsFrom, values_in};
     ghost use Rattle.h41_commands.specs.ProgramBlocks.{TextSpells};
 
-    /// A text of no lines.
+    /// Returns a text with no lines.
     pub fn new(alloc: Global) -> Self
         ensures { source_in result ≡ block_source [] }
     {
@@ -42,7 +42,8 @@ impl SourceText {
         }
     }
 
-    /// Takes one more line of the block, which is left empty where it says nothing. 21 where memory is refused.
+    /// Takes one more line of the block. An empty line or a comment is kept as an empty line, so that line numbers remain
+    /// correct. OutOfMemory (21) if allocation failed.
     #[inline(always)]
     pub fn add_line(&mut self, line: &[u8]) -> Result<(), AllocError>
         ensures { IfOk result (λ _. TakesSource self.old line.now self.new) }
@@ -57,16 +58,17 @@ impl SourceText {
         Ok(())
     }
 
-    /// The bytes of the program whose text it is, or 41 with the number of the first line that is none. 21 where memory is
-    /// refused.
+    /// Returns the bytes of the program with this text, or BadText (41) with the number of the first line that is not the
+    /// text of a program line. OutOfMemory (21) if allocation failed.
     pub fn into_bytes(self, alloc: Global) -> Result<Result<Vec<u8>, LineRefusal>, AllocError>
         ensures { IfOk result (λ made. TextSpells (source_in self) (values_in made)) }
     {
         program_bytes(alloc, &self.text)
     }
 
-    /// The words that it spells at a page's first address. Refused as 30 to 35 by its first fault, as 4 where there are more
-    /// words than a page has. 21 where memory is refused.
+    /// Returns the words of the source, assembled at the first address of a page, 0 to 15. It is refused with the number (30
+    /// to 35) of its first error, or as BadImage (04) if it has more words than a page. OutOfMemory (21) if allocation
+    /// failed.
     pub fn into_words(
         self,
         alloc: Global,
@@ -89,7 +91,8 @@ impl SourceText {
     }
 }
 
-/// The numbers of words for a page. Refused as 4 where there are more than it has. 21 where memory is refused.
+/// Returns the numbers of a page's words, or BadImage (04) if there are more than 4,096. OutOfMemory (21) if allocation
+/// failed.
 fn page_numbers(alloc: Global, words: &[Word]) -> Result<Result<Vec<u16>, LineRefusal>, AllocError>
     ensures fitting { IfOk result (λ made. values_in made ≡ words_of_page words.now) }
     ensures bound { IfOk result (λ made. IfOk made (λ words. vec_len words ≤ page_size)) }

@@ -1,4 +1,4 @@
-//! The numbers that words of a deck write, or 51 BadNumber.
+//! Reads the numbers in the words of a deck. A word that is not such a number is refused as BadNumber (51).
 
 ghost use Rattle.std.specs.Prelude.{◌≡◌, ◌≤◌, ◌<◌, ◌^◌, IfOk};
 ghost use Rattle.h41_commands.specs.Numbers as spec;
@@ -6,8 +6,11 @@ ghost use Rattle.h41_commands.specs.Numbers as spec;
 use crate::refusal::LineRefusal;
 use h41_lines::numbers;
 
-/// The number that a word's digits write in a radix, with any count of leading zeros: 51 BadNumber where it is none, or
-/// above `most`.
+/// Returns the number that a word's digits write in a radix, with any number of leading zeros.
+///
+/// # Errors
+///
+/// BadNumber (51) if the word is not a number, or is above `most`.
 pub fn number_up_to(most: u32, radix: u32, word: &[u8]) -> Result<u32, LineRefusal>
     requires most_in { most ≤ 9999999 }
     requires radix_from_two { 2 ≤ radix }
@@ -18,7 +21,11 @@ pub fn number_up_to(most: u32, radix: u32, word: &[u8]) -> Result<u32, LineRefus
     numbers::number_up_to(most, radix, word).ok_or(LineRefusal::BadNumber)
 }
 
-/// The decimal number that a word writes, from 1 up: 51 BadNumber where it is none, or above `most`.
+/// Returns the decimal number that a word writes, from 1 to `most`.
+///
+/// # Errors
+///
+/// BadNumber (51) if the word is not such a number.
 pub fn count_up_to(most: u32, word: &[u8]) -> Result<u32, LineRefusal>
     requires { most ≤ 9999999 }
     ensures small { IfOk result (λ number. number ≤ most) }
@@ -27,8 +34,11 @@ pub fn count_up_to(most: u32, word: &[u8]) -> Result<u32, LineRefusal>
     numbers::count_up_to(most, word).ok_or(LineRefusal::BadNumber)
 }
 
-/// The number of a word of `least` to `most` hexadecimal digits, of either case: 51 BadNumber where it is none, or has
-/// another count.
+/// Returns the number of a word of `least` to `most` hexadecimal digits, of either case.
+///
+/// # Errors
+///
+/// BadNumber (51) if the word is not a number, or has another number of digits.
 pub fn hexadecimal(least: usize, most: usize, word: &[u8]) -> Result<u16, LineRefusal>
     requires { most ≤ 4 }
     ensures small { IfOk result (λ number. number < 16 ^ most) }

@@ -1,4 +1,4 @@
-//! The command that a line's words spell.
+//! Parses the words of a line as a command.
 
 ghost use Rattle.std.specs.Prelude.{◌≡◌, ◌≤◌, ◌+◌, ◌*◌, ◌∷◌, [], ℕ, Ok, codes, drop, length};
 ghost use Rattle.h41_commands.specs.Commands.{break_location, call_command, location_by};
@@ -26,23 +26,27 @@ use h41_keys::Key;
 use h41_lines::words::LineWords;
 use h41_positions::Position;
 
-/// The most single steps of one command.
+/// The most single steps of one command: 9,999,999.
 const MOST_STEPS: u32 = 9_999_999;
 
-/// The greatest position in memory of a breakpoint.
+/// The greatest position in memory that a breakpoint may have: 9,999.
 const MOST_POSITION: u32 = 9_999;
 
-/// The greatest number that `size` takes.
+/// The greatest number that `size` accepts: 9,999.
 const MOST_REGISTERS: u32 = 9_999;
 
-/// The most words of one listing.
+/// The most words of one listing: 4,096, the size of a page.
 const MOST_WORDS: u32 = 4_096;
 
-/// The bank that is meant where none is named.
+/// The bank that is meant if a command names none.
 const FIRST_BANK: u8 = 1;
 
-/// The command of a line: 50 BadCommand where its words are no command's, and else 51 BadNumber where a number is
-/// wrong. The line is not too long.
+/// Returns the command that a line of at most 200 bytes specifies.
+///
+/// # Errors
+///
+/// BadCommand (50) if it is not a command, or a word is missing or too many; otherwise BadNumber (51) if a number
+/// is wrong.
 pub fn parse(line: &[u8]) -> Result<Command, LineRefusal>
     requires { length line.now ≤ longest_line }
     ensures { result ≡ command_of (words_of line.now) }
@@ -57,7 +61,7 @@ pub fn parse(line: &[u8]) -> Result<Command, LineRefusal>
     }
 }
 
-/// The words behind the first of a line, which ends there.
+/// Returns the words of a line after its first word, which ends at the byte index `at`.
 #[inline(always)]
 pub fn operands(line: &[u8], at: usize) -> LineWords<'_>
     requires { at ≡ name_end line.now }
@@ -66,7 +70,7 @@ pub fn operands(line: &[u8], at: usize) -> LineWords<'_>
     LineWords::new(&line[at..])
 }
 
-/// The command of a line that opens a block of this kind, by the words behind its name.
+/// Returns the command of a line that opens a block of this kind, from the words after its first word.
 fn with_block(kind: BlockKind, operands: LineWords<'_>) -> Result<Command, LineRefusal>
     ensures { result ≡ opening_command kind (words_of operands.entry.rest.now) }
 {
@@ -76,7 +80,7 @@ fn with_block(kind: BlockKind, operands: LineWords<'_>) -> Result<Command, LineR
     }
 }
 
-/// The command of a line that opens none, by its first word and those behind it.
+/// Returns the command of a line that opens no block, from its first word and the words after it.
 fn without_block(name: &[u8], operands: LineWords<'_>) -> Result<Command, LineRefusal>
     requires { length name.now + 2 * length (words_of operands.rest.now) ≤ longest_line }
     ensures { result ≡ plain_command name.now (words_of operands.entry.rest.now) }
@@ -87,7 +91,7 @@ fn without_block(name: &[u8], operands: LineWords<'_>) -> Result<Command, LineRe
     }
 }
 
-/// The command of a line that opens none, by its kind and the words behind its name.
+/// Returns the command of this kind, which has no block, from the words after its first word.
 fn plain(kind: PlainKind, operands: LineWords<'_>) -> Result<Command, LineRefusal>
     requires { length (words_of operands.rest.now) ≤ most_keys }
     ensures { result ≡ read_plain kind (words_of operands.entry.rest.now) }
@@ -108,7 +112,7 @@ fn plain(kind: PlainKind, operands: LineWords<'_>) -> Result<Command, LineRefusa
     }
 }
 
-/// `words P [bN] [rw]`, `image P [bN] [rw]` and `asm P [bN] [rw]`: a block that fills a bank of a page.
+/// Parses `words P [bN] [rw]`, `image P [bN] [rw]` and `asm P [bN] [rw]`, whose block fills a bank of a page.
 fn plug(kind: PageKind, mut operands: LineWords<'_>) -> Result<Command, LineRefusal>
     ensures { result ≡ plug_command kind (words_of operands.entry.rest.now) }
 {
@@ -118,7 +122,7 @@ fn plug(kind: PageKind, mut operands: LineWords<'_>) -> Result<Command, LineRefu
     }
 }
 
-/// The same, by the word that names the page and those behind it.
+/// Parses such a command from the word that names the page, and the words after it.
 fn plug_with(
     kind: PageKind,
     page: &[u8],
@@ -138,7 +142,7 @@ fn plug_with(
     Err(LineRefusal::BadCommand)
 }
 
-/// The same, by the words that name the page, and its bank or `rw`.
+/// Parses such a command from the word that names the page, and the word that names its bank or is `rw`.
 fn plug_by(kind: PageKind, page: &[u8], option: &[u8]) -> Result<Command, LineRefusal>
     ensures { result ≡ plug_with kind page.now (option.now ∷ []) }
 {
@@ -149,7 +153,7 @@ fn plug_by(kind: PageKind, page: &[u8], option: &[u8]) -> Result<Command, LineRe
     }
 }
 
-/// The same, by the words that name the page and its bank.
+/// Parses such a command from the words that name the page and its bank.
 fn plug_at_bank(
     kind: PageKind,
     page: &[u8],
@@ -164,7 +168,7 @@ fn plug_at_bank(
     plug_at(kind, page, bank_number(bank)?, writable)
 }
 
-/// The same, by the word that names the page and the bank's number.
+/// Parses such a command from the word that names the page, and the number of the bank.
 fn plug_at(kind: PageKind, page: &[u8], bank: u8, writable: bool) -> Result<Command, LineRefusal>
     ensures { result ≡ plug_at kind page.now bank writable }
 {
@@ -177,14 +181,15 @@ fn plug_at(kind: PageKind, page: &[u8], bank: u8, writable: bool) -> Result<Comm
     })
 }
 
-/// Whether a word names a bank: it begins with `b`.
+/// Returns whether a word names a bank: whether it begins with `b`.
 fn is_bank_word(word: &[u8]) -> bool
     ensures { result ≡ is_bank_word word.now }
 {
     matches!(word, [b'b', ..])
 }
 
-/// The number of the bank that a word names: `bN`, where N is one decimal digit.
+/// Returns the number of the bank that a word names: `bN`, where N is one decimal digit. BadNumber (51) if it is
+/// not.
 fn bank_number(word: &[u8]) -> Result<u8, LineRefusal>
     ensures { result ≡ bank_number word.now }
 {
@@ -194,7 +199,7 @@ fn bank_number(word: &[u8]) -> Result<u8, LineRefusal>
     Ok(number_up_to(9, 10, &word[1..])? as u8)
 }
 
-/// `load` and `program`: a block that is a program.
+/// Parses `load` and `program`, whose block is a program.
 fn load(kind: ProgramKind, mut operands: LineWords<'_>) -> Result<Command, LineRefusal>
     ensures { result ≡ load_command kind (words_of operands.entry.rest.now) }
 {
@@ -204,14 +209,18 @@ fn load(kind: ProgramKind, mut operands: LineWords<'_>) -> Result<Command, LineR
     }
 }
 
-/// `unplug P`.
+/// Parses `unplug P`.
 fn unplug(operands: LineWords<'_>) -> Result<Command, LineRefusal>
     ensures { result ≡ unplug_command (words_of operands.entry.rest.now) }
 {
     Ok(Command::Unplug(unplugged_page(operands)?))
 }
 
-/// The page that `unplug` names.
+/// Returns the page, 0 to 15, that the words after `unplug` name.
+///
+/// # Errors
+///
+/// BadCommand (50) if there is not exactly one word, BadNumber (51) if it is not one hexadecimal digit.
 pub fn unplugged_page(mut operands: LineWords<'_>) -> Result<u8, LineRefusal>
     ensures { unplug_command (words_of operands.entry.rest.now)
         ≡ and_then result (λ page. Ok (commands.Unplug page)) }
@@ -222,14 +231,14 @@ pub fn unplugged_page(mut operands: LineWords<'_>) -> Result<u8, LineRefusal>
     }
 }
 
-/// The page that one hexadecimal digit names.
+/// Returns the page that one hexadecimal digit names. BadNumber (51) if the word is not such a digit.
 fn page_number(page: &[u8]) -> Result<u8, LineRefusal>
     ensures { result ≡ spec.hexadecimal 1 page.now }
 {
     Ok(hexadecimal(1, 1, page)? as u8)
 }
 
-/// `size n`.
+/// Parses `size n`.
 fn size(mut operands: LineWords<'_>) -> Result<Command, LineRefusal>
     ensures { result ≡ size_command (words_of operands.entry.rest.now) }
 {
@@ -242,7 +251,7 @@ fn size(mut operands: LineWords<'_>) -> Result<Command, LineRefusal>
     }
 }
 
-/// `reset`.
+/// Parses `reset`.
 fn reset(operands: LineWords<'_>) -> Result<Command, LineRefusal>
     ensures { result ≡ reset_command (words_of operands.entry.rest.now) }
 {
@@ -250,7 +259,11 @@ fn reset(operands: LineWords<'_>) -> Result<Command, LineRefusal>
     Ok(Command::Reset)
 }
 
-/// Whether no word stands behind `reset`.
+/// Checks that no word follows `reset`.
+///
+/// # Errors
+///
+/// BadCommand (50) if one does.
 pub fn no_operand(mut operands: LineWords<'_>) -> Result<(), LineRefusal>
     ensures { reset_command (words_of operands.entry.rest.now)
         ≡ and_then result (λ none. Ok commands.Reset) }
@@ -261,7 +274,7 @@ pub fn no_operand(mut operands: LineWords<'_>) -> Result<(), LineRefusal>
     }
 }
 
-/// `call hhhh`.
+/// Parses `call hhhh`.
 fn call(mut operands: LineWords<'_>) -> Result<Command, LineRefusal>
     ensures { result ≡ call_command (words_of operands.entry.rest.now) }
 {
@@ -271,14 +284,18 @@ fn call(mut operands: LineWords<'_>) -> Result<Command, LineRefusal>
     }
 }
 
-/// `step [n]`.
+/// Parses `step [n]`.
 fn step(operands: LineWords<'_>) -> Result<Command, LineRefusal>
     ensures { result ≡ step_command (words_of operands.entry.rest.now) }
 {
     Ok(Command::Step(step_count(operands)?))
 }
 
-/// How many steps `step` makes.
+/// Returns the number of steps that the words after `step` specify, 0 to 9,999,999; 1 if there is none.
+///
+/// # Errors
+///
+/// BadCommand (50) if there is more than one word, BadNumber (51) if it is not such a number.
 pub fn step_count(mut operands: LineWords<'_>) -> Result<u32, LineRefusal>
     ensures { step_command (words_of operands.entry.rest.now)
         ≡ and_then result (λ count. Ok (commands.Step count)) }
@@ -290,21 +307,25 @@ pub fn step_count(mut operands: LineWords<'_>) -> Result<u32, LineRefusal>
     }
 }
 
-/// `run n`.
+/// Parses `run n`.
 fn run(operands: LineWords<'_>) -> Result<Command, LineRefusal>
     ensures { result ≡ counted_command commands.Run (words_of operands.entry.rest.now) }
 {
     Ok(Command::Run(most_steps(operands)?))
 }
 
-/// `trace n`.
+/// Parses `trace n`.
 fn trace(operands: LineWords<'_>) -> Result<Command, LineRefusal>
     ensures { result ≡ counted_command commands.Trace (words_of operands.entry.rest.now) }
 {
     Ok(Command::Trace(most_steps(operands)?))
 }
 
-/// How many steps `run` and `trace` make at most.
+/// Returns the number of steps that the words after `run` or `trace` specify, 0 to 9,999,999.
+///
+/// # Errors
+///
+/// BadCommand (50) if there is not exactly one word, BadNumber (51) if it is not such a number.
 pub fn most_steps(mut operands: LineWords<'_>) -> Result<u32, LineRefusal>
     ensures { (command : ℕ → Command) → counted_command command (words_of operands.entry.rest.now)
         ≡ and_then result (λ count. Ok (command count)) }
@@ -315,21 +336,26 @@ pub fn most_steps(mut operands: LineWords<'_>) -> Result<u32, LineRefusal>
     }
 }
 
-/// `break w hhhh`, `break l n` and `break p hhhh`.
+/// Parses `break w hhhh`, `break l n` and `break p hhhh`.
 fn set_break(operands: LineWords<'_>) -> Result<Command, LineRefusal>
     ensures { result ≡ placed_command commands.Break (words_of operands.entry.rest.now) }
 {
     Ok(Command::Break(break_location(operands)?))
 }
 
-/// `unbreak w hhhh`, `unbreak l n` and `unbreak p hhhh`.
+/// Parses `unbreak w hhhh`, `unbreak l n` and `unbreak p hhhh`.
 fn unbreak(operands: LineWords<'_>) -> Result<Command, LineRefusal>
     ensures { result ≡ placed_command commands.Unbreak (words_of operands.entry.rest.now) }
 {
     Ok(Command::Unbreak(break_location(operands)?))
 }
 
-/// The location of a breakpoint.
+/// Returns the location of a breakpoint that the words after `break` or `unbreak` name.
+///
+/// # Errors
+///
+/// BadCommand (50) if there are not exactly two words or the first is not `w`, `l` or `p`; BadNumber (51) if the
+/// second is not a number that fits.
 pub fn break_location(mut operands: LineWords<'_>) -> Result<Location, LineRefusal>
     ensures { result ≡ break_location (words_of operands.entry.rest.now) }
 {
@@ -339,7 +365,7 @@ pub fn break_location(mut operands: LineWords<'_>) -> Result<Location, LineRefus
     }
 }
 
-/// The location of a breakpoint, by the word for its kind and its number.
+/// Returns the location of a breakpoint, from the word for its kind and the word for its number.
 fn location_by(kind: &[u8], number: &[u8]) -> Result<Location, LineRefusal>
     ensures { result ≡ location_by kind.now number.now }
 {
@@ -357,7 +383,7 @@ fn location_by(kind: &[u8], number: &[u8]) -> Result<Location, LineRefusal>
     }
 }
 
-/// `list hhhh n`.
+/// Parses `list hhhh n`.
 fn list(mut operands: LineWords<'_>) -> Result<Command, LineRefusal>
     ensures { result ≡ list_command (words_of operands.entry.rest.now) }
 {
@@ -371,14 +397,14 @@ fn list(mut operands: LineWords<'_>) -> Result<Command, LineRefusal>
     }
 }
 
-/// `show WHAT`, `show ram hhh` and `show image P [bN]`.
+/// Parses `show WHAT`, `show ram hhh` and `show image P [bN]`.
 fn show(operands: LineWords<'_>) -> Result<Command, LineRefusal>
     ensures { result ≡ show_command (words_of operands.entry.rest.now) }
 {
     Ok(Command::Show(view(operands)?))
 }
 
-/// `key NAME ..`.
+/// Parses `key NAME ..`.
 fn key(operands: LineWords<'_>) -> Result<Command, LineRefusal>
     requires { length (words_of operands.rest.now) ≤ most_keys }
     ensures { result ≡ key_command (words_of operands.entry.rest.now) }
@@ -396,7 +422,11 @@ fn key(operands: LineWords<'_>) -> Result<Command, LineRefusal>
     Ok(Command::Key(keys))
 }
 
-/// The view that the words behind `show` name.
+/// Returns the view that the words after `show` name.
+///
+/// # Errors
+///
+/// BadCommand (50) if they name none, BadNumber (51) if a number in them is wrong.
 pub fn view(mut operands: LineWords<'_>) -> Result<View, LineRefusal>
     ensures { result ≡ view_of (words_of operands.entry.rest.now) }
 {
@@ -407,7 +437,7 @@ pub fn view(mut operands: LineWords<'_>) -> Result<View, LineRefusal>
     }
 }
 
-/// `ram hhh` and `image P [bN]`: the view that a word names with those behind it.
+/// Parses `ram hhh` and `image P [bN]`, from the first word, the second, and those after them.
 fn view_with(what: &[u8], operand: &[u8], mut others: LineWords<'_>) -> Result<View, LineRefusal>
     ensures { result ≡ view_of (what.now ∷ operand.now ∷ words_of others.entry.rest.now) }
 {
@@ -420,7 +450,7 @@ fn view_with(what: &[u8], operand: &[u8], mut others: LineWords<'_>) -> Result<V
     Err(LineRefusal::BadCommand)
 }
 
-/// `image P [bN]`: the image of a page's bank, by the word that names the page and those behind it.
+/// Parses `image P [bN]`, from the word that names the page and the words after it.
 fn image_with(page: &[u8], mut others: LineWords<'_>) -> Result<View, LineRefusal>
     ensures { result ≡ view_of (codes "image" ∷ page.now ∷ words_of others.entry.rest.now) }
 {
@@ -431,7 +461,7 @@ fn image_with(page: &[u8], mut others: LineWords<'_>) -> Result<View, LineRefusa
     }
 }
 
-/// `image P bN`: the image of a page's bank, by the words that name them.
+/// Parses `image P bN`, from the words that name the page and the bank.
 fn image_view_at(page: &[u8], bank: &[u8]) -> Result<View, LineRefusal>
     ensures { result ≡ image_view_at page.now bank.now }
 {
@@ -441,14 +471,14 @@ fn image_view_at(page: &[u8], bank: &[u8]) -> Result<View, LineRefusal>
     image_view(page, bank_number(bank)?)
 }
 
-/// The same, by the word that names the page and the bank's number.
+/// Returns the view of a page's image, from the word that names the page and the number of the bank.
 fn image_view(page: &[u8], bank: u8) -> Result<View, LineRefusal>
     ensures { result ≡ image_view page.now bank }
 {
     Ok(View::Image(page_number(page)?, bank))
 }
 
-/// The view that one word names.
+/// Returns the view that one word names. BadCommand (50) if it names none.
 #[tactic(auto, unfolding(crate::specs::Commands::view_named))]
 fn view_named(what: &[u8]) -> Result<View, LineRefusal>
     ensures { result ≡ view_named what.now }

@@ -4,7 +4,7 @@ use Rattle.h41_ends.specs.InputLines.{IsCounted, ReadsMore, most_left}
 use Rattle.h41_commands.specs.private.ItemReading.{SpellNothing}
 use Rattle.h41_commands.proofs.reading.read_first_line.Given as goal
 
--- the lines so far say nothing
+-- The lines so far are skipped.
 abbrev pub invariant-loop-input : goal.invariant-loop-input
 invariant-loop-input g l = record {
   lines : (skipped : List (List ℕ)) × SpellNothing skipped

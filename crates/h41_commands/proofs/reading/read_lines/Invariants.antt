@@ -6,7 +6,7 @@ use Rattle.h41_commands.specs.DeckLines.{is_end}
 use Rattle.h41_commands.specs.private.Entries.{IsTaken}
 use Rattle.h41_commands.proofs.reading.read_lines.Given as goal
 
--- the block has taken the lines so far, of which none is an end
+-- The block has taken the lines so far, and none of them ends it.
 abbrev pub invariant-loop-block : goal.invariant-loop-block
 invariant-loop-block g l = record {
   lines : (inside : List (List ℕ)) × (list_any is_end inside ≡ false) × IsTaken l.fn.block.kind inside l.block

@@ -7,8 +7,8 @@ use Rattle.h41_commands.proofs.blocks.program_text.program_bytes.Given as goal
 
 abbrev pub invariant-loop-line : goal.invariant-loop-line
 invariant-loop-line l = record {
-  -- their number, and how many are left
+  -- The number of the line, and how many lines remain.
   count : l.number + length (texts_left l.line-iterator) ≤ length l.text + 2;
-  -- the lines so far are packed, and what is told of those that are left goes on
+  -- The lines so far are packed, and the remaining ones continue them.
   told : (front : List Line) × IsPacked front l.packed × Tells (texts_of l.text) front l.number (texts_left l.line-iterator);
 }

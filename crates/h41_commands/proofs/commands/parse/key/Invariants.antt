@@ -5,7 +5,7 @@ use Rattle.h41_commands.specs.DeckLines.{most_keys}
 use Rattle.h41_commands.proofs.KeyWords.{with_more}
 use Rattle.h41_commands.proofs.commands.parse.key.Given as goal
 
--- there is room for the words that are left, and these name the other keys
+-- There is room for the remaining words, and these name the other keys.
 abbrev pub invariant-loop-name : goal.invariant-loop-name
 invariant-loop-name l = record {
   room : length l.keys + length (words_of l.name-iterator.rest.now) ≤ most_keys;

@@ -18,7 +18,7 @@ use Rattle.h41_xrom.specs.declared.calculator.Mode.TheVariants as modes
 use Rattle.h41_xrom.specs.declared.refusal.CalculatorRefusal.{CalculatorRefusal}
 use Rattle.h41_xrom.specs.declared.refusal.CalculatorRefusal.TheVariants.{MemoryLost}
 
--- a line that keys store is one that programs can have
+-- A line that keys store is one that programs can contain.
 inner : (line : Line) → IsTrue (is_storable line) → IsTrue (is_inner line)
 inner lines.Null is = is
 inner (lines.LocalLabel a) is = is
@@ -36,7 +36,7 @@ inner (lines.FinalEnd a b) is = is
 inner (lines.BranchTo a b c d) is = is
 inner (lines.Text a) is = is
 
--- where memory is sound
+-- Memory is sound.
 in_sound : (action : Action) (memory : RegisterMap) → IsTrue (is_sound memory) → StoresLine action → IsActed action memory
 in_sound actions.Nothing memory sound stored = tt
 in_sound actions.Stop memory sound stored = tt
@@ -57,7 +57,7 @@ in_sound actions.TakeLetter memory sound stored = sound
 in_sound actions.ClearAlpha memory sound stored = sound
 in_sound actions.GoToEnd memory sound stored = sound
 
--- while a program runs
+-- A program runs.
 in_run : (action : Action) (memory : RegisterMap) → IsQuiet modes.Run action → IsActed action memory
 in_run actions.Nothing memory quiet = tt
 in_run actions.Stop memory quiet = tt
@@ -78,7 +78,7 @@ in_run actions.TakeLetter memory quiet = absurd quiet
 in_run actions.ClearAlpha memory quiet = absurd quiet
 in_run actions.GoToEnd memory quiet = absurd quiet
 
--- while a function runs
+-- A function runs.
 in_micro : (caller : Caller) (action : Action) (memory : RegisterMap) → IsQuiet (modes.Micro caller) action → IsActed action memory
 in_micro caller actions.Nothing memory quiet = tt
 in_micro caller actions.Stop memory quiet = tt

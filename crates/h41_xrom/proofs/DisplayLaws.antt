@@ -1,4 +1,4 @@
--- Why the display leaves nothing open.
+-- Why a state determines the text of the display.
 use Rattle.std.proofs.Common.{◌≡◌, ℕ, Bool, true, false, List, [], Option, Some, None, sym, ap, ◌∙◌}
 use Rattle.std.specs.Prelude.{◌++◌, MatchBool}
 use Rattle.h41_editor.specs.EditorLaws.{TextIsDetermined}

@@ -1,4 +1,4 @@
--- Why a key leaves nothing open.
+-- Why a state and a key determine the result.
 use Rattle.std.proofs.Common.{◌≡◌, ℕ, Bool, true, false, ◌||◌, List, Option, Some, None, Result, Ok, Err, sym, ap, subst, ◌∙◌}
 use Rattle.std.specs.Prelude.{MatchBool, MatchOption}
 use Rattle.std.specs.Result.{result_err, result_unwrap_or}
@@ -48,16 +48,16 @@ use Rattle.h41_xrom.specs.declared.lines.LineSource.{LineSource}
 use Rattle.h41_xrom.specs.declared.lines.LineSource.TheVariants as sources
 use Rattle.h41_xrom.specs.declared.refusal.CalculatorRefusal.{CalculatorRefusal}
 
--- what an action makes
+-- The result of an action.
 abbrev Made : Type 0
 Made = Result KeyOutcome CalculatorRefusal
 
--- a change of the program, or a move
+-- An edit of the program, or a move.
 same_edit : (Edit : Machine → Result Machine ProgramRefusal → Type 0) (same : MoveIsDetermined Edit) (machine : Machine) (a b : Made)
     → Edits Edit machine a → Edits Edit machine b → a ≡ b
 same_edit Edit same machine a b (p, p_edits, p_is) (q, q_edits, q_is) = p_is ∙ ap edit_effect (same machine p q p_edits q_edits) ∙ sym q_is
 
--- a number that is typed
+-- A number that is typed.
 same_register : (register other : List ℕ) → ◌≡◌ {A = Result (List ℕ) LineFault} (Ok register) (Ok other) → register ≡ other
 same_register register other is = cc
 
@@ -79,7 +79,7 @@ module _ (same_value : ValuesAreDetermined) where
       p_is ∙ ap (λ (of : List ℕ). Ok (Leaves (with_number_changed machine of))) (same_written text machine.memory p q p_computes q_computes)
       ∙ sym q_is
 
--- where the shown line stands
+-- Where the shown line is.
 module _ (positions : IsReadOnce) (same_last : AnswersAreDetermined (Result Bool ProgramRefusal)) where
   same_place : (pages : PageMap) (machine : Machine) (at : Position) (a b : Place) → IsPlace pages machine at a → IsPlace pages machine at b
       → a ≡ b
@@ -96,7 +96,7 @@ module _ (positions : IsReadOnce) (same_last : AnswersAreDetermined (Result Bool
 
 module _ (same_step : StepIsDetermined) (same_typing : TypedIsDetermined) (same_failure : FailureIsDetermined)
     (same_passing : PassingIsDetermined) (same_entering : EnteringIsDetermined) (one_line : OneLineOfText) where
-  -- a line that is carried out
+  -- A line that is executed.
   same_carry : (source : LineSource) (pages : PageMap) (machine : Machine) (a b : Made) → Carries source pages machine a
       → Carries source pages machine b → a ≡ b
   same_carry source pages machine a b (p, p_carries, p_is) (q, q_carries, q_is) =
@@ -105,7 +105,7 @@ module _ (same_step : StepIsDetermined) (same_typing : TypedIsDetermined) (same_
       (line_determined same_step same_typing same_failure same_passing same_entering one_line source pages machine p q p_carries q_carries)
       ∙ sym q_is
 
-  -- the line that is stored
+  -- The line that is stored.
   same_stored_function : (function : Option Function) (line a b : Line) → StoredFunction line function a → StoredFunction line function b
       → a ≡ b
   same_stored_function (Some function) line a b p q = p ∙ sym q
@@ -161,14 +161,14 @@ module _ (same_step : StepIsDetermined) (same_typing : TypedIsDetermined) (same_
           same_edit (Inserts pages q) (same_insertion pages q) machine a b
           (subst (λ (of : Line). Edits (Inserts pages of) machine a) same p_edits) q_edits
 
-      -- SST
+      -- The key SST.
       same_single : (program_mode : Bool) (pages : PageMap) (machine : Machine) (a b : Made)
           → MatchBool program_mode (Edits (ShowsNext pages) machine a) (Carries sources.Program pages machine a)
           → MatchBool program_mode (Edits (ShowsNext pages) machine b) (Carries sources.Program pages machine b) → a ≡ b
       same_single true pages machine a b p q = same_edit (ShowsNext pages) (same_next pages) machine a b p q
       same_single false pages machine a b p q = same_carry sources.Program pages machine a b p q
 
-      -- each action
+      -- Each action.
       same_act : (action : Action) (pages : PageMap) (program_mode : Bool) (machine : Machine) (a b : Made)
           → Acts pages program_mode action machine a → Acts pages program_mode action machine b → a ≡ b
       same_act actions.Nothing pages program_mode machine a b p q = p ∙ sym q
@@ -190,7 +190,7 @@ module _ (same_step : StepIsDetermined) (same_typing : TypedIsDetermined) (same_
       same_act actions.TakeLetter pages program_mode machine a b p q = p ∙ sym q
       same_act actions.ClearAlpha pages program_mode machine a b p q = p ∙ sym q
 
-      -- what a key makes
+      -- The result of a key.
       same_made : (why : Option CalculatorRefusal) (s : CalculatorState) (key : Key)
           (action : Action) (input : Input) (a b : Result CalculatorState CalculatorRefusal)
           → MatchOption why

@@ -1,4 +1,4 @@
--- What a key that has a meaning leaves, by the effect of its action.
+-- The result of a key that has a meaning, by the effect of its action.
 use Rattle.std.proofs.Common.{◌≡◌, Some, None, Result, Ok, Err, refl, sym, subst, ap, ◌∙◌}
 use Rattle.h41_positions.specs.FocalState.{Machine}
 use Rattle.h41_keys.specs.declared.action.Action.{Action}
@@ -12,16 +12,16 @@ use Rattle.h41_xrom.specs.declared.acting.KeyEffect.TheVariants as effects
 use Rattle.h41_xrom.specs.declared.lines.LineEnd.TheVariants as ends
 use Rattle.h41_xrom.specs.declared.refusal.CalculatorRefusal.{CalculatorRefusal}
 
--- memory is lost
+-- Memory is lost.
 pub key_lost : (key : Key) (input : Input) (action : Action) (s : CalculatorState) (why : CalculatorRefusal)
     → Some why ≡ key_refusal s → Accepts key input action s s (Some why)
 key_lost key input action s why e = (Err why, rw (sym e) refl, (refl, refl))
 
--- its action, where that is what was there before
+-- The action of the key in the previous state.
 abbrev pub ActsIn : Input → Action → CalculatorState → Machine → Result KeyEffect CalculatorRefusal → Type 0
 ActsIn input action s new result = Acts s.nut.pages input.program_mode action (machine_of s) (effect_as new result)
 
--- the action is refused
+-- The action is refused.
 pub key_failed : (key : Key) (input : Input) (action : Action) (from s : CalculatorState) (new : Machine) (why : CalculatorRefusal)
     → from ≡ s → None ≡ key_refusal s → ActsIn input action from new (Err why)
     → new ≡ machine_of from → Accepts key input action s (with_machine new from) (Some why)
@@ -31,7 +31,7 @@ key_failed key input action from s new why is accepted acts same = (
   (ap (λ (of : Machine). with_machine of from) same ∙ is, refl),
 )
 
--- the action is done, and then what is left to do
+-- The action is performed, followed by what remains to be done.
 effect_same : (effect : KeyEffect) (key : Key) (input : Input) (s : CalculatorState) (new : Machine)
     → after_effect effect (with_key_told key input (with_machine new s)) ≡ after_key (with_key_told key input s) (effect_with new effect)
 effect_same effects.Nothing key input s new = refl

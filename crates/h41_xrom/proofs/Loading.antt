@@ -1,4 +1,4 @@
--- What a load and a new size leave, by the answer of program memory.
+-- The result of a load and of a new size, by the result of program memory.
 use Rattle.std.proofs.Common.{◌≡◌, ℕ, List, Some, None, Result, Ok, Err, refl, sym, ap, subst, ◌∙◌}
 use Rattle.h41_positions.specs.FocalState.{FocalState, halted_at}
 use Rattle.h41_positions.specs.declared.position.Position.TheVariants.{Memory}
@@ -13,12 +13,12 @@ use Rattle.h41_xrom.specs.declared.refusal.CalculatorRefusal.TheVariants.{Progra
 use Rattle.h41_xrom.specs.Calculator.{CalculatorState, not_typing, with_machine}
 use Rattle.h41_xrom.specs.Programs.{Becomes, Loads, change_refusal, after_size, size_makes, with_memory, with_program}
 
--- a load that is refused before program memory is asked
+-- A load that is refused before program memory is read.
 pub load_refused : (bytes : List ℕ) (s : CalculatorState) (why : CalculatorRefusal) → Some why ≡ change_refusal s
     → Loads bytes s s (Some why)
 load_refused bytes s why e = (Err why, rw (sym e) refl, (refl, refl))
 
--- one that program memory refuses
+-- A load that program memory refuses.
 failed_by : (bytes : List ℕ) (from s : CalculatorState) (memory : RegisterMap)
     (why : program.ProgramRefusal) (outcome : Result (RegisterMap × ℕ) program.ProgramRefusal)
     → from ≡ s → None ≡ change_refusal s → LoadGives from.nut.ram bytes outcome → HasOutcome from.nut.ram memory (Err why) outcome
@@ -37,7 +37,7 @@ pub load_failed : (bytes : List ℕ) (from s : CalculatorState) (memory : Regist
     → Loads bytes s (with_memory memory from) (Some (Program why))
 load_failed bytes from s memory why is accepted loads = failed_by bytes from s memory why loads.0 is accepted loads.1 loads.2
 
--- and one that is done
+-- A load that is done.
 done_by : (bytes : List ℕ) (from s : CalculatorState) (memory : RegisterMap) (position : ℕ)
     (after : FocalState) (outcome : Result (RegisterMap × ℕ) program.ProgramRefusal)
     → from ≡ s → after ≡ halted_at (Memory position) from.focal → None ≡ change_refusal s → LoadGives from.nut.ram bytes outcome
@@ -59,7 +59,7 @@ pub load_done : (bytes : List ℕ) (from s : CalculatorState) (memory : Register
 load_done bytes from s memory position after is place accepted loads =
     done_by bytes from s memory position after loads.0 is place accepted loads.1 loads.2
 
--- a new size that program memory refuses
+-- A new size that program memory refuses.
 size_refused : (from : CalculatorState) (memory : RegisterMap) (why : program.ProgramRefusal)
     (outcome : Result (RegisterMap × Unit {0}) program.ProgramRefusal)
     → HasOutcome from.nut.ram memory (Err why) outcome → Becomes (after_size from outcome) from (with_memory memory from)
@@ -78,7 +78,7 @@ size_failed count from s memory why is accepted gives =
     let free = rw (← is) at accepted in
     rw (← is, sym free) (size_refused from memory why (size_outcome from.nut.ram count) gives)
 
--- a new size that it takes
+-- A new size that program memory accepts.
 size_made : (from t : CalculatorState) (memory : RegisterMap) (done : Unit {0})
     (outcome : Result (RegisterMap × Unit {0}) program.ProgramRefusal) → HasOutcome from.nut.ram memory (Ok done) outcome
     → t ≡ not_typing (with_memory memory from) → Becomes (after_size from outcome) from t None

@@ -1,4 +1,4 @@
--- What is named, by its text.
+-- What has a name, by its text.
 use Rattle.std.proofs.Common.{◌≡◌, ℕ, List, Option, Some, None, Result, Ok, Err, refl}
 use Rattle.std.specs.Prelude.{◌↔◌}
 use Rattle.h41_codes.specs.declared.functions.Function.{Function}
@@ -16,7 +16,7 @@ not_null function is = cc
 pub text_of : (name : List ℕ) (function : Function) → function_name function ≡ name → IsTextOf name (Plain function)
 text_of name function same = record { has = record { valid = tt; shown = not_null function }; shortest = refl; same = same }
 
--- the text is that of a line
+-- The text is that of a line.
 pub named_by : (name : List ℕ) (line : Line) (function : Option Function) (read : Result Line BadText)
     → ((of : Line) → (read ≡ Ok of) ↔ IsTextOf name of) → read ≡ Ok line → IsFunction line function → IsNamed name function
 named_by name line (Some function) read means is found =
@@ -25,7 +25,7 @@ named_by name line None read means is none = λ function same.
     let own : read ≡ Ok (Plain function) = (means (Plain function)).1 (text_of name function same) in
     none function cc
 
--- and of none
+-- The text is not that of a line.
 pub named_none : (name : List ℕ) (fault : BadText) (read : Result Line BadText)
     → ((of : Line) → (read ≡ Ok of) ↔ IsTextOf name of) → read ≡ Err fault → IsNamed name None
 named_none name fault read means is = λ function same.

@@ -1,4 +1,4 @@
--- A key that is pressed, by what the keyboard answers: while a program or a function runs it does nothing but to stop a program.
+-- A pressed key, by the result of the keyboard: while a program or a function runs, it does nothing but stop a program.
 use Rattle.std.proofs.Common.{◌≡◌, Option, Some, None, Err, refl, sym, subst, ap, ◌∙◌}
 use Rattle.h41_keys.specs.Keyboard.{row_of}
 use Rattle.h41_keys.specs.KeyPress as keyboard
@@ -21,7 +21,7 @@ use Rattle.h41_xrom.specs.declared.calculator.Caller.{Caller}
 use Rattle.h41_xrom.specs.declared.refusal.CalculatorRefusal.{CalculatorRefusal}
 use Rattle.h41_xrom.specs.declared.refusal.CalculatorRefusal.TheVariants.{KeyNotHeld}
 
--- the action of what a key leads to
+-- The action that a key's meaning leads to.
 same_action : (own action : Action) (input after : Input) → ◌≡◌ {A = Option Pressed} (Some (does own input)) (Some (does action after))
     → own ≡ action
 same_action own action input after is =
@@ -34,7 +34,7 @@ quiet_by mode own action input after quiet is = subst (IsQuiet mode) (same_actio
 never : (mode : Mode) (action : Action) (after : Input) → ◌≡◌ {A = Option Pressed} None (Some (does action after)) → IsQuiet mode action
 never mode action after is = absurd (let no : ⊥ = cc in no)
 
--- while a program runs
+-- A program runs.
 quiet_in_run : (meaning : Meaning) (input : Input) (action : Action) (after : Input)
     → keyboard.while_running input meaning ≡ Some (does action after) → IsQuiet modes.Run action
 quiet_in_run means.Nothing input action after is = never modes.Run action after is
@@ -55,7 +55,7 @@ quiet_in_run (means.Ask it) input action after is = quiet_by modes.Run actions.N
 quiet_in_run (means.Letter it) input action after is = quiet_by modes.Run actions.Nothing action input after tt is
 quiet_in_run means.Append input action after is = quiet_by modes.Run actions.Nothing action input after tt is
 
--- while a function runs
+-- A function runs.
 quiet_in_micro : (caller : Caller) (meaning : Meaning) (input : Input) (action : Action) (after : Input)
     → keyboard.while_in_microcode input meaning ≡ Some (does action after) → IsQuiet (modes.Micro caller) action
 quiet_in_micro caller means.Nothing input action after is = never (modes.Micro caller) action after is
@@ -82,7 +82,7 @@ quiet modes.Idle input key flags action after is = tt
 quiet modes.Run input key flags action after is = quiet_in_run (row_of key).plain input action after is
 quiet (modes.Micro caller) input key flags action after is = quiet_in_micro caller (row_of key).plain input action after is
 
--- what the keyboard was asked
+-- What the keyboard was given.
 asked : (from s : CalculatorState) (key : Key) (mode : Activity) (flags : Flags) → from ≡ s → mode ≡ activity_of s.mode
     → presses from.input key mode flags ≡ press_of s key flags
 asked from s key mode flags is waits = λ i. presses (is i).input key (waits i) flags
@@ -93,14 +93,14 @@ pub key_quiet : (input : Input) (s : CalculatorState) (key : Key)
 key_quiet input s key mode flags action after waits accepts =
     quiet s.mode input key flags action after (ap (λ (of : Activity). presses input key of flags) (sym waits) ∙ accepts)
 
--- it has no meaning
+-- The key has no meaning.
 pub key_unknown : (from s : CalculatorState) (key : Key) (mode : Activity) (flags : Flags) (why : CalculatorRefusal) → from ≡ s
     → mode ≡ activity_of s.mode → HasFlags s flags → presses from.input key mode flags ≡ None → why ≡ KeyNotHeld
     → Presses key s s (Some why)
 key_unknown from s key mode flags why is waits held none same =
     (flags, held, Err KeyNotHeld, rw (sym (asked from s key mode flags is waits) ∙ none) refl, (refl, ap Some same))
 
--- it has one
+-- The key has a meaning.
 pub key_known : (from s t : CalculatorState) (key : Key) (mode : Activity)
     (flags : Flags) (action : Action) (after : Input) (refusal : Option CalculatorRefusal)
     → from ≡ s → mode ≡ activity_of s.mode → HasFlags s flags → keyboard.Accepts from.input key mode flags action after

@@ -1,4 +1,4 @@
--- Where the shown line stands, as the keyboard needs to know it.
+-- Where the shown line is, in the keyboard's terms.
 use Rattle.std.proofs.Common.{◌≡◌, ℕ, Bool, true, false, ◌||◌, [], Err, refl, sym, ap, subst, ◌∙◌}
 use Rattle.h41_positions.specs.FocalState.{Machine}
 use Rattle.h41_keys.specs.declared.input.Place.TheVariants as places
@@ -10,7 +10,7 @@ use Rattle.h41_ram.specs.RegisterMap.{RegisterMap, is_sound}
 use Rattle.h41_xrom.specs.KeyActions.{IsPlace}
 use Rattle.h41_xrom.specs.private.PrivateCalls.{IsFinalAt, PutsEnd}
 
--- the shown line stands in a page
+-- The shown line is in a page.
 pub place_there : (pages : PageMap) (from machine : Machine) (address : ℕ) (final kept puts : Bool) → from ≡ machine
     → from.focal.position ≡ Page address → IsFinalAt pages address final → kept ≡ (from.focal.at_line_00 || final)
     → PutsEnd from.memory puts → IsPlace pages machine machine.focal.position (places.Page kept puts)
@@ -23,14 +23,14 @@ place_there pages from machine address final kept puts same is finals keeps ends
     (first, last, stands, answers, (λ i. places.Page (kept_is i) (puts_is i))) in
     subst (λ (of : Machine). IsPlace pages of of.focal.position (places.Page kept puts)) same there
 
--- BACK changes nothing, at line 00 or else by the line
+-- BACK changes nothing, at line 00 or because of the line.
 pub kept_at : (at_line_00 final kept : Bool) → kept ≡ at_line_00 → at_line_00 ≡ true → kept ≡ (at_line_00 || final)
 kept_at at_line_00 final kept is on = is ∙ on ∙ ap (λ (of : Bool). of || final) (sym on)
 
 pub kept_by : (at_line_00 final kept : Bool) → kept ≡ final → at_line_00 ≡ false → kept ≡ (at_line_00 || final)
 kept_by at_line_00 final kept is off = is ∙ ap (λ (of : Bool). of || final) (sym off)
 
--- memory that is not sound has no last program
+-- Memory that is not sound has no last program.
 pub lost_puts_none : (memory : RegisterMap) → is_sound memory ≡ false → PutsEnd memory false
 lost_puts_none memory lost =
     (Err BrokenProgram, ([], record { sound = λ sound. absurd (let no : ⊥ = cc in no); lost = λ is. refl }, refl), refl)

@@ -1,4 +1,4 @@
--- Why a step and a load leave nothing open.
+-- Why a state determines its step, and a state and bytes determine a load.
 use Rattle.std.proofs.Common.{◌≡◌, ℕ, Bool, true, false, List, Option, Some, None, Result, Ok, Err, refl, sym, ap, subst, ◌∙◌}
 use Rattle.std.specs.Prelude.{MatchBool, MatchOption, option_map}
 use Rattle.std.specs.Result.{result_err, result_unwrap_or}
@@ -37,16 +37,16 @@ use Rattle.h41_xrom.specs.declared.lines.LineSource.{LineSource}
 use Rattle.h41_xrom.specs.declared.lines.LineSource.TheVariants as sources
 use Rattle.h41_xrom.specs.Programs.{change_refusal, after_load}
 
--- a function begins
+-- A function starts.
 abbrev Begun : LineSource → PageMap → ℕ → Machine → Result Ended FocalRefusal → Type 0
 Begun source pages address machine ended =
     (after : Result Machine FocalRefusal) × PassesFrom source pages machine after × (ended ≡ begun_at address after)
 
--- a line
+-- A line.
 same_function_by : (a b : Function) → Plain a ≡ Plain b → a ≡ b
 same_function_by a b is = cc
 
--- a typed line that fails
+-- A typed line that fails.
 same_typed_fault : (sound : Bool) (machine : Machine) (a b : Result Left FocalRefusal)
     → MatchBool sound (FailsIn Typed machine Nonexistent a) (a ≡ Err lines.MemoryLost)
     → MatchBool sound (FailsIn Typed machine Nonexistent b) (b ≡ Err lines.MemoryLost) → a ≡ b
@@ -149,7 +149,7 @@ module _ (same_step : StepIsDetermined) (same_typing : TypedIsDetermined) (same_
       → a ≡ b
   same_line s a b p q = line_determined sources.Program s.nut.pages (machine_of s) a b p q
 
-  -- why a step is refused
+  -- Why a step is refused.
   same_line_refusal : (s : CalculatorState) (a b : Option CalculatorRefusal) → RefusesLine s a → RefusesLine s b → a ≡ b
   same_line_refusal s a b (p, p_carries, p_is) (q, q_carries, q_is) =
       p_is ∙ ap (λ (of : Result Ended FocalRefusal). option_map of_line (result_err of)) (same_line s p q p_carries q_carries) ∙ sym q_is
@@ -166,7 +166,7 @@ module _ (same_step : StepIsDetermined) (same_typing : TypedIsDetermined) (same_
   same_end : (end other : Ended) → ◌≡◌ {A = Result Ended FocalRefusal} (Ok end) (Ok other) → end ≡ other
   same_end end other is = cc
 
-  -- the state that a step leaves
+  -- The state after a step.
   same_behind : (s t u : CalculatorState) → StepsByLine s t → StepsByLine s u → t ≡ u
   same_behind s t u (p, p_carries, p_is) (q, q_carries, q_is) =
       p_is ∙ ap (after_line (not_typing s)) (same_end p q (same_line s (Ok p) (Ok q) p_carries q_carries)) ∙ sym q_is
@@ -180,7 +180,7 @@ module _ (same_step : StepIsDetermined) (same_typing : TypedIsDetermined) (same_
     pub step_determined : CalculatorLaws.StepIsDetermined
     step_determined s t u p q = same_state s.mode s t u p q
 
--- what a load makes
+-- The result of a load.
 module _ (same_load : LoadsAreDetermined) where
   same_made_by : (why : Option CalculatorRefusal) (s : CalculatorState) (bytes : List ℕ) (a b : Result CalculatorState CalculatorRefusal)
       → MatchOption why

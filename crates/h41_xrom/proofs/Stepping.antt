@@ -1,4 +1,4 @@
--- A step over a line, by what carried it out.
+-- The step of a line, by how the line was executed.
 use Rattle.std.proofs.Common.{◌≡◌, Some, None, Option, Result, Ok, Err, refl, subst, ap, ◌∙◌}
 use Rattle.h41_focal.specs.BriefOutcomes.{brief_answer, briefly}
 use Rattle.h41_focal.specs.LineStep.{StepsLine}
@@ -17,22 +17,22 @@ use Rattle.h41_xrom.specs.declared.lines.LineEnd.TheVariants as ends
 use Rattle.h41_xrom.specs.declared.lines.LineSource.TheVariants.{Program}
 use Rattle.h41_xrom.specs.declared.refusal.CalculatorRefusal.{CalculatorRefusal}
 
--- the line at the position, by what it leaves
+-- The line at the position, by the state that it leaves.
 abbrev pub CarriesIn : CalculatorState → Machine → Result LineEnd FocalRefusal → Type 0
 CarriesIn s new result = CarriesHere Program s (ended_as new result)
 
--- a refused line
+-- A refused line.
 pub line_refused : (from s : CalculatorState) (new : Machine) (refusal : FocalRefusal) (why : Option CalculatorRefusal)
     → from ≡ s → CarriesIn from new (Err refusal) → why ≡ Some (of_line refusal) → RefusesLine s why
 line_refused from s new refusal why is carries refused =
     (Err refusal, subst (λ (of : CalculatorState). CarriesIn of new (Err refusal)) is carries, refused)
 
--- one that was carried out
+-- A line that was executed.
 pub line_accepted : (from s : CalculatorState) (new : Machine) (end : LineEnd) → from ≡ s → CarriesIn from new (Ok end) → RefusesLine s None
 line_accepted from s new end is carries =
     (ended_as new (Ok end), subst (λ (of : CalculatorState). CarriesIn of new (Ok end)) is carries, refl)
 
--- how a line ended, by its answer or by the function that begins
+-- How a line ended: with its answer, or with the function that starts.
 ended_after : (end : LineEnd) (s : CalculatorState) (new : Machine)
     → after_end end (not_typing (with_machine new s)) ≡ after_line (not_typing s) (ended_with new end)
 ended_after (ends.Answers outcome) s new = refl
@@ -46,7 +46,7 @@ line_left from s t new end is carries shown = (
   shown ∙ ended_after end from new ∙ ap (λ (of : CalculatorState). after_line (not_typing of) (ended_with new end)) is,
 )
 
--- a line that calls nothing elsewhere ends so
+-- A line that calls nothing outside memory ends with its answer.
 goes_on_briefly :
     (called : Answer) (pages : PageMap) (machine new : Machine) (brief : BriefOutcome)
     → (brief ≡ briefs.Elsewhere → ⊥)
@@ -86,12 +86,12 @@ brief_left called from s t new brief is steps here shown = (
   shown ∙ ap (λ (of : CalculatorState). after_line (not_typing of) (Answers (briefly called new brief))) is,
 )
 
--- a refused one
+-- A refused line.
 pub brief_refused : (from s : CalculatorState) (refusal : FocalRefusal) (why : Option CalculatorRefusal)
     → from ≡ s → StepsLine from.nut.pages None (machine_of from) (Err refusal) → why ≡ Some (of_line refusal) → RefusesLine s why
 brief_refused from s refusal why is steps refused =
     (Err refusal, subst (λ (of : CalculatorState). CarriesHere Program of (Err refusal)) is (Err refusal, steps, refl), refused)
 
--- what has to be looked up has changed nothing
+-- A line whose call is still to be looked up has changed nothing.
 pub nothing_called : (from s : CalculatorState) (new : Machine) → from ≡ s → new ≡ machine_of from → with_machine new from ≡ s
 nothing_called from s new is same = ap (λ (machine : Machine). with_machine machine from) same ∙ is

@@ -1,4 +1,4 @@
--- Why lines that go on to the next leave the same where the calculator steps them as where they are typed.
+-- Why lines that go on to the next line leave the same if the calculator steps them as if they are typed.
 use Rattle.std.proofs.Common.{◌≡◌, true, false, List, [], ◌∷◌, All, None, Result, Ok, Err, refl, ap, subst, ◌∙◌}
 use Rattle.std.proofs.lemmas.List.Elements.{All-head, All-tail}
 use Rattle.h41_codes.specs.declared.line.Line.{Line}
@@ -23,7 +23,7 @@ no_end ended refusal is = cc
 same_end : (ended other : Ended) → ◌≡◌ {A = Result Ended FocalRefusal} (Ok ended) (Ok other) → ended ≡ other
 same_end ended other is = cc
 
--- what answers for itself is done
+-- A line that calls nothing outside memory is done.
 done_here : (pages : PageMap) (machine : Machine) (left : Left) (answer : Answer) (ended : Ended) → is_elsewhere answer ≡ false
     → GoesOn Program pages machine left answer (Ok ended) → ended ≡ Answers left
 done_here pages machine left (answers.Calls number entry) ended none goes = cc
@@ -38,7 +38,7 @@ done_here pages machine left (answers.Answered holds) ended none goes = same_end
 done_here pages machine left answers.Runs ended none goes = same_end ended (Answers left) goes
 done_here pages machine left (answers.Failed fault) ended none goes = same_end ended (Answers left) goes
 
--- no line makes a function run by what it answers
+-- The answer of a line never makes a function run.
 still_lines : (answer : Answer) (mode : Mode) → takes_lines mode ≡ true → takes_lines (mode_after answer mode) ≡ true
 still_lines answers.Done mode takes = takes
 still_lines answers.Stopped mode takes = refl
@@ -52,7 +52,7 @@ still_lines (answers.Calls number entry) mode takes = takes
 still_lines (answers.Seeks name) mode takes = takes
 still_lines (answers.Failed fault) mode takes = refl
 
--- what a step of the calculator leaves is what its line leaves
+-- A step of the calculator leaves what its line leaves.
 record LineStepped (s next : CalculatorState) : Type 0 where
   left : Left
   stepped : StepsLine s.nut.pages None (machine_of s) (Ok left)

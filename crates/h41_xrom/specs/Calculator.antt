@@ -1,5 +1,5 @@
 -- The calculator: its state, its mode, a call, pages, and single steps. All of it is this project's
--- choice, but for what words, lines and keys do.
+-- choice, except what words, lines and keys do.
 use Rattle.std.specs.Prelude.{◌≡◌, ℕ, Bool, true, false, not, nat_lt, ◌==◌, if◌then◌else◌, Option}
 use Rattle.std.specs.Prelude.{None, List, length, option_map, Result, Ok}
 use Rattle.std.specs.Bool.{then_some}
@@ -35,23 +35,24 @@ use Rattle.h41_xrom.specs.declared.lines.LineSource.TheVariants.{Program}
 
 -- The state of the calculator.
 pub record CalculatorState : Type 0 where
-  -- the processor, its memory, pages and keys
+  -- The processor, its memory, pages and keys.
   pub nut : Nut
-  -- what lines work on, beside memory
+  -- The state, besides memory, that lines work on.
   pub focal : FocalState
-  -- what the keyboard keeps: SHIFT, program mode, a prompt, and the number or text that is being
-  -- typed
+  -- What the keyboard remembers between keys: SHIFT, program mode, a prompt, and the number or text
+  -- that is being typed.
   pub input : Input
-  -- the text that the display shows before all else, where there is one
+  -- The message: the text that the display shows before anything else, if there is one.
   pub message : Option (List ℕ)
+  -- What the calculator is doing.
   pub mode : Mode
 
--- no key was pressed
+-- No key was pressed.
 abbrev pub no_key : Keys
 no_key = record { ky = 0; flag = false }
 
--- with so many registers of main memory nothing is plugged, nothing runs, nothing is typed, there
--- is no message, and memory has an empty program, at whose line 00 the calculator stands
+-- The initial state with so many main registers: nothing is plugged, nothing runs, nothing is being
+-- typed, there is no message, and memory has an empty program, at whose line 00 the calculator is.
 abbrev pub start : ℕ → CalculatorState
 start registers = record {
   nut = nut_of initial_state (ram.start registers) pages.no_pages no_key;
@@ -61,88 +62,90 @@ start registers = record {
   mode = modes.Idle;
 }
 
+-- Whether nothing runs.
 abbrev pub is_idle : Mode → Bool
 is_idle modes.Idle = true
 is_idle modes.Run = false
 is_idle (modes.Micro caller) = false
 
--- what a function that begins goes back to, and where it then is
+-- The caller of a function that starts in this mode.
 abbrev pub caller_in : Mode → Caller
 caller_in modes.Idle = callers.Nothing
 caller_in modes.Run = callers.Program
 caller_in (modes.Micro caller) = caller
 
+-- The mode after the function has ended.
 abbrev pub mode_of : Caller → Mode
 mode_of callers.Nothing = modes.Idle
 mode_of callers.Program = modes.Run
 
--- a call is refused as 24 while a program or a function runs, and else as 8 below address 4000, at
--- 00F0 too: a call is no arrival
+-- Why a call is refused: Busy (24) while a program or a function runs, otherwise SystemRom (08)
+-- below address 4000. That includes 00F0, because a call is not a jump to the end of a function.
 abbrev pub call_refusal : CalculatorState → ℕ → Option CalculatorRefusal
 call_refusal s address =
     option_or (then_some (not (is_idle s.mode)) Busy)
     (then_some (nat_lt address first_address) (Word (words.SystemRom address)))
 
--- no number and no text is being typed any more; a prompt, SHIFT and program mode stay
+-- The entry of a number or a text has ended. A prompt, SHIFT and program mode remain.
 abbrev pub not_typing : CalculatorState → CalculatorState
 not_typing s = record s { input = record s.input { entry = entries.Nothing } }
 
--- the function at an address runs
+-- The function at an address runs.
 abbrev pub with_function : ℕ → CalculatorState → CalculatorState
 with_function address s = record s {
   nut = record s.nut { processor = at_function s.nut.processor address };
   mode = modes.Micro (caller_in s.mode);
 }
 
--- by a call
+-- The state after a call.
 abbrev pub after_call : ℕ → CalculatorState → CalculatorState
 after_call address s = with_function address (not_typing s)
 
--- this is why words are not plugged; memory that was refused comes last
+-- Why words are not plugged. OutOfMemory (21) is the last reason.
 abbrev pub RefusesPage : CalculatorState → ℕ → ℕ → List ℕ → PlugRefusal → Type 0
 RefusesPage s page bank words refusal = pages.RefusesPlug s.nut.pages page bank words refusal
 
--- words are not refused at a page's bank
+-- The bank of the page accepts the words.
 abbrev pub TakesPage : CalculatorState → ℕ → ℕ → List ℕ → Type 0
 TakesPage s page bank words = pages.plug_refusal s.nut.pages page bank words ≡ None
 
--- the calculator with other pages
+-- The calculator with other pages.
 abbrev pub with_pages : pages.PageMap → CalculatorState → CalculatorState
 with_pages all s = record s { nut = record s.nut { pages = all } }
 
--- the words plugged there
+-- The words are plugged into the bank.
 abbrev pub with_page : ℕ → ℕ → Bool → List ℕ → CalculatorState → CalculatorState
 with_page page bank writable words s =
     with_pages (pages.with_page_image s.nut.pages page bank writable words) s
 
--- all banks of a page taken out
+-- All banks of the page are unplugged.
 abbrev pub without_page : ℕ → CalculatorState → CalculatorState
 without_page page s = with_pages (pages.without_images s.nut.pages page) s
 
--- as at the start with as many registers of main memory, but for the pages, which stay plugged;
--- bank 1 is chosen at each
+-- The initial state with as many main registers, except that pages remain plugged. Bank 1 is the
+-- active bank of each.
 abbrev pub after_reset : CalculatorState → CalculatorState
 after_reset s =
     with_pages (pages.with_first_banks s.nut.pages) (start (length s.nut.ram.main))
 
--- what lines work on, memory with it
+-- What lines work on, including memory.
 abbrev pub machine_of : CalculatorState → Machine
 machine_of s = record { memory = s.nut.ram; focal = s.focal }
 
--- what a line leaves in the display
+-- The calculator with the result of a line in its display.
 abbrev pub with_shown : Answer → CalculatorState → CalculatorState
 with_shown answer s = record s {
   nut = record s.nut { processor = processor_after answer s.nut.processor };
   message = message_after answer s.message;
 }
 
--- the calculator with another memory, and with other things that lines work on
+-- The calculator with another memory, and other state that lines work on.
 abbrev pub with_machine : Machine → CalculatorState → CalculatorState
 with_machine machine s =
     record s { nut = record s.nut { ram = machine.memory }; focal = machine.focal }
 
--- a running program stops at STOP, OFF, PROMPT, a return to nowhere, and a fault; a typed line that
--- went to a label, or called a module's program, has it run
+-- A running program stops at STOP, OFF, PROMPT, a return with an empty return stack, and an error.
+-- A typed line that jumped to a label, or called a module's program, starts the program.
 abbrev pub mode_after : Answer → Mode → Mode
 mode_after answers.Stopped mode = modes.Idle
 mode_after answers.TurnedOff mode = modes.Idle
@@ -151,47 +154,50 @@ mode_after (answers.Failed fault) mode = modes.Idle
 mode_after answers.Runs mode = modes.Run
 mode_after answer mode = mode
 
--- the calculator behind what a line answers: it is shown, and a program runs on, stops or begins
+-- The calculator after the answer of a line: it is shown, and a program continues, stops or starts.
 abbrev pub after_answer : Answer → CalculatorState → CalculatorState
 after_answer answer s = record (with_shown answer s) { mode = mode_after answer s.mode }
 
--- the calculator after a line was carried out, by how it ended; or a module's function in microcode
--- runs
+-- The calculator after a line was executed, by how it ended; or a module's function in microcode
+-- runs.
 abbrev pub after_line : CalculatorState → Ended → CalculatorState
 after_line s (Answers left) = after_answer left.answer (with_machine left.machine s)
 after_line s (Begins machine address) = with_function address (with_machine machine s)
 
--- one line, or why it is refused
+-- One line is executed, or refused.
 abbrev pub CarriesHere : LineSource → CalculatorState → Result Ended FocalRefusal → Type 0
 CarriesHere source s ended = CarriesLine source s.nut.pages (machine_of s) ended
 
--- why a step is refused, or that it is not: a word's refusal while a function runs, else a line's
+-- Why the step of a line is refused, or that it is not.
 abbrev pub RefusesLine : CalculatorState → Option CalculatorRefusal → Type 0
 RefusesLine s why =
     (ended : Result Ended FocalRefusal)
     × CarriesHere Program s ended
     × (why ≡ option_map of_line (result_err ended))
 
+-- The same of a step in a mode: while a function runs, the step is a word.
 abbrev pub RefusesStepIn : Mode → CalculatorState → Option CalculatorRefusal → Type 0
 RefusesStepIn modes.Idle s why = RefusesLine s why
 RefusesStepIn modes.Run s why = RefusesLine s why
 RefusesStepIn (modes.Micro caller) s why = why ≡ option_map Word (refused s.nut)
 
+-- Why a step is refused, or that it is not.
 abbrev pub RefusesStep : CalculatorState → Option CalculatorRefusal → Type 0
 RefusesStep s why = RefusesStepIn s.mode s why
 
--- a function ends where it arrives at 00F0: what called it goes on, and lift is on then
+-- A function ends when the next address is 00F0; its caller continues.
 abbrev pub mode_at : ℕ → Caller → Mode
 mode_at address caller = if address == end_of_function then mode_of caller else modes.Micro caller
 
--- the mode behind a word, by whether the function still runs
+-- The mode after a word, by whether the function still runs.
 abbrev pub mode_behind_word : Bool → Caller → Mode
 mode_behind_word runs caller = if runs then modes.Micro caller else mode_of caller
 
+-- Stack lift is enabled when a function ends.
 abbrev pub lift_at : ℕ → Bool → Bool
 lift_at address lift = if address == end_of_function then true else lift
 
--- the calculator after a word was carried out
+-- The calculator after a word was executed.
 abbrev pub after_word : Caller → CalculatorState → Nut → CalculatorState
 after_word caller s nut = record s {
   nut = nut;
@@ -199,16 +205,17 @@ after_word caller s nut = record s {
   mode = mode_at nut.processor.pc caller;
 }
 
--- one step: while a function runs a word, which is its end where it arrives at 00F0; else a line,
--- with which a number or text that is being typed ends
+-- The step of a line, which also ends the entry of a number or a text.
 abbrev pub StepsByLine : CalculatorState → CalculatorState → Type 0
 StepsByLine s t =
     (ended : Ended) × CarriesHere Program s (Ok ended) × (t ≡ after_line (not_typing s) ended)
 
+-- One step in a mode: a word while a function runs, otherwise a line.
 abbrev pub StepIn : Mode → CalculatorState → CalculatorState → Type 0
 StepIn modes.Idle s t = StepsByLine s t
 StepIn modes.Run s t = StepsByLine s t
 StepIn (modes.Micro caller) s t = Micro s.nut t.nut × (t ≡ after_word caller s t.nut)
 
+-- One step.
 abbrev pub Step : CalculatorState → CalculatorState → Type 0
 Step s t = StepIn s.mode s t

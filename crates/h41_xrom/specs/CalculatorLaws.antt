@@ -12,49 +12,49 @@ use Rattle.h41_xrom.specs.Programs.{Loads}
 use Rattle.h41_xrom.specs.declared.calculator.Mode.{Mode}
 use Rattle.h41_xrom.specs.declared.calculator.Mode.TheVariants as modes
 
--- whether a step is refused, and as what, is determined, and so is the state that it leaves
+-- A state determines whether its step is refused, and as what.
 abbrev pub StepRefusalIsDetermined : Type 0
 StepRefusalIsDetermined =
     (s : CalculatorState) (refusal other : Option CalculatorRefusal) → RefusesStep s refusal
     → RefusesStep s other → refusal ≡ other
 
+-- A state determines the state after its step.
 abbrev pub StepIsDetermined : Type 0
 StepIsDetermined = (s t u : CalculatorState) → Step s t → Step s u → t ≡ u
 
--- a load leaves one state, and has one refusal or none
+-- A state and the bytes determine the state after a load, and its refusal.
 abbrev pub LoadIsDetermined : Type 0
 LoadIsDetermined =
     (bytes : List ℕ) (s t u : CalculatorState) (refusal other : Option CalculatorRefusal)
     → Loads bytes s t refusal → Loads bytes s u other → (t ≡ u) × (refusal ≡ other)
 
--- a key leaves one state, and has one refusal or none
+-- A state and a key determine the state after it, and its refusal.
 abbrev pub KeyIsDetermined : Type 0
 KeyIsDetermined =
     (key : Key) (s t u : CalculatorState) (refusal other : Option CalculatorRefusal)
     → Presses key s t refusal → Presses key s u other → (t ≡ u) × (refusal ≡ other)
 
--- the display shows one text
+-- A state determines the text of the display.
 abbrev pub DisplayIsDetermined : Type 0
 DisplayIsDetermined =
     (s : CalculatorState) (text other : List ℕ) → ShowsDisplay s text → ShowsDisplay s other
     → text ≡ other
 
--- lines are stepped or run, and not the words of a function
+-- A step in this mode is a line, and not a word of a function.
 abbrev pub takes_lines : Mode → Bool
 takes_lines modes.Idle = true
 takes_lines modes.Run = true
 takes_lines (modes.Micro caller) = false
 
--- lines that stand at the position in turn are stepped by the calculator, each in what the one
--- before it left
+-- The calculator steps these lines in turn; each is at the position that the one before it left.
 abbrev pub StepsLines : List Line → CalculatorState → CalculatorState → Type 0
 StepsLines [] s t = t ≡ s
 StepsLines (line ∷ lines) s t =
     IsAt s.nut.pages line (machine_of s)
     × (next : CalculatorState) × Step s next × StepsLines lines next t
 
--- lines that go on to the next leave the same where they are typed in turn as where the calculator
--- steps them: stack, data registers, ALPHA and flags, which memory has, and lift
+-- Lines that go on to the next line leave the same stack, data registers, ALPHA, flags and stack
+-- lift if they are typed in turn as if the calculator steps them.
 abbrev pub TypedAsStepped : Type 0
 TypedAsStepped =
     (lines : List Line) (s t : CalculatorState) (other typed : Machine)

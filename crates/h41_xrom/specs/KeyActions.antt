@@ -1,6 +1,6 @@
--- What a key does to the calculator. What it means is the keyboard's (h41_keys); here is what
--- becomes of memory, position, stack, ALPHA, display and mode. The order of refusals, and what a
--- refused key leaves, is this project's choice.
+-- What a key does to the calculator. The keyboard (h41_keys) defines what a key means; this file
+-- defines how memory, position, stack, ALPHA, display and mode change. The order of refusals, and
+-- that a refused key changes nothing, is this project's choice.
 use Rattle.std.specs.Prelude.{◌≡◌, ℕ, Bool, true, false, not, ◌&&◌, ◌||◌, is_some, List, [], ◌∷◌}
 use Rattle.std.specs.Prelude.{◌++◌, take, MatchBool, MatchOption, if◌then◌else◌, Option, Some, None}
 use Rattle.std.specs.Prelude.{Result, Ok, Err}
@@ -59,121 +59,134 @@ use Rattle.h41_xrom.specs.declared.refusal.CalculatorRefusal.{CalculatorRefusal}
 use Rattle.h41_xrom.specs.declared.refusal.CalculatorRefusal.TheVariants.{KeyNotHeld, MemoryLost}
 use Rattle.h41_xrom.specs.declared.refusal.CalculatorRefusal.TheVariants.{Program}
 
--- WHAT A KEY'S ACTION MAKES of memory and of what lines work on
+-- WHAT A KEY'S ACTION MAKES of memory and the rest of the state that lines work on.
 pub data KeyOutcome : Type 0 where
-  -- no more than that
+  -- Nothing else remains to be done.
   Leaves : Machine → KeyOutcome
-  -- a line ended so
+  -- A line ended in this way.
   LineEnds : Ended → KeyOutcome
-  -- the program that runs stops, or one begins to run
+  -- The running program stops, or one starts.
   Stops : Machine → KeyOutcome
   Starts : Machine → KeyOutcome
 
--- other memory, and other lift
+-- The same machine with another memory.
 abbrev pub with_memory : RegisterMap → Machine → Machine
 with_memory memory machine = record machine { memory = memory }
 
+-- The same machine with stack lift enabled or disabled.
 abbrev pub with_lift : Bool → Machine → Machine
 with_lift lift machine = record machine { focal = record machine.focal { lift = lift } }
 
--- an effect of memory alone
+-- An effect on memory alone.
 abbrev pub leaves_memory : RegisterMap → Machine → Result KeyOutcome CalculatorRefusal
 leaves_memory memory machine = Ok (Leaves (with_memory memory machine))
 
--- A LINE is carried out: the one at the position by SST, or a typed one
+-- A LINE is executed: the one at the position by SST, or a typed one.
 abbrev pub line_effect : Result Ended FocalRefusal → Result KeyOutcome CalculatorRefusal
 line_effect (Ok ended) = Ok (LineEnds ended)
 line_effect (Err refusal) = Err (of_line refusal)
 
+-- The effect of executing it.
 abbrev pub Carries : LineSource → PageMap → Machine → Result KeyOutcome CalculatorRefusal → Type 0
 Carries source pages machine effect =
     (ended : Result Ended FocalRefusal)
     × CarriesLine source pages machine ended
     × (effect ≡ line_effect ended)
 
--- PROGRAM MODE: a change of the program, or a move
+-- PROGRAM MODE: the result of an edit, or of a move, as an effect.
 abbrev pub edit_effect : Result Machine ProgramRefusal → Result KeyOutcome CalculatorRefusal
 edit_effect (Ok machine) = Ok (Leaves machine)
 edit_effect (Err refusal) = Err (Program refusal)
 
+-- An edit, or a move, is made.
 abbrev pub Edits : (Machine → Result Machine ProgramRefusal → Type 0) → Machine
     → Result KeyOutcome CalculatorRefusal → Type 0
 Edits edit machine effect =
     (edited : Result Machine ProgramRefusal) × edit machine edited × (effect ≡ edit_effect edited)
 
--- XEQ of a name is stored as it is where memory has the label; else as the XROM of a module's
--- function, else as a function of the calculator, where there is one of the name
+-- XEQ of a name is stored unchanged if the name is a label in memory; otherwise as the XROM of a
+-- module's function; otherwise as a function of the calculator, if one has the name.
 abbrev pub StoredFunction : Line → Option Function → Line → Type 0
 StoredFunction line (Some function) stored = stored ≡ lines.Plain function
 StoredFunction line None stored = stored ≡ line
 
+-- The line for a name that is not a label in memory.
 abbrev pub StoredElsewhere : Line → List ℕ → Option (ℕ × ℕ) → Line → Type 0
 StoredElsewhere line name (Some numbers) stored = stored ≡ lines.Module numbers.0 numbers.1
 StoredElsewhere line name None stored =
     (function : Option Function) × IsNamed name function × StoredFunction line function stored
 
+-- The line for a name, by the label in memory, if there is one.
 abbrev pub StoredName : PageMap → Line → List ℕ → Option ℕ → Line → Type 0
 StoredName pages line name (Some position) stored = stored ≡ line
 StoredName pages line name None stored =
     StoredElsewhere line name (function_of_name pages name) stored
 
+-- The line that is stored for a typed one: only XEQ of a name is replaced.
 abbrev pub IsStoredAs : PageMap → RegisterMap → Line → Line → Type 0
 IsStoredAs pages memory (lines.Named ExecuteName name) stored =
     (label : Option ℕ) × AnswersOf (λ listed. position_of (named_in name listed)) memory 0 label
     × StoredName pages (lines.Named ExecuteName name) name label stored
 IsStoredAs pages memory line stored = stored ≡ line
 
+-- A typed line is stored.
 abbrev pub StoresLine : PageMap → Line → Machine → Result KeyOutcome CalculatorRefusal → Type 0
 StoresLine pages line machine effect =
     (stored : Line)
     × IsStoredAs pages machine.memory line stored
     × Edits (Inserts pages stored) machine effect
 
--- A NUMBER that is typed is worth what a number line with these characters is. It comes into X as
--- it begins: the stack is lifted where lift is on, which it is then, and flag 22 is set. Where its
--- last character was taken X is zero, and the stack does not lift
+-- A NUMBER that is typed has the value of a number line with these characters. It is put into X
+-- with its first character: the stack is lifted if stack lift is enabled, stack lift is enabled
+-- afterwards, and flag 22 is set. If its last character was removed, X is zero, and the stack does
+-- not lift.
 abbrev pub taken_in : RegisterMap → Bool → List ℕ → RegisterMap
 taken_in memory lift register =
     with_taken memory 0 register (takes_of (coming_in (compute X)) lift) memory
 
+-- Memory and stack lift after the first character.
 abbrev pub with_number_begun : Machine → List ℕ → Machine
 with_number_begun machine register =
     with_lift true (with_memory
     (with_flag (taken_in machine.memory machine.focal.lift register) number_entry true) machine)
 
+-- The first character of a number.
 abbrev pub BeginsNumber : List Character → Machine → Result KeyOutcome CalculatorRefusal → Type 0
 BeginsNumber text machine effect =
     (register : List ℕ)
     × Computes (Written text) machine.memory 0 (Ok register)
     × (effect ≡ Ok (Leaves (with_number_begun machine register)))
 
+-- Memory after a further character: the number in X is replaced.
 abbrev pub with_number_changed : Machine → List ℕ → Machine
 with_number_changed machine register = with_memory (taken_in machine.memory false register) machine
 
+-- A further character of a number, or one that is removed.
 abbrev pub ChangesNumber : List Character → Machine → Result KeyOutcome CalculatorRefusal → Type 0
 ChangesNumber text machine effect =
     (register : List ℕ)
     × Computes (Written text) machine.memory 0 (Ok register)
     × (effect ≡ Ok (Leaves (with_number_changed machine register)))
 
--- ALPHA: its 24 bytes end with what it holds, behind nulls
+-- ALPHA: its 24 bytes end with the text, after nulls.
 abbrev pub with_text : RegisterMap → List ℕ → RegisterMap
 with_text memory characters = with_alpha memory (last_24 characters)
 
+-- Letters also set flag 23.
 abbrev pub with_letters : RegisterMap → List ℕ → RegisterMap
 with_letters memory characters = with_flag (with_text memory characters) alpha_entry true
 
--- flag 48 is the other way
+-- Flag 48 is toggled.
 abbrev pub with_alpha_toggled : RegisterMap → RegisterMap
 with_alpha_toggled memory = with_flag memory alpha_mode (not (flag_of memory alpha_mode))
 
--- EACH ACTION, where lines are stored in program mode
+-- EACH ACTION, and whether program mode is on, in which lines are stored.
 abbrev pub Acts : PageMap → (program_mode : Bool) → Action → Machine
     → Result KeyOutcome CalculatorRefusal → Type 0
 Acts pages program_mode actions.Nothing machine effect = effect ≡ Ok (Leaves machine)
 Acts pages program_mode actions.Stop machine effect = effect ≡ Ok (Stops machine)
 Acts pages program_mode actions.Run machine effect = effect ≡ Ok (Starts machine)
--- SST carries a line out, or in program mode shows the next one
+-- SST executes a line; in program mode it shows the next one.
 Acts pages program_mode actions.Step machine effect =
     MatchBool program_mode (Edits (ShowsNext pages) machine effect)
     (Carries sources.Program pages machine effect)
@@ -202,25 +215,24 @@ Acts pages program_mode actions.TakeLetter machine effect =
 Acts pages program_mode actions.ClearAlpha machine effect =
     effect ≡ leaves_memory (with_text machine.memory []) machine
 
--- A KEY. What of the calculator decides what it means, beside what the keyboard keeps
+-- A KEY. What runs, in the keyboard's terms; it decides what a key means.
 abbrev pub activity_of : Mode → keyboard.Activity
 activity_of modes.Idle = waits.Idle
 activity_of modes.Run = waits.Run
 activity_of (modes.Micro caller) = waits.Micro
 
--- at a position in a page, whose lines stay, BACK changes nothing at line 00, and where the line is
--- .END.
+-- In a page, whose lines cannot be changed, BACK does nothing at line 00 and at .END.
 abbrev pub is_final : Result PlacedLine ProgramRefusal → Bool
 is_final (Ok first) = is_final_end first.line
 is_final (Err refusal) = false
 
--- and GTO . . puts an END where the last program of memory has lines and no END of its own. Where
--- memory is not sound, or its list does not reach .END., it puts none: it is then refused as
--- elsewhere
+-- GTO . . puts an END into memory if the last program has lines and no END of its own. If memory is
+-- not sound, or its chain of labels and ENDs does not reach .END., it puts none; the key is then refused as
+-- elsewhere.
 abbrev pub puts_end : Result Bool ProgramRefusal → Bool
 puts_end last = result_unwrap_or last false
 
--- where the shown line stands, as the keyboard needs to know it
+-- Where the shown line is, in the keyboard's terms.
 abbrev pub IsPlace : PageMap → Machine → Position → Place → Type 0
 IsPlace pages machine (Memory byte) place = place ≡ places.Memory
 IsPlace pages machine (Page address) place =
@@ -230,24 +242,28 @@ IsPlace pages machine (Page address) place =
     × AnswersOf open_in machine.memory 0 last
     × (place ≡ places.Page (machine.focal.at_line_00 || is_final first) (puts_end last))
 
+-- The rest of the state that decides what a key means.
 abbrev pub flags_at : Place → CalculatorState → Flags
 flags_at place s =
     record { alpha = flag_of s.nut.ram alpha_mode; message = is_some s.message; place = place }
 
+-- The calculator has these flags.
 abbrev pub HasFlags : CalculatorState → Flags → Type 0
 HasFlags s flags =
     (place : Place)
     × IsPlace s.nut.pages (machine_of s) s.focal.position place
     × (flags ≡ flags_at place s)
 
+-- What the keyboard returns for a key.
 abbrev pub press_of : CalculatorState → Key → Flags → Option Pressed
 press_of s key flags = presses s.input key (activity_of s.mode) flags
 
--- a key that is accepted tells its code, sets the key flag and turns the display on; where nothing
--- runs the message goes
+-- An accepted key stores its code, sets the key flag and turns the display on; while nothing runs,
+-- it removes the message.
 abbrev pub message_told : Mode → Option (List ℕ) → Option (List ℕ)
 message_told mode message = if is_idle mode then None else message
 
+-- The calculator after that.
 abbrev pub with_key_told : Key → Input → CalculatorState → CalculatorState
 with_key_told key input s = record s {
   nut = record s.nut {
@@ -258,23 +274,26 @@ with_key_told key input s = record s {
   message = message_told s.mode s.message;
 }
 
--- then comes its effect
+-- Then the effect of its action follows.
 abbrev pub after_key : CalculatorState → KeyOutcome → CalculatorState
 after_key s (Leaves machine) = with_machine machine s
 after_key s (LineEnds ended) = after_line s ended
 after_key s (Stops machine) = record (with_machine machine s) { mode = modes.Idle }
 after_key s (Starts machine) = record (with_machine machine s) { mode = modes.Run }
 
+-- The same for an action that may be refused.
 abbrev pub after_outcome : CalculatorState → Result KeyOutcome CalculatorRefusal
     → Result CalculatorState CalculatorRefusal
 after_outcome s (Ok effect) = Ok (after_key s effect)
 after_outcome s (Err refusal) = Err refusal
 
--- a key that has a meaning: 15 where nothing runs and memory is not sound, and then as its action:
--- 14, 13, 16
+-- Why a key that has a meaning is refused before its action: MemoryLost (15) if nothing runs and
+-- memory is not sound.
 abbrev pub key_refusal : CalculatorState → Option CalculatorRefusal
 key_refusal s = then_some (is_idle s.mode && not (is_sound s.nut.ram)) MemoryLost
 
+-- What such a key makes: that refusal, or the result of its action, which may be BrokenProgram
+-- (14), NotInProfile (13) or NoRoom (16).
 abbrev pub ActionMakes : CalculatorState → Key → Action → Input
     → Result CalculatorState CalculatorRefusal → Type 0
 ActionMakes s key action input made =
@@ -284,13 +303,13 @@ ActionMakes s key action input made =
     × (made ≡ after_outcome (with_key_told key input s) effect))
     (λ why. made ≡ Err why)
 
--- 18 where it has none
+-- A key without a meaning is refused as KeyNotHeld (18).
 abbrev pub KeyMakes : CalculatorState → Key → Option Pressed
     → Result CalculatorState CalculatorRefusal → Type 0
 KeyMakes s key None made = made ≡ Err KeyNotHeld
 KeyMakes s key (Some pressed) made = ActionMakes s key pressed.action pressed.input made
 
--- a key is accepted, or refused and nothing changes
+-- A key is accepted, or refused and nothing changes.
 abbrev pub Presses : Key → CalculatorState → CalculatorState → Option CalculatorRefusal → Type 0
 Presses key s t refusal =
     (flags : Flags)

@@ -1,6 +1,6 @@
--- A line that stands at the position or was typed, and calls what memory does not have: a function
--- of a module, by its numbers or by its name, or a function of the calculator, by its name. Modules
--- are asked before the calculator's own functions.
+-- A line at the position, or a typed one, that calls something outside memory: a function of a
+-- module, by its numbers or by its name, or a function of the calculator, by its name. Modules are
+-- searched before the calculator's own functions.
 use Rattle.std.specs.Prelude.{◌≡◌, ℕ, List, MatchBool, Option, Some, None, Result, Ok, Err}
 use Rattle.h41_codes.specs.declared.functions.Function.{Function}
 use Rattle.h41_focal.specs.LineStep.{EntersLine, FailsLine, FailsTyped, Left, PassesLine}
@@ -23,62 +23,65 @@ use Rattle.h41_xrom.specs.declared.refusal.CalculatorRefusal.{CalculatorRefusal}
 use Rattle.h41_xrom.specs.declared.refusal.CalculatorRefusal.TheVariants.{MemoryLost, NotInProfile}
 use Rattle.h41_xrom.specs.declared.refusal.CalculatorRefusal.TheVariants.{Program}
 
--- a line's refusal
+-- The refusal of a line, as the calculator's.
 abbrev pub of_line : FocalRefusal → CalculatorRefusal
 of_line lines.MemoryLost = MemoryLost
 of_line lines.BrokenProgram = Program program.BrokenProgram
 of_line lines.NotInProfile = NotInProfile
 
--- how a line ends: it was done, or failed, and answers; or a function of a module in microcode
--- begins, whose words stand at an address, and the program will go on behind the line
+-- How a line ends: it was executed, or failed, with an answer; or it starts a function of a module
+-- in microcode, whose words begin at an address, and the program continues after the line.
 pub data Ended : Type 0 where
   Answers : Left → Ended
   Begins : Machine → ℕ → Ended
 
--- a line that answers, and one that is passed for a function at an address; or why not
+-- A line that ends with an answer, or is refused.
 abbrev pub end_of_answer : Result Left FocalRefusal → Result Ended FocalRefusal
 end_of_answer (Ok left) = Ok (Answers left)
 end_of_answer (Err refusal) = Err refusal
 
+-- A line that starts the function at an address, or is refused.
 abbrev pub begun_at : ℕ → Result Machine FocalRefusal → Result Ended FocalRefusal
 begun_at address (Ok machine) = Ok (Begins machine address)
 begun_at address (Err refusal) = Err refusal
 
--- a line that is done once a program of a module has been entered; or why not
+-- A line that has called a module's program, or is refused.
 abbrev pub end_of_entering : Result Machine FocalRefusal → Result Ended FocalRefusal
 end_of_entering (Ok machine) = Ok (Answers (left_done machine))
 end_of_entering (Err refusal) = Err refusal
 
--- and a typed one, which has that program run
+-- A typed line that has started a module's program.
 abbrev pub left_running : Machine → Left
 left_running machine = record { machine = machine; answer = answers.Runs }
 
--- a line that stands there or was typed is carried out, or a function in its place
+-- The line at the position, or a typed one, is executed, or a function in its place.
 abbrev pub CarriesFrom : LineSource → PageMap → Option Function → Machine
     → Result Left FocalRefusal → Type 0
 CarriesFrom sources.Program pages function machine left = StepsLine pages function machine left
 CarriesFrom (sources.Keys line) pages function machine left =
     TypesLine pages (line_as function line) machine left
 
--- it fails: what it calls is nowhere
+-- The line fails with NONEXISTENT, because what it calls does not exist.
 abbrev pub FailsFrom : LineSource → PageMap → Machine → Result Left FocalRefusal → Type 0
 FailsFrom sources.Program pages machine left = FailsLine pages Nonexistent machine left
 FailsFrom (sources.Keys line) pages machine left = FailsTyped Nonexistent machine left
 
--- it is passed for a function of a module: the program will go on behind it; a typed line leaves
--- the position and lift
+-- The line is passed for a module's function: the program will continue after it. A typed line
+-- changes neither the position nor stack lift.
 abbrev pub PassesFrom : LineSource → PageMap → Machine → Result Machine FocalRefusal → Type 0
 PassesFrom sources.Program pages machine after = PassesLine pages machine after
 PassesFrom (sources.Keys line) pages machine after = after ≡ Ok machine
 
+-- The same as an end of the line.
 abbrev pub Fails : LineSource → PageMap → Machine → Result Ended FocalRefusal → Type 0
 Fails source pages machine ended =
     (left : Result Left FocalRefusal)
     × FailsFrom source pages machine left
     × (ended ≡ end_of_answer left)
 
--- a module's program is called like one of memory: on where it begins, with the next line to return
--- to, and the mode stays; a typed line has it run, with nothing to return to
+-- A module's program is called like one in memory: execution continues at its start, the next line
+-- is put on the return stack, and the mode is unchanged. A typed line starts the program with an
+-- empty return stack.
 abbrev pub EntersFrom : LineSource → PageMap → ℕ → Machine → Result Ended FocalRefusal → Type 0
 EntersFrom sources.Program pages address machine ended =
     (after : Result Machine FocalRefusal)
@@ -87,7 +90,7 @@ EntersFrom sources.Program pages address machine ended =
 EntersFrom (sources.Keys line) pages address machine ended =
     ended ≡ Ok (Answers (left_running (with_program_run (Page address) machine)))
 
--- a function in microcode begins where it stands, and one in keystrokes is a program
+-- A function in microcode starts at its address; one in keystrokes is a program that is called.
 abbrev pub BeginsEntry : LineSource → PageMap → Entry → Machine → Result Ended FocalRefusal → Type 0
 BeginsEntry source pages entry machine ended =
     MatchBool entry.keystroke (EntersFrom source pages entry.address machine ended)
@@ -95,18 +98,20 @@ BeginsEntry source pages entry machine ended =
     × PassesFrom source pages machine after
     × (ended ≡ begun_at entry.address after))
 
--- a module's function is called; where the lowest page of its number has no such entry, NONEXISTENT
+-- A module's function is called; if the lowest page with its number has no such table entry, the
+-- line fails with NONEXISTENT.
 abbrev pub CallsEntry : LineSource → PageMap → Option Entry → Machine → Result Ended FocalRefusal
     → Type 0
 CallsEntry source pages (Some entry) machine ended = BeginsEntry source pages entry machine ended
 CallsEntry source pages None machine ended = Fails source pages machine ended
 
--- a function of the calculator that has a name is carried out in place of the line; where none has
--- it, NONEXISTENT
+-- The function of the calculator with a name, if there is one.
 abbrev pub IsNamed : List ℕ → Option Function → Type 0
 IsNamed name (Some function) = function_name function ≡ name
 IsNamed name None = (function : Function) → function_name function ≡ name → ⊥
 
+-- That function is executed in place of the line; if there is none, the line fails with
+-- NONEXISTENT.
 abbrev pub CarriesNamed : LineSource → PageMap → Option Function → Machine
     → Result Ended FocalRefusal → Type 0
 CarriesNamed source pages (Some function) machine ended =
@@ -115,8 +120,8 @@ CarriesNamed source pages (Some function) machine ended =
     × (ended ≡ end_of_answer left)
 CarriesNamed source pages None machine ended = Fails source pages machine ended
 
--- what has a name: where a module has a function of it, the entry of that function's two numbers;
--- else one of the calculator
+-- What has a name is called: if a module has such a function, the table entry of its two numbers,
+-- otherwise a function of the calculator.
 abbrev pub CallsName : LineSource → Option (ℕ × ℕ) → PageMap → List ℕ → Machine
     → Result Ended FocalRefusal → Type 0
 CallsName source (Some numbers) pages name machine ended =
@@ -126,12 +131,13 @@ CallsName source None pages name machine ended =
     × IsNamed name function
     × CarriesNamed source pages function machine ended
 
--- a name is looked up so
+-- A name is looked up in this way.
 abbrev pub Seeks : LineSource → PageMap → List ℕ → Machine → Result Ended FocalRefusal → Type 0
 Seeks source pages name machine ended = CallsName source (function_of_name pages name) pages name
     machine ended
 
--- by what the line answers
+-- How a line continues, by its answer: a call of a module and a name that is not in memory are
+-- looked up.
 abbrev pub GoesOn : LineSource → PageMap → Machine → Left → Answer → Result Ended FocalRefusal
     → Type 0
 GoesOn source pages machine left (answers.Calls number entry) ended =
@@ -139,12 +145,13 @@ GoesOn source pages machine left (answers.Calls number entry) ended =
 GoesOn source pages machine left (answers.Seeks name) ended = Seeks source pages name machine ended
 GoesOn source pages machine left answer ended = ended ≡ Ok (Answers left)
 
+-- The same for a line that may be refused.
 abbrev pub GoesOnFrom : LineSource → PageMap → Machine → Result Left FocalRefusal
     → Result Ended FocalRefusal → Type 0
 GoesOnFrom source pages machine (Ok left) ended = GoesOn source pages machine left left.answer ended
 GoesOnFrom source pages machine (Err refusal) ended = ended ≡ Err refusal
 
--- the line at the position is carried out, or one that was typed
+-- The line at the position is executed, or one that was typed.
 abbrev pub CarriesLine : LineSource → PageMap → Machine → Result Ended FocalRefusal → Type 0
 CarriesLine source pages machine ended =
     (own : Result Left FocalRefusal)

@@ -1,4 +1,4 @@
--- What a line leaves in the display.
+-- How a line changes the display.
 use Rattle.std.specs.Prelude.{ℕ, Bool, true, false, List, Option, Some, None, codes}
 use Rattle.h41_focal.specs.Outcomes.{Answer}
 use Rattle.h41_focal.specs.Outcomes as answers
@@ -8,20 +8,19 @@ use Rattle.h41_rows.specs.declared.fault.LineFault.{LineFault}
 use Rattle.h41_rows.specs.declared.fault.LineFault.TheVariants.{AlphaData, DataError, Nonexistent}
 use Rattle.h41_rows.specs.declared.fault.LineFault.TheVariants.{OutOfRange}
 
--- the message of a fault, as the Owner's Handbook has it
+-- The message of an error, as in the Owner's Handbook.
 abbrev pub fault_text : LineFault → List ℕ
 fault_text AlphaData = codes "ALPHA DATA"
 fault_text DataError = codes "DATA ERROR"
 fault_text OutOfRange = codes "OUT OF RANGE"
 fault_text Nonexistent = codes "NONEXISTENT"
 
--- the answer of a test that was typed
+-- The answer of a typed test.
 abbrev pub test_text : Bool → List ℕ
 test_text true = codes "YES"
 test_text false = codes "NO"
 
--- the message after a line: its own, none where the display is cleared, and else the one from
--- before
+-- The message after a line: its own, none if the display is cleared, otherwise the previous one.
 abbrev pub message_after : Answer → Option (List ℕ) → Option (List ℕ)
 message_after (answers.Viewed text) message = Some text
 message_after (answers.Prompted text) message = Some text
@@ -32,11 +31,11 @@ message_after answers.Stopped message = message
 message_after answers.TurnedOff message = message
 message_after (answers.Answered holds) message = Some (test_text holds)
 message_after answers.Runs message = message
--- what is looked up leaves it
+-- A call outside memory, which is still to be looked up, does not change it.
 message_after (answers.Calls number entry) message = message
 message_after (answers.Seeks name) message = message
 
--- OFF turns the display off
+-- OFF turns the display off.
 abbrev pub processor_after : Answer → Processor → Processor
 processor_after answers.TurnedOff processor = with_display false processor
 processor_after answer processor = processor

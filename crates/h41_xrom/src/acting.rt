@@ -1,4 +1,4 @@
-//! What a key's action makes of memory and of what lines work on.
+//! Performs the action of a key on memory and on the rest of the state that program lines work on.
 
 ghost use Rattle.std.specs.Prelude.{◌≡◌, OnErr};
 ghost use Rattle.h41_positions.specs.LabelledMachine.{AreRight, machine_of};
@@ -17,23 +17,28 @@ use h41_keys::Action;
 use h41_pages::Pages;
 use h41_program::ProgramRefusal;
 
-/// The line of CLX.
+/// The program line CLX.
 const CLEAR_X: Line = Line::Plain(Function::ClearX);
 
-/// What the calculator has to do once memory, and what lines work on, have been changed.
+/// What remains to be done after a key's action has changed memory and the rest of the state that lines work on.
 #[derive(Clone, Copy)]
 pub enum KeyEffect {
-    /// Nothing more.
+    /// Nothing.
     Nothing,
-    /// What a line that ended so leaves.
+    /// The effect of a line that ended in this way.
     Line(LineEnd),
-    /// The program that runs stops.
+    /// The running program stops.
     Stops,
-    /// A program runs.
+    /// A program starts.
     Starts,
 }
 
-/// What a key asks for is done, but for the display and the mode. Refused as 14, 13 or 16; nothing is changed then.
+/// Performs the action of a key, except for its effect on the display and the mode, and returns what remains to be
+/// done.
+///
+/// # Errors
+///
+/// BrokenProgram (14), NotInProfile (13) or NoRoom (16). Nothing is changed then.
 pub fn act<const REGS: usize>(
     machine: &mut Machine<REGS>,
     pages: &Pages,
@@ -72,7 +77,7 @@ pub fn act<const REGS: usize>(
     }
 }
 
-/// A change of the program, or a move, as a key's action.
+/// Returns the result of an edit of the program, or of a move in it, as the result of a key's action.
 fn edited(given: Result<(), ProgramRefusal>) -> Result<KeyEffect, CalculatorRefusal>
     ensures { result ≡ edited_as given }
 {
@@ -82,7 +87,7 @@ fn edited(given: Result<(), ProgramRefusal>) -> Result<KeyEffect, CalculatorRefu
     }
 }
 
-/// A line is carried out: the one at the position, or one that was typed.
+/// Executes the line at the position, or one that was typed.
 fn carried<const REGS: usize>(
     machine: &mut Machine<REGS>,
     pages: &Pages,

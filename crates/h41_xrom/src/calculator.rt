@@ -1,4 +1,4 @@
-//! The calculator: processor, memory, pages and keys, and what it does.
+//! The calculator: processor, memory, pages and keys, and its mode.
 
 ghost use Rattle.std.specs.Prelude.{◌≡◌, ◌≢◌, ◌≤◌, None, IfOk, IfErr, OnOk, OnErr, length};
 ghost use Rattle.std.specs.Prelude.{option_map};
@@ -41,28 +41,28 @@ use h41_ram::flags::ALPHA_MODE;
 use std::alloc::{AllocError, Global};
 use std::marker::Model;
 
-/// What the calculator does.
+/// What the calculator is doing.
 #[derive(Clone, Copy, Debug, PartialEq, Eq)]
 pub enum Mode {
     /// Nothing runs.
     Idle,
     /// A keystroke program runs.
     Run,
-    /// A function in microcode runs, and then what called it goes on.
+    /// A function in microcode runs. When it ends, its caller continues.
     Micro(Caller),
 }
 
-/// What goes on behind a function in microcode.
+/// What continues when a function in microcode ends.
 #[derive(Clone, Copy, Debug, PartialEq, Eq)]
 pub enum Caller {
-    /// Nothing: it was called while nothing ran.
+    /// Nothing: the function was called while nothing ran.
     Nothing,
-    /// The keystroke program that called it.
+    /// The keystroke program that called the function.
     Program,
 }
 
 impl Caller {
-    /// What calls a function in a mode.
+    /// Returns the caller of a function that starts in this mode.
     fn in_mode(mode: Mode) -> Self
         ensures { result ≡ caller_in mode }
     {
@@ -73,7 +73,7 @@ impl Caller {
         }
     }
 
-    /// The mode once the function has ended.
+    /// Returns the mode after the function has ended.
     fn mode(self) -> Mode
         ensures { result ≡ mode_of self }
     {
@@ -84,17 +84,17 @@ impl Caller {
     }
 }
 
-/// The calculator: processor, memory of `REGS` registers, 64 to 320, pages and keys, and what it does.
+/// The calculator: processor, memory of `REGS` main registers, 64 to 320, pages and keys, and its mode.
 #[derive(Drop)]
 pub struct Calculator<const REGS: usize> {
     cpu: Cpu,
-    /// Memory, and what lines work on beside it.
+    /// Memory, and the rest of the state that lines work on.
     machine: Machine<REGS>,
     pages: Pages,
     keys: Keys,
-    /// What the keyboard keeps from key to key.
+    /// What the keyboard remembers between keys.
     input: Input,
-    /// The text that the display shows before all else, where there is one.
+    /// The message: the text that the display shows before anything else, if there is one.
     message: Option<DisplayText>,
     mode: Mode,
 }
@@ -115,12 +115,16 @@ impl<const REGS: usize> Model for Calculator<REGS> {
       mode = all.mode;
     } };
 
-    // Where the mark of memory is clear each label that is kept is where its search finds it.
+    // While the dirty flag of memory is clear, each entry of the label cache is what a search would find.
     ghost invariant = { λ all. AreRight all.machine };
 }
 
 impl<const REGS: usize> Calculator<REGS> {
-    /// Nothing is plugged, and nothing runs. 21 where memory is refused.
+    /// Returns a calculator in its initial state: nothing is plugged and nothing runs.
+    ///
+    /// # Errors
+    ///
+    /// OutOfMemory (21) if allocation failed.
     pub fn new(alloc: Global) -> Result<Self, AllocError>
         requires at_least { 64 ≤ REGS }
         requires at_most { REGS ≤ 320 }
@@ -137,71 +141,76 @@ impl<const REGS: usize> Calculator<REGS> {
         })
     }
 
-    /// The processor.
+    /// Returns the processor.
     pub fn cpu(&self) -> &Cpu
         ensures { result.now ≡ self.now.nut.processor }
     {
         &self.cpu
     }
 
-    /// The memory.
+    /// Returns the memory.
     pub fn ram(&self) -> &Ram<REGS>
         ensures { result.now.registers ≡ self.now.nut.ram }
     {
         &self.machine.ram
     }
 
-    /// The pages.
+    /// Returns the pages.
     pub fn pages(&self) -> &Pages
         ensures { result.now ≡ self.now.nut.pages }
     {
         &self.pages
     }
 
-    /// What it does.
+    /// Returns the mode: whether nothing, a program or a function runs.
     pub fn mode(&self) -> Mode
         ensures { result ≡ self.now.mode }
     {
         self.mode
     }
 
-    /// The keyboard as the processor sees it.
+    /// Returns the keyboard as the processor sees it: the key code and the key flag.
     pub fn keys(&self) -> &Keys
         ensures { result.now ≡ self.now.nut.keys }
     {
         &self.keys
     }
 
-    /// What lines work on, beside memory.
+    /// Returns the state, besides memory, that lines work on: the position, the return stack and stack lift.
     pub fn focal(&self) -> &Focal
         ensures { result.now.state ≡ self.now.focal }
     {
         &self.machine.focal
     }
 
-    /// Memory, and what lines work on beside it.
+    /// Returns memory together with the rest of the state that lines work on.
     pub fn machine(&self) -> &Machine<REGS>
         ensures { labelled.machine_of result.now ≡ machine_of self.now }
     {
         &self.machine
     }
 
-    /// What the keyboard keeps from key to key: SHIFT, program mode, a prompt, and the number or text that is being typed.
+    /// Returns what the keyboard remembers between keys: SHIFT, program mode, a prompt, and the number or text that is being
+    /// typed.
     pub fn input(&self) -> &Input
         ensures { result.now ≡ self.now.input }
     {
         &self.input
     }
 
-    /// The text that the display shows before all else, where there is one.
+    /// Returns the message: the text that the display shows before anything else, if there is one.
     pub fn message(&self) -> Option<DisplayText>
         ensures { option_map (λ text. text.bytes) result ≡ self.now.message }
     {
         self.message
     }
 
-    /// Begins the function at an address. Refused as 24 while a program or a function runs, and as 8 below address 4000, 00F0 with
-    /// them: a call is no arrival. Nothing is changed then.
+    /// Starts the function at an address.
+    ///
+    /// # Errors
+    ///
+    /// Busy (24) while a program or a function runs; SystemRom (08) if the address is below 4000. That includes 00F0, because a
+    /// call is not a jump to the end of a function. Nothing is changed then.
     pub fn call(&mut self, address: u16) -> Result<(), CalculatorRefusal>
         ensures refusal { result_err result ≡ call_refusal self.old address }
         ensures change { OnOk result (self.new ≡ after_call address self.old) }
@@ -218,7 +227,7 @@ impl<const REGS: usize> Calculator<REGS> {
         Ok(())
     }
 
-    /// No number and no text is being typed any more.
+    /// Ends the entry of a number or a text.
     fn end_entry(&mut self)
         ensures { self.new ≡ not_typing self.old }
     {
@@ -228,7 +237,7 @@ impl<const REGS: usize> Calculator<REGS> {
         }
     }
 
-    /// The function at an address runs.
+    /// Makes the function at an address run.
     fn enter(&mut self, address: u16)
         ensures { self.new ≡ with_function address self.old }
     {
@@ -236,9 +245,13 @@ impl<const REGS: usize> Calculator<REGS> {
         self.mode = Mode::Micro(Caller::in_mode(self.mode));
     }
 
-    /// One step: a word while a function runs, which ends where it arrives at 00F0, and else the line at the position. A word is
-    /// refused as 6 to 12; a line as 15 where memory is not sound, as 14 where bytes are no line, as 13 where it is not carried
-    /// out. Nothing is changed then.
+    /// Makes one single step: the next word while a function runs, which ends when its next address is 00F0; otherwise the line
+    /// at the position.
+    ///
+    /// # Errors
+    ///
+    /// A word: 06 to 12. A line: MemoryLost (15) if memory is not sound, BrokenProgram (14) if bytes are not a line, NotInProfile
+    /// (13) if the bench does not support the line. Nothing is changed then.
     #[inline(always)]
     pub fn step(&mut self) -> Result<(), CalculatorRefusal>
         ensures refusal { RefusesStep self.old (result_err result) }
@@ -254,8 +267,12 @@ impl<const REGS: usize> Calculator<REGS> {
         }
     }
 
-    /// The line at the position, with what it leaves in the display; or a module's function begins. It is the step while no function
-    /// runs, and is refused as that is.
+    /// Executes the line at the position and shows its result, or starts a module's function. This is the single step while no
+    /// function runs.
+    ///
+    /// # Errors
+    ///
+    /// MemoryLost (15), BrokenProgram (14) and NotInProfile (13), as for `step`. Nothing is changed then.
     #[inline(always)]
     pub fn step_line(&mut self) -> Result<(), CalculatorRefusal>
         ensures refusal { RefusesLine self.old (result_err result) }
@@ -280,7 +297,7 @@ impl<const REGS: usize> Calculator<REGS> {
         }
     }
 
-    /// The same with all that a line may call.
+    /// Executes the line at the position with everything that it may call.
     #[inline(never)]
     fn call_by_line(&mut self) -> Result<(), CalculatorRefusal>
         ensures refusal { RefusesLine self.old (result_err result) }
@@ -297,7 +314,8 @@ impl<const REGS: usize> Calculator<REGS> {
         }
     }
 
-    /// What a line leaves in the display whose outcome was told without its texts, as `answer`.
+    /// Shows the result of a line whose outcome was returned without its texts, and changes the mode. The texts are made from
+    /// memory.
     #[inline(never)]
     fn answer_briefly(&mut self, brief: BriefOutcome)
         requires { brief ≢ Elsewhere }
@@ -307,7 +325,7 @@ impl<const REGS: usize> Calculator<REGS> {
         self.answer(outcome);
     }
 
-    /// What a line that ended leaves in the display, or the function runs that begins.
+    /// Shows the result of a line that ended, or makes the function run that it starts.
     #[inline(always)]
     fn end_line(&mut self, end: LineEnd)
         ensures { self.new ≡ after_end end self.old }
@@ -318,7 +336,7 @@ impl<const REGS: usize> Calculator<REGS> {
         }
     }
 
-    /// What a line leaves in the display; a program runs on, or the line stops it or has it run.
+    /// Shows the result of a line, and changes the mode if the line stops the program or starts one.
     #[inline(always)]
     fn answer(&mut self, outcome: LineOutcome)
         ensures { self.new ≡ after_answer (answer_of outcome) self.old }
@@ -327,7 +345,7 @@ impl<const REGS: usize> Calculator<REGS> {
         self.show(outcome);
     }
 
-    /// What a line leaves in the display.
+    /// Shows the result of a line in the display.
     #[inline(always)]
     fn show(&mut self, outcome: LineOutcome)
         ensures { self.new ≡ with_shown (answer_of outcome) self.old }
@@ -346,10 +364,15 @@ impl<const REGS: usize> Calculator<REGS> {
         }
     }
 
-    /// Presses a key. Refused, in this order, as 18 where it has no meaning in the state that the keyboard is in, or in program mode
-    /// would change lines at a page, and while nothing runs as 15 where memory is not sound, as 14 where bytes are no line or a program has no line at the position, as 13 where
-    /// a line is not carried out, as 16 where there is no room; nothing is changed then. Every key that is accepted tells its code,
-    /// sets the key flag and turns the display on, and while nothing runs it takes a message away.
+    /// Presses a key. An accepted key stores its code, sets the key flag and turns the display on; while nothing runs it also
+    /// removes the message.
+    ///
+    /// # Errors
+    ///
+    /// In this order: KeyNotHeld (18) if the bench does not support the key in this state, or if in program mode it would change
+    /// lines in a page; while nothing runs, MemoryLost (15) if memory is not sound, BrokenProgram (14) if bytes are not a line or
+    /// a program has no line at the position, NotInProfile (13) if the bench does not support a line, NoRoom (16) if memory is
+    /// full. Nothing is changed then.
     pub fn key(&mut self, key: Key) -> Result<(), CalculatorRefusal>
         ensures { keys.Presses key self.old self.new (result_err result) }
     {
@@ -360,7 +383,7 @@ impl<const REGS: usize> Calculator<REGS> {
         }
     }
 
-    /// A key that has a meaning is done, or refused.
+    /// Performs the action of a key that has a meaning, or returns why it is refused.
     fn accept(&mut self, key: Key, input: Input, action: Action) -> Result<(), CalculatorRefusal>
         requires { IsAccepted self.old action }
         ensures { Accepts key input action self.old self.new (result_err result) }
@@ -376,7 +399,7 @@ impl<const REGS: usize> Calculator<REGS> {
         }
     }
 
-    /// Whether a key can be done: 15 while nothing runs and memory is not sound.
+    /// Checks that a key can be performed. MemoryLost (15) if nothing runs and memory is not sound.
     fn check_memory(&self) -> Result<(), CalculatorRefusal>
         ensures { result_err result ≡ keys.key_refusal self.now }
     {
@@ -386,7 +409,7 @@ impl<const REGS: usize> Calculator<REGS> {
         Ok(())
     }
 
-    /// What runs, as the keyboard needs to know it.
+    /// Returns what runs, in the keyboard's terms.
     fn waits(&self) -> h41_keys::Activity
         ensures { result ≡ keys.activity_of self.now.mode }
     {
@@ -397,7 +420,7 @@ impl<const REGS: usize> Calculator<REGS> {
         }
     }
 
-    /// What else decides what a key means.
+    /// Returns the rest of the state that decides what a key means: ALPHA mode, a message, and where the shown line is.
     fn key_flags(&self) -> Flags
         ensures { keys.HasFlags self.now result }
     {
@@ -408,7 +431,7 @@ impl<const REGS: usize> Calculator<REGS> {
         }
     }
 
-    /// A key that is accepted tells its code, sets the key flag and turns the display on; while nothing runs the message goes.
+    /// Stores the code of an accepted key, sets the key flag and turns the display on. While nothing runs, removes the message.
     fn tell(&mut self, key: Key, input: Input)
         ensures { self.new ≡ keys.with_key_told key input self.old }
     {
@@ -423,7 +446,7 @@ impl<const REGS: usize> Calculator<REGS> {
         }
     }
 
-    /// What is left to do of a key's action.
+    /// Does what remains of a key's action.
     fn finish(&mut self, effect: KeyEffect)
         ensures { self.new ≡ after_effect effect self.old }
     {
@@ -435,8 +458,12 @@ impl<const REGS: usize> Calculator<REGS> {
         }
     }
 
-    /// One word, while a function runs; lift is on where the function ends. It is the step then, and is refused as that is. Tells whether
-    /// the function still runs.
+    /// Executes one word while a function runs, and returns whether the function still runs. When it ends, stack lift is enabled.
+    /// This is the single step while a function runs.
+    ///
+    /// # Errors
+    ///
+    /// 06 to 12, as for `step`. Nothing is changed then.
     #[inline(always)]
     pub fn step_word(&mut self, caller: Caller) -> Result<bool, CalculatorRefusal>
         requires { self.old.mode ≡ Micro caller }
@@ -461,9 +488,14 @@ impl<const REGS: usize> Calculator<REGS> {
         Ok(true)
     }
 
-    /// Loads the lines of bytes behind the programs of memory, goes to line 00 of the first of them, and forgets the positions
-    /// to return to; lift and message stay. Refused as 24 while a program or a function runs, as 15 where memory is not sound, as 14 where bytes of memory or of
-    /// these are no line or an `.END.` stands before the end of these, as 16 where there is no room. Nothing is changed then.
+    /// Loads the lines in the bytes after the programs in memory, moves to line 00 of the first of them, and clears the return
+    /// stack. Stack lift and the message are unchanged.
+    ///
+    /// # Errors
+    ///
+    /// Busy (24) while a program or a function runs; MemoryLost (15) if memory is not sound; BrokenProgram (14) if bytes of
+    /// memory or of the program are not a line, or an `.END.` comes before the end of the program; NoRoom (16) if memory is full.
+    /// Nothing is changed then.
     pub fn load(&mut self, bytes: &[u8]) -> Result<(), CalculatorRefusal>
         ensures { Loads bytes.now self.old self.new (result_err result) }
     {
@@ -475,8 +507,12 @@ impl<const REGS: usize> Calculator<REGS> {
         Ok(())
     }
 
-    /// Gives memory so many data registers. Refused as 24 while a program or a function runs, as 15 where memory is not sound, as 17
-    /// where that leaves no register for `.END.`, as 16 where there is no room. Nothing is changed then.
+    /// Sets the number of data registers.
+    ///
+    /// # Errors
+    ///
+    /// Busy (24) while a program or a function runs; MemoryLost (15) if memory is not sound; SizeTooLarge (17) if no register
+    /// would be left for `.END.`; NoRoom (16) if the programs would not fit. Nothing is changed then.
     pub fn set_size(&mut self, count: u16) -> Result<(), CalculatorRefusal>
         ensures { Becomes (size_makes self.old count) self.old self.new (result_err result) }
     {
@@ -487,7 +523,7 @@ impl<const REGS: usize> Calculator<REGS> {
         Ok(())
     }
 
-    /// Whether programs can be changed: 24 while a program or a function runs, 15 where memory is not sound.
+    /// Checks that programs can be changed: Busy (24) while a program or a function runs, MemoryLost (15) if memory is not sound.
     fn check_change(&self) -> Result<(), CalculatorRefusal>
         ensures { result_err result ≡ change_refusal self.now }
     {
@@ -500,9 +536,12 @@ impl<const REGS: usize> Calculator<REGS> {
         Ok(())
     }
 
-    /// Plugs the words of a page at a bank. Refused, in this order, as 1 where the page is not 4 to F or the bank is not 1
-    /// to 4, as 2 where it is plugged, as 4 where these are not 4,096 words up to 3FF, as 21 where memory is refused. Nothing is
-    /// changed then.
+    /// Plugs the words of a page into a bank; with `writable` microcode may write to it.
+    ///
+    /// # Errors
+    ///
+    /// In this order: NoSuchPage (01) if the page is not 4 to F or the bank is not 1 to 4, Occupied (02) if the bank is plugged,
+    /// BadImage (04) if there are not 4,096 words up to 3FF, OutOfMemory (21) if allocation failed. Nothing is changed then.
     pub fn plug(
         &mut self,
         alloc: Global,
@@ -519,8 +558,11 @@ impl<const REGS: usize> Calculator<REGS> {
         self.pages.plug(alloc, page, bank, writable, words)
     }
 
-    /// Takes out all banks of a page. Refused as 1 where the page is not 4 to F, as 3 where none is plugged; nothing is
-    /// changed then.
+    /// Unplugs all banks of a page.
+    ///
+    /// # Errors
+    ///
+    /// NoSuchPage (01) if the page is not 4 to F, NotPlugged (03) if no bank of it is plugged. Nothing is changed then.
     pub fn unplug(&mut self, page: u8) -> Result<(), UnplugRefusal>
         ensures refusal { result_err result ≡ unplug_refusal self.old.nut.pages page }
         ensures change { OnOk result (self.new ≡ without_page page self.old) }
@@ -529,7 +571,7 @@ impl<const REGS: usize> Calculator<REGS> {
         self.pages.unplug(page)
     }
 
-    /// All as at the start, but for the pages: they stay plugged, and bank 1 is chosen at each.
+    /// Restores the initial state, but keeps plugged pages. Bank 1 becomes the active bank of each page.
     pub fn reset(&mut self)
         ensures { self.new ≡ after_reset self.old }
     {
@@ -543,18 +585,18 @@ impl<const REGS: usize> Calculator<REGS> {
     }
 }
 
-/// A machine of the same size at the start.
+/// Returns a machine of the same size in its initial state.
 fn begun_anew<const REGS: usize>(machine: &Machine<REGS>) -> Machine<REGS>
     ensures machine { labelled.machine_of result
         ≡ machine_with (registers.start (length machine.now.ram.registers.main)) focal.start }
     ensures right { labelled.AreRight result }
 {
-    // Every memory has 64 to 320 registers, and a read tells it.
+    // A read of memory gives the proof its bounds: 64 to 320 registers.
     let _curtain = machine.ram.curtain();
     Machine::new()
 }
 
-/// The mode behind what a line answers.
+/// Returns the mode after a line with this outcome.
 #[inline(always)]
 fn mode_behind(mode: Mode, outcome: &LineOutcome) -> Mode
     ensures { result ≡ mode_after (answer_of outcome.now) mode }

@@ -1,4 +1,4 @@
-//! What the display shows.
+//! The text of the display.
 
 ghost use Rattle.std.specs.Prelude.{◌≡◌, ◌≤◌, length};
 ghost use Rattle.h41_positions.specs.LabelledMachine.{machine_of};
@@ -18,12 +18,12 @@ use h41_ram::{Ram, StatusRegister};
 use h41_show::{Format, TEXT_CAPACITY, alpha_text, register_text};
 use h41_text::write_line;
 
-/// What stands behind a number or a line that is being typed.
+/// The cursor, which is shown after a number or a line that is being typed.
 const CURSOR: &str = "_";
 
 impl<const REGS: usize> Calculator<REGS> {
-    /// The text of the display, the first that applies: none while the display is off, the message, a prompt, in program mode the
-    /// line, ALPHA with flag 48, the number that is being typed, and else X in the display format.
+    /// Returns the text of the display, the first of these that applies: nothing while the display is off, the message, a prompt,
+    /// in program mode the line, ALPHA if flag 48 is set, the number that is being typed, otherwise X in the display format.
     pub fn display(&self) -> ArrayString<TEXT_CAPACITY>
         ensures { ShowsDisplay self.now result.bytes }
     {
@@ -39,7 +39,8 @@ impl<const REGS: usize> Calculator<REGS> {
         }
     }
 
-    /// In program mode the line, ALPHA with flag 48, the number that is being typed, and else X in the display format.
+    /// Returns the first of these that applies: in program mode the line, ALPHA if flag 48 is set, the number that is being
+    /// typed, otherwise X in the display format.
     fn shown_entry(&self) -> ArrayString<TEXT_CAPACITY>
         ensures { spec.ShowsEntry self.now result.bytes }
     {
@@ -51,7 +52,7 @@ impl<const REGS: usize> Calculator<REGS> {
     }
 }
 
-/// The function that waits for its parameter.
+/// Returns the text of a prompt: the function that waits for its parameter.
 fn prompt_text(prompt: &Prompt) -> ArrayString<TEXT_CAPACITY>
     ensures { result.bytes ≡ spec.shown_prompt prompt.now }
 {
@@ -60,7 +61,7 @@ fn prompt_text(prompt: &Prompt) -> ArrayString<TEXT_CAPACITY>
     text
 }
 
-/// In program mode the line, with what stands behind it while it is being typed.
+/// Returns the text of the line in program mode, with the cursor if it is being typed.
 fn shown_line<const REGS: usize>(
     machine: &Machine<REGS>,
     pages: &Pages,
@@ -74,7 +75,7 @@ fn shown_line<const REGS: usize>(
     text
 }
 
-/// What stands behind a line of a program, by what is being typed.
+/// Returns the cursor if a number or a text line is being typed, otherwise an empty text.
 fn cursor_of(entry: TypedEntry) -> &'static str
     ensures text { result.now ≡ spec.cursor_of entry }
     ensures fits { length result.now ≤ 1 }
@@ -85,7 +86,7 @@ fn cursor_of(entry: TypedEntry) -> &'static str
     }
 }
 
-/// ALPHA with flag 48, the number that is being typed, and else X in the display format.
+/// Returns ALPHA if flag 48 is set, otherwise the number that is being typed, otherwise X in the display format.
 fn entry_text<const REGS: usize>(ram: &Ram<REGS>, entry: TypedEntry) -> ArrayString<TEXT_CAPACITY>
     ensures { result.bytes ≡ spec.entry_text ram.now.registers entry }
 {
@@ -101,7 +102,7 @@ fn entry_text<const REGS: usize>(ram: &Ram<REGS>, entry: TypedEntry) -> ArrayStr
     }
 }
 
-/// A number that is being typed, as the line that it would be.
+/// Returns the text of a number that is being typed: the line that it would be, and the cursor.
 fn typed_number(number: Number) -> ArrayString<TEXT_CAPACITY>
     ensures { result.bytes ≡ spec.typed_number number }
 {

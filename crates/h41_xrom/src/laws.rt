@@ -1,4 +1,4 @@
-//! Laws of the calculator: each is the contract of a function with nothing to do but to call the laws it rests on.
+//! Laws of the calculator. Each law is the contract of a function whose body only calls the laws that it depends on.
 
 ghost use Rattle.h41_xrom.specs.CalculatorLaws.{DisplayIsDetermined, KeyIsDetermined};
 ghost use Rattle.h41_xrom.specs.CalculatorLaws.{LoadIsDetermined, StepIsDetermined};
@@ -12,7 +12,7 @@ use h41_program::laws::{edits_are_determined, searches_are_determined};
 use h41_rows::laws::values_are_determined;
 use h41_text::laws::line_text_round_trip;
 
-/// One single step is determined: whether it is refused, its refusal, and the state that it leaves.
+/// States that a state determines its single step: whether it is refused, as what, and the state after it.
 pub fn step_is_determined()
     ensures refusal { StepRefusalIsDetermined }
     ensures state { StepIsDetermined }
@@ -22,14 +22,14 @@ pub fn step_is_determined()
     micro_is_determined();
 }
 
-/// A load is determined: whether it is refused, its refusal, and the state that it leaves.
+/// States that a state and the bytes determine a load: whether it is refused, as what, and the state after it.
 pub fn load_is_determined()
     ensures { LoadIsDetermined }
 {
     edits_are_determined();
 }
 
-/// A key is determined: whether it is refused, its refusal, and the state that it leaves.
+/// States that a state and a key determine the result: whether the key is refused, as what, and the state after it.
 pub fn key_is_determined()
     ensures { KeyIsDetermined }
 {
@@ -42,15 +42,15 @@ pub fn key_is_determined()
     values_are_determined();
 }
 
-/// The display shows one text.
+/// States that a state determines the text of the display.
 pub fn display_is_determined()
     ensures { DisplayIsDetermined }
 {
     text_is_determined();
 }
 
-/// Lines that go on to the next leave the same stack, data registers, ALPHA, flags and lift where the calculator steps them as where
-/// they are typed in turn.
+/// States that lines which go on to the next line leave the same stack, data registers, ALPHA, flags and stack lift if the
+/// calculator steps them as if they are typed in turn.
 pub fn typed_as_stepped()
     ensures { TypedAsStepped }
 {

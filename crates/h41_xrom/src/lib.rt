@@ -1,4 +1,4 @@
-//! The whole calculator: processor, memory, pages, keys and keystroke programs, and what it does.
+//! The whole calculator: processor, memory, pages, keys and keystroke programs.
 #![tactic(auto)]
 
 mod acting;

@@ -1,4 +1,4 @@
-//! A line that calls what memory does not have.
+//! Executes lines that call something outside memory: functions of modules, and functions of the calculator by name.
 
 ghost use Rattle.std.specs.Prelude.{◌≡◌, None, Some, OnErr};
 ghost use Rattle.h41_positions.specs.LabelledMachine.{AreRight, machine_of};
@@ -13,26 +13,30 @@ use h41_focal::{FocalRefusal, LineFault, LineOutcome, Machine};
 use h41_pages::{Entry, Pages};
 use h41_text::read_line;
 
-/// Where a line comes from.
+/// Where a line is from.
 #[derive(Clone, Copy)]
 pub enum LineSource {
-    /// From the program: it stands at the position.
+    /// From the program: the line at the position.
     Program,
-    /// From the keys: it was typed.
+    /// From the keyboard: this line was typed.
     Keys(Line),
 }
 
 /// How a line ends.
 #[derive(Clone, Copy)]
 pub enum LineEnd {
-    /// It was done, or failed: this is its answer.
+    /// It was executed, or failed, with this outcome.
     Answers(LineOutcome),
-    /// A function of a module in microcode begins, whose words stand at this address; a program will go on behind the line.
+    /// It starts a function of a module in microcode, whose words begin at this address. A program continues after the line.
     Begins(u16),
 }
 
-/// The line at the position, or a typed one, is carried out; a function that memory does not have is looked up in the modules, then
-/// among the calculator's own.
+/// Executes the line at the position, or a typed one. A function that memory does not contain is looked up in the modules, then
+/// among the calculator's own functions.
+///
+/// # Errors
+///
+/// MemoryLost (15), BrokenProgram (14) or NotInProfile (13). Nothing is changed then.
 #[inline(always)]
 pub fn carry_line<const REGS: usize>(
     machine: &mut Machine<REGS>,
@@ -59,7 +63,7 @@ pub fn carry_line<const REGS: usize>(
     }
 }
 
-/// The line is carried out by itself.
+/// Executes the line without what it calls outside memory.
 #[inline(always)]
 fn carry<const REGS: usize>(
     machine: &mut Machine<REGS>,
@@ -79,7 +83,7 @@ fn carry<const REGS: usize>(
     }
 }
 
-/// A function is carried out in place of the line.
+/// Executes a function in place of the line.
 fn carry_function<const REGS: usize>(
     machine: &mut Machine<REGS>,
     pages: &Pages,
@@ -98,8 +102,8 @@ fn carry_function<const REGS: usize>(
     }
 }
 
-/// A function of a module, by its entry: one in microcode begins, one in keystrokes is a program that is called; NONEXISTENT where
-/// there is none.
+/// Calls a module's function by its table entry: one in microcode starts, one in keystrokes is a program that is called. Without
+/// an entry the line fails with NONEXISTENT.
 fn call_entry<const REGS: usize>(
     machine: &mut Machine<REGS>,
     pages: &Pages,
@@ -118,7 +122,7 @@ fn call_entry<const REGS: usize>(
     }
 }
 
-/// The function of an entry begins: one in microcode, for which the line is passed, or a program.
+/// Starts the function of a table entry. For one in microcode a program moves on to the line after this one.
 fn begin_entry<const REGS: usize>(
     machine: &mut Machine<REGS>,
     pages: &Pages,
@@ -138,8 +142,8 @@ fn begin_entry<const REGS: usize>(
     Ok(LineEnd::Begins(entry.address))
 }
 
-/// The program of a module that begins at an address is called: on there, with the line's next to return to; a typed line has it
-/// run, with nothing to return to.
+/// Calls a module's program at an address. The line after the call is put on the return stack; a typed line starts the program
+/// with an empty return stack.
 fn enter<const REGS: usize>(
     machine: &mut Machine<REGS>,
     pages: &Pages,
@@ -165,7 +169,7 @@ fn enter<const REGS: usize>(
     }
 }
 
-/// The line is passed: a program will go on behind it, and a typed line leaves all as it was.
+/// Moves a program on to the line after this one. A typed line changes nothing.
 fn pass<const REGS: usize>(
     machine: &mut Machine<REGS>,
     pages: &Pages,
@@ -184,7 +188,7 @@ fn pass<const REGS: usize>(
     }
 }
 
-/// The line fails: what it calls is nowhere.
+/// Makes the line fail with NONEXISTENT, because what it calls does not exist.
 fn fail<const REGS: usize>(
     machine: &mut Machine<REGS>,
     pages: &Pages,
@@ -199,7 +203,7 @@ fn fail<const REGS: usize>(
     Ok(LineEnd::Answers(fault_of(machine, pages, source)?))
 }
 
-/// The answer of a line that fails.
+/// Returns the outcome of a line that fails with NONEXISTENT.
 fn fault_of<const REGS: usize>(
     machine: &mut Machine<REGS>,
     pages: &Pages,
@@ -218,7 +222,8 @@ fn fault_of<const REGS: usize>(
     }
 }
 
-/// What has a name: a function of a module, else one of the calculator in place of the line, else NONEXISTENT.
+/// Calls what has a name: a module's function, otherwise a function of the calculator in place of the line, otherwise the line
+/// fails with NONEXISTENT.
 fn call_named<const REGS: usize>(
     machine: &mut Machine<REGS>,
     pages: &Pages,
@@ -240,7 +245,7 @@ fn call_named<const REGS: usize>(
     }
 }
 
-/// The function of the calculator that has a name.
+/// Returns the calculator's function with this name, if there is one.
 pub fn function_named(name: &[u8]) -> Option<Function>
     ensures { IsNamed name.now result }
 {
@@ -250,7 +255,7 @@ pub fn function_named(name: &[u8]) -> Option<Function>
     }
 }
 
-/// The function that a line is, where it is one without an operand.
+/// Returns the function of a line without an operand, if it is one.
 fn function_of(line: &Line) -> Option<Function>
     ensures { IsFunction line.now result }
 {

@@ -1,11 +1,11 @@
-//! What faults and the answers of tests are shown as.
+//! The texts that the display shows for errors and for the answers of tests.
 
 ghost use Rattle.std.specs.Prelude.{◌≡◌};
 ghost use Rattle.h41_xrom.specs.Messages as spec;
 
 use h41_focal::{DisplayText, LineFault};
 
-/// The message of a fault.
+/// Returns the message of an error, for example `DATA ERROR`, as in the Owner's Handbook.
 pub fn fault_text(fault: LineFault) -> DisplayText
     ensures { result.bytes ≡ spec.fault_text fault }
 {
@@ -19,7 +19,7 @@ pub fn fault_text(fault: LineFault) -> DisplayText
     text
 }
 
-/// The answer of a test that was typed.
+/// Returns the answer of a typed test: `YES` or `NO`.
 pub fn test_text(holds: bool) -> DisplayText
     ensures { result.bytes ≡ spec.test_text holds }
 {

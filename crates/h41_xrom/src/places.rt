@@ -1,4 +1,4 @@
-//! Where the shown line stands, as the keyboard needs to know it.
+//! Where the shown line is, in the keyboard's terms.
 
 ghost use Rattle.std.specs.Prelude.{◌≡◌};
 ghost use Rattle.h41_positions.specs.LabelledMachine.{machine_of};
@@ -12,7 +12,7 @@ use h41_positions::{Position, line_in_page};
 use h41_program::{is_final_end, is_last_open};
 use h41_ram::Ram;
 
-/// Where the shown line stands: in memory, or in a page, with what keys would do there.
+/// Returns where the shown line is: in memory, or in a page, with what certain keys would change there.
 pub fn shown_place<const REGS: usize>(machine: &Machine<REGS>, pages: &Pages) -> Place
     ensures { IsPlace pages.now (machine_of machine.now)
         (machine_of machine.now).focal.position result }
@@ -29,7 +29,7 @@ pub fn shown_place<const REGS: usize>(machine: &Machine<REGS>, pages: &Pages) ->
     }
 }
 
-/// Whether the line that an address of a page stands for is `.END.`.
+/// Returns whether the line at an address of a page is `.END.`.
 fn is_final_at(pages: &Pages, address: u16) -> bool
     ensures { IsFinalAt pages.now address result }
 {
@@ -39,8 +39,8 @@ fn is_final_at(pages: &Pages, address: u16) -> bool
     is_final_end(first.line)
 }
 
-/// Whether `GTO . .` puts an END into memory: the last program has lines and no END of its own. It puts none where memory is not
-/// sound, or where its list does not reach `.END.`.
+/// Returns whether `GTO . .` would put an END into memory: it would if the last program has lines and no END of its own. It
+/// would not if memory is not sound, or its chain of labels and ENDs does not reach `.END.`.
 fn puts_end<const REGS: usize>(ram: &Ram<REGS>) -> bool
     ensures { PutsEnd ram.now.registers result }
 {

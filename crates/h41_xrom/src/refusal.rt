@@ -1,4 +1,4 @@
-//! Why calls of the calculator are refused. The numbers are those by which decks print refusals.
+//! Why calls of the calculator are refused. The numbers are those that decks print.
 
 ghost use Rattle.std.specs.Prelude.{◌≡◌};
 
@@ -8,25 +8,27 @@ use h41_nut::WordRefusal;
 use h41_program::ProgramRefusal;
 use thiserror::Error;
 
-/// Why a call was refused. It changes nothing then.
+/// Why a call was refused. A refused call changes nothing.
 #[derive(Clone, Copy, Debug, PartialEq, Eq, Error)]
 pub enum CalculatorRefusal {
-    /// 6 to 12: a word, or a call of an address below 4000.
+    /// 06 to 12: a word is refused, or an address below 4000 was called (SystemRom, 08).
     #[error("{0}")]
     Word(WordRefusal),
-    /// 13: this line of a program is not carried out.
+    /// NotInProfile (13): the bench does not support this program line.
     #[error("this line is not carried out")]
     NotInProfile,
-    /// 14, 16 and 17: bytes that are no line, and changes of program memory.
+    /// BrokenProgram (14), NoRoom (16) and SizeTooLarge (17): bytes that are not a line, and refused
+    /// changes of program memory.
     #[error("{0}")]
     Program(ProgramRefusal),
-    /// 15: memory is not sound.
+    /// MemoryLost (15): memory is not sound.
     #[error("memory is lost")]
     MemoryLost,
-    /// 18: the key has no meaning in the state that the keyboard is in, or would change lines at a page.
+    /// KeyNotHeld (18): the bench does not support this key in this state, or it would change lines in a
+    /// page.
     #[error("the key has no meaning here")]
     KeyNotHeld,
-    /// 24: a program or a function is running.
+    /// Busy (24): a program or a function is running.
     #[error("a program or a function is running")]
     Busy,
 }

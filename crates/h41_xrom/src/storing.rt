@@ -1,4 +1,4 @@
-//! The line that is stored where one was typed in program mode.
+//! The line that program mode stores for a typed line.
 
 ghost use Rattle.std.specs.Prelude.{IfSome, IsTrue};
 ghost use Rattle.h41_positions.specs.LabelledMachine.{machine_of};
@@ -13,8 +13,8 @@ use h41_focal::Machine;
 use h41_pages::Pages;
 use h41_program::global;
 
-/// The line that is stored for one that was typed: itself, but for XEQ of a name that memory does not have as a label, which is the
-/// XROM of a module's function of the name, or else the calculator's own, where there is one.
+/// Returns the line that is stored for a typed one. It is the line itself, except for XEQ of a name that is not a label in
+/// memory: that becomes the XROM of a module's function with the name, otherwise the calculator's own function, if there is one.
 pub fn stored_line<const REGS: usize>(machine: &Machine<REGS>, pages: &Pages, line: Line) -> Line
     requires sound { IsTrue (is_sound machine.now.ram.registers) }
     requires inner { IsTrue (is_inner line) }
@@ -32,7 +32,7 @@ pub fn stored_line<const REGS: usize>(machine: &Machine<REGS>, pages: &Pages, li
     }
 }
 
-/// The line that is stored in place of XEQ of a name, where there is one.
+/// Returns the line that is stored in place of XEQ of a name, if there is one.
 fn stored_for<const REGS: usize>(
     machine: &Machine<REGS>,
     pages: &Pages,

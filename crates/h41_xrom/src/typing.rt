@@ -1,4 +1,4 @@
-//! What numbers and letters that are typed make of memory. Nothing more is to be done then.
+//! How typed numbers and letters change memory. Nothing remains to be done after these actions.
 
 ghost use Rattle.std.specs.Prelude.{◌≡◌, [], ◌∷◌, ◌++◌, take, Ok};
 ghost use Rattle.h41_positions.specs.LabelledMachine.{Keeps, machine_of};
@@ -17,7 +17,8 @@ use h41_ram::flags::{ALPHA_ENTRY, ALPHA_MODE, NUMBER_ENTRY};
 use h41_ram::{ALPHA_LENGTH, Ram};
 use h41_rows::{append_text, bring_in, replace_text, written};
 
-/// A number comes into X as it begins; the stack is lifted first where lift is on, which it is then.
+/// Puts a number whose first key was pressed into X. The stack is lifted first if stack lift is enabled.
+/// Stack lift is enabled afterwards, and flag 22 is set.
 pub fn begin_number<const REGS: usize>(machine: &mut Machine<REGS>, number: &Number) -> KeyEffect
     ensures number { BeginsNumber number.now (machine_of machine.old)
         (Ok (Leaves (machine_of machine.new))) }
@@ -31,7 +32,7 @@ pub fn begin_number<const REGS: usize>(machine: &mut Machine<REGS>, number: &Num
     KeyEffect::Nothing
 }
 
-/// The number in X changes.
+/// Replaces the number in X while it is being typed.
 pub fn change_number<const REGS: usize>(machine: &mut Machine<REGS>, number: &Number) -> KeyEffect
     ensures number { ChangesNumber number.now (machine_of machine.old)
         (Ok (Leaves (machine_of machine.new))) }
@@ -42,7 +43,7 @@ pub fn change_number<const REGS: usize>(machine: &mut Machine<REGS>, number: &Nu
     KeyEffect::Nothing
 }
 
-/// What letters and the key ALPHA make of memory; other actions make nothing of it.
+/// Performs the actions of letters and of the key ALPHA on memory. Other actions change nothing.
 pub fn type_letters<const REGS: usize>(ram: &mut Ram<REGS>, action: Action)
     ensures memory { ram.new.registers ≡ lettered action ram.old.registers }
     ensures mark { KeepsMark ram.old ram.new }
@@ -57,7 +58,7 @@ pub fn type_letters<const REGS: usize>(ram: &mut Ram<REGS>, action: Action)
     }
 }
 
-/// ALPHA is shown and written, or no longer.
+/// Toggles ALPHA mode (flag 48).
 fn toggle_alpha<const REGS: usize>(ram: &mut Ram<REGS>)
     ensures memory { ram.new.registers ≡ with_alpha_toggled ram.old.registers }
     ensures mark { KeepsMark ram.old ram.new }
@@ -66,7 +67,7 @@ fn toggle_alpha<const REGS: usize>(ram: &mut Ram<REGS>)
     ram.set_flag(ALPHA_MODE, on);
 }
 
-/// A letter is the first of ALPHA.
+/// Replaces ALPHA by a letter, and sets flag 23.
 fn begin_text<const REGS: usize>(ram: &mut Ram<REGS>, letter: u8)
     ensures memory { ram.new.registers ≡ with_letters ram.old.registers (letter ∷ []) }
     ensures mark { KeepsMark ram.old ram.new }
@@ -75,7 +76,7 @@ fn begin_text<const REGS: usize>(ram: &mut Ram<REGS>, letter: u8)
     ram.set_flag(ALPHA_ENTRY, true);
 }
 
-/// A letter comes behind what ALPHA holds.
+/// Appends a letter to ALPHA, and sets flag 23.
 fn add_letter<const REGS: usize>(ram: &mut Ram<REGS>, letter: u8)
     ensures memory { ram.new.registers ≡ with_letters ram.old.registers
         (alpha_of ram.old.registers ++ letter ∷ []) }
@@ -85,7 +86,7 @@ fn add_letter<const REGS: usize>(ram: &mut Ram<REGS>, letter: u8)
     ram.set_flag(ALPHA_ENTRY, true);
 }
 
-/// ALPHA's last character goes.
+/// Removes the last character of ALPHA.
 fn take_letter<const REGS: usize>(ram: &mut Ram<REGS>)
     ensures memory { ram.new.registers ≡ with_text ram.old.registers
         (take 23 (alpha_of ram.old.registers)) }
@@ -95,7 +96,7 @@ fn take_letter<const REGS: usize>(ram: &mut Ram<REGS>)
     replace_text(ram, &alpha[..ALPHA_LENGTH - 1]);
 }
 
-/// ALPHA is cleared.
+/// Clears ALPHA.
 fn clear_alpha<const REGS: usize>(ram: &mut Ram<REGS>)
     ensures memory { ram.new.registers ≡ with_text ram.old.registers [] }
     ensures mark { KeepsMark ram.old ram.new }

@@ -1,4 +1,4 @@
--- What private functions promise one another of lines and of keys. No public contract needs this
+-- What the private functions of lines and keys promise one another. No public contract needs this
 -- file.
 use Rattle.std.specs.Prelude.{◌≡◌, Bool, IsTrue, List, [], ◌∷◌, ◌++◌, take, ℕ, Option, Some, None}
 use Rattle.std.specs.Prelude.{Result, Ok, Err}
@@ -41,44 +41,46 @@ use Rattle.h41_xrom.specs.declared.lines.LineSource.{LineSource}
 use Rattle.h41_xrom.specs.declared.refusal.CalculatorRefusal.{CalculatorRefusal}
 use Rattle.h41_xrom.specs.declared.refusal.CalculatorRefusal.TheVariants.{Program}
 
--- how a line ended, with what it leaves
+-- How a line ended, with the state that it leaves.
 abbrev pub ended_with : Machine → LineEnd → Ended
 ended_with new (ends.Answers outcome) = Answers (left_of new outcome)
 ended_with new (ends.Begins address) = Begins new address
 
+-- The same for a line that may be refused.
 abbrev pub ended_as : Machine → Result LineEnd FocalRefusal → Result Ended FocalRefusal
 ended_as new (Ok end) = Ok (ended_with new end)
 ended_as new (Err refusal) = Err refusal
 
--- a function is carried out in place of a line
+-- A function is executed in place of a line.
 abbrev pub CarriesFunction : LineSource → PageMap → Function → Machine → Result Left FocalRefusal
     → Type 0
 CarriesFunction source pages function machine left =
     CarriesFrom source pages (Some function) machine left
 
--- the function that a line is
+-- The function of a line without an operand.
 abbrev pub IsFunction : Line → Option Function → Type 0
 IsFunction line (Some function) = line ≡ Plain function
 IsFunction line None = (function : Function) → line ≡ Plain function → ⊥
 
--- an effect, with what it leaves
+-- An effect, with the state that it leaves.
 abbrev pub effect_with : Machine → KeyEffect → spec.KeyOutcome
 effect_with new effects.Nothing = spec.Leaves new
 effect_with new (effects.Line end) = spec.LineEnds (ended_with new end)
 effect_with new effects.Stops = spec.Stops new
 effect_with new effects.Starts = spec.Starts new
 
+-- The same for an action that may be refused.
 abbrev pub effect_as : Machine → Result KeyEffect CalculatorRefusal
     → Result spec.KeyOutcome CalculatorRefusal
 effect_as new (Ok effect) = Ok (effect_with new effect)
 effect_as new (Err refusal) = Err refusal
 
--- a change of the program, or a move, as an action
+-- The result of an edit, or of a move, as that of an action.
 abbrev pub edited_as : Result (Unit {0}) ProgramRefusal → Result KeyEffect CalculatorRefusal
 edited_as (Ok done) = Ok effects.Nothing
 edited_as (Err refusal) = Err (Program refusal)
 
--- memory behind an action of letters; others leave it
+-- Memory after an action of letters; other actions do not change it.
 abbrev pub lettered : Action → RegisterMap → RegisterMap
 lettered actions.ToggleAlpha memory = spec.with_alpha_toggled memory
 lettered (actions.BeginText letter) memory = spec.with_letters memory (letter ∷ [])
@@ -88,15 +90,15 @@ lettered actions.TakeLetter memory = spec.with_text memory (take 23 (alpha_of me
 lettered actions.ClearAlpha memory = spec.with_text memory []
 lettered action memory = memory
 
--- what is stored in place of XEQ of a name, or that it is stored itself
+-- The line that is stored in place of XEQ of a name, or that the line itself is stored.
 abbrev pub StoresFor : PageMap → RegisterMap → List ℕ → Option Line → Type 0
 StoresFor pages memory name found =
     (label : Option ℕ) × AnswersOf (λ listed. position_of (named_in name listed)) memory 0 label
     × ((line : Line)
     → spec.StoredName pages line name label (option_map_or (λ stored. stored) found line))
 
--- what an action needs of memory: that it is sound where lines are changed or moved over, and that
--- a line can be stored
+-- What an action needs of memory: that it is sound if lines are changed or moved over, and that a
+-- line can be stored.
 abbrev pub IsActed : Action → RegisterMap → Type 0
 IsActed actions.Nothing memory = Unit {0}
 IsActed actions.Stop memory = Unit {0}
@@ -104,23 +106,24 @@ IsActed (actions.Insert line) memory = IsTrue (is_sound memory) × IsTrue (is_in
 IsActed (actions.Replace line) memory = IsTrue (is_sound memory) × IsTrue (is_inner line)
 IsActed action memory = IsTrue (is_sound memory)
 
--- the calculator, of which memory and what lines work on are changed already, behind the end of a
--- line and behind an effect
+-- The calculator after the end of a line. Memory and the rest of the state that lines work on are
+-- changed already.
 abbrev pub after_end : LineEnd → CalculatorState → CalculatorState
 after_end (ends.Answers outcome) s = after_answer (answer_of outcome) s
 after_end (ends.Begins address) s = with_function address s
 
+-- The calculator after an effect, likewise.
 abbrev pub after_effect : KeyEffect → CalculatorState → CalculatorState
 after_effect effects.Nothing s = s
 after_effect (effects.Line end) s = after_end end s
 after_effect effects.Stops s = record s { mode = modes.Idle }
 after_effect effects.Starts s = record s { mode = modes.Run }
 
--- behind a line whose texts are still to be made from memory
+-- The calculator after a line whose texts are still to be made from memory.
 abbrev pub answered_briefly : Answer → BriefOutcome → CalculatorState → CalculatorState
 answered_briefly called brief s = after_answer (brief_answer called s.nut.ram brief) s
 
--- a key that has a meaning is done, or refused; what its action then needs
+-- A key that has a meaning is performed, or refused.
 abbrev pub Accepts : Key → Input → Action → CalculatorState → CalculatorState
     → Option CalculatorRefusal → Type 0
 Accepts key input action s t refusal =
@@ -128,26 +131,27 @@ Accepts key input action s t refusal =
     × spec.ActionMakes s key action input made
     × Becomes made s t refusal
 
--- whether the line at an address of a page is .END., whatever memory holds
+-- Whether the line at an address of a page is .END., whatever memory contains.
 abbrev pub IsFinalAt : PageMap → ℕ → Bool → Type 0
 IsFinalAt pages address final =
     (first : Result PlacedLine ProgramRefusal)
     × LineInPage pages address first
     × (final ≡ spec.is_final first)
 
--- whether GTO . . puts an END into memory
+-- Whether GTO . . puts an END into memory.
 abbrev pub PutsEnd : RegisterMap → Bool → Type 0
 PutsEnd memory puts =
     (last : Result Bool ProgramRefusal)
     × AnswersOf open_in memory 0 last
     × (puts ≡ spec.puts_end last)
 
--- while a program or a function runs a key does nothing but to stop it
+-- While a program or a function runs, a key does nothing but stop it.
 abbrev pub IsQuiet : Mode → Action → Type 0
 IsQuiet modes.Idle action = Unit {0}
 IsQuiet mode actions.Nothing = Unit {0}
 IsQuiet mode actions.Stop = Unit {0}
 IsQuiet mode action = ⊥
 
+-- What an accepted key needs.
 abbrev pub IsAccepted : CalculatorState → Action → Type 0
 IsAccepted s action = StoresLine action × IsQuiet s.mode action

@@ -17,7 +17,7 @@ use Rattle.h41_xrom.specs.declared.acting.KeyEffect.{KeyEffect}
 use Rattle.h41_xrom.specs.declared.refusal.CalculatorRefusal.{CalculatorRefusal}
 use Rattle.h41_xrom.specs.private.PrivateCalls.{lettered, edited_as, effect_as}
 
--- what a change of the program, or a move, makes is its effect
+-- The result of an edit, or of a move, is its effect.
 effect_of_edit : (new : Machine) (given : Result (Unit {0}) ProgramRefusal)
     → effect_as new (edited_as given) ≡ edit_effect (made_as new given)
 effect_of_edit new (Ok done) = refl
@@ -32,7 +32,7 @@ edits edit old from new given result is made told = (
   ap (effect_as new) told ∙ effect_of_edit new given,
 )
 
--- what is no other action is one of letters, or does nothing
+-- Any other action is one of letters, or does nothing.
 module _ (pages : PageMap) (program_mode : Bool) (machine : Machine) where
   abbrev Lettered : Action → Type 0
   Lettered a = Acts pages program_mode a machine (leaves_memory (lettered a machine.memory) machine)

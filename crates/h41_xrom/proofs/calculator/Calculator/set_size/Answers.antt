@@ -7,7 +7,7 @@ use Rattle.h41_nut.specs.WordStep.{nut_of}
 use Rattle.h41_xrom.specs.Calculator.{CalculatorState}
 use Rattle.h41_xrom.proofs.calculator.Calculator.set_size.Goals as goal
 
--- the view of an opened calculator
+-- The view of an opened calculator.
 abbrev viewed : {n : ℕ} → Inside n → CalculatorState
 viewed inside = record {
   nut = nut_of inside.cpu inside.machine.ram.registers inside.pages inside.keys;

@@ -7,7 +7,7 @@ use Rattle.h41_xrom.specs.Calculator.{CalculatorState, machine_of}
 use Rattle.h41_xrom.specs.Display.{ShowsEntry, ShowsShownLine, entry_text}
 use Rattle.h41_xrom.proofs.calculator.Calculator.shown_entry.Goals as goal
 
--- in program mode
+-- Program mode is on.
 shows : (s : CalculatorState) (input : Input) (pages : PageMap) (machine : Machine) (text : List ℕ) → input ≡ s.input
     → input.program_mode ≡ true → pages ≡ s.nut.pages → machine ≡ machine_of s → ShowsShownLine pages machine input.entry text
     → ShowsEntry s text

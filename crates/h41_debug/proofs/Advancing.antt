@@ -1,4 +1,4 @@
--- How the loops of all single steps go on.
+-- How the loops that make single steps continue.
 use Rattle.std.proofs.Common.{◌≡◌, ◌<◌, ◌≤◌, ℕ, ◌+◌, Bool, true, false, nat_lt, Option, Some, None, refl, sym, ap}
 use Rattle.std.proofs.Common.{subst, ◌∙◌, arith, Fits, w32}
 use Rattle.std.specs.Prelude.{if◌then◌else◌}
@@ -17,7 +17,7 @@ use Rattle.h41_debug.specs.declared.run.Stop.{Stop}
 use Rattle.h41_debug.specs.declared.run.Stop.TheVariants.{Break, Idle}
 use Rattle.h41_debug.proofs.Runs.{made_more}
 
--- while no function runs, a step is a line
+-- While no function runs, a step is a line.
 pub no_function : (m : Mode) → ((caller : Caller) → m ≡ modes.Micro caller → ⊥) → runs_function m ≡ false
 no_function modes.Idle other = refl
 no_function modes.Run other = refl
@@ -39,7 +39,7 @@ line_steps modes.Idle s t none steps = steps
 line_steps modes.Run s t none steps = steps
 line_steps (modes.Micro caller) s t none steps = cc
 
--- behind a word of a function that still runs there is no reason to stop but a breakpoint
+-- After a word of a function that still runs, only a breakpoint is a reason to stop.
 stop_either : (behind : Bool) (t : BenchState) → stop_at t ≡ None → stop_behind behind t ≡ None
 stop_either true t none = none
 stop_either false t none = refl
@@ -51,20 +51,20 @@ clear_behind behind t caller mode free =
     (subst (λ (m : Mode). (if is_idle m then Some Idle else stop_running t) ≡ None) (sym mode)
     (ap (λ (set : Bool). if set then Some Break else None) free))
 
--- nor behind a line with which a program runs on
+-- The same holds after a line with which a program continues.
 pub clear_in_program : (behind : Bool) (t : BenchState) → t.calculator.mode ≡ modes.Run → stop_running t ≡ None → stop_behind behind t
     ≡ None
 clear_in_program behind t mode clear =
     stop_either behind t (subst (λ (m : Mode). (if is_idle m then Some Idle else stop_running t) ≡ None) (sym mode) clear)
 
--- where something runs a breakpoint alone stops it
+-- While something runs, only a breakpoint stops it.
 pub breaks : (s : BenchState) → is_set s.breakpoints (location_of s.calculator) ≡ true → Some Break ≡ stop_running s
 breaks s set = rw set refl
 
 pub goes_past : (s : BenchState) → is_set s.breakpoints (location_of s.calculator) ≡ false → None ≡ stop_running s
 goes_past s free = rw free refl
 
--- where nothing runs that is the reason to stop behind a step, and else a breakpoint alone
+-- After a step, a reason to stop is that nothing runs, otherwise only a breakpoint.
 pub idle_stops : (behind : Bool) (s : BenchState) → behind ≡ true → s.calculator.mode ≡ modes.Idle → Some Idle ≡ stop_behind behind s
 idle_stops behind s is mode = rw (is, mode) refl
 
@@ -75,7 +75,7 @@ running_stops behind s m is mode other stop same =
     rw (is, runs) same
 
 module _ (same_refusal : StepRefusalIsDetermined) (same_step : StepIsDetermined) where
-  -- one step more
+  -- One step more.
   pub one_more : (limit from made : ℕ) (first s t : BenchState)
       → ((start : BenchState) → MakesSteps limit from start first → MakesSteps limit made start s) → stop_behind (nat_lt 0 made) s ≡ None
       → made < limit → RefusesStep s.calculator None → Step s.calculator t.calculator → t ≡ with_calculator t.calculator s
@@ -83,7 +83,7 @@ module _ (same_refusal : StepRefusalIsDetermined) (same_step : StepIsDetermined)
   one_more limit from made first s t so_far clear below accepted step others start begun =
       made_more same_refusal same_step limit made start s t (so_far start begun) clear below accepted step others
 
-  -- a piece of steps, the last of which is this one
+  -- A piece of steps that ends with this one.
   pub ends_piece : (limit from made : ℕ) (first s t : BenchState)
       → ((start : BenchState) → MakesSteps limit from start first → MakesSteps limit made start s) → s.breakpoints ≡ first.breakpoints
       → from ≤ made → stop_behind (nat_lt 0 made) s ≡ None → made < limit → RefusesStep s.calculator None → Step s.calculator t.calculator
@@ -95,7 +95,7 @@ module _ (same_refusal : StepRefusalIsDetermined) (same_step : StepIsDetermined)
     ends = omega (arith, behind);
   }
 
--- a piece of steps, behind which the next is refused
+-- A piece of steps after which the next one is refused.
 pub refused_piece : (limit from made : ℕ) (first s t : BenchState) (why : CalculatorRefusal)
     → ((start : BenchState) → MakesSteps limit from start first → MakesSteps limit made start s) → s.breakpoints ≡ first.breakpoints
     → stop_behind (nat_lt 0 made) s ≡ None → made < limit → RefusesStep s.calculator (Some why) → t ≡ s
@@ -108,7 +108,7 @@ refused_piece limit from made first s t why so_far kept clear below refused stay
       ends = (below, clear, refused);
     })
 
--- a piece of all steps up to one
+-- A piece of all steps up to one.
 pub all_steps : (limit from made until : ℕ) (first t : BenchState)
     → ((start : BenchState) → MakesSteps limit from start first → MakesSteps limit made start t) → t.breakpoints ≡ first.breakpoints
     → until ≤ made → made ≤ until → until ≤ limit → from < until → Advances limit from first until t None
@@ -120,7 +120,7 @@ all_steps limit from made until first t so_far kept all most few more = record {
   ends = more;
 }
 
--- the numbers of steps
+-- The numbers of steps.
 pub same : (n : ℕ) → n ≤ n
 same n = omega arith
 

@@ -1,4 +1,4 @@
--- How keys follow one another, and why they leave nothing open.
+-- How keys follow one another, and why a state determines their result.
 use Rattle.std.proofs.Common.{◌≡◌, List, [], ◌∷◌, Option, Some, None, refl, sym, subst, ◌∙◌}
 use Rattle.std.specs.Prelude.{MatchOption}
 use Rattle.h41_keys.specs.declared.key.Key.{Key}
@@ -9,13 +9,13 @@ use Rattle.h41_xrom.specs.KeyActions.{Presses}
 use Rattle.h41_debug.specs.Bench.{BenchState, PressesInTurn, with_calculator}
 use Rattle.h41_debug.specs.BenchLaws.{PressesAreDetermined}
 
--- one key, and those after it
+-- One key, and those after it.
 pub key_more : (keys more : List Key) (key : Key) (s t : BenchState) (next : CalculatorState) (refusal : Option CalculatorRefusal)
     → keys ≡ key ∷ more → Presses key s.calculator next None → PressesInTurn more (with_calculator next s) t refusal
     → PressesInTurn keys s t refusal
 key_more keys more key s t next refusal left accepted rest = rw left (next, None, accepted, rest)
 
--- a key that is refused ends them
+-- A refused key ends them.
 pub key_refused : (keys more : List Key) (key : Key) (s : BenchState) (next : CalculatorState) (why : CalculatorRefusal) → keys ≡ key ∷ more
     → Presses key s.calculator next (Some why) → PressesInTurn keys s (with_calculator next s) (Some why)
 key_refused keys more key s next why left refused = rw left (next, Some why, refused, (refl, refl))

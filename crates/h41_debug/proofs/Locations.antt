@@ -25,7 +25,7 @@ line_place s t m at is mode other position =
     subst (λ (u : CalculatorState). Line at ≡ location_of u) is
     (ap Line position ∙ line_in s m other ∙ ap (location_in s) mode)
 
--- while a function runs
+-- A function runs.
 word_in : (s : CalculatorState) (m : Mode) → runs_function m ≡ true → Word s.nut.processor.pc ≡ location_in s m
 word_in s modes.Idle runs = cc
 word_in s modes.Run runs = cc

@@ -1,4 +1,4 @@
--- Runs: how single steps make one, why it leaves nothing open, and how two make one.
+-- Runs: how single steps make one, why a state determines it, and how two runs make one.
 use Rattle.std.proofs.Common.{◌≡◌, ◌<◌, ◌≤◌, ◌⊎◌, ℕ, zero, suc, ◌+◌, ◌-◌, inl, inr, Bool, true, false, Option, Some, None, refl, sym, ap}
 use Rattle.std.proofs.Common.{◌∙◌, subst, zero-add, arith}
 use Rattle.std.specs.Prelude.{MatchOption, if◌then◌else◌, nat_lt}
@@ -18,7 +18,7 @@ use Rattle.h41_debug.specs.declared.run.Stop.{Stop}
 use Rattle.h41_debug.specs.declared.run.Stop.TheVariants.{Break, Idle, Limit, Refused}
 use Rattle.h41_debug.proofs.StepsInTurn.{steps-refused, steps_determined}
 
--- the first of some steps, none of them refused, and the others
+-- The first of some steps, none of which is refused, and the others.
 First : ℕ → BenchState → BenchState → Type 0
 First count s t = (mid : CalculatorState) × Step s.calculator mid × Steps count (with_calculator mid s) t None
 
@@ -32,7 +32,7 @@ by_why count s t (Some why) refused rest = let none : None ≡ Some why = rest.1
 first_step : (count : ℕ) (s t : BenchState) → Steps (suc count) s t None → RefusesStep s.calculator None × First count s t
 first_step count s t steps = by_why count s t steps.0 steps.1 steps.2
 
--- steps that follow others
+-- Steps that follow others.
 pub steps_add : (count more : ℕ) (s t u : BenchState) (refusal : Option CalculatorRefusal) → Steps count s t None → Steps more t u refusal
     → Steps (count + more) s u refusal
 unfolding First
@@ -58,7 +58,7 @@ pub one_step : (s : BenchState) (next : CalculatorState) → RefusesStep s.calcu
     → Steps 1 s (with_calculator next s) None
 one_step s next accepted step = (None, accepted, (next, step, (refl, refl)))
 
--- one step that was made
+-- One step that was made.
 pub one_made : (s t : BenchState) → Steps 1 s t None
     → RefusesStep s.calculator None × Step s.calculator t.calculator × (t ≡ with_calculator t.calculator s)
 unfolding First
@@ -72,7 +72,7 @@ pub none_made : (made : ℕ) (s t : BenchState) → made < 1 → Steps made s t 
 none_made zero s t below steps = steps.0
 none_made (suc made) s t below steps = absurd (omega (arith, below))
 
--- the steps that are left behind some
+-- The steps that remain after some.
 pub steps_left : (left made : ℕ) (s t u : BenchState) (refusal : Option CalculatorRefusal) → made ≤ left → Steps made s t None
     → Steps (left - made) t u refusal → Steps left s u refusal
 steps_left left made s t u refusal most steps rest =
@@ -85,7 +85,7 @@ steps_to_refusal left made s t why below steps refused =
     let more : left - made ≡ suc (left - made - 1) = omega (arith, below) in
     steps_left left made s t t (Some why) (omega (arith, below)) steps (steps-refused (left - made) (left - made - 1) t why more refused)
 
--- a run that goes on: so many steps were made, and but for the limit and a refusal there is no reason to stop
+-- A run that continues: so many steps were made, and apart from the limit and a refusal there is no reason to stop.
 pub record GoesOn (limit made : ℕ) (s t : BenchState) : Type 0 where
   pub steps : Steps made s t None
   pub running : is_idle t.calculator.mode ≡ false
@@ -106,7 +106,7 @@ made_none limit s = record {
   before = λ running fewer u other below _ _. absurd (omega (arith, below));
 }
 
--- why a reason that is asked for before another does not hold
+-- Why a reason that is tested before another does not hold.
 module _ (limit made : ℕ) (t : BenchState) (running : is_idle t.calculator.mode ≡ false) where
   not_idle : (other : Stop) → turn_of other < 1 → StopsFor limit made t other → ⊥
   not_idle Idle below holds = let idle : is_idle t.calculator.mode ≡ true = holds in cc
@@ -129,7 +129,7 @@ module _ (limit made : ℕ) (t : BenchState) (running : is_idle t.calculator.mod
     not_limited short Limit below holds = short holds
     not_limited short (Refused why) below holds = absurd (omega (arith, below))
 
--- it ends at its limit, or where a step is refused
+-- The run ends at its limit, or because a step is refused.
 pub ends_at_limit : (limit made : ℕ) (s t : BenchState) → GoesOn limit made s t → made ≡ limit → Run limit s t made Limit
 ends_at_limit limit made s t on all = record {
   steps = on.steps;
@@ -150,7 +150,7 @@ ends_refused limit made s t why on below refused = record {
 pub refused_step_is_run : RefusedStepIsRun
 refused_step_is_run s why running refused = ends_refused 1 0 s s why (begins 1 s running) (omega arith) refused
 
--- what a reason behind a step says
+-- What follows from a reason after a step.
 stop_none : (idle set : Bool) → (if idle then Some Idle else (if set then Some Break else None)) ≡ None → (idle ≡ false) × (set ≡ false)
 stop_none true set is = cc
 stop_none false true is = cc
@@ -162,11 +162,11 @@ stop_some true set why is = let same : Idle ≡ why = cc in inl (refl, sym same)
 stop_some false true why is = let same : Break ≡ why = cc in inr (refl, refl, sym same)
 stop_some false false why is = cc
 
--- why steps ended, and where something ran at first, that this was a run
+-- Why steps ended, and that they were a run if something ran at first.
 abbrev pub Ended : ℕ → ℕ → BenchState → BenchState → Stop → Type 0
 Ended limit made s t why = EndsFor limit made t why × (is_idle s.calculator.mode ≡ false → Run limit s t made why)
 
--- where there is no reason to stop behind a step the run goes on, and else it ends there
+-- If there is no reason to stop after a step, the run continues; otherwise it ends there.
 on_behind : (limit made : ℕ) (s t : BenchState) → MakesSteps limit made s t → stop_at t ≡ None → is_idle s.calculator.mode ≡ false
     → GoesOn limit made s t
 on_behind limit made s t so_far stop running =
@@ -201,7 +201,7 @@ stops_behind limit made s t why so_far some stop =
       )
     ]
 
--- in front of the first step none is asked for
+-- Before the first step no reason is tested.
 at_first : (made : ℕ) (s t : BenchState) → nat_lt 0 made ≡ false → Steps made s t None → t ≡ s
 at_first zero s t none steps = steps.0
 at_first (suc made) s t none steps = absurd (omega (arith, ltb-false _ _ none))
@@ -227,13 +227,13 @@ stops limit made s t why so_far stop =
       | false ↦ λ none stop. let no : None ≡ Some why = stop in cc
     ] refl stop
 
--- the next step is refused
+-- The next step is refused.
 pub ends_at_refusal : (limit made : ℕ) (s t : BenchState) (why : CalculatorRefusal) → MakesSteps limit made s t
     → stop_behind (nat_lt 0 made) t ≡ None → made < limit → RefusesStep t.calculator (Some why) → Ended limit made s t (Refused why)
 ends_at_refusal limit made s t why so_far stop below refused =
     ((below, refused), λ running. ends_refused limit made s t why (goes_on limit made s t so_far stop running) below refused)
 
--- as many steps were made as may be
+-- As many steps were made as the limit permits.
 pub ends_limited : (limit made : ℕ) (s t : BenchState) → MakesSteps limit made s t → stop_behind (nat_lt 0 made) t ≡ None → made ≡ limit
     → is_idle s.calculator.mode ≡ false → Run limit s t made Limit
 ends_limited limit made s t so_far stop all running = ends_at_limit limit made s t (goes_on limit made s t so_far stop running) all
@@ -246,7 +246,7 @@ ends_made limit s t some so_far =
       | None ↦ λ is. (refl, λ running. ends_at_limit limit limit s t (on_behind limit limit s t so_far is running) refl)
     ] refl
 
--- what follows from why steps ended
+-- What follows from why steps ended.
 pub refused_for : (limit made : ℕ) (t : BenchState) (why : Stop) (refusal : CalculatorRefusal) → EndsFor limit made t why
     → why ≡ Refused refusal → (made < limit) × RefusesStep t.calculator (Some refusal)
 refused_for limit made t why refusal ends is = subst (EndsFor limit made t) is ends
@@ -258,7 +258,7 @@ some_made limit made t Break some ends other = ends
 some_made limit made t Limit some ends other = omega (arith, some, ends)
 some_made limit made t (Refused refusal) some ends other = absurd (other refusal refl)
 
--- numbers of which neither is below the other, and one that is below another or goes on from it
+-- Numbers of which neither is below the other, and a number that is below another or continues from it.
 equal_counts : (a b : ℕ) → (a < b → ⊥) → (b < a → ⊥) → a ≡ b
 equal_counts a b least most = omega (arith, least, most)
 
@@ -272,7 +272,7 @@ below_or_at : (a b : ℕ) → a < b + 1 → (a < b) ⊎ (a ≡ b)
 below_or_at a b under = elim (before_or_from a b) [ inl less ↦ inl less | inr from ↦ inr (omega (arith, from.1)) ]
 
 module _ (same_refusal : StepRefusalIsDetermined) (same_step : StepIsDetermined) where
-  -- where a step is made, there was no reason to stop
+  -- If a step is made, there was no reason to stop.
   none_here : (limit made : ℕ) (s t : BenchState) → GoesOn limit made s t → made < limit → RefusesStep t.calculator None
       → (other : Stop) → StopsFor limit made t other → ⊥
   none_here limit made s t on below accepted (Refused why) holds =
@@ -293,7 +293,7 @@ module _ (same_refusal : StepRefusalIsDetermined) (same_step : StepIsDetermined)
             (subst (λ (at : BenchState). StopsFor limit made at other) (sym here) (subst (λ k. StopsFor limit k u other) same holds))
       ]
 
-  -- one more step
+  -- One more step.
   pub made_more : (limit made : ℕ) (s t next : BenchState) → MakesSteps limit made s t → stop_behind (nat_lt 0 made) t ≡ None → made < limit
       → RefusesStep t.calculator None → Step t.calculator next.calculator → next ≡ with_calculator next.calculator t
       → MakesSteps limit (made + 1) s next
@@ -303,14 +303,14 @@ module _ (same_refusal : StepRefusalIsDetermined) (same_step : StepIsDetermined)
     before = λ running. none_more limit made s t (goes_on limit made s t so_far stop running) below accepted;
   }
 
-  -- a single step
+  -- A single step.
   pub step_is_run : StepIsRun
   step_is_run s next running accepted step =
       let after : BenchState = with_calculator next s in
       let so_far = made_more 1 0 s s after (made_none 1 s) refl (omega arith) accepted step refl in
       (unwrap_or (stop_at after) Limit, (ends_made 1 s after (omega arith) so_far).1 running)
 
-  -- one run and another from the same state
+  -- Two runs from the same state.
   same_stop : (limit made : ℕ) (t : BenchState) (why other : Stop) → turn_of why ≡ turn_of other → StopsFor limit made t why
       → StopsFor limit made t other → why ≡ other
   same_stop limit made t Idle Idle turn p q = refl
@@ -351,7 +351,7 @@ module _ (same_refusal : StepRefusalIsDetermined) (same_step : StepIsDetermined)
       let late : turn_of why < turn_of other → ⊥ = λ below. q.first why below there in
       (states, counts, same_stop limit made t why other (equal_counts (turn_of why) (turn_of other) late early) p.stops here)
 
-  -- two runs make one
+  -- Two runs make one.
   module _ (limit more : ℕ) (s t u : BenchState) (made count : ℕ) (why : Stop)
       (one : Run limit s t made Limit) (two : Run more t u count why) where
     onward : (k : ℕ) (x : BenchState) (other : Stop) → StopsFor more k x other → StopsFor (limit + more) (made + k) x other

@@ -1,4 +1,4 @@
--- How single steps follow one another, and why they leave nothing open.
+-- How single steps follow one another, and why a state determines their result.
 use Rattle.std.proofs.Common.{◌≡◌, ℕ, zero, suc, Option, Some, None, refl, sym, subst, ◌∙◌}
 use Rattle.std.specs.Prelude.{MatchOption}
 use Rattle.h41_xrom.specs.declared.refusal.CalculatorRefusal.{CalculatorRefusal}
@@ -7,7 +7,7 @@ use Rattle.h41_xrom.specs.CalculatorLaws.{StepIsDetermined, StepRefusalIsDetermi
 use Rattle.h41_debug.specs.Bench.{BenchState, Steps, StepsInto, with_calculator}
 use Rattle.h41_debug.specs.BenchLaws.{StepsAreDetermined}
 
--- a step that is refused ends them
+-- A refused step ends them.
 pub steps-refused : (left more : ℕ) (s : BenchState) (why : CalculatorRefusal) → left ≡ suc more → RefusesStep s.calculator (Some why)
     → Steps left s s (Some why)
 steps-refused left more s why size refused = rw size (Some why, refused, (refl, refl))

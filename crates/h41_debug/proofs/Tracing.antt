@@ -1,4 +1,4 @@
--- Traces: what comes next can always be told, in one way; a trace is its steps, and steps can be traced.
+-- Traces: every next step has exactly one description; a trace makes its steps, and steps have a trace.
 use Rattle.std.proofs.Common.{◌≡◌, ℕ, zero, suc, ◌++◌, Bool, true, false, List, [], Option, Some, None, Result, refl, sym, ap}
 use Rattle.std.proofs.Common.{subst, ◌∙◌}
 use Rattle.std.specs.Prelude.{MatchBool, MatchOption, codes}
@@ -35,7 +35,7 @@ pub traces_make : TracesAreSteps
 traces_make zero s t lines refusal p = (p.0, p.2)
 traces_make (suc count) s t lines refusal p = (p.4, p.5, made_after count (traces_make count) p.4 s t p.2 refusal p.6)
 
--- THE NEXT LINE CAN BE TOLD, since each position is read
+-- EVERY NEXT LINE HAS A DESCRIPTION, since every position can be read.
 module _ (each : EachIsRead) where
   line_told : (pages : PageMap) (memory : RegisterMap) (at : Position) → (text : List ℕ) × TellsLine pages memory at text
   line_told pages memory at =
@@ -56,7 +56,7 @@ module _ (each : EachIsRead) where
       let next = told_at (location_of s.calculator) s.calculator in
       (position_text s ++ codes " " ++ next.0, (next.0, next.1, refl))
 
-  -- and so can steps to their end
+  -- Steps have a trace.
   abbrev Told : ℕ → Type 0
   Told count =
       (s t : BenchState) (refusal : Option CalculatorRefusal) → Steps count s t refusal → (lines : List ℕ) × Traces count s t lines refusal
@@ -86,7 +86,7 @@ module _ (each : EachIsRead) where
   pub steps_traced : StepsAreTraced
   steps_traced count s t text refusal tells p = told_from count (all_told count) s t text refusal tells p
 
--- WHAT COMES NEXT IS TOLD IN ONE WAY
+-- EVERY NEXT STEP HAS ONLY ONE DESCRIPTION
 module _ (once : IsReadOnce) where
   same_told : (pages : PageMap) (memory : RegisterMap) (at : Position) (sound : Bool) (text other : List ℕ)
       → MatchBool sound ((answer : Result PlacedLine ProgramRefusal) × LineAt pages memory at answer × (text ≡ line_or_unknown answer))
@@ -106,7 +106,7 @@ module _ (once : IsReadOnce) where
       p.2 ∙ ap (λ (next : List ℕ). position_text s ++ codes " " ++ next) (same_at (location_of s.calculator) s.calculator p.0 q.0 p.1 q.1)
       ∙ sym q.2
 
-  -- and so is a trace
+  -- Steps have only one trace.
   module _ (same_refusal : StepRefusalIsDetermined) (same_step : StepIsDetermined) where
     abbrev Same : ℕ → Type 0
     Same count =

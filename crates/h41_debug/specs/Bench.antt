@@ -12,34 +12,34 @@ use Rattle.h41_breakpoints.specs.declared.location.Location.{Location}
 -- The state of the bench.
 pub record BenchState : Type 0 where
   pub calculator : CalculatorState
-  -- those that are set
+  -- The breakpoints that are set.
   pub breakpoints : BreakpointSet
 
--- the calculator's start with so many registers of main memory, and no breakpoints
+-- The initial state of a calculator with so many main registers, without breakpoints.
 abbrev pub start : ℕ → BenchState
 start registers = record {
   calculator = calculator.start registers;
   breakpoints = no_breakpoints;
 }
 
--- the bench with another calculator
+-- The bench with another calculator.
 abbrev pub with_calculator : CalculatorState → BenchState → BenchState
 with_calculator c s = record s { calculator = c }
 
--- with a breakpoint that is set
+-- The bench with one more breakpoint.
 abbrev pub with_set : Location → BenchState → BenchState
 with_set location s = record s { breakpoints = with_breakpoint location s.breakpoints }
 
--- with a breakpoint that is taken away
+-- The bench without this breakpoint.
 abbrev pub without_set : Location → BenchState → BenchState
 without_set location s = record s { breakpoints = without_breakpoint location s.breakpoints }
 
--- a single step is made, and what it leaves is in this relation
+-- A single step is made, and the state after it is in this relation.
 abbrev pub StepsInto : (BenchState → Type 0) → BenchState → Type 0
 StepsInto holds s =
     (next : CalculatorState) × Step s.calculator next × holds (with_calculator next s)
 
--- so many single steps, up to the first that is refused, and its refusal
+-- So many single steps, up to the first that is refused, and its refusal.
 abbrev pub Steps : ℕ → BenchState → BenchState → Option CalculatorRefusal → Type 0
 Steps zero s t refusal = (t ≡ s) × (refusal ≡ None)
 Steps (suc count) s t refusal =
@@ -47,7 +47,7 @@ Steps (suc count) s t refusal =
     × MatchOption why (StepsInto (λ next. Steps count next t refusal) s)
     (λ why. (t ≡ s) × (refusal ≡ Some why))
 
--- keys in turn, up to the first that is refused, and its refusal; that key changes nothing
+-- Keys in turn, up to the first that is refused, and its refusal. The refused key changes nothing.
 abbrev pub PressesInTurn : List Key → BenchState → BenchState → Option CalculatorRefusal → Type 0
 PressesInTurn [] s t refusal = (t ≡ s) × (refusal ≡ None)
 PressesInTurn (key ∷ keys) s t refusal =

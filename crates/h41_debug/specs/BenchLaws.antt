@@ -9,45 +9,46 @@ use Rattle.h41_debug.specs.Traces.{TellsStep, Traces, traced_line}
 use Rattle.h41_debug.specs.declared.run.Stop.{Stop}
 use Rattle.h41_debug.specs.declared.run.Stop.TheVariants.{Limit, Refused}
 
--- so many steps leave one state, and have one refusal or none
+-- A state determines the state after so many steps, and their refusal.
 abbrev pub StepsAreDetermined : Type 0
 StepsAreDetermined =
     (count : ℕ) (s t u : BenchState) (refusal other : Option CalculatorRefusal)
     → Steps count s t refusal → Steps count s u other → (t ≡ u) × (refusal ≡ other)
 
--- keys in turn leave one state, and have one refusal or none
+-- A state determines the state after keys in turn, and their refusal.
 abbrev pub PressesAreDetermined : Type 0
 PressesAreDetermined =
     (keys : List Key) (s t u : BenchState) (refusal other : Option CalculatorRefusal)
     → PressesInTurn keys s t refusal → PressesInTurn keys s u other → (t ≡ u) × (refusal ≡ other)
 
--- a run makes one number of steps, leaves one state, and stops for one reason
+-- A state determines how many steps its run makes, the state after it, and why it stops.
 abbrev pub RunsAreDetermined : Type 0
 RunsAreDetermined =
     (limit : ℕ) (s t u : BenchState) (made count : ℕ) (why other : Stop)
     → Run limit s t made why → Run limit s u count other → (t ≡ u) × (made ≡ count) × (why ≡ other)
 
--- where a run ended by its limit, one that goes on from there makes it one run of both limits
+-- A run that ended at its limit, and a run that continues from there, are together one run with the
+-- sum of the limits.
 abbrev pub RunsAddUp : Type 0
 RunsAddUp =
     (limit more : ℕ) (s t u : BenchState) (made count : ℕ) (why : Stop)
     → Run limit s t made Limit → Run more t u count why → Run (limit + more) s u (made + count) why
 
--- where something runs, a single step is a run of one step, whatever that one stops for; and a step
--- that is refused is a run of none
+-- If something runs, a single step is a run of one step, whatever that run stops for.
 abbrev pub StepIsRun : Type 0
 StepIsRun =
     (s : BenchState) (next : CalculatorState) → is_idle s.calculator.mode ≡ false
     → RefusesStep s.calculator None → Step s.calculator next
     → (why : Stop) × Run 1 s (with_calculator next s) 1 why
 
+-- If something runs, a refused step is a run of no step.
 abbrev pub RefusedStepIsRun : Type 0
 RefusedStepIsRun =
     (s : BenchState) (why : CalculatorRefusal) → is_idle s.calculator.mode ≡ false
     → RefusesStep s.calculator (Some why)
     → Run 1 s s 0 (Refused why)
 
--- a trace has one text, leaves one state, and has one refusal or none
+-- A state determines the text of its trace, the state after it, and its refusal.
 abbrev pub TracesAreDetermined : Type 0
 TracesAreDetermined =
     (count : ℕ) (s t u : BenchState) (lines text : List ℕ)
@@ -55,19 +56,18 @@ TracesAreDetermined =
     → Traces count s t lines refusal → Traces count s u text other
     → (t ≡ u) × (lines ≡ text) × (refusal ≡ other)
 
--- what comes next can be told of every state
+-- The next step of every state can be described.
 abbrev pub StatesAreTold : Type 0
 StatesAreTold = (s : BenchState) → (text : List ℕ) × TellsStep s text
 
--- steps that were begun can be told to their end: there is a trace of them, with this text before
--- the first
+-- Steps that were made have a trace, whose first line describes the first step.
 abbrev pub StepsAreTraced : Type 0
 StepsAreTraced =
     (count : ℕ) (s t : BenchState) (text : List ℕ) (refusal : Option CalculatorRefusal)
     → TellsStep s text → Steps (suc count) s t refusal
     → (rest : List ℕ) × Traces (suc count) s t (traced_line text ++ rest) refusal
 
--- a trace makes so many steps
+-- A trace makes its steps.
 abbrev pub TracesAreSteps : Type 0
 TracesAreSteps =
     (count : ℕ) (s t : BenchState) (lines : List ℕ) (refusal : Option CalculatorRefusal)

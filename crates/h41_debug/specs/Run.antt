@@ -8,31 +8,31 @@ use Rattle.h41_debug.specs.Positions.{location_of}
 use Rattle.h41_debug.specs.declared.run.Stop.{Stop}
 use Rattle.h41_debug.specs.declared.run.Stop.TheVariants.{Break, Idle, Limit, Refused}
 
--- a reason to stop after so many steps of at most so many
+-- A reason to stop after a number of steps, of at most a limit.
 abbrev pub StopsFor : ℕ → ℕ → BenchState → Stop → Type 0
--- nothing runs
+-- Nothing runs.
 StopsFor limit made s Idle = IsTrue (is_idle s.calculator.mode)
--- a breakpoint is set where the calculator is; where a run begins none is asked for
+-- A breakpoint is set where the calculator is; it does not count where a run begins.
 StopsFor limit made s Break = (1 ≤ made) × IsTrue (is_set s.breakpoints (location_of s.calculator))
--- these are all the steps that may be made
+-- The limit is reached.
 StopsFor limit made s Limit = made ≡ limit
--- the next step is refused
+-- The next step is refused.
 StopsFor limit made s (Refused refusal) = RefusesStep s.calculator (Some refusal)
 
--- in which order the reasons are asked for
+-- The order in which the reasons are tested.
 abbrev pub turn_of : Stop → ℕ
 turn_of Idle = 0
 turn_of Break = 1
 turn_of Limit = 2
 turn_of (Refused refusal) = 3
 
--- a run of at most so many steps: from s it makes some and ends in t, for this reason
+-- A run of at most so many steps: from s it makes some and ends in t, for this reason.
 pub record Run (limit : ℕ) (s t : BenchState) (made : ℕ) (why : Stop) : Type 0 where
-  -- it leaves what these single steps leave, none of them refused
+  -- It makes these single steps, none of which is refused.
   pub steps : Steps made s t None
-  -- there is this reason to stop, and none that is asked for before
+  -- It stops for this reason, and for none that is tested before.
   pub stops : StopsFor limit made t why
   pub first : (other : Stop) → turn_of other < turn_of why → StopsFor limit made t other → ⊥
-  -- there was none after fewer steps
+  -- There was no reason to stop after fewer steps.
   pub least : (fewer : ℕ) (u : BenchState) (other : Stop) → fewer < made → Steps fewer s u None
       → StopsFor limit fewer u other → ⊥

@@ -1,4 +1,4 @@
-//! The bench: the calculator, and what its user may do with it.
+//! The bench: the calculator, with breakpoints.
 
 ghost use Rattle.std.specs.Prelude.{◌≡◌, ◌≤◌, IfOk, OnErr, OnOk, is_err};
 ghost use Rattle.std.specs.FinSet.{len};
@@ -20,7 +20,7 @@ use h41_xrom::{Calculator, CalculatorRefusal, Caller, Mode};
 use std::alloc::{AllocError, Global};
 use std::marker::Model;
 
-/// The bench: the calculator, with `REGS` registers of main memory, 64 to 320, and what its user may do with it.
+/// The bench: a calculator with `REGS` main registers, 64 to 320, and the breakpoints that its user has set.
 #[derive(Drop)]
 pub struct Bench<const REGS: usize> {
     calculator: Calculator<REGS>,
@@ -45,7 +45,11 @@ impl<const REGS: usize> Model for Bench<REGS> {
 impl<const REGS: usize> Bench<REGS> {
     ghost use Rattle.h41_debug.specs.Lending.{LendsCalculator};
 
-    /// Nothing is plugged, nothing runs, and no breakpoint is set. 21 where memory is refused.
+    /// Returns a bench in its initial state: nothing is plugged, nothing runs, and no breakpoint is set.
+    ///
+    /// # Errors
+    ///
+    /// OutOfMemory (21) if allocation failed.
     pub fn new(alloc: Global) -> Result<Self, AllocError>
         requires at_least { 64 ≤ REGS }
         requires at_most { REGS ≤ 320 }
@@ -58,14 +62,14 @@ impl<const REGS: usize> Bench<REGS> {
         })
     }
 
-    /// The calculator, for reading.
+    /// Returns the calculator, for reading.
     pub fn calculator(&self) -> &Calculator<REGS>
         ensures { result.now ≡ self.now.calculator }
     {
         &self.calculator
     }
 
-    /// The calculator, for calls that change it.
+    /// Returns the calculator, for calls that change it.
     pub fn calculator_mut(&mut self) -> &mut Calculator<REGS>
         ensures* writes_back { sem 𝓛 (LendsCalculator REGS.row self.entry result) }
         ensures value { result.now ≡ self.old.calculator }
@@ -73,7 +77,7 @@ impl<const REGS: usize> Bench<REGS> {
         &mut self.calculator
     }
 
-    /// Where the calculator is: before the next word while a function runs, else before the line at its position.
+    /// Returns where the calculator is: before the next word while a function runs, otherwise before the line at its position.
     pub fn location(&self) -> Location
         ensures { result ≡ location_of self.now.calculator }
     {
@@ -83,7 +87,11 @@ impl<const REGS: usize> Bench<REGS> {
         }
     }
 
-    /// One single step. What is refused changes nothing.
+    /// Makes one single step.
+    ///
+    /// # Errors
+    ///
+    /// A word: 06 to 12. A line: MemoryLost (15), BrokenProgram (14) or NotInProfile (13). Nothing is changed then.
     pub fn step(&mut self) -> Result<(), CalculatorRefusal>
         ensures refusal { RefusesStep self.old.calculator (result_err result) }
         ensures change { OnOk result (Step self.old.calculator self.new.calculator) }
@@ -97,8 +105,8 @@ impl<const REGS: usize> Bench<REGS> {
         Ok(())
     }
 
-    /// One word, while a function runs, as a single step; tells whether the function still runs. Inlined, so that the loop over words
-    /// has it in one piece.
+    /// Executes one word while a function runs, as a single step, and returns whether the function still runs. It is inlined so
+    /// that the loop over words is compiled as one piece.
     #[inline(always)]
     pub(crate) fn step_word(&mut self, caller: Caller) -> Result<bool, CalculatorRefusal>
         requires { self.old.calculator.mode ≡ Micro caller }
@@ -111,7 +119,7 @@ impl<const REGS: usize> Bench<REGS> {
         self.calculator.step_word(caller)
     }
 
-    /// The line at the position, as a single step while no function runs.
+    /// Executes the line at the position, as a single step while no function runs.
     #[inline(always)]
     pub(crate) fn step_line(&mut self) -> Result<(), CalculatorRefusal>
         ensures refusal { RefusesLine self.old.calculator (result_err result) }
@@ -122,7 +130,11 @@ impl<const REGS: usize> Bench<REGS> {
         self.calculator.step_line()
     }
 
-    /// So many single steps, up to the first that is refused.
+    /// Makes so many single steps, up to the first that is refused.
+    ///
+    /// # Errors
+    ///
+    /// Those of `step`. The refused step changes nothing; the steps before it remain made.
     pub fn steps(&mut self, count: u32) -> Result<(), CalculatorRefusal>
         ensures { Steps count self.old self.new (result_err result) }
     {
@@ -138,6 +150,11 @@ impl<const REGS: usize> Bench<REGS> {
     }
 
     /// Presses keys in turn, up to the first that is refused.
+    ///
+    /// # Errors
+    ///
+    /// KeyNotHeld (18), MemoryLost (15), BrokenProgram (14), NotInProfile (13) or NoRoom (16). The refused key changes nothing;
+    /// the keys before it remain pressed.
     pub fn press(&mut self, keys: &[Key]) -> Result<(), CalculatorRefusal>
         ensures { PressesInTurn keys.now self.old self.new (result_err result) }
     {
@@ -147,14 +164,14 @@ impl<const REGS: usize> Bench<REGS> {
         Ok(())
     }
 
-    /// Whether a breakpoint is set.
+    /// Returns whether a breakpoint is set at a location.
     pub fn has_breakpoint(&self, location: Location) -> bool
         ensures { result ≡ is_set self.now.breakpoints location }
     {
         self.breakpoints.contains(location)
     }
 
-    /// How many breakpoints are set: 16 at most.
+    /// Returns how many breakpoints are set, at most 16.
     pub fn breakpoint_count(&self) -> usize
         ensures count { result ≡ len self.now.breakpoints }
         ensures most { result ≤ most_breakpoints }
@@ -162,7 +179,11 @@ impl<const REGS: usize> Bench<REGS> {
         self.breakpoints.count()
     }
 
-    /// Sets a breakpoint; one that is set stays so. 19 where it is not, and 16 others are; nothing is changed then.
+    /// Sets a breakpoint. If it is set already, nothing changes.
+    ///
+    /// # Errors
+    ///
+    /// BreakFull (19) if 16 others are set. Nothing is changed then.
     pub fn break_at(&mut self, location: Location) -> Result<(), BreakFull>
         ensures refusal { is_err result ≡ refuses_breakpoint self.old.breakpoints location }
         ensures change { OnOk result (self.new ≡ with_set location self.old) }
@@ -171,7 +192,11 @@ impl<const REGS: usize> Bench<REGS> {
         self.breakpoints.insert(location)
     }
 
-    /// Takes a breakpoint away. 20 where it is not set; nothing is changed then.
+    /// Removes a breakpoint.
+    ///
+    /// # Errors
+    ///
+    /// NoBreak (20) if it is not set. Nothing is changed then.
     pub fn unbreak(&mut self, location: Location) -> Result<(), NoBreak>
         ensures refusal { is_err result ≡ lacks_breakpoint self.old.breakpoints location }
         ensures change { OnOk result (self.new ≡ without_set location self.old) }

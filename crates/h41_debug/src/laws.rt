@@ -1,4 +1,5 @@
-//! Laws of the bench: each is the contract of a function with nothing to do but to call the laws it rests on.
+//! Laws of the bench. Each law is the contract of a function whose body only calls the laws that it depends
+//! on.
 
 ghost use Rattle.h41_debug.specs.BenchLaws.{PressesAreDetermined, RefusedStepIsRun, RunsAddUp};
 ghost use Rattle.h41_debug.specs.BenchLaws.{RunsAreDetermined, StatesAreTold, StepIsRun};
@@ -8,35 +9,39 @@ ghost use Rattle.h41_debug.specs.BenchLaws.{TracesAreDetermined, TracesAreSteps}
 use h41_positions::laws::positions_are_read;
 use h41_xrom::laws::{key_is_determined, step_is_determined};
 
-/// So many single steps are determined: whether one is refused, its refusal, and the state that they leave.
+/// States that a state determines its single steps: whether one is refused, as what, and the state after
+/// them.
 pub fn steps_are_determined()
     ensures { StepsAreDetermined }
 {
     step_is_determined();
 }
 
-/// Keys in turn are determined: whether one is refused, its refusal, and the state that they leave.
+/// States that a state determines the result of keys in turn: whether one is refused, as what, and the state
+/// after them.
 pub fn presses_are_determined()
     ensures { PressesAreDetermined }
 {
     key_is_determined();
 }
 
-/// A run is determined: how many steps it makes, the state that it leaves, and why it stops.
+/// States that a state determines its run: how many steps it makes, the state after it, and why it stops.
 pub fn runs_are_determined()
     ensures { RunsAreDetermined }
 {
     step_is_determined();
 }
 
-/// Where a run ended by its limit, one that goes on from there makes the two one run of both limits.
+/// States that a run that ended at its limit, and a run that continues from there, are together one run with
+/// the sum of the limits.
 pub fn runs_add_up()
     ensures { RunsAddUp }
 {
     step_is_determined();
 }
 
-/// A single step is a run of one step, where something runs; one that is refused is a run of none.
+/// States that a single step is a run of one step, if something runs, and that a refused step is a run of no
+/// step.
 pub fn step_is_a_run()
     ensures made { StepIsRun }
     ensures refused { RefusedStepIsRun }
@@ -44,7 +49,8 @@ pub fn step_is_a_run()
     step_is_determined();
 }
 
-/// A trace is determined: its lines, the state that it leaves, whether a step is refused, and as what.
+/// States that a state determines its trace: the lines, the state after it, and whether a step is refused,
+/// and as what.
 pub fn traces_are_determined()
     ensures { TracesAreDetermined }
 {
@@ -52,7 +58,7 @@ pub fn traces_are_determined()
     positions_are_read();
 }
 
-/// What comes next can be told of every state, and steps that were begun can be traced to their end.
+/// States that the next step of every state can be described, and that steps which were made have a trace.
 pub fn steps_are_traced()
     ensures told { StatesAreTold }
     ensures traced { StepsAreTraced }
@@ -60,7 +66,7 @@ pub fn steps_are_traced()
     positions_are_read();
 }
 
-/// A trace makes its steps, and leaves what they leave.
+/// States that a trace makes its steps, and leaves the state that they leave.
 pub fn traces_are_steps()
     ensures { TracesAreSteps }
 {}

@@ -1,4 +1,5 @@
-//! What a user may do with the calculator: single steps, keys in turn, runs up to a breakpoint, and where it is.
+//! What a user can do with the calculator besides its own functions: single steps, keys in turn, runs up to a
+//! breakpoint, traces, and asking where it is.
 #![tactic(auto)]
 
 mod bench;

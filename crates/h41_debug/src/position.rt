@@ -11,12 +11,13 @@ use h41_positions::Position;
 use h41_views::byte_digits;
 use h41_xrom::Mode;
 
-/// The most bytes of a mode, a blank, and `P` with four digits.
+/// The most bytes of the text: a mode of at most 5, a space, and `P` with four digits.
 const CAPACITY: usize = 11;
 
 impl<const REGS: usize> Bench<REGS> {
-    /// `Micro` and the address of the next word while a function runs, else `Run` or `Idle` and the position in program memory, or `P`
-    /// and the address of the next line in a page. Addresses are hexadecimal. The form is this project's choice.
+    /// Returns the mode and where the calculator is: `Micro` and the address of the next word while a function runs; otherwise
+    /// `Run` or `Idle`, and the position in program memory, or `P` and the address of the next line in a page. Addresses are
+    /// hexadecimal, positions in memory are decimal. For example `Run P6003`. The form is this project's choice.
     pub fn position(&self) -> ArrayString<CAPACITY>
         ensures { result.bytes ≡ spec.position_text self.now }
     {
@@ -28,7 +29,7 @@ impl<const REGS: usize> Bench<REGS> {
     }
 }
 
-/// The name of a mode.
+/// Returns the name of a mode: `Idle`, `Run` or `Micro`.
 fn mode_name(mode: Mode) -> &'static str
     ensures text { result.now ≡ spec.mode_name mode }
     ensures short { length result.now ≤ 5 }
@@ -40,7 +41,8 @@ fn mode_name(mode: Mode) -> &'static str
     }
 }
 
-/// The digits of a location: those of an address, for a line of a page behind `P`, or the last four of a byte of program memory.
+/// Returns the digits of a location: those of an address, for a line of a page after `P`, or those of a position in program
+/// memory.
 fn location_digits(location: Location) -> ArrayString<5>
     ensures { result.bytes ≡ spec.location_digits location }
 {

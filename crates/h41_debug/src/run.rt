@@ -21,16 +21,16 @@ pub enum Stop {
     Idle,
     /// A breakpoint is set where the calculator is.
     Break,
-    /// As many steps were made as may be.
+    /// As many steps were made as the limit permits.
     Limit,
     /// The next step is refused.
     Refused(CalculatorRefusal),
 }
 
 impl<const REGS: usize> Bench<REGS> {
-    /// Single steps, at most `limit`, up to the first reason to stop, which are asked for in this order: nothing runs, a breakpoint is set
-    /// where the calculator then is, `limit` steps were made, the next step is refused. Tells how many steps were made, and the
-    /// reason. A breakpoint where the run begins does not stop it; a step that is refused changes nothing.
+    /// Makes single steps, at most `limit`, up to the first reason to stop. The reasons are tested in this order: nothing runs, a
+    /// breakpoint is set where the calculator is, `limit` steps were made, the next step is refused. Returns how many steps were
+    /// made, and the reason. A breakpoint where the run begins does not stop it. A refused step changes nothing.
     pub fn run(&mut self, limit: u32) -> (u32, Stop)
         ensures { Run limit self.old self.new result.0 result.1 }
     {
@@ -43,8 +43,8 @@ impl<const REGS: usize> Bench<REGS> {
         self.advance(limit)
     }
 
-    /// One single step whatever is there, and more of them up to the first reason to stop: a run, where something runs. All single
-    /// steps are made here.
+    /// Makes one single step in any state, and further ones up to the first reason to stop. If something runs, this is a run. All
+    /// single steps are made here.
     pub(crate) fn advance(&mut self, limit: u32) -> (u32, Stop)
         requires some { 1 ≤ limit }
         ensures most { result.0 ≤ limit }
@@ -69,8 +69,8 @@ impl<const REGS: usize> Bench<REGS> {
         }
     }
 
-    /// Where there is no reason to stop: the next words of a function, or the next lines. Tells how many steps are made then, and why the
-    /// next is refused.
+    /// Executes the next words of a function, or the next lines, if there is no reason to stop. Returns how many steps are made
+    /// then, and why the next one is refused, if it is.
     fn go_on(&mut self, from: u32, limit: u32, watched: bool) -> (u32, Option<CalculatorRefusal>)
         requires below { from < limit }
         requires clear { stop_behind (nat_lt 0 from) self.old ≡ None }
@@ -83,8 +83,8 @@ impl<const REGS: usize> Bench<REGS> {
         self.lines(from, limit, watched)
     }
 
-    /// The same, while a function runs: words up to the limit, to the function's end, to one where a breakpoint is set, or to one that is
-    /// refused. The machine code of words stands in this loop alone.
+    /// Executes words while a function runs: up to the limit, to the end of the function, to a breakpoint, or to a word that is
+    /// refused. The machine code of words is in this loop only.
     #[inline(never)]
     fn words(
         &mut self,
@@ -118,7 +118,7 @@ impl<const REGS: usize> Bench<REGS> {
         (limit, None)
     }
 
-    /// Where the calculator is while a function runs, with no look at its mode.
+    /// Returns where the calculator is while a function runs, without testing its mode.
     #[inline(always)]
     fn word_location(&self) -> Location
         requires { runs_function self.now.calculator.mode ≡ true }
@@ -127,8 +127,8 @@ impl<const REGS: usize> Bench<REGS> {
         Location::Word(self.calculator().cpu().pc())
     }
 
-    /// The same, while no function runs: lines up to the limit, to one behind which no program runs or a breakpoint is set, or to one that
-    /// is refused.
+    /// Executes lines while no function runs: up to the limit, to a line after which no program runs or a breakpoint is set, or
+    /// to a line that is refused.
     #[inline(never)]
     fn lines(&mut self, from: u32, limit: u32, watched: bool) -> (u32, Option<CalculatorRefusal>)
         requires below { from < limit }
@@ -155,8 +155,8 @@ impl<const REGS: usize> Bench<REGS> {
         (limit, None)
     }
 
-    /// Why a run stops, whatever its limit: for nothing in front of its first step. Breakpoints are
-    /// asked for where the run is watched, and else none is set.
+    /// Returns why a run stops, apart from its limit: before its first step for no reason. Breakpoints are tested only if the run
+    /// is watched; otherwise none is set.
     #[inline(always)]
     fn stop(&self, behind: bool, watched: bool) -> Option<Stop>
         requires { watched ≡ false → len self.now.breakpoints ≡ 0 }
@@ -171,8 +171,7 @@ impl<const REGS: usize> Bench<REGS> {
         }
     }
 
-    /// Why a run stops where something runs. No breakpoint is asked for where the run is not watched,
-    /// since none is set.
+    /// Returns why a run stops while something runs. Breakpoints are tested only if the run is watched; otherwise none is set.
     #[inline(always)]
     fn stop_at_breakpoint(&self, watched: bool) -> Option<Stop>
         requires { watched ≡ false → len self.now.breakpoints ≡ 0 }
@@ -188,7 +187,7 @@ impl<const REGS: usize> Bench<REGS> {
     }
 }
 
-/// Where breakpoints are asked for next: behind one step more where a run is watched, and else behind its last.
+/// Returns after how many steps breakpoints are tested next: after one more if the run is watched, otherwise after the last.
 #[inline(always)]
 fn next_look(made: u32, limit: u32, watched: bool) -> u32
     requires { made < limit }

@@ -1,4 +1,4 @@
-//! What a trace tells of the next step.
+//! The line that a trace prints before each step.
 
 ghost use Rattle.std.specs.Prelude.{◌≡◌};
 ghost use Rattle.h41_debug.specs.Traces as spec;
@@ -18,15 +18,15 @@ use h41_xrom::Calculator;
 /// The most bytes of the text of an instruction or a line.
 const NEXT: usize = 51;
 
-/// The most bytes that a trace tells of a step: a position of 11, a blank, and what comes next.
+/// The most bytes that a trace prints for a step: a position of 11, a space, and what is executed next, at most 51.
 pub const TRACE_CAPACITY: usize = 63;
 
-/// What stands for an instruction or a line that cannot be read.
+/// The text of an instruction or a line that cannot be read.
 const UNKNOWN: &str = "?";
 
 impl<const REGS: usize> Bench<REGS> {
-    /// What a trace tells of the next step: where the calculator is, a blank, and the text of the next instruction or line. `?` stands
-    /// for one that cannot be read, also where the second word of an instruction cannot be.
+    /// Returns what a trace prints for the next step: where the calculator is, a space, and the text of the next instruction or
+    /// line. The text is `?` if the line, or a word of the instruction, cannot be read.
     pub fn trace_line(&self) -> ArrayString<TRACE_CAPACITY>
         ensures { TellsStep self.now result.bytes }
     {
@@ -38,7 +38,7 @@ impl<const REGS: usize> Bench<REGS> {
     }
 }
 
-/// The text of what stands at a location: of an instruction, or a line.
+/// Returns the text of the instruction or the line at a location.
 fn text_at<const REGS: usize>(
     calculator: &Calculator<REGS>,
     location: Location,
@@ -51,7 +51,7 @@ fn text_at<const REGS: usize>(
     }
 }
 
-/// The text of the line at a position.
+/// Returns the text of the line at a position, `?` if it cannot be read.
 fn line_text<const REGS: usize>(
     ram: &Ram<REGS>,
     pages: &Pages,
@@ -71,7 +71,7 @@ fn line_text<const REGS: usize>(
     text
 }
 
-/// The text of the instruction at an address.
+/// Returns the text of the instruction at an address, `?` if it cannot be read.
 fn instruction_text(pages: &Pages, address: u16) -> ArrayString<NEXT>
     ensures { result.bytes ≡ spec.instruction_at pages.now address }
 {
@@ -87,7 +87,7 @@ fn instruction_text(pages: &Pages, address: u16) -> ArrayString<NEXT>
     text
 }
 
-/// The text of an instruction of two words, by what was fetched of its second.
+/// Returns the text of an instruction of two words, `?` if the second cannot be read.
 fn with_second(first: Word, second: Result<Word, FetchRefusal>) -> ArrayString<32>
     ensures { result.bytes ≡ spec.with_second first second }
 {

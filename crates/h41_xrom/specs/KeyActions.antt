@@ -227,8 +227,8 @@ is_final (Ok first) = is_final_end first.line
 is_final (Err refusal) = false
 
 -- GTO . . puts an END into memory if the last program has lines and no END of its own. If memory is
--- not sound, or its chain of labels and ENDs does not reach .END., it puts none; the key is then refused as
--- elsewhere.
+-- not sound, or its chain of labels and ENDs does not reach .END., it puts none; the key is then
+-- refused as elsewhere.
 abbrev pub puts_end : Result Bool ProgramRefusal → Bool
 puts_end last = result_unwrap_or last false
 

@@ -1,5 +1,4 @@
--- What the loops of all single steps promise one another. A reader of the promises can leave it
--- out.
+-- What the loops that make single steps promise one another. No public contract needs this file.
 use Rattle.std.specs.Prelude.{◌≡◌, ◌<◌, ◌≤◌, ℕ, false, nat_lt, Option, Some, None, MatchOption}
 use Rattle.h41_xrom.specs.declared.refusal.CalculatorRefusal.{CalculatorRefusal}
 use Rattle.h41_xrom.specs.Calculator.{RefusesStep, is_idle}
@@ -9,38 +8,38 @@ use Rattle.h41_debug.specs.private.Running.{stop_behind}
 use Rattle.h41_debug.specs.declared.run.Stop.{Stop}
 use Rattle.h41_debug.specs.declared.run.Stop.TheVariants.{Break, Idle, Limit, Refused}
 
--- what holds where something runs
+-- Something holds if something runs.
 abbrev pub IfRunning : BenchState → Type 0 → Type 0
 IfRunning s holds = is_idle s.calculator.mode ≡ false → holds
 
--- no reason to stop after fewer steps
+-- There was no reason to stop after fewer steps.
 abbrev pub NoneBefore : ℕ → ℕ → BenchState → Type 0
 NoneBefore limit made s =
     (fewer : ℕ) (u : BenchState) (other : Stop) → fewer < made → Steps fewer s u None
     → StopsFor limit fewer u other → ⊥
 
--- so many steps were made, the first of them whatever was there; where something ran, there was no
--- reason to stop after fewer
+-- So many steps were made, the first of them in any state. If something ran, there was no reason to
+-- stop after fewer.
 pub record MakesSteps (limit made : ℕ) (s t : BenchState) : Type 0 where
   pub steps : Steps made s t None
   pub before : IfRunning s (NoneBefore limit made s)
 
--- why such steps end after so many, of at most so many
+-- Why such steps end after so many, of at most a limit.
 abbrev pub EndsFor : ℕ → ℕ → BenchState → Stop → Type 0
 EndsFor limit made t Idle = 1 ≤ made
 EndsFor limit made t Break = 1 ≤ made
 EndsFor limit made t Limit = made ≡ limit
 EndsFor limit made t (Refused refusal) = (made < limit) × RefusesStep t.calculator (Some refusal)
 
--- so many steps were made, and there is no reason to stop; but the next one is refused
+-- So many steps were made, there is no reason to stop, but the next step is refused.
 abbrev pub IsRefused : ℕ → ℕ → BenchState → CalculatorRefusal → Type 0
 IsRefused limit made t refusal =
     (made < limit)
     × (stop_behind (nat_lt 0 made) t ≡ None)
     × RefusesStep t.calculator (Some refusal)
 
--- steps that go on from some, of which the last left s: as many are made then as `made` says, and
--- the last of them leaves t; one more at least, but where it is refused
+-- Steps that continue after others, of which the last left s: `made` steps are made then, and the
+-- last of them leaves t. There is at least one more, unless it is refused.
 pub record Advances (limit from : ℕ) (s : BenchState) (made : ℕ)
     (t : BenchState) (refusal : Option CalculatorRefusal) : Type 0 where
   pub most : made ≤ limit

@@ -7,7 +7,7 @@ use Rattle.h41_debug.specs.declared.run.Stop.TheVariants.{Refused}
 use Rattle.h41_debug.proofs.Runs.{Ended, ends_at_refusal, ends_limited, stops}
 use Rattle.h41_debug.proofs.bench.Bench.advance.Goals as goal
 
--- what the end of a piece of steps says
+-- The result of the end of a piece of steps.
 module _ (limit from made : ℕ) (t : BenchState) (why : Option CalculatorRefusal)
     (ends : MatchOption why (from < made) (IsRefused limit made t)) where
   made_some : why ≡ None → from < made

@@ -3,7 +3,7 @@ use Rattle.std.specs.FinSet.{len}
 use Rattle.h41_debug.specs.private.Advancing.{MakesSteps}
 use Rattle.h41_debug.proofs.bench.Bench.advance.Given as goal
 
--- so many steps were made, and where breakpoints are not asked for none is set
+-- So many steps were made, and if breakpoints are not tested, none is set.
 abbrev pub invariant-loop-stop : goal.invariant-loop-stop
 invariant-loop-stop g l =
     MakesSteps l.fn.limit l.made l.fn.self l.self × (l.made ≤ l.fn.limit) × (l.watched ≡ false → len l.self.breakpoints ≡ 0)

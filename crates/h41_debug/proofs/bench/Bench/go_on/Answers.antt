@@ -5,7 +5,7 @@ use Rattle.h41_debug.proofs.Advancing.{no_function}
 use Rattle.h41_debug.specs.private.Running.{runs_function}
 use Rattle.h41_debug.proofs.bench.Bench.go_on.Goals as goal
 
--- the mode that was told
+-- The mode that was returned.
 mode_of : (m : Mode) (told s : CalculatorState) → m ≡ told.mode → told ≡ s → m ≡ s.mode
 mode_of m told s is same = is ∙ ap (λ (at : CalculatorState). at.mode) same
 

@@ -7,7 +7,7 @@ use Rattle.h41_debug.specs.Bench.{BenchState}
 use Rattle.h41_debug.specs.Positions.{location_digits, location_of, mode_name, position_text}
 use Rattle.h41_debug.proofs.bench.Bench.position.Goals as goal
 
--- the room for the parts
+-- The room for the parts.
 module _ (none name : List ℕ) (empty : none ≡ []) (short : length name ≤ 5) where
   room_name : length none + length name ≤ 11
   room_name = rw empty (omega (arith, short))

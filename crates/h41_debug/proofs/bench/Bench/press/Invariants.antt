@@ -3,7 +3,7 @@ use Rattle.h41_xrom.specs.declared.refusal.CalculatorRefusal.{CalculatorRefusal}
 use Rattle.h41_debug.specs.Bench.{BenchState, PressesInTurn}
 use Rattle.h41_debug.proofs.bench.Bench.press.Given as goal
 
--- the keys that are left, from here on, are the keys from the start on
+-- The remaining keys, from here on, have the same result as all keys from the start on.
 abbrev pub invariant-loop-key : goal.invariant-loop-key
 invariant-loop-key g l =
     (t : BenchState) (refusal : Option CalculatorRefusal)

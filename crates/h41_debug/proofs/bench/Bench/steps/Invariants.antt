@@ -3,7 +3,7 @@ use Rattle.h41_xrom.specs.declared.refusal.CalculatorRefusal.{CalculatorRefusal}
 use Rattle.h41_debug.specs.Bench.{BenchState, Steps}
 use Rattle.h41_debug.proofs.bench.Bench.steps.Given as goal
 
--- the steps that are left, from here on, are the steps from the start on
+-- The remaining steps, from here on, have the same result as all steps from the start on.
 abbrev pub invariant-loop-left : goal.invariant-loop-left
 invariant-loop-left g l =
     (t : BenchState) (refusal : Option CalculatorRefusal) → Steps l.left l.self t refusal → Steps l.fn.count l.fn.self t refusal

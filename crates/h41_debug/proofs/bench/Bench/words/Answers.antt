@@ -11,7 +11,7 @@ use Rattle.h41_breakpoints.proofs.Members.{none_set}
 use Rattle.h41_debug.proofs.bench.Bench.words.Goals as goal
 use Rattle.h41_debug.proofs.bench.Bench.words.Goals.{else-watched-via-then-watched+else-has_breakpoint, else-watched-via-else-watched}
 
--- between two words breakpoints are not asked for where none is set; where some are, a look is behind each word
+-- Between two words breakpoints are not tested if none is set; if some are, they are tested after each word.
 between : (watched : Bool) (made word limit : ℕ) (t : BenchState) (behind : Bool) (caller : Caller)
     → (watched ≡ false → is_set t.breakpoints (location_of t.calculator) ≡ false) → t.calculator.mode ≡ Micro caller → made ≤ word
     → word + 1 < (if watched then made + 1 else limit) → stop_behind behind t ≡ None

@@ -5,7 +5,7 @@ use Rattle.h41_debug.specs.Bench.{BenchState}
 use Rattle.h41_debug.specs.private.Running.{stop_behind}
 use Rattle.h41_debug.proofs.bench.Bench.words.Given as goal
 
--- so many steps were made, the function runs, and there is no reason to stop
+-- So many steps were made, the function runs, and there is no reason to stop.
 abbrev pub invariant-loop-made : goal.invariant-loop-made
 invariant-loop-made g l =
     ((start : BenchState) → MakesSteps l.fn.limit l.fn.from start l.fn.self → MakesSteps l.fn.limit l.made start l.self)
@@ -17,7 +17,7 @@ invariant-loop-made g l =
 abbrev pub decreases-loop-made : goal.decreases-loop-made
 decreases-loop-made g l = l.fn.limit - l.made
 
--- the same in front of each word; behind the last of them a breakpoint may be set
+-- The same before each word; after the last one a breakpoint may be set.
 abbrev pub invariant-loop-word : goal.invariant-loop-word
 invariant-loop-word g l =
     ((start : BenchState) → MakesSteps l.fn.limit l.fn.from start l.fn.self → MakesSteps l.fn.limit l.word start l.self)

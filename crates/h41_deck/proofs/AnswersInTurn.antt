@@ -23,8 +23,8 @@ use Rattle.h41_deck.specs.Replies.{item_takes_memory}
 use Rattle.h41_refusals.specs.Faults.{of_command}
 use Rattle.h41_deck.specs.private.Writing.{Leaves, Replies, RepliesInPart, outcome_in}
 
--- What a deck has told so far: its answers to the items that are done, which are written and of which the outcome tells, and
--- which go on, from the state now, with the answers to further items.
+-- What is known of a deck so far: its answers to the items that are done, which are written and which determine the outcome, and that they
+-- continue, from the state now, with the answers to further items.
 pub record Told (registers : ℕ) (old new : Option (List ℕ)) (done : List Spelled) (s : BenchState) (outcome : Outcome) : Type 0 where
   pub answers : List Answer
   pub written : Appends old new (flat_map printed_text answers)
@@ -49,7 +49,7 @@ told_kept old mid new done s outcome told kept = record {
   goes_on = told.goes_on;
 }
 
--- how the answers end, with one more
+-- The outcome of the answers with one more.
 outcome_of-push : (answers : List Answer) (answer : Answer)
     → outcome_of (answers ++ answer ∷ []) ≡ outcome_and (outcome_of answers) (outcome_in answer.refusal)
 outcome_of-push [] answer = elim answer.refusal as
@@ -80,7 +80,7 @@ told_more {registers} old mid new done s t outcome next item told replied = reco
       (told.goes_on (item ∷ items) (replied.answer ∷ more) (t, replied.reply, later)));
 }
 
--- what is told so far are the replies to some first commands
+-- What is written so far are the replies to the first commands.
 module _ {registers : ℕ} (old new : Option (List ℕ)) (done : List Spelled) (s : BenchState) (outcome : Outcome)
     (told : Told registers old new done s outcome) where
   pub done_answered : AnswersInTurn done (start registers) told.answers
@@ -91,7 +91,7 @@ module _ {registers : ℕ} (old new : Option (List ℕ)) (done : List Spelled) (
   first_replies all rest begins =
       record { first = done; rest = rest; begins = begins; answers = told.answers; answered = done_answered; text_is = refl }
 
-  -- a fault of memory, of reading, and of writing where all was written
+  -- An error of allocation, of reading, and of writing after everything was written.
   pub leaves_all : (bytes : List ℕ) (rest : List Spelled) → commands (lines bytes) ≡ done ++ rest → MayBeRefused done rest
       → LeavesOf registers OutOfMemory old new bytes
   leaves_all bytes rest begins may =
@@ -121,7 +121,7 @@ module _ {registers : ℕ} (old new : Option (List ℕ)) (done : List Spelled) (
         subst (Appends old new) (sym (take_all (length text) text (omega arith))) told.written,
       )
 
--- the next one is written in part
+-- The next reply is written in part.
 pub leaves_part : {registers : ℕ} (old mid new : Option (List ℕ)) (done rest : List Spelled) (s t : BenchState) (outcome : Outcome)
     (item : Spelled) (bytes : List ℕ) → Told registers old mid done s outcome → commands (lines bytes) ≡ (done ++ item ∷ []) ++ rest
     → RepliesInPart item s t mid new → LeavesOf registers WriteFault old new bytes
@@ -145,7 +145,7 @@ leaves_part old mid new done rest s t outcome item bytes told begins part =
           (Appends-trans old mid new before (take part.written.0 part.text) told.written part.written.2),
     )
 
--- it ends with a fault at the next one
+-- The deck ends with an error at the next item.
 pub leaves_at : {W : Type 0} {registers : ℕ} (contents : W → Option (List ℕ)) (old before after : W) (done rest : List Spelled)
     (s t : BenchState) (outcome : Outcome) (item : Spelled) (bytes : List ℕ) (fault : CommandFault)
     → Told registers (contents old) (contents before) done s outcome

@@ -1,4 +1,4 @@
--- How a command that was carried out is answered.
+-- How a command that was executed is answered.
 use Rattle.std.proofs.Common.{◌≡◌, ℕ, ◌+◌, Bool, List, [], ◌++◌, length, length-append, take, Option, Some, None, Result, Ok, Err}
 use Rattle.std.proofs.Common.{refl, sym, ap, subst, ◌∙◌, arith}
 use Rattle.std.proofs.KnownBytes.{Appends-nil, Appends-trans}
@@ -35,7 +35,7 @@ use Rattle.h41_deck.specs.Replies.{LoadsBlock, LoadsBytes, Plugs, Reply}
 use Rattle.h41_deck.specs.private.Writing.{SaysAlone, IsListed, IsRefusalOf, IsShown, LeavesText, Replies, RepliesInPart, SaysText, item_of}
 use Rattle.h41_deck.specs.private.Writing.{made_text, outcome_in, text_in}
 
--- a block that is refused
+-- A block that is refused.
 pub refused_text : (values : Result (List ℕ) LineRefusal) (command : Command)
     (refusal : LineRefusal) (s : BenchState) (old : Option (List ℕ))
     → Some refusal ≡ result_err values → SaysText (with_values values command) s s old old (Some (Line refusal))
@@ -44,13 +44,13 @@ refused_text (Err why) command refusal s old e =
     let same : why ≡ refusal = cc in
     record { text = []; reply = rw same (refl, refl); written = Appends-nil old }
 
--- lines that are no command
+-- Lines that are not a command.
 pub refused_item : (refusal : LineRefusal) (s : BenchState) (old : Option (List ℕ)) (own : Refusal) → own ≡ Line refusal
     → SaysText (Err refusal) s s old old (Some own)
 refused_item refusal s old own is =
     record { text = []; reply = (refl, ap (λ (of : Refusal). ends_by (Some of)) is); written = Appends-nil old }
 
--- as a block for a page, or one that is a program
+-- A block for a page, or one that is a program.
 pub plug_text : (block : TakenBlock) (command : Command) (kind : PageKind) (page bank : ℕ)
     (writable : Bool) (s t : BenchState) (old : Option (List ℕ)) (refusal : Option Refusal)
     → command ≡ Plug kind page bank writable → block.kind ≡ kind_of command → PlugsTaken block page bank writable s t refusal
@@ -78,7 +78,7 @@ load_text block command kind s t old refusal spelt own taken =
       written = Appends-nil old;
     }
 
--- the bytes that a block says are loaded, and those that it does not say
+-- The bytes of a block are loaded, or the block defines none.
 pub loads_taken : (block : TakenBlock) (s t : BenchState) (bytes : List ℕ)
     (made : Result (Vec ℕ Global) LineRefusal) (refusal : Option Refusal)
     → MeansBy block made → values_in made ≡ Ok bytes → LoadsBytes (Ok bytes) s t (ends_by refusal) → LoadsTaken block s t refusal
@@ -90,19 +90,19 @@ loads_taken block s t bytes made refusal means same loads = record {
   loads = (Ok bytes, subst (Means means.kind means.values) same means.means, loads);
 }
 
--- a command without a block
+-- A command without a block.
 pub alone_text : {W : Type 0} (result : Result (Option Refusal) CommandFault) (values : Result (List ℕ) LineRefusal) (command : Command)
     (s t : BenchState) (contents : W → Option (List ℕ)) (old new : W) → None ≡ result_err values
     → SaysAlone result command s t contents old new → LeavesText result (with_values values command) s t contents old new
 alone_text result (Ok given) command s t contents old new e does = does given
 alone_text result (Err why) command s t contents old new e does = cc
 
--- it says nothing
+-- It prints nothing.
 pub silent_alone : (command : Command) (values : List ℕ) (s t : BenchState) (old : Option (List ℕ)) (refusal : Option Refusal)
     → Reply command values s t (ends_by refusal) → SaysText (Ok (command, values)) s t old old refusal
 silent_alone command values s t old refusal reply = record { text = []; reply = reply; written = Appends-nil old }
 
--- or what was made
+-- It prints what was made.
 reply_of_made : (made : Result (Vec ℕ Global) Refusal) (refusal : Option Refusal) → IsRefusalOf made refusal
     → says_or_ends (text_in made) ≡ record { text = made_text made; refusal = refusal }
 reply_of_made (Ok text) refusal is = λ i. record { text = text.items; refusal = sym is i }
@@ -118,7 +118,7 @@ made_alone command values s old new made refusal is reply written = record {
   written = written;
 }
 
--- a listing, and a view
+-- A listing, and a view.
 pub list_said : (command : Command) (values : List ℕ) (address count : ℕ)
     (s : BenchState) (pages : PageMap) (made : Result (Vec ℕ Global) Refusal)
     → command ≡ commands.List address count → pages ≡ s.calculator.nut.pages → IsListed pages address count made
@@ -130,7 +130,7 @@ pub show_said : (command : Command) (values : List ℕ) (view : View) (s : Bench
     → command ≡ commands.Show view → IsShown view s made → Reply command values s s (says_or_ends (text_in made))
 show_said command values view s made spelt shows = rw spelt (refl, text_in made, shows, refl)
 
--- a front of what is to be written, and then no more
+-- A prefix of what is to be written, and nothing more.
 pub part_longer : (old new : Option (List ℕ)) (text more : List ℕ) → AppendsPart old new text → AppendsPart old new (text ++ more)
 part_longer old new text more part = (
   part.0,
@@ -153,7 +153,7 @@ part_alone command values s old new made reply part =
       written = subst (AppendsPart old new) (sym ending.1) (part_longer old new (made_text made) ending.0 part);
     }
 
--- the text and then the refusal's line, and a front of that
+-- The text followed by the line of the refusal, and a prefix of that.
 pub ends_reply : (item : Spelled) (s t : BenchState) (old mid new : Option (List ℕ)) (refusal : Option Refusal) (outcome : Outcome)
     → SaysText item s t old mid refusal → outcome ≡ outcome_in refusal → Appends mid new (ending_line refusal)
     → Replies item s t old new outcome

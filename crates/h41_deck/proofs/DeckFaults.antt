@@ -1,4 +1,4 @@
--- What a deck leaves written, at its end and at a fault.
+-- What a deck leaves written at its end and after an error.
 use Rattle.std.proofs.Common.{inl, inr, ◌≡◌, ◌≢◌, ◌⊎◌, ℕ, true, false, List, [], ◌∷◌, ◌++◌, length, Option, IfSome}
 use Rattle.std.proofs.Common.{◌<◌, ◌≤◌, Result, Ok, Err, flat_map, refl, sym, subst, ap, ◌∙◌, arith}
 use Rattle.std.specs.Io.KnownBytes.{Appends, Keeps}
@@ -34,18 +34,18 @@ use Rattle.h41_deck.specs.declared.replies.Outcome.{Outcome}
 use Rattle.h41_deck.proofs.AnswersInTurn.{Told, done_answered, leaves_all, leaves_at, leaves_ended, leaves_unpassed, told_kept, told_none}
 use Rattle.h41_deck.proofs.DeckReading.{Begins, IsWholeDeck, ReadSoFar, begins_block, begins_done, begins_more, deck_is, ended_done}
 
--- a result that is no fault, and one that is
+-- A result that is not an error, and one that is.
 pub never_failed : {T E : Type 0} {x : T} {why : E} → Ok x ≡ Err why → ⊥
 never_failed is = cc
 
 pub same_fault : {T E : Type 0} {a b : E} (r : Result T E) → r ≡ Err a → r ≡ Err b → a ≡ b
 same_fault r is other = let same = sym is ∙ other in cc
 
--- what is below what is at most another
+-- A number below one that is at most another.
 pub below_most : (a b c : ℕ) → a ≤ b → b < c → a < c
 below_most a b c most below = omega arith
 
--- the whole deck
+-- The whole deck.
 module _ {registers : ℕ} (known after old new : Option (List ℕ)) (done : List Spelled) (s : BenchState) (outcome : Outcome)
     (whole : IsWholeDeck known after done) (told : Told registers old new done s outcome) where
   answered : AnswersInTurn (commands (lines whole.bytes)) (start registers) told.answers
@@ -74,7 +74,7 @@ never_read command.OutOfMemory is = cc
 never_read command.WriteFault is = cc
 
 module _ {R W : Type 0} (registers : ℕ) (source : sources.Ghosts R) (sink : sinks.Ghosts W) where
-  -- before anything was read
+  -- An error before anything was read.
   pub leaves_none : (reader : R) (writer : W) → FaultLeaves registers OutOfMemory source sink reader reader writer writer
   leaves_none reader writer = record {
     bytes = [];
@@ -85,7 +85,7 @@ module _ {R W : Type 0} (registers : ℕ) (source : sources.Ghosts R) (sink : si
     why = λ is. cc;
   }
 
-  -- where the next item was not read
+  -- The next item was not read.
   pub leaves_item : (first mid after : R) (old before new : W) (input next : InputLines) (done : List Spelled) (s : BenchState)
       (outcome : Outcome) (fault : ItemFault) → ReadSoFar (source.remaining first) (source.remaining mid) input done
       → Told registers (sink.contents old) (sink.contents before) done s outcome
@@ -136,7 +136,7 @@ module _ {R W : Type 0} (registers : ℕ) (source : sources.Ghosts R) (sink : si
         why = λ is. cc;
       }
 
-  -- where its first line was not
+  -- The first line of the next item was not read.
   pub leaves_first : (first mid after : R) (old before new : W) (input next : InputLines) (done : List Spelled) (s : BenchState)
       (outcome : Outcome) (why : LineReadFault) → ReadSoFar (source.remaining first) (source.remaining mid) input done
       → Told registers (sink.contents old) (sink.contents before) done s outcome
@@ -153,7 +153,7 @@ module _ {R W : Type 0} (registers : ℕ) (source : sources.Ghosts R) (sink : si
       (first_fault (source.remaining mid) (source.remaining after) input next read.WriteFault more) kept
       (λ is. cc) (λ is. cc) counted
 
-  -- where it was not answered
+  -- The next item was not answered.
   pub leaves_answer : (first after : R) (old before new : W) (next : InputLines) (done : List Spelled) (s t : BenchState)
       (outcome : Outcome) (given : Spelled) (fault : CommandFault)
       → ReadSoFar (source.remaining first) (source.remaining after) next (done ++ given ∷ [])
@@ -171,7 +171,7 @@ module _ {R W : Type 0} (registers : ℕ) (source : sources.Ghosts R) (sink : si
         why = λ is. absurd (never_read fault is);
       }
 
-  -- where the whole was not passed on
+  -- The whole deck was answered, but not flushed.
   pub leaves_whole : (first after : R) (old before new : W) (done : List Spelled) (s : BenchState) (outcome : Outcome)
       → IsWholeDeck (source.remaining first) (source.remaining after) done
       → Told registers (sink.contents old) (sink.contents before) done s outcome → Keeps (sink.contents before) (sink.contents new)
@@ -186,7 +186,7 @@ module _ {R W : Type 0} (registers : ℕ) (source : sources.Ghosts R) (sink : si
     why = λ is. cc;
   }
 
-  -- what memory left is passed on, or is not
+  -- What is written when allocation failed is flushed, or is not.
   pub leaves_passed : (first after : R) (old before new : W) → FaultLeaves registers OutOfMemory source sink first after old before
       → Keeps (sink.contents before) (sink.contents new) → FaultLeaves registers OutOfMemory source sink first after old new
   leaves_passed first after old before new left kept = record {
@@ -213,7 +213,7 @@ module _ {R W : Type 0} (registers : ℕ) (source : sources.Ghosts R) (sink : si
     why = λ is. cc;
   }
 
-  -- all that an end without a fault leaves
+  -- Everything that an end without an error leaves.
   pub ended : (first after : R) (old new : W) (outcome : Outcome)
       → IfSome (source.remaining first) (WritesText (Deck registers) (sink.contents old) (sink.contents new))
       → IfSome (source.remaining first) (λ deck. DeckEnds registers deck outcome) → sink.flushed new ≡ true
@@ -229,7 +229,7 @@ module _ {R W : Type 0} (registers : ℕ) (source : sources.Ghosts R) (sink : si
     writer = λ other. writer;
   }
 
-  -- all that a fault leaves, by which end has failed
+  -- Everything that an error leaves, by the stream that failed.
   pub failed : (first after : R) (old new : W) (fault : Fault) → FaultLeaves registers fault source sink first after old new
       → (fault ≡ ReadFault → sink.flushed new ≡ true) → (fault ≡ WriteFault → sink.failed new ≡ true)
       → (fault ≢ ReadFault → source.failed after ≡ false) → (fault ≢ WriteFault → sink.failed new ≡ false)
@@ -245,7 +245,7 @@ module _ {R W : Type 0} (registers : ℕ) (source : sources.Ghosts R) (sink : si
     writer = λ other. writer (λ is. other (ap (λ why. Err why) is));
   }
 
-  -- the fault that a result tells
+  -- The error in a result.
   pub told_fault : (first after : R) (old new : W) (result : Result Outcome Fault) (fault other : Fault) → result ≡ Err fault
       → fault ≡ other → AnswersLines registers (Err other) source sink first after old new
       → AnswersLines registers result source sink first after old new

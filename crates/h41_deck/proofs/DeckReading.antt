@@ -1,4 +1,4 @@
--- What was read of a deck so far, and the items that its lines spell.
+-- What was read of a deck so far, and the items that its lines specify.
 use Rattle.std.proofs.Common.{inl, inr, ◌≡◌, ℕ, ◌+◌, ◌<◌, ◌≤◌, Bool, true, false, List, [], ◌∷◌, ◌++◌, length, drop, take}
 use Rattle.std.proofs.Common.{not, if◌then◌else◌, Option, Some, None, IfSome, Ok, Err, refl, sym, subst}
 use Rattle.std.proofs.Common.{ap, ◌∙◌, arith, append_assoc}
@@ -45,17 +45,17 @@ read_none before input none read goes = record {
   ended = λ end. let never : true ≡ false = sym end ∙ goes in cc;
 }
 
--- behind the end nothing is held, and no more is told
+-- After the end nothing is buffered, and no further line is returned.
 held_nothing : (input : InputLines) → input.at_end ≡ true → held_in input ≡ []
 held_nothing input end =
     ap (λ (k : ℕ). drop k (take input.end input.buffer)) (input.nothing end) ∙ nothing_behind input.buffer input.end
 
--- what the lines of the bytes within the bound spell
+-- What the lines of the bytes within the limit specify.
 same_commands : (bytes : List ℕ) (told : List (List ℕ)) → told_lines bytes ≡ told → commands (lines bytes) ≡ commands told
 same_commands bytes told is = sym (told_commands (lines bytes)) ∙ ap commands is
 
 module _ (before mid after : Option (List ℕ)) (old new : InputLines) (done : List Spelled) (so_far : ReadSoFar before mid old done) where
-  -- before more is told the end was not reached
+  -- Before a further line is returned, the end was not reached.
   goes_on : (next : Option Spelled) (more : ReadsNext (Ok next) mid after old new) → most_left new < most_left old → old.at_end ≡ false
   goes_on next more less = false_from_ne_true old.at_end (λ end.
       let read = more.reads.read so_far.bytes so_far.told so_far.read in
@@ -91,7 +91,7 @@ module _ (before mid after : Option (List ℕ)) (old new : InputLines) (done : L
         ];
       }
 
--- the bytes that were read begin with the items that are done
+-- The bytes that were read begin with the items that are done.
 pub record Begins (bytes : List ℕ) (done : List Spelled) : Type 0 where
   pub rest : List Spelled
   pub begins : commands (lines (bytes_within bytes)) ≡ done ++ rest
@@ -126,7 +126,7 @@ begins_done before after input done so_far =
       }
     ] refl
 
--- and so do they where more was read that is not answered
+-- They also do if more was read that is not answered yet.
 pub begins_more : (before mid after : Option (List ℕ)) (old new : InputLines) (done : List Spelled) (so_far : ReadSoFar before mid old done)
     (bytes : List ℕ) (told : List (List ℕ)) → HasRead (so_far.bytes ++ bytes) (so_far.told ++ told) new
     → (old.at_end ≡ true → bytes ≡ []) → Begins (so_far.bytes ++ bytes) done
@@ -148,7 +148,7 @@ begins_more before mid after old new done so_far bytes told read stays =
           }
     ] refl
 
--- where memory was refused, the lines behind the items that are done open a block
+-- If allocation failed, the lines after the items that are done open a block.
 opens_step : (long skipped opening first next : Bool) → (first ≡ true → next ≡ true)
     → (if long then false else (if skipped then first else opening)) ≡ true
     → (if long then false else (if skipped then next else opening)) ≡ true
@@ -200,7 +200,7 @@ begins_block before mid after old new done so_far more =
       }
     ] refl
 
--- where reading stops, the items that are done are those that have their end in what was read
+-- When reading stops, the items that are done are those whose last line end was read.
 shut_all : (items : List Spelled) → list_any is_open items ≡ false → without_open_block items ≡ items
 shut_all [] shut = refl
 shut_all (item ∷ items) shut =
@@ -222,7 +222,7 @@ ended_done before mid after old new done so_far more stopped =
     ∙ filter-append (λ item. not (is_open item)) done (commands more.lines)
     ∙ (λ i. shut_all done (so_far.shut goes) i ++ more.spelled i) ∙ append-nil done
 
--- the whole was read
+-- The whole deck was read.
 pub record IsWholeDeck (before after : Option (List ℕ)) (done : List Spelled) : Type 0 where
   pub bytes : List ℕ
   pub consumed : Consumes before after bytes
@@ -271,7 +271,7 @@ whole_done before mid after old new done so_far more is_told =
       spelled = ap (λ (all : List ℕ). commands (lines all)) (sym whole) ∙ told_whole before mid after old new done so_far more is_told;
     }
 
--- a deck that was read whole
+-- A deck that was read completely.
 pub deck_is : (known after : Option (List ℕ)) (done : List Spelled) (P : List ℕ → Type 0) (whole : IsWholeDeck known after done)
     → P whole.bytes → IfSome known P
 deck_is None after done P whole holds = tt

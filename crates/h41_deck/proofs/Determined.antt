@@ -1,4 +1,4 @@
--- Why a deck determines what it prints, where steps, loads, blocks and lists of lines are determined.
+-- Why a deck determines what it prints, if steps, loads, blocks and lists of lines are determined.
 use Rattle.std.proofs.Common.{◌≡◌, ℕ, Bool, Result, Option, Ok, Err, List, [], ◌∷◌, ◌++◌, flat_map, refl, sym, ap}
 use Rattle.std.proofs.Common.{subst, ◌∙◌}
 use Rattle.std.specs.Prelude.{option_map}
@@ -28,7 +28,7 @@ use Rattle.h41_deck.specs.Replies.{Calls, ItemReply, LoadsBytes, PlugsWords, Rep
 use Rattle.h41_deck.specs.Runs.{run_answer}
 use Rattle.h41_deck.specs.Views.{Shows, line_of}
 
--- a relation of the calculator's that leaves nothing open
+-- A relation of the calculator that determines its result.
 abbrev Leaves : Type 1
 Leaves = CalculatorState → CalculatorState → Option CalculatorRefusal → Type 0
 
@@ -55,13 +55,13 @@ module _ (same_steps : StepsAreDetermined) (same_load : LoadIsDetermined) (same_
     (same_meaning : MeaningIsDetermined) (same_list : ListsAreDetermined)
     (same_keys : PressesAreDetermined) (same_display : DisplayIsDetermined)
     (same_run : RunsAreDetermined) (same_trace : TracesAreDetermined) where
-  -- what is loaded
+  -- What is loaded.
   same_bytes : (bytes : Result (List ℕ) LineRefusal) (s t u : BenchState) (a b : Answer) → LoadsBytes bytes s t a → LoadsBytes bytes s u b
       → (t ≡ u) × (a ≡ b)
   same_bytes (Ok bytes) s t u a b p q = same_call (Loads bytes) (same_load bytes) s t u a b p q
   same_bytes (Err why) s t u a b p q = (p.0 ∙ sym q.0, p.1 ∙ sym q.1)
 
-  -- what is shown
+  -- What is shown.
   same_view : (view : View) (s : BenchState) (a b : Result (List ℕ) Refusal) → Shows view s a → Shows view s b → a ≡ b
   same_view views.Lines s a b p q =
       let lines = same_list s.calculator.nut.ram 0 p.1.0 q.1.0 p.1.1 q.1.1 in

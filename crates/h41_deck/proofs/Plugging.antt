@@ -1,4 +1,4 @@
--- What plugging a page answers, in the words of a deck.
+-- The answer to plugging a page, in the terms of a deck.
 use Rattle.std.proofs.Common.{◌≡◌, ◌≤◌, ℕ, ◌-◌, Bool, List, ◌++◌, length, take, replicate, Some, None, Ok, inl, inr, sym, ap, subst}
 use Rattle.std.proofs.Common.{◌∙◌, arith}
 use Rattle.std.proofs.lemmas.List.{take_all}
@@ -14,14 +14,14 @@ use Rattle.h41_deck.specs.Answers.{ends_by}
 use Rattle.h41_refusals.specs.Pages.{of_plug, page_refusal}
 use Rattle.h41_deck.specs.Replies.{PlugsWords, block_refusal, state_unless, with_words}
 
--- what `resize` makes of a page's words
+-- What `resize` makes of a page's words.
 pub resized : (values items : List ℕ) (count : ℕ) → count ≡ length values → count ≤ page_size
     → items ≡ take page_size values ++ replicate (page_size - count) 0 → items ≡ page_of_words values
 resized values items count same room e =
     let short : length values ≤ page_size = omega arith in
     e ∙ (λ i. take_all page_size values short i ++ replicate (page_size - same i) 0)
 
--- a page that is refused for another reason than memory
+-- A page that is refused for another reason than failed allocation.
 pub refused_page : (all : PageMap) (page bank : ℕ) (words page_of_words : List ℕ) (why : PlugRefusal) → words ≡ page_of_words
     → RefusesPlug all page bank words why → (why ≡ plugs.OutOfMemory → ⊥)
     → Some (of_plug why) ≡ page_refusal all page bank page_of_words
@@ -33,7 +33,7 @@ pub accepted_page : (all : PageMap) (page bank : ℕ) (words page_of_words : Lis
     → plug_refusal all page bank words ≡ None → None ≡ page_refusal all page bank page_of_words
 accepted_page all page bank words page_of_words same e = sym (ap (option_map of_plug) (ap (plug_refusal all page bank) (sym same) ∙ e))
 
--- what plugging words leaves of the bench
+-- How plugging words changes the bench.
 module _ (s : BenchState) (page bank : ℕ) (writable : Bool) (words items : List ℕ) (from c : CalculatorState)
     (is : from ≡ s.calculator) (same : items ≡ page_of_words words) where
   pub plugs_done : TakesPage from page bank items → c ≡ with_page page bank writable items from

@@ -20,7 +20,7 @@ use Rattle.h41_deck.specs.Runs.{run_answer, ran_text, stop_refusal}
 use Rattle.h41_deck.specs.private.Writing.{RepliesInPart, SaysText, IsTraceLine}
 use Rattle.h41_deck.proofs.Commanded.{later_part, part_longer}
 
--- a run is told
+-- The line of a run is written.
 pub run_said : (limit made : ℕ) (why : Stop) (values : List ℕ) (s t : BenchState) (old new : Option (List ℕ)) (refusal : Option Refusal)
     → Run limit s t made why → refusal ≡ stop_refusal why → Appends old new (ran_text made why)
     → SaysText (Ok (commands.Run limit, values)) s t old new refusal
@@ -38,7 +38,7 @@ run_in_part limit made why values s t old new run part = record {
   written = part_longer old new (ran_text made why) (ending_line (stop_refusal why)) part;
 }
 
--- what a trace has told so far, and that it goes on with the steps that are left
+-- What a trace has written so far, and that it continues with the steps that remain.
 pub record TracesOn (count left : ℕ) (s mid : BenchState) (old now : Option (List ℕ)) : Type 0 where
   pub lines : List ℕ
   pub written : Appends old now lines
@@ -48,7 +48,7 @@ pub record TracesOn (count left : ℕ) (s mid : BenchState) (old now : Option (L
 pub traces_none : (count : ℕ) (s : BenchState) (old : Option (List ℕ)) → TracesOn count count s s old old
 traces_none count s old = record { lines = []; written = Appends-nil old; goes_on = λ t more refusal rest. rest }
 
--- a step that is told and made, and one that is told and refused
+-- A step whose line is written and that is made, and one whose line is written and that is refused.
 pub traces_more : (count left : ℕ) (s mid next : BenchState) (old before now : Option (List ℕ)) (line : List ℕ)
     → TracesOn count (suc left) s mid old before → IsTraceLine mid line → Appends before now line
     → RefusesStep mid.calculator None → Step mid.calculator next.calculator → next ≡ with_calculator next.calculator mid
@@ -94,7 +94,7 @@ traces_refused count left values s t old before now line why on tells written re
   written = Appends-trans old before now on.lines line on.written written;
 }
 
--- a line that is not written whole: the steps that are left are made all the same
+-- A line that is not written completely: the steps that remain are made all the same.
 pub traces_in_part : StepsAreTraced
     → (count left : ℕ) (values : List ℕ) (s mid t : BenchState)
     (old before now : Option (List ℕ)) (line : List ℕ) (refusal : Option CalculatorRefusal)

@@ -1,4 +1,4 @@
--- What is said of a command, as the code's results tell it.
+-- What a command prints, by the results of the code.
 use Rattle.std.proofs.Common.{◌≡◌, ℕ, List, Option, Result, Ok, Err, subst, sym}
 use Rattle.std.proofs.KnownBytes.{Keeps-refl}
 use Rattle.h41_commands.specs.Items.{Spelled}
@@ -9,14 +9,14 @@ use Rattle.h41_refusals.specs.declared.fault.CommandFault.TheVariants.{OutOfMemo
 use Rattle.h41_refusals.specs.declared.refusal.Refusal.{Refusal}
 use Rattle.h41_deck.specs.private.Writing.{LeavesText, RepliesInPart}
 
--- what holds whatever values a block would have holds of the command that it is
+-- What holds whatever values a block would have holds for the command.
 pub alone_is : (P : Spelled → Type 0) (command other : Command) → command ≡ other → ((values : List ℕ) → P (Ok (other, values)))
     → (values : List ℕ) → P (Ok (command, values))
 alone_is P command other is told values = subst (λ (of : Command). P (Ok (of, values))) (sym is) (told values)
 
 module _ {W : Type 0} (result : Result (Option Refusal) CommandFault) (why : CommandFault) (is : result ≡ Err why) (item : Spelled)
     (s t : BenchState) (contents : W → Option (List ℕ)) (old : W) where
-  -- where memory is refused nothing is said, and where writing fails a part
+  -- If allocation failed nothing is written, and if writing failed a part.
   pub nothing_said : why ≡ OutOfMemory → LeavesText result item s t contents old old
   nothing_said was = rw (is, was) (Keeps-refl (contents old))
 

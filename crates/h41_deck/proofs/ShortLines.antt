@@ -1,4 +1,4 @@
--- How a line is answered that opens no block.
+-- How a line that opens no block is answered.
 use Rattle.std.proofs.Common.{◌≡◌, ◌≤◌, ℕ, Bool, true, if◌then◌else◌, List, [], ◌++◌, drop, length, Option, Some, None, Result, Ok, Err}
 use Rattle.std.proofs.Common.{IfOk, ap, le-ltb, refl, sym, subst}
 use Rattle.std.proofs.KnownBytes.{Appends-nil}
@@ -39,12 +39,12 @@ use Rattle.h41_refusals.specs.declared.refusal.Refusal.TheVariants.{Line}
 use Rattle.h41_deck.specs.declared.replies.Outcome.{Outcome}
 use Rattle.h41_deck.proofs.Commanded.{ends_part, ends_reply, part_longer}
 
--- a text in silence, and then its refusal
+-- A command that prints nothing, and then its refusal.
 pub silent : (item : Spelled) (s t : BenchState) (old : Option (List ℕ)) (refusal : Option Refusal) → ItemReply item s t (ends_by refusal)
     → SaysText item s t old old refusal
 silent item s t old refusal reply = record { text = []; reply = reply; written = Appends-nil old }
 
--- a line that is not too long
+-- A line that is not too long.
 pub short_spelled : (line : List ℕ) → length line ≤ longest_line → line_spelled line ≡ spelled_by line []
 short_spelled line short =
     ap (λ (is_long : Bool). if is_long then Err LineTooLong else spelled_by line []) (le-ltb longest_line (length line) short)
@@ -61,7 +61,7 @@ module _ (line : List ℕ) (kind : PlainKind) (is : line_kind line ≡ Some (Nam
   pub plain_part : RepliesInPart (plain_spelled kind (drop 1 (words_of line))) s t old new → RepliesInPart (line_spelled line) s t old new
   plain_part replies = subst (λ (item : Spelled). RepliesInPart item s t old new) (sym same) replies
 
--- the text of a command and then its refusal, as far as they are written
+-- The text of a command and then its refusal, as far as they are written.
 pub ends_written : {W : Type 0} (result : Result Outcome fault.WriteFault) (kind : PlainKind) (operands : List (List ℕ)) (item : Spelled)
     → plain_spelled kind operands ≡ item → (s t : BenchState) (contents : W → Option (List ℕ)) (old mid new : W)
     (refusal : Option Refusal) → SaysText item s t (contents old) (contents mid) refusal → IfOk result (EndsAs refusal)
@@ -76,7 +76,7 @@ ends_written (Err failed) kind operands item is s t contents old mid new refusal
 pub refused_said : (why : LineRefusal) (s : BenchState) (old : Option (List ℕ)) → SaysText (Err why) s s old old (Some (Line why))
 refused_said why s old = record { text = []; reply = (refl, refl); written = Appends-nil old }
 
--- lines that are refused
+-- Lines that are refused.
 pub refused_reply : (item : Spelled) (s : BenchState) (old new : Option (List ℕ)) (refusal : Refusal) (outcome : Outcome)
     → ItemReply item s s (ends_by (Some refusal)) → outcome ≡ outcome_in (Some refusal) → Appends old new (ending_line (Some refusal))
     → Replies item s s old new outcome
@@ -99,7 +99,7 @@ module _ (line : List ℕ) (why : LineRefusal) (is : line_spelled line ≡ Err w
   pub line_refused_part : AppendsPart old new (ending_line (Some (Line why))) → RepliesInPart (line_spelled line) s s old new
   line_refused_part part = refused_part (line_spelled line) s old new (Line why) told part
 
--- a position that is written as it is
+-- The position, written without an allocation.
 pub position_said : (s : BenchState) (values text : List ℕ) (old new : Option (List ℕ)) → text ≡ position_text s
     → Appends old new (line_of text) → SaysText (Ok (commands.Show views.Position, values)) s s old new None
 position_said s values text old new is written = record {
@@ -116,7 +116,7 @@ position_part s values text old new is part = record {
   written = part_longer old new (line_of (position_text s)) [] (subst (λ (of : List ℕ). AppendsPart old new (line_of of)) is part);
 }
 
--- a block by the kind of its first line
+-- A block by the kind of its first line.
 module _ (before mid after : Option (List ℕ)) (old first_at new : InputLines) where
   pub block_next : (kind : LineKind) → opens_block kind ≡ true
       → ReadsFirst {E = LineReadFault} (Ok (Some kind)) before mid old first_at → (item : Item)

@@ -1,5 +1,5 @@
--- A deck: the replies to its commands in turn, and the text that it prints. The bench that answers
--- it has so many registers of main memory.
+-- A deck: the replies to its commands in turn, and the text that it prints. The bench that executes
+-- it has so many main registers.
 use Rattle.std.specs.Prelude.{◌≡◌, ◌≢◌, ◌⊎◌, ℕ, ◌<◌, ◌≤◌, Bool, true, false, List, [], ◌∷◌}
 use Rattle.std.specs.Prelude.{◌++◌, flat_map, length, take, is_some, if◌then◌else◌, Option}
 use Rattle.std.specs.Prelude.{IfSome, Result, IfErr, OnOk}
@@ -19,7 +19,7 @@ use Rattle.h41_ends.specs.InputLines.{bytes_within}
 use Rattle.h41_deck.specs.Answers.{Answer, printed_text}
 use Rattle.h41_deck.specs.Replies.{ItemReply, item_takes_memory}
 
--- the answers to commands in turn, from a state on
+-- The answers to commands in turn, from a state on.
 abbrev pub AnswersInTurn : List Spelled → BenchState → List Answer → Type 0
 AnswersInTurn [] s [] = Unit {0}
 AnswersInTurn [] s (answer ∷ answers) = ⊥
@@ -27,55 +27,55 @@ AnswersInTurn (item ∷ items) s [] = ⊥
 AnswersInTurn (item ∷ items) s (answer ∷ answers) =
     (t : BenchState) × ItemReply item s t answer × AnswersInTurn items t answers
 
--- the commands whose last line end is in the bytes that were read
+-- The commands whose last line end is in the bytes that were read.
 abbrev pub commands_ended : List ℕ → List Spelled
 commands_ended bytes = without_open_block (commands (lines (ended_lines bytes)))
 
--- the answers to a deck, from the start on; one that is too long has none
+-- The answers to a deck, from the initial state on. A deck that is too long has none.
 pub record AnswersDeck (registers : ℕ) (deck : List ℕ) (answers : List Answer) : Type 0 where
   pub bound : length deck ≤ most_bytes
   pub answered : AnswersInTurn (commands (lines deck)) (start registers) answers
 
--- the text that a deck prints
+-- The text that a deck prints.
 abbrev pub Deck : ℕ → List ℕ → List ℕ → Type 0
 Deck registers deck text =
     (answers : List Answer)
     × AnswersDeck registers deck answers
     × (text ≡ flat_map printed_text answers)
 
--- the text of the replies to the commands whose last line end is in these bytes
+-- The text of the replies to the commands whose last line end is in these bytes.
 abbrev pub EndedText : ℕ → List ℕ → List ℕ → Type 0
 EndedText registers bytes text =
     (answers : List Answer)
     × AnswersInTurn (commands_ended bytes) (start registers) answers
     × (text ≡ flat_map printed_text answers)
 
--- whether one of the answers is a refusal
+-- Whether one of the answers is a refusal.
 abbrev pub outcome_of : List Answer → Outcome
 outcome_of answers =
     if list_any (λ answer. is_some answer.refusal) answers then Refused else Accepted
 
--- how a deck ends: whether one of its answers is a refusal
+-- How a deck ends: whether one of its answers is a refusal.
 abbrev pub DeckEnds : ℕ → List ℕ → Outcome → Type 0
 DeckEnds registers deck outcome =
     (answers : List Answer) × AnswersDeck registers deck answers × (outcome ≡ outcome_of answers)
 
--- where the deck is known, it ends so
+-- If the deck is known, it ends in this way.
 abbrev pub EndsKnown : ℕ → Option (List ℕ) → Outcome → Type 0
 EndsKnown registers known outcome = IfSome known (λ deck. DeckEnds registers deck outcome)
 
--- what is written is a text that the deck has, by one of the two definitions
+-- What is written is a text of the deck, by one of the definitions of such texts.
 abbrev pub WritesText : (List ℕ → List ℕ → Type 0) → Option (List ℕ) → Option (List ℕ) → List ℕ
     → Type 0
 WritesText text_of old new deck = (text : List ℕ) × text_of deck text × Appends old new text
 
--- where a deck ends without a fault, and is known, its text is written
+-- If a deck ends without an error, and is known, its text is written.
 abbrev pub WritesDeck : {A W : Type 0} → ℕ → Result A Fault → Option (List ℕ)
     → (W → Option (List ℕ)) → W → W → Type 0
 WritesDeck registers result known contents old new =
     OnOk result (IfSome known (WritesText (Deck registers) (contents old) (contents new)))
 
--- the text of the replies to some first commands of these
+-- The text of the replies to the first of these commands, up to any of them.
 pub record FirstReplies (registers : ℕ) (items : List Spelled) (text : List ℕ) : Type 0 where
   pub first : List Spelled
   pub rest : List Spelled
@@ -84,30 +84,31 @@ pub record FirstReplies (registers : ℕ) (items : List Spelled) (text : List �
   pub answered : AnswersInTurn first (start registers) answers
   pub text_is : text ≡ flat_map printed_text answers
 
--- the text of the replies to some first commands of a deck
+-- The text of the replies to the first commands of a deck.
 abbrev pub FirstText : ℕ → List ℕ → List ℕ → Type 0
 FirstText registers deck = FirstReplies registers (commands (lines deck))
 
--- the next of these takes memory
+-- The next of these commands allocates memory.
 abbrev pub next_takes_memory : List Spelled → Bool
 next_takes_memory [] = false
 next_takes_memory (item ∷ items) = item_takes_memory item
 
--- where memory can be refused: before anything was done, or where a command follows that takes
--- some, or lines that open a block
+-- When allocation can fail: before any command is executed, or if the next command allocates
+-- memory, or if the next lines open a block.
 abbrev pub MayBeRefused : List Spelled → List Spelled → Type 0
 MayBeRefused first rest =
     (first ≡ [])
     ⊎ ((next_takes_memory rest ≡ true)
     ⊎ ((left : List (List ℕ)) × (rest ≡ commands left) × (opens_first left ≡ true)))
 
--- the text of the replies to some first commands of a deck, behind which it can be refused
+-- The text of the replies to the first commands of a deck, after which allocation can fail.
 abbrev pub MemoryText : ℕ → List ℕ → List ℕ → Type 0
 MemoryText registers deck text =
     (replies : FirstText registers deck text) × MayBeRefused replies.first replies.rest
 
--- what a fault leaves written of the bytes that were read: the replies to some first commands, to
--- all that have their end in these bytes where reading failed, and a front where writing did
+-- What an error leaves written, of the bytes that were read: the replies to the first commands; if
+-- reading failed, to all commands whose last line end was read; if writing failed, a prefix of such
+-- a text.
 abbrev pub LeavesOf : ℕ → Fault → Option (List ℕ) → Option (List ℕ) → List ℕ → Type 0
 LeavesOf registers OutOfMemory old new bytes = WritesText (MemoryText registers) old new bytes
 LeavesOf registers ReadFault old new bytes =
@@ -121,8 +122,9 @@ LeavesOf registers WriteFault old new bytes =
     × (count : ℕ)
     × Appends old new (take count text)
 
--- what a fault leaves: the bytes that were read of the deck, what is written of those within the
--- bound, and why a fault of reading came, of a source that does not tell its bytes too
+-- What an error leaves: the bytes that were read of the deck, and what is written of those within
+-- the limit. `cause` and `why`: reading failed, or there were too many bytes; `why` holds also of a
+-- source whose bytes are not known.
 pub record FaultLeaves {R W : Type 0} (registers : ℕ) (fault : Fault) (source : sources.Ghosts R)
     (sink : sinks.Ghosts W) (before after : R) (old new : W) : Type 0 where
   pub bytes : List ℕ
@@ -132,34 +134,35 @@ pub record FaultLeaves {R W : Type 0} (registers : ℕ) (fault : Fault) (source 
   pub cause : fault ≡ ReadFault → (source.failed after ≡ true) ⊎ (most_bytes < length bytes)
   pub why : fault ≡ ReadFault → (source.failed after ≡ true) ⊎ (most_bytes < source.given after)
 
--- where a deck ends with a fault, that is left of it
+-- If a deck ends with an error, it leaves this.
 abbrev pub LeavesDeck : {A R W : Type 0} → ℕ → Result A Fault → sources.Ghosts R → sinks.Ghosts W
     → R → R → W → W → Type 0
 LeavesDeck registers result source sink before after old new =
     IfErr result (λ fault. FaultLeaves registers fault source sink before after old new)
 
--- and but for a fault of writing all that is written is passed on
+-- Unless writing failed, everything that is written is flushed.
 abbrev pub PassedOn : {A : Type 0} → Result A Fault → Bool → Type 0
 PassedOn result flushed = IfErr result (λ fault. fault ≢ WriteFault → flushed ≡ true)
 
--- The laws of decks: a deck determines its text, whether a refusal is printed, and the text of the
--- commands that have their end in what was read.
+-- The laws of decks. A deck determines its text.
 abbrev pub DeckDeterminesText : Type 0
 DeckDeterminesText =
     (registers : ℕ) (deck text other : List ℕ) → Deck registers deck text
     → Deck registers deck other → text ≡ other
 
+-- The bytes that were read determine the text of the commands whose last line end is in them.
 abbrev pub EndedTextIsDetermined : Type 0
 EndedTextIsDetermined =
     (registers : ℕ) (bytes text other : List ℕ) → EndedText registers bytes text
     → EndedText registers bytes other → text ≡ other
 
+-- A deck determines whether a refusal is printed.
 abbrev pub DeckDeterminesOutcome : Type 0
 DeckDeterminesOutcome =
     (registers : ℕ) (deck : List ℕ) (outcome other : Outcome) → DeckEnds registers deck outcome
     → DeckEnds registers deck other → outcome ≡ other
 
--- the replies to some first commands are a front of the deck's text
+-- The replies to the first commands of a deck are a prefix of its text.
 abbrev pub FirstTextIsFront : Type 0
 FirstTextIsFront =
     (registers : ℕ) (deck first text : List ℕ) → FirstText registers deck first

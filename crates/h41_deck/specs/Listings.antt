@@ -10,17 +10,18 @@ use Rattle.h41_refusals.specs.declared.refusal.Refusal.TheVariants.{Line}
 use Rattle.h41_refusals.specs.Pages.{of_fetch}
 use Rattle.h41_deck.specs.Answers.{text_unless}
 
--- why words are not listed: 8 or 9 as the first of them is not fetched, 4 where they leave its page
+-- Why words are not listed: SystemRom (08) or EmptyPage (09) if the first of them cannot be
+-- fetched, BadImage (04) if they extend beyond its page.
 abbrev pub list_refusal : PageMap → ℕ → ℕ → Option Refusal
 list_refusal pages address count =
     option_or (option_map of_fetch (fetch_refusal pages address))
     (then_some (nat_lt (length (words_from pages address)) count) (Line BadImage))
 
--- so many words from an address on
+-- So many words from an address on.
 abbrev pub words_at : PageMap → ℕ → ℕ → List ℕ
 words_at pages address count = take count (words_from pages address)
 
--- their listing, or why they are not listed
+-- The listing of these words, or why they are not listed.
 abbrev pub listing_at : PageMap → ℕ → ℕ → Result (List ℕ) Refusal
 listing_at pages address count =
     text_unless (list_refusal pages address count)

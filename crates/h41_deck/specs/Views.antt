@@ -17,16 +17,16 @@ use Rattle.h41_views.specs.PageViews.{functions_text, image_at_text}
 use Rattle.h41_views.specs.ProgramListing.{ListsProgram}
 use Rattle.h41_views.specs.Views.{flags_line, processor_text, register_line, stack_text}
 
--- the image of a page's bank, or why it is not shown
+-- The image in a bank of a page, or why it is not shown.
 abbrev pub image_view : PageMap → ℕ → ℕ → Result (List ℕ) Refusal
 image_view pages page bank =
     text_unless (image_refusal pages page bank) (image_at_text pages page bank)
 
--- a text that is a line of its own
+-- A text as a line of its own.
 abbrev pub line_of : List ℕ → List ℕ
 line_of text = text ++ codes "\n"
 
--- the text of each view, or why it is refused
+-- The text of each view, or why it is refused.
 abbrev pub Shows : View → BenchState → Result (List ℕ) Refusal → Type 0
 Shows Cpu s made = made ≡ Ok (processor_text s.calculator.nut.processor s.calculator.nut.keys)
 Shows (Register address) s made = made ≡ Ok (register_line s.calculator.nut.ram address)

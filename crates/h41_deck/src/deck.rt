@@ -1,4 +1,4 @@
-//! A deck: its commands, answered in turn.
+//! A deck: its commands, executed in turn.
 
 ghost use Rattle.std.specs.Prelude.{◌≡◌, ◌≢◌, ◌≤◌, Err, IfOk, OnOk, true, false};
 ghost use Rattle.h41_debug.specs.Bench.{start};
@@ -13,15 +13,15 @@ use h41_ends::{InputLines, Sink, Source, flush};
 use h41_refusals::Fault;
 use std::alloc::Global;
 
-/// Reads a deck line by line, carries its commands out on a bench with `REGS` registers of main memory, 64 to 320, and writes what
-/// they print and nothing else. Each reply is written before
-/// the next command's line is read to its end, and the writer is flushed before each read. Both ends' marks are clear before.
+/// Reads a deck line by line, executes its commands on a bench with `REGS` main registers, 64 to 320, and writes what they print
+/// and nothing else. Each reply is written before the next command's line is read to its end, and the writer is flushed before
+/// each read. The error flags of the reader and the writer must be clear. The result says whether a refusal was printed.
 ///
 /// # Errors
 ///
-/// `ReadFault` (22) where a read fails, or the deck has more than 67,108,864 bytes; `WriteFault` (23) where a write fails;
-/// `OutOfMemory` (21). Each ends the deck, and what was written before stays. At `ReadFault` the commands were carried out whose
-/// last line end was read within the bound.
+/// `ReadFault` (22) if a read fails, or the deck has more than 67,108,864 bytes; `WriteFault` (23) if a write fails;
+/// `OutOfMemory` (21) if allocation failed. Each ends the deck, and what was written before remains. After `ReadFault`, every
+/// command whose last line end was read within the limit has been executed.
 pub fn run_deck<R: Source, W: Sink, const REGS: usize>(
     alloc: Global,
     reader: &mut R,
@@ -32,20 +32,20 @@ pub fn run_deck<R: Source, W: Sink, const REGS: usize>(
     requires reader_clear { R.failed reader.old ≡ false }
     requires writer_clear { W.failed writer.old ≡ false }
 
-    // What is written is the text of the deck that was read, where both ends tell their bytes.
+    // What is written is the text of the deck, if the bytes that the reader delivers and the writer accepts are known.
     ensures deck { WritesDeck REGS result (R.remaining reader.old) W.contents
         writer.old writer.new }
     ensures outcome { IfOk result (EndsKnown REGS (R.remaining reader.old)) }
     ensures flushed { OnOk result (W.flushed writer.new ≡ true) }
 
-    // Where a fault ended it, the replies to some first commands of what was read are written, and passed on, or where writing
-    // failed a front of them; where reading failed the replies to all that have their end in what was read; and where memory was
-    // refused, a command that takes some follows, or none was answered.
+    // After an error, the replies to the first commands that were read are written and flushed. If writing failed, a prefix of
+    // them is written. If reading failed, they are the replies to all commands whose last line end was read. If allocation
+    // failed, the next command is one that allocates memory, or no command was executed.
     ensures left { LeavesDeck REGS result R.Source W.Sink
         reader.old reader.new writer.old writer.new }
     ensures passed { PassedOn result (W.flushed writer.new) }
 
-    // The marks tell which end failed.
+    // The error flags say which stream failed.
     ensures write_fault { result ≡ Err Fault.WriteFault → W.failed writer.new ≡ true }
     ensures reader { result ≢ Err Fault.ReadFault → R.failed reader.new ≡ false }
     ensures writer { result ≢ Err Fault.WriteFault → W.failed writer.new ≡ false }
@@ -59,7 +59,7 @@ pub fn run_deck<R: Source, W: Sink, const REGS: usize>(
     }
 }
 
-/// Carries out the commands of a deck on a new bench, and writes what they print.
+/// Executes the commands of a deck on a new bench, and writes what they print.
 fn answer_deck<R: Source, W: Sink, const REGS: usize>(
     alloc: Global,
     reader: &mut R,
@@ -76,7 +76,7 @@ fn answer_deck<R: Source, W: Sink, const REGS: usize>(
     answer_lines(alloc, &mut bench, reader, writer)
 }
 
-/// Carries them out on a bench that nothing was done with.
+/// Executes the commands of a deck on a bench in its initial state.
 fn answer_lines<R: Source, W: Sink, const REGS: usize>(
     alloc: Global,
     bench: &mut Bench<REGS>,

@@ -1,4 +1,4 @@
-//! Laws of decks: each is the contract of a function with nothing to do but to call the laws it rests on.
+//! Laws of decks. Each law is the contract of a function whose body only calls the laws that it depends on.
 
 ghost use Rattle.h41_deck.specs.Deck.{DeckDeterminesOutcome, DeckDeterminesText, FirstTextIsFront};
 ghost use Rattle.h41_deck.specs.Deck.{EndedTextIsDetermined};
@@ -10,8 +10,8 @@ use h41_debug::laws::{
 use h41_program::laws::lists_are_determined;
 use h41_xrom::laws::{display_is_determined, load_is_determined};
 
-/// A deck determines its text, whether a refusal is printed, and the text of the commands that have their end in what was read. The
-/// replies to some first commands are a front of its text.
+/// States that a deck determines its text, whether a refusal is printed, and the text of the commands whose last line end was
+/// read; and that the replies to its first commands are a prefix of its text.
 pub fn deck_is_determined()
     ensures text { DeckDeterminesText }
     ensures ended { EndedTextIsDetermined }

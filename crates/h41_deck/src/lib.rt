@@ -1,4 +1,5 @@
-//! The deck language of the HP-41 bench: the replies to a deck's commands in turn.
+//! The deck language of the HP-41 bench: executes the commands of a deck in turn and writes their
+//! replies.
 #![tactic(auto)]
 
 mod deck;

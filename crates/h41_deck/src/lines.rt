@@ -1,4 +1,5 @@
-//! The lines of a deck, answered as they stand: a short command without the value that would hold every command.
+//! Executes single lines of a deck. Short commands are executed without building the value that can represent
+//! every command, because that is faster.
 
 ghost use Rattle.std.specs.Prelude.{◌≡◌, ◌≢◌, ◌≤◌, true, false, drop, length};
 ghost use Rattle.std.specs.Prelude.{Err, IfOk, OnErr, OnOk, Some};
@@ -31,7 +32,12 @@ use h41_lines::words::LineWords;
 use h41_refusals::{CommandFault, Refusal};
 use std::alloc::Global;
 
-/// Answers a line that opens no block.
+/// Executes a line that opens no block, and writes its reply.
+///
+/// # Errors
+///
+/// `OutOfMemory` (21), only for commands that allocate memory: nothing is written. `WriteFault` (23): a prefix
+/// of the reply is written.
 #[inline(always)]
 pub fn answer_line<W: Sink, const REGS: usize>(
     alloc: Global,
@@ -61,7 +67,8 @@ pub fn answer_line<W: Sink, const REGS: usize>(
     }
 }
 
-/// Answers a line that is a command without a block, by the words behind its name, where these say all.
+/// Executes a command without a block, from the words after its first word if these suffice, otherwise from the
+/// line.
 #[inline(always)]
 fn answer_plain<W: Sink, const REGS: usize>(
     alloc: Global,
@@ -95,7 +102,7 @@ fn answer_plain<W: Sink, const REGS: usize>(
     }
 }
 
-/// Answers a line by the command that it is.
+/// Parses a line as a command and executes it.
 #[inline(never)]
 fn answer_whole<W: Sink, const REGS: usize>(
     alloc: Global,
@@ -115,7 +122,12 @@ fn answer_whole<W: Sink, const REGS: usize>(
     answer(alloc, bench, line_item(alloc, line), writer)
 }
 
-/// Answers one item.
+/// Executes one item of a deck, and writes its reply.
+///
+/// # Errors
+///
+/// `OutOfMemory` (21), only for commands that allocate memory: nothing is written. `WriteFault` (23): a prefix
+/// of the reply is written.
 pub fn answer<W: Sink, const REGS: usize>(
     alloc: Global,
     bench: &mut Bench<REGS>,
@@ -135,7 +147,7 @@ pub fn answer<W: Sink, const REGS: usize>(
     }
 }
 
-/// Tells that a line is no command.
+/// Writes the refusal of a line that is not a command, BadCommand (50).
 fn refuse_unknown<W: Sink>(writer: &mut W) -> Result<Outcome, WriteFault>
     requires { W.failed writer.old ≡ false }
     ensures outcome { IfOk result (EndsAs (Some (refusals.Line BadCommand))) }
@@ -148,7 +160,7 @@ fn refuse_unknown<W: Sink>(writer: &mut W) -> Result<Outcome, WriteFault>
     Ok(Outcome::Refused)
 }
 
-/// Makes the steps that the words behind `step` count, and writes the refusal, where there is one.
+/// Makes the steps that the words after `step` specify, and writes the refusal, if there is one.
 #[inline(never)]
 fn step_counted<W: Sink, const REGS: usize>(
     bench: &mut Bench<REGS>,
@@ -167,7 +179,7 @@ fn step_counted<W: Sink, const REGS: usize>(
     }
 }
 
-/// Sets the breakpoint that the words behind `break` name, likewise.
+/// Sets the breakpoint that the words after `break` name, and writes the refusal, if there is one.
 #[inline(never)]
 fn break_placed<W: Sink, const REGS: usize>(
     bench: &mut Bench<REGS>,
@@ -186,7 +198,7 @@ fn break_placed<W: Sink, const REGS: usize>(
     }
 }
 
-/// Takes away the breakpoint that the words behind `unbreak` name, likewise.
+/// Removes the breakpoint that the words after `unbreak` name, and writes the refusal, if there is one.
 #[inline(never)]
 fn unbreak_placed<W: Sink, const REGS: usize>(
     bench: &mut Bench<REGS>,
@@ -205,7 +217,7 @@ fn unbreak_placed<W: Sink, const REGS: usize>(
     }
 }
 
-/// Takes out the page that the words behind `unplug` name, likewise.
+/// Unplugs the page that the words after `unplug` name, and writes the refusal, if there is one.
 #[inline(never)]
 fn unplug_named<W: Sink, const REGS: usize>(
     bench: &mut Bench<REGS>,
@@ -224,7 +236,7 @@ fn unplug_named<W: Sink, const REGS: usize>(
     }
 }
 
-/// Begins anew, where no words stand behind `reset`, likewise.
+/// Restores the initial state if no word follows `reset`, and writes the refusal, if there is one.
 #[inline(never)]
 fn reset_alone<W: Sink, const REGS: usize>(
     bench: &mut Bench<REGS>,
@@ -243,7 +255,7 @@ fn reset_alone<W: Sink, const REGS: usize>(
     }
 }
 
-/// Makes the run that the words behind `run` count, and writes its reply.
+/// Makes the run that the words after `run` specify, and writes its reply.
 #[inline(never)]
 fn run_counted<W: Sink, const REGS: usize>(
     bench: &mut Bench<REGS>,
@@ -265,7 +277,7 @@ fn run_counted<W: Sink, const REGS: usize>(
     }
 }
 
-/// Writes the view that the words behind `show` name, or why there is none.
+/// Writes the view that the words after `show` name, or the refusal.
 #[inline(never)]
 fn show_named<W: Sink, const REGS: usize>(
     alloc: Global,

@@ -26,7 +26,7 @@ use h41_pages::PlugRefusal;
 use h41_refusals::{CommandFault, Refusal};
 use std::alloc::{AllocError, Global};
 
-/// The most bytes of a line that is put together before it is written.
+/// The most bytes of a line that is assembled in a buffer before it is written.
 const SHORT_LINE: usize = 23;
 
 mod image;
@@ -34,19 +34,19 @@ mod listing;
 pub(crate) mod running;
 mod view;
 
-/// Whether a refusal was printed.
+/// Whether a deck has printed a refusal.
 #[derive(Clone, Copy, Debug, PartialEq, Eq)]
 pub enum Outcome {
-    /// No refusal.
+    /// No refusal was printed.
     Accepted,
-    /// At least one refusal.
+    /// At least one refusal was printed.
     Refused,
 }
 
 impl Outcome {
     ghost use Rattle.h41_deck.specs.private.AnsweredItems.{outcome_and};
 
-    /// How a deck ends that goes on so.
+    /// Returns the outcome of a deck with this outcome so far and this one of its next command.
     pub(crate) fn and(self, next: Self) -> Self
         ensures { result ≡ outcome_and self next }
     {
@@ -57,13 +57,13 @@ impl Outcome {
     }
 }
 
-/// Carries a command out, with its block, and writes its reply. The mark of the writer is clear before, and the block is the
-/// command's own.
+/// Executes a command with its block, and writes its reply. The error flag of the writer must be clear, and the block must be
+/// of the command's kind. The result says whether a refusal was printed.
 ///
 /// # Errors
 ///
-/// `OutOfMemory` (21), by commands that take memory alone: nothing is changed and nothing written. `WriteFault` (23): the
-/// command was carried out, and a front of its reply is written.
+/// `OutOfMemory` (21), only for commands that allocate memory: nothing is changed and nothing is written. `WriteFault` (23):
+/// the command was executed, and a prefix of its reply is written.
 pub fn apply<W: Sink, const REGS: usize>(
     alloc: Global,
     bench: &mut Bench<REGS>,
@@ -74,15 +74,15 @@ pub fn apply<W: Sink, const REGS: usize>(
     requires clear { W.failed writer.old ≡ false }
     requires block { block.kind ≡ kind_of command }
 
-    // The reply is written, or where writing failed a front of it, or where memory was refused nothing.
+    // The reply is written, or a prefix of it if writing failed, or nothing if allocation failed.
     ensures reply { Acts result command block bench.old bench.new W.contents writer.old writer.new }
 
-    // Memory is refused to commands that take some, where their blocks are not refused.
+    // Allocation fails only for commands that allocate memory, and whose blocks are not refused.
     ensures memory { result ≡ Err CommandFault.OutOfMemory → takes_memory command ≡ true }
     ensures accepted { result ≡ Err CommandFault.OutOfMemory → IsAccepted block }
     ensures unchanged { result ≡ Err CommandFault.OutOfMemory → bench.new ≡ bench.old }
 
-    // The mark tells whether writing failed.
+    // The error flag says whether writing failed.
     ensures mark { result ≡ Err CommandFault.WriteFault → W.failed writer.new ≡ true }
     ensures clear { result ≢ Err CommandFault.WriteFault → W.failed writer.new ≡ false }
 {
@@ -90,7 +90,8 @@ pub fn apply<W: Sink, const REGS: usize>(
     Ok(end(refusal, writer)?)
 }
 
-/// Carries a command out, with its block, and writes its text. Tells why it is refused, where it is; that is not written.
+/// Executes a command with its block, and writes its text. Returns why the command is refused, if it is; the line of the
+/// refusal is not written.
 fn say<W: Sink, const REGS: usize>(
     alloc: Global,
     bench: &mut Bench<REGS>,
@@ -122,7 +123,8 @@ fn say<W: Sink, const REGS: usize>(
     }
 }
 
-/// Carries a command out that has no block, and writes its text. Tells why it is refused, where it is; that is not written.
+/// Executes a command without a block, and writes its text. Returns why the command is refused, if it is; the line of the
+/// refusal is not written.
 fn say_alone<W: Sink, const REGS: usize>(
     alloc: Global,
     bench: &mut Bench<REGS>,
@@ -149,7 +151,7 @@ fn say_alone<W: Sink, const REGS: usize>(
     }
 }
 
-/// Carries a command out that prints nothing, or tells why not.
+/// Executes a command that prints nothing, and returns why it is refused, if it is.
 fn carry_out<const REGS: usize>(bench: &mut Bench<REGS>, command: Command) -> Option<Refusal>
     requires { is_silent command ≡ true }
     ensures { (values : List ℕ)
@@ -168,7 +170,8 @@ fn carry_out<const REGS: usize>(bench: &mut Bench<REGS>, command: Command) -> Op
     }
 }
 
-/// Plugs what a block says at a page's bank, or tells why not. 21 where memory is refused: nothing is changed then.
+/// Plugs the contents of a block into the bank of a page, and returns why this is refused, if it is. OutOfMemory (21) if
+/// allocation failed; nothing is changed then.
 fn plug<const REGS: usize>(
     alloc: Global,
     bench: &mut Bench<REGS>,
@@ -188,7 +191,8 @@ fn plug<const REGS: usize>(
     }
 }
 
-/// Plugs words, filled with 000 to a page, at its bank, or tells why not. 21 where memory is refused: nothing is changed then.
+/// Plugs words, filled with 000 to a whole page, into the bank of a page, and returns why this is refused, if it is.
+/// OutOfMemory (21) if allocation failed; nothing is changed then.
 fn plug_words<const REGS: usize>(
     alloc: Global,
     bench: &mut Bench<REGS>,
@@ -215,7 +219,8 @@ fn plug_words<const REGS: usize>(
     }
 }
 
-/// Loads the program that a block says, or tells why not. 21 where memory is refused: nothing is changed then.
+/// Loads the program of a block, and returns why this is refused, if it is. OutOfMemory (21) if allocation failed; nothing is
+/// changed then.
 fn load<const REGS: usize>(
     alloc: Global,
     bench: &mut Bench<REGS>,
@@ -232,7 +237,7 @@ fn load<const REGS: usize>(
     }
 }
 
-/// Loads the lines of bytes, or tells why not.
+/// Loads the lines in the bytes, and returns why this is refused, if it is.
 fn load_bytes<const REGS: usize>(bench: &mut Bench<REGS>, bytes: &[u8]) -> Option<Refusal>
     ensures { LoadsBytes (Ok bytes.now) bench.old bench.new (ends_by result) }
 {
@@ -242,7 +247,7 @@ fn load_bytes<const REGS: usize>(bench: &mut Bench<REGS>, bytes: &[u8]) -> Optio
     }
 }
 
-/// Takes out all banks of a page, or tells why not.
+/// Unplugs all banks of a page, and returns why this is refused, if it is.
 pub(crate) fn unplug<const REGS: usize>(bench: &mut Bench<REGS>, page: u8) -> Option<Refusal>
     ensures { Reply (commands.Unplug page) [] bench.old bench.new (ends_by result) }
 {
@@ -252,7 +257,7 @@ pub(crate) fn unplug<const REGS: usize>(bench: &mut Bench<REGS>, page: u8) -> Op
     }
 }
 
-/// Gives memory so many data registers, or tells why not.
+/// Sets the number of data registers, and returns why this is refused, if it is.
 fn size<const REGS: usize>(bench: &mut Bench<REGS>, count: u16) -> Option<Refusal>
     ensures { Reply (commands.Size count) [] bench.old bench.new (ends_by result) }
 {
@@ -262,7 +267,7 @@ fn size<const REGS: usize>(bench: &mut Bench<REGS>, count: u16) -> Option<Refusa
     }
 }
 
-/// Begins anew. It is never refused.
+/// Restores the initial state, and returns no refusal.
 pub(crate) fn reset<const REGS: usize>(bench: &mut Bench<REGS>) -> Option<Refusal>
     ensures { Reply commands.Reset [] bench.old bench.new (ends_by result) }
 {
@@ -270,7 +275,7 @@ pub(crate) fn reset<const REGS: usize>(bench: &mut Bench<REGS>) -> Option<Refusa
     None
 }
 
-/// Begins the function at an address, or tells why not.
+/// Starts the function at an address, and returns why this is refused, if it is.
 fn call<const REGS: usize>(bench: &mut Bench<REGS>, address: u16) -> Option<Refusal>
     ensures { Reply (commands.Call address) [] bench.old bench.new (ends_by result) }
 {
@@ -280,7 +285,7 @@ fn call<const REGS: usize>(bench: &mut Bench<REGS>, address: u16) -> Option<Refu
     }
 }
 
-/// Keys in turn, up to the first that is refused, and why that is.
+/// Presses keys in turn, and returns why the first refused one is refused, if there is one.
 fn press<const REGS: usize>(bench: &mut Bench<REGS>, keys: &PressedKeys) -> Option<Refusal>
     ensures { Reply (commands.Key keys.now) [] bench.old bench.new (ends_by result) }
 {
@@ -290,7 +295,7 @@ fn press<const REGS: usize>(bench: &mut Bench<REGS>, keys: &PressedKeys) -> Opti
     }
 }
 
-/// Single steps, up to the first that is refused, and why that is.
+/// Makes single steps, and returns why the first refused one is refused, if there is one.
 pub(crate) fn step<const REGS: usize>(bench: &mut Bench<REGS>, count: u32) -> Option<Refusal>
     ensures { Reply (commands.Step count) [] bench.old bench.new (ends_by result) }
 {
@@ -300,7 +305,8 @@ pub(crate) fn step<const REGS: usize>(bench: &mut Bench<REGS>, count: u32) -> Op
     }
 }
 
-/// Writes a view, or tells why it is refused. Nothing is made of a position first. 21 where memory is refused.
+/// Writes the text of a view, and returns why it is refused, if it is. The text of `show pos` is written without an
+/// allocation. OutOfMemory (21) if allocation failed; nothing is written then.
 #[inline(always)]
 pub(crate) fn show<W: Sink, const REGS: usize>(
     alloc: Global,
@@ -327,7 +333,7 @@ pub(crate) fn show<W: Sink, const REGS: usize>(
     }
 }
 
-/// Writes a text that was made, or tells why it was not.
+/// Writes a text that was made, or returns its refusal.
 fn say_made<W: Sink>(
     made: Result<Vec<u8>, Refusal>,
     writer: &mut W,
@@ -347,7 +353,7 @@ fn say_made<W: Sink>(
     }
 }
 
-/// Writes the line of a refusal, where there is one, and tells whether there is.
+/// Writes the line of a refusal, if there is one, and returns whether there is.
 #[inline(always)]
 pub(crate) fn end<W: Sink>(refusal: Option<Refusal>, writer: &mut W) -> Result<Outcome, WriteFault>
     requires { W.failed writer.old ≡ false }
@@ -365,7 +371,7 @@ pub(crate) fn end<W: Sink>(refusal: Option<Refusal>, writer: &mut W) -> Result<O
     }
 }
 
-/// Writes the line of a refusal. One that tells no more than its name is not put together first.
+/// Writes the line of a refusal. A line without details needs no further text.
 #[inline(never)]
 fn tell<W: Sink>(refusal: Refusal, writer: &mut W) -> Result<(), WriteFault>
     requires { W.failed writer.old ≡ false }
@@ -379,7 +385,7 @@ fn tell<W: Sink>(refusal: Refusal, writer: &mut W) -> Result<(), WriteFault>
     }
 }
 
-/// Writes a short text as a line of its own, at once.
+/// Writes a short text and a line end in one write.
 #[inline(always)]
 fn write_line<W: Sink>(text: &str, writer: &mut W) -> Result<(), WriteFault>
     requires clear { W.failed writer.old ≡ false }

@@ -1,5 +1,5 @@
--- What answering all lines of a deck leaves: what the whole deck promises, but that what a refusal
--- of memory leaves need not be passed on.
+-- What executing all lines of a deck leaves. This is what the whole deck promises, except that what
+-- is written need not be flushed if allocation failed.
 use Rattle.std.specs.Prelude.{◌≡◌, ◌≢◌, ℕ, true, false, Result, Err, IfOk, OnOk}
 use Rattle.h41_ends.specs.declared.source.Source as sources
 use Rattle.h41_ends.specs.declared.sink.Sink as sinks
@@ -8,6 +8,7 @@ use Rattle.h41_refusals.specs.declared.fault.Fault.TheVariants.{ReadFault, Write
 use Rattle.h41_deck.specs.declared.replies.Outcome.{Outcome}
 use Rattle.h41_deck.specs.Deck.{EndsKnown, LeavesDeck, WritesDeck}
 
+-- What executing the lines of a deck leaves, by its result.
 pub record AnswersLines {R W : Type 0} (registers : ℕ) (result : Result Outcome Fault)
     (source : sources.Ghosts R) (sink : sinks.Ghosts W) (before after : R) (old new : W)
     : Type 0 where

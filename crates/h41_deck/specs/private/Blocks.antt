@@ -1,4 +1,4 @@
--- What is left of blocks that were carried out. It only connects the code with the other
+-- What the execution of a block leaves. This file only connects the code with the other
 -- definitions.
 use Rattle.std.specs.Global.{Global}
 use Rattle.std.specs.Prelude.{◌≡◌, ℕ, Bool, Vec, List, Option, Some, Ok}
@@ -11,13 +11,13 @@ use Rattle.h41_refusals.specs.declared.refusal.Refusal.{Refusal}
 use Rattle.h41_deck.specs.Answers.{ends_by}
 use Rattle.h41_deck.specs.Replies.{LoadsBlock, Plugs, PlugsWords}
 
--- words are plugged, or refused
+-- Words are plugged, or refused.
 abbrev pub PlugsWordsOf : Vec ℕ Global → ℕ → ℕ → Bool → BenchState → BenchState → Option Refusal
     → Type 0
 PlugsWordsOf words page bank writable s t refusal =
     PlugsWords page bank writable (Ok words.items) s t (ends_by refusal)
 
--- a block for a page, by what it says
+-- A block for a page is plugged, by its values, or refused.
 pub record PlugsTaken (block : TakenBlock) (page bank : ℕ) (writable : Bool)
     (s t : BenchState) (refusal : Option Refusal) : Type 0 where
   pub kind : PageKind
@@ -26,7 +26,7 @@ pub record PlugsTaken (block : TakenBlock) (page bank : ℕ) (writable : Bool)
   pub said : judgement block ≡ Ok values
   pub plugs : Plugs kind page bank writable values s t (ends_by refusal)
 
--- a block that is a program
+-- A block that is a program is loaded, by its values, or refused.
 pub record LoadsTaken (block : TakenBlock) (s t : BenchState)
     (refusal : Option Refusal) : Type 0 where
   pub kind : ProgramKind

@@ -1,6 +1,6 @@
--- What is written of an answer, and what the code's results say of it. It connects the code with
--- the other definitions; of it the contract of `apply` cites `Acts`, by what it writes: `Replies`,
--- or a front of it, `RepliesInPart`.
+-- What is written of an answer, and what the results of the code say about it. This file connects
+-- the code with the other definitions. The contract of `apply` uses `Acts` from it, which says what
+-- is written: `Replies`, or a prefix, `RepliesInPart`.
 use Rattle.std.specs.Global.{Global}
 use Rattle.std.specs.Prelude.{◌≡◌, ℕ, Vec, List, [], Option, Some, None, Result, Ok, Err}
 use Rattle.std.specs.Io.KnownBytes.{Appends, Keeps}
@@ -25,16 +25,17 @@ use Rattle.h41_deck.specs.Listings.{listing_at}
 use Rattle.h41_deck.specs.Replies.{ItemReply}
 use Rattle.h41_deck.specs.Views.{Shows, image_view}
 
--- whether an answer is a refusal
+-- Whether an answer is a refusal.
 abbrev pub outcome_in : Option Refusal → Outcome
 outcome_in None = Accepted
 outcome_in (Some refusal) = Refused
 
+-- The outcome says whether there is a refusal.
 abbrev pub EndsAs : Option Refusal → Outcome → Type 0
 EndsAs refusal outcome = outcome ≡ outcome_in refusal
 
--- the lines of a command are answered: their reply is written, and the outcome tells whether it is
--- a refusal
+-- The lines of a command are answered: their reply is written, and the outcome says whether it is a
+-- refusal.
 pub record Replies (item : Spelled) (s t : BenchState)
     (old new : Option (List ℕ)) (outcome : Outcome) : Type 0 where
   pub answer : Answer
@@ -42,21 +43,21 @@ pub record Replies (item : Spelled) (s t : BenchState)
   pub written : Appends old new (printed_text answer)
   pub outcome_is : outcome ≡ outcome_in answer.refusal
 
--- what is printed of a command that leaves the bench so: what a command does to the bench does not
--- hang on its writer
+-- What is printed for a command that leaves the bench in this state. What a command does to the
+-- bench does not depend on its writer.
 abbrev pub PrintsUntil : Spelled → BenchState → BenchState → List ℕ → Type 0
 PrintsUntil item s t text =
     (answer : Answer) × ItemReply item s t answer × (text ≡ printed_text answer)
 
--- a front of that is written, and not all of it
+-- A prefix of that text is written, and not all of it.
 pub record RepliesInPart (item : Spelled) (s t : BenchState)
     (old new : Option (List ℕ)) : Type 0 where
   pub text : List ℕ
   pub printed_until : PrintsUntil item s t text
   pub written : AppendsPart old new text
 
--- what a command and its block leave, by its answer: their reply, a front of it, or where memory
--- was refused nothing
+-- What a command with its block leaves, by its result: the reply, a prefix of it, or nothing if
+-- allocation failed.
 abbrev pub Leaves : {W : Type 0} → Result Outcome CommandFault → Spelled → BenchState → BenchState
     → (W → Option (List ℕ)) → W → W → Type 0
 Leaves (Ok outcome) item s t contents old new =
@@ -65,26 +66,28 @@ Leaves (Err WriteFault) item s t contents old new =
     RepliesInPart item s t (contents old) (contents new)
 Leaves (Err OutOfMemory) item s t contents old new = Keeps (contents old) (contents new)
 
--- a block that is not refused
+-- A block that is not refused.
 abbrev pub IsAccepted : TakenBlock → Type 0
 IsAccepted block = result_err (judgement block) ≡ None
 
--- the command that a block makes whole
+-- The command with the values of its block.
 abbrev pub item_of : Command → TakenBlock → Spelled
 item_of command block = with_values (judgement block) command
 
+-- What `apply` leaves, by its result.
 abbrev pub Acts : {W : Type 0} → Result Outcome CommandFault → Command → TakenBlock → BenchState
     → BenchState → (W → Option (List ℕ)) → W → W → Type 0
 Acts result command block s t contents old new =
     Leaves result (item_of command block) s t contents old new
 
--- the text of an answer is written, and its refusal is still to be told
+-- The text of an answer is written, and its refusal is still to be written.
 pub record SaysText (item : Spelled) (s t : BenchState)
     (old new : Option (List ℕ)) (refusal : Option Refusal) : Type 0 where
   pub text : List ℕ
   pub reply : ItemReply item s t (record { text = text; refusal = refusal })
   pub written : Appends old new text
 
+-- What a command leaves before its refusal is written, by its result.
 abbrev pub LeavesText : {W : Type 0} → Result (Option Refusal) CommandFault → Spelled → BenchState
     → BenchState → (W → Option (List ℕ)) → W → W → Type 0
 LeavesText (Ok refusal) item s t contents old new =
@@ -93,18 +96,19 @@ LeavesText (Err WriteFault) item s t contents old new =
     RepliesInPart item s t (contents old) (contents new)
 LeavesText (Err OutOfMemory) item s t contents old new = Keeps (contents old) (contents new)
 
+-- The same of a command with its block.
 abbrev pub Says : {W : Type 0} → Result (Option Refusal) CommandFault → Command → TakenBlock
     → BenchState → BenchState → (W → Option (List ℕ)) → W → W → Type 0
 Says result command block s t contents old new =
     LeavesText result (item_of command block) s t contents old new
 
--- a command without a block does so whatever values a block would have
+-- The same of a command without a block, whatever values a block would have.
 abbrev pub SaysAlone : {W : Type 0} → Result (Option Refusal) CommandFault → Command → BenchState
     → BenchState → (W → Option (List ℕ)) → W → W → Type 0
 SaysAlone result command s t contents old new =
     (values : List ℕ) → LeavesText result (Ok (command, values)) s t contents old new
 
--- the same of a command that writes without memory
+-- The same of a command that writes without allocating memory.
 abbrev pub WritesAlone : {W : Type 0} → Result (Option Refusal) fault.WriteFault → Command
     → BenchState → BenchState → (W → Option (List ℕ)) → W → W → Type 0
 WritesAlone (Ok refusal) command s t contents old new =
@@ -112,39 +116,44 @@ WritesAlone (Ok refusal) command s t contents old new =
 WritesAlone (Err failed) command s t contents old new =
     (values : List ℕ) → RepliesInPart (Ok (command, values)) s t (contents old) (contents new)
 
--- a run and a trace are such commands
+-- A run writes without allocating memory.
 abbrev pub RunsAlone : {W : Type 0} → Result (Option Refusal) fault.WriteFault → ℕ → BenchState
     → BenchState → (W → Option (List ℕ)) → W → W → Type 0
 RunsAlone result limit s t contents old new =
     WritesAlone result (commands.Run limit) s t contents old new
 
+-- So does a trace.
 abbrev pub TracesAlone : {W : Type 0} → Result (Option Refusal) fault.WriteFault → ℕ → BenchState
     → BenchState → (W → Option (List ℕ)) → W → W → Type 0
 TracesAlone result count s t contents old new =
     WritesAlone result (commands.Trace count) s t contents old new
 
--- the line of a trace that tells of the next step
+-- The line of a trace that describes the next step.
 abbrev pub IsTraceLine : BenchState → List ℕ → Type 0
 IsTraceLine s line = (text : List ℕ) × TellsStep s text × (line ≡ traced_line text)
 
--- what was made: a text or its refusal, and the text alone
+-- What was made: a text or its refusal.
 abbrev pub text_in : Result (Vec ℕ Global) Refusal → Result (List ℕ) Refusal
 text_in (Ok text) = Ok text.items
 text_in (Err refusal) = Err refusal
 
+-- The text that was made; empty if there is a refusal.
 abbrev pub made_text : Result (Vec ℕ Global) Refusal → List ℕ
 made_text (Ok text) = text.items
 made_text (Err refusal) = []
 
+-- The refusal of what was made, if there is one.
 abbrev pub IsRefusalOf : {A : Type 0} → Result A Refusal → Option Refusal → Type 0
 IsRefusalOf made refusal = refusal ≡ result_err made
 
--- it is a view's, an image's, or a listing's
+-- What was made is the text of a view, or its refusal.
 abbrev pub IsShown : View → BenchState → Result (Vec ℕ Global) Refusal → Type 0
 IsShown view s made = Shows view s (text_in made)
 
+-- What was made is an image, or its refusal.
 abbrev pub IsImageShown : PageMap → ℕ → ℕ → Result (Vec ℕ Global) Refusal → Type 0
 IsImageShown pages page bank made = text_in made ≡ image_view pages page bank
 
+-- What was made is a listing, or its refusal.
 abbrev pub IsListed : PageMap → ℕ → ℕ → Result (Vec ℕ Global) Refusal → Type 0
 IsListed pages address count made = text_in made ≡ listing_at pages address count

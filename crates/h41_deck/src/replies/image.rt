@@ -1,4 +1,4 @@
-//! The image of a page's bank, as `show image` prints it.
+//! The image in a bank of a page, as `show image` prints it.
 
 ghost use Rattle.std.specs.Prelude.{IfOk};
 ghost use Rattle.h41_deck.specs.private.Writing.{IsImageShown};
@@ -8,7 +8,8 @@ use h41_refusals::Refusal;
 use h41_views::image_text;
 use std::alloc::{AllocError, Global};
 
-/// The lines of the image at a page's bank, or why it is not shown: 1 or 3. 21 where memory is refused.
+/// Returns the lines of the image in the bank of a page, or why it is refused: NoSuchPage (01) or
+/// NotPlugged (03). OutOfMemory (21) if allocation failed.
 pub fn image_shown(
     alloc: Global,
     pages: &Pages,

@@ -1,4 +1,4 @@
-//! The lines of words, as `list` prints them.
+//! The listing of words, as `list` prints it.
 
 ghost use Rattle.std.specs.Prelude.{◌≡◌, IfOk};
 ghost use Rattle.std.specs.Result.{result_err};
@@ -12,7 +12,8 @@ use h41_refusals::Refusal;
 use h41_words::Word;
 use std::alloc::{AllocError, Global};
 
-/// The listing of so many words from an address on, or why they are not listed: 8, 9 or 4. 21 where memory is refused.
+/// Returns the listing of `count` words from an address on, or why it is refused: SystemRom (08), EmptyPage (09), or
+/// BadImage (04) if the page has fewer words after the address. OutOfMemory (21) if allocation failed.
 pub fn listed(
     alloc: Global,
     pages: &Pages,
@@ -27,7 +28,7 @@ pub fn listed(
     }
 }
 
-/// So many words of one page from an address on.
+/// Returns `count` words of one page from an address on, or why they cannot be listed.
 fn words_at(pages: &Pages, address: u16, count: usize) -> Result<&[Word], Refusal>
     ensures refusal { result_err result ≡ spec.list_refusal pages.now address count }
     ensures words { IfOk result (λ words. words.now ≡ spec.words_at pages.now address count) }

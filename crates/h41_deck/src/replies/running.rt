@@ -15,13 +15,18 @@ use h41_ends::{Sink, WriteFault, write_whole};
 use h41_refusals::Refusal;
 use itoa::Buffer;
 
-/// The most bytes of what `run` prints: `ran`, ten digits, `Refused`, two blanks and LF.
+/// The most bytes of what `run` prints: `ran`, ten digits, `Refused`, two spaces and LF, which are at most 24.
 const RAN: usize = 24;
 
-/// The most bytes of a line of a trace.
+/// The most bytes of a line of a trace, with its LF.
 const TRACED: usize = TRACE_CAPACITY + 1;
 
-/// A run of at most so many steps. Writes how many it made and why it stopped, and tells its refusal where that is why.
+/// Makes a run of at most `limit` steps, and writes how many it made and why it stopped. Returns the refusal of the next step, if
+/// the run stopped because of it.
+///
+/// # Errors
+///
+/// `WriteFault` (23): the run was made, and a prefix of the line is written.
 #[inline(always)]
 pub fn run<W: Sink, const REGS: usize>(
     bench: &mut Bench<REGS>,
@@ -38,7 +43,7 @@ pub fn run<W: Sink, const REGS: usize>(
     Ok(stop_refusal(stop))
 }
 
-/// How many steps a run made, and why it stopped.
+/// Returns the line of a run: how many steps it made, and why it stopped.
 fn ran_text(made: u32, stop: Stop) -> ArrayString<RAN>
     ensures { result.bytes ≡ spec.ran_text made stop }
 {
@@ -51,7 +56,7 @@ fn ran_text(made: u32, stop: Stop) -> ArrayString<RAN>
     text
 }
 
-/// Why a run stopped, in a word.
+/// Returns why a run stopped, as the word that is printed.
 fn stop_name(stop: Stop) -> &'static str
     ensures text { result.now ≡ spec.stop_name stop }
     ensures short { length result.now ≤ 7 }
@@ -64,7 +69,7 @@ fn stop_name(stop: Stop) -> &'static str
     }
 }
 
-/// The refusal that a run stopped for.
+/// Returns the refusal that a run stopped for, if it did.
 fn stop_refusal(stop: Stop) -> Option<Refusal>
     ensures { result ≡ spec.stop_refusal stop }
 {
@@ -74,8 +79,13 @@ fn stop_refusal(stop: Stop) -> Option<Refusal>
     }
 }
 
-/// So many single steps, up to the first that is refused, and why that is. Before each is made it is told. Where a line cannot be
-/// written, no more are, but the steps that are left are made: what a command does to the bench does not hang on its writer.
+/// Makes `count` single steps, up to the first that is refused, and returns why that one is refused. Before each step its line is
+/// written.
+///
+/// # Errors
+///
+/// `WriteFault` (23): no further line is written, but the remaining steps are made, because what a command does to the bench does
+/// not depend on its writer.
 pub fn trace<W: Sink, const REGS: usize>(
     bench: &mut Bench<REGS>,
     count: u32,
@@ -100,7 +110,7 @@ pub fn trace<W: Sink, const REGS: usize>(
     Ok(None)
 }
 
-/// The line that tells of the next step.
+/// Returns the line of a trace for the next step.
 fn traced_line<const REGS: usize>(bench: &Bench<REGS>) -> ArrayString<TRACED>
     ensures { IsTraceLine bench.now result.bytes }
 {
@@ -110,7 +120,7 @@ fn traced_line<const REGS: usize>(bench: &Bench<REGS>) -> ArrayString<TRACED>
     line
 }
 
-/// Sets a breakpoint, or tells why not.
+/// Sets a breakpoint. Returns BreakFull (19) if it is refused.
 pub fn set_break<const REGS: usize>(bench: &mut Bench<REGS>, location: Location) -> Option<Refusal>
     ensures { Reply (commands.Break location) [] bench.old bench.new (ends_by result) }
 {
@@ -120,7 +130,7 @@ pub fn set_break<const REGS: usize>(bench: &mut Bench<REGS>, location: Location)
     }
 }
 
-/// Takes a breakpoint away, or tells why not.
+/// Removes a breakpoint. Returns NoBreak (20) if it is not set.
 pub fn unbreak<const REGS: usize>(bench: &mut Bench<REGS>, location: Location) -> Option<Refusal>
     ensures { Reply (commands.Unbreak location) [] bench.old bench.new (ends_by result) }
 {

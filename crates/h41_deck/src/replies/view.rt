@@ -1,4 +1,4 @@
-//! What `show` prints.
+//! The texts that `show` prints.
 
 ghost use Rattle.std.specs.Prelude.{◌≡◌, ◌++◌, IfOk};
 ghost use Rattle.h41_deck.specs.Views.{line_of};
@@ -14,7 +14,7 @@ use h41_views::{
 };
 use std::alloc::{AllocError, Global};
 
-/// The text of a view, or why it is refused. 21 where memory is refused.
+/// Returns the text of a view, or why it is refused. OutOfMemory (21) if allocation failed.
 #[inline(never)]
 pub fn shown<const REGS: usize>(
     alloc: Global,
@@ -40,7 +40,7 @@ pub fn shown<const REGS: usize>(
     Ok(Ok(text))
 }
 
-/// A text with its line end. 21 where memory is refused.
+/// Returns a text with a line end. OutOfMemory (21) if allocation failed.
 fn line_of(alloc: Global, text: &str) -> Result<Vec<u8>, AllocError>
     ensures { IfOk result (λ line. line.items ≡ line_of text.now) }
 {

@@ -5,7 +5,7 @@ use Rattle.h41_deck.proofs.AnswersInTurn.{Told}
 use Rattle.h41_deck.proofs.DeckReading.{ReadSoFar}
 use Rattle.h41_deck.proofs.deck.answer_lines.Given as goal
 
--- the items that were read so far are done: what is written is what they print
+-- The items that were read so far are done, and what they print is written.
 abbrev pub invariant-loop-first : goal.invariant-loop-first
 invariant-loop-first g l = record {
   done : (items : List Spelled)

@@ -32,7 +32,7 @@ returns-in-Break g c = rw c.in-Break.is (λ values. c.set_break.ensures)
 pub returns-in-Unbreak : goal.returns-in-Unbreak
 returns-in-Unbreak g c = rw c.in-Unbreak.is (λ values. c.unbreak.ensures)
 
--- a command that prints nothing is one of these
+-- A command that prints nothing is one of these.
 silent_named : (command : Command) → is_silent command ≡ true → ((page : ℕ) → command ≢ Unplug page)
     → ((count : ℕ) → command ≢ Size count) → command ≢ Reset → ((address : ℕ) → command ≢ Call address)
     → ((keys : PressedKeys) → command ≢ Key keys) → ((count : ℕ) → command ≢ Step count)

@@ -2,7 +2,7 @@ use Rattle.std.proofs.Common.{◌≡◌, ◌-◌, false}
 use Rattle.h41_deck.proofs.Running.{TracesOn}
 use Rattle.h41_deck.proofs.replies.running.trace.Given as goal
 
--- what is told so far, and that it goes on with the steps that are left
+-- What is written so far, and that it continues with the steps that remain.
 abbrev pub invariant-loop-made : goal.invariant-loop-made
 invariant-loop-made g l = record {
   on : TracesOn l.fn.count (l.fn.count - l.made) l.fn.bench l.bench (g.W.Sink.contents l.fn.writer) (g.W.Sink.contents l.writer);

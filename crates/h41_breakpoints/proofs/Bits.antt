@@ -1,4 +1,4 @@
--- Bits of numbers of 64 bits each, as one list of them.
+-- The bits of numbers with 64 bits each, as one list.
 use Rattle.std.proofs.Common.{◌≡◌, ◌≤◌, ◌<◌, ℕ, ◌-◌, ◌*◌, ◌/◌, ◌%◌, Bool, false, inl, inr, eqb, List, [], ◌++◌, length, replicate, take}
 use Rattle.std.proofs.Common.{get_or, set, get_or-set_other, get_or-set_same, length-set, ext_get_or, sym, ap, ◌∙◌, arith}
 use Rattle.std.specs.Prelude.{All}
@@ -18,7 +18,7 @@ pub get_or-bits_of : (count : ℕ) (numbers : List ℕ) (k : ℕ) → k < count 
 unfolding bits_of
 get_or-bits_of count numbers k below = get_or-map-range_with_len (bit_of numbers) 0 count k k false below (omega arith)
 
--- zeros that an empty list was filled up with, and their bits
+-- An empty list that is filled with zeros, and its bits.
 pub filled : (items : List ℕ) (spare count : ℕ) → items ≡ [] → spare ≡ 0
     → take count items ++ replicate (count - spare) 0 ≡ replicate count 0
 filled items spare count none short =

@@ -1,4 +1,4 @@
--- The tables of bits, as breakpoints come and go.
+-- The tables of bits after a breakpoint is set or removed.
 use Rattle.std.proofs.Common.{◌≡◌, ◌≢◌, ℕ, zero, suc, Bool, true, false, Some, List, [], ◌∷◌, ◌++◌, set, eq-eqb, refl, sym, ap, ◌∙◌}
 use Rattle.std.specs.Prelude.{All, not, ◌&&◌, ◌||◌, ◌==◌, slice_get}
 use Rattle.std.specs.FinSet.{contains, contains-from_list, contains-insert, contains-remove}
@@ -12,7 +12,7 @@ use Rattle.h41_breakpoints.specs.declared.location.Location.TheVariants.{Line, W
 use Rattle.h41_positions.specs.declared.position.Position.TheVariants.{Memory, Page}
 use Rattle.h41_breakpoints.proofs.Members.{cmp_total, equal_are, same_is, set_pushed}
 
--- a bit that was set or cleared is read so, and each other as before
+-- A bit that was set or cleared is read back, and every other bit is as before.
 read_same : (bits : List Bool) (i : ℕ) (bit read : Bool) → slice_get (set bits i bit) i ≡ Some read → read ≡ bit
 read_same [] i bit read is = cc
 read_same (b ∷ bits) zero bit read is = sym (same_Some bit read is)
@@ -49,7 +49,7 @@ itself (Word a) = eq-eqb a a refl
 itself (Line (Memory a)) = eq-eqb a a refl
 itself (Line (Page a)) = eq-eqb a a refl
 
--- with another bit for a location the tables are those of another list, where both lists have all other locations alike
+-- If two lists agree on all locations but one, the tables with that location's bit changed are those of the other list.
 marks_changed : (members others : List Location) (marks : Marks) (b : Location) (mark : Bool) → AreMarksOf members marks
     → is_set (set_of others) b ≡ mark
     → ((q : Location) → eq_by_cmp location_cmp q b ≡ false → is_set (set_of others) q ≡ is_set (set_of members) q)
@@ -84,7 +84,7 @@ marks_left members fewer marks b left marked =
     has : (q : Location) → is_set (set_of fewer) q ≡ (not (eq_by_cmp location_cmp q b) && contains (set_of members) q)
     has q = ap (λ (set : BreakpointSet). is_set set q) left ∙ contains-remove cmp_total (set_of members) b q
 
--- clear tables are those of no breakpoint
+-- Clear tables are those of the empty set.
 clear_read : (bits : List Bool) (i : ℕ) (read : Bool) → All (λ bit. bit ≡ false) bits → slice_get bits i ≡ Some read → read ≡ false
 clear_read bits i read clear is = sym (get_or_from_slice_get bits i read false is) ∙ clear i false (slice_get_within bits i read is)
 

@@ -1,4 +1,4 @@
--- Sets of breakpoints by the lists of their members.
+-- Sets of breakpoints as lists of their members.
 use Rattle.std.proofs.Common.{◌≡◌, ◌≤◌, ◌<◌, ℕ, suc, ◌+◌, Bool, true, false, cond, Some, None}
 use Rattle.std.proofs.Common.{List, [], ◌∷◌, ◌++◌, length, length-append, get_or, set}
 use Rattle.std.proofs.Common.{refl, sym, ap, subst, ◌∙◌, arith}
@@ -20,7 +20,7 @@ use Rattle.h41_breakpoints.specs.declared.location.Location.{Location}
 use Rattle.h41_breakpoints.specs.declared.location.Location.TheVariants.{Line, Word}
 use Rattle.h41_positions.specs.declared.position.Position.TheVariants.{Memory, Page}
 
--- the order of locations is total, and only the same one shares a place
+-- The order of locations is total, and only equal locations compare as equal.
 pub cmp_total : IsTotalOrder location_cmp
 cmp_total = then_total (on_total kind_of nat_cmp_total) (on_total number_of nat_cmp_total)
 
@@ -44,12 +44,12 @@ same_is x y =
 pub equal_are : (x y : Location) → eq_by_cmp location_cmp x y ≡ true → x ≡ y
 equal_are x y p = cmp_apart x y ((Equal-is (location_cmp x y)).0 p)
 
--- a member is found in the list
+-- A location is found in the list if and only if it is in the set.
 pub set_has : (members : List Location) (q : Location) → list_any (is_same q) members ≡ is_set (set_of members) q
 set_has members q =
     ap (λ (test : Location → Bool). list_any test members) (λ i x. same_is q x i) ∙ sym (contains-from_list cmp_total members q)
 
--- one that is not found
+-- If no member passes a test, none is found by it.
 all_fail : (test : Location → Bool) (members : List Location) → length members ≤ prefix_len (λ b. not (test b)) members
     → list_any test members ≡ false
 all_fail test [] long = refl
@@ -69,7 +69,7 @@ none_found test members none =
       | false ↦ λ is _. all_fail test members (ltb-false _ _ is)
     ] refl none
 
--- one more
+-- A member that is appended is added to the set.
 pub set_pushed : (members : List Location) (b : Location) → set_of (members ++ b ∷ []) ≡ with_breakpoint b (set_of members)
 set_pushed members b = from_list_push cmp_total cmp_apart members b
 
@@ -80,7 +80,7 @@ once_pushed members b once fresh =
     ∙ ap (λ (had : Bool). cond had (len (set_of members)) (len (set_of members) + 1)) fresh
     ∙ omega (arith, once, length-append members (b ∷ []))
 
--- one that is there
+-- Adding a breakpoint that is already set changes nothing.
 there : (set : BreakpointSet) (b : Location) → is_set set b ≡ true
     → (q : Location) → contains set q ≡ (eq_by_cmp location_cmp q b || contains set q)
 there set b had q =
@@ -92,7 +92,7 @@ there set b had q =
 pub set_again : (set : BreakpointSet) (b : Location) → is_set set b ≡ true → set ≡ with_breakpoint b set
 set_again set b had = same_set cmp_total cmp_apart set (insert set b) (λ q. there set b had q ∙ sym (contains-insert cmp_total set b q))
 
--- a set has at most as many as the list
+-- A set has at most as many members as the list.
 most_len : (members : List Location) → len (set_of members) ≤ length members
 most_len [] = omega (arith, len-empty location_cmp)
 most_len (b ∷ members) =
@@ -104,7 +104,7 @@ most_len (b ∷ members) =
       | false ↦ λ is. omega (arith, is, most_len members)
     ] more
 
--- one that is taken away
+-- A member is removed from a list that has each of its members once.
 module _ (members : List Location) (b x : Location) (i : ℕ) (once : IsEachOnce members) (inside : i < length members)
     (at : x ≡ get_or members i x) (same : is_same b x ≡ true) (size : length (swap_remove members i x) + 1 ≡ length members) where
   abbrev rest : List Location
@@ -153,7 +153,7 @@ module _ (members : List Location) (b x : Location) (i : ℕ) (once : IsEachOnce
       same_set cmp_total cmp_apart (set_of rest) (remove (set_of members) b)
       (λ q. left q ∙ sym (contains-remove cmp_total (set_of members) b q))
 
--- what is left where the first place of a location is taken out
+-- The list after the first occurrence of a location is removed.
 pub record IsTaken (members : List Location) (b : Location) (fewer : List Location) : Type 0 where
   pub once : IsEachOnce fewer
   pub set : set_of fewer ≡ without_breakpoint b (set_of members)
@@ -170,7 +170,7 @@ taken members fewer b x i once found at is size =
       set = set_taken members b x i once place.0 at same sizes;
     })
 
--- none is in a set of none
+-- An empty set contains no location.
 pub none_set : (set : BreakpointSet) (q : Location) → len set ≡ 0 → false ≡ is_set set q
 none_set set q none =
     sym (ap (λ (of : BreakpointSet). is_set of q) (empty_of_len set none) ∙ contains-empty location_cmp q)

@@ -6,10 +6,10 @@ ghost use Rattle.h41_breakpoints.specs.private.Tables.{IsWithBit};
 use std::alloc::{AllocError, Global};
 use std::marker::Model;
 
-/// How many bits each number of a table has.
+/// The number of bits in each number of a table.
 const NUMBER_BITS: usize = 64;
 
-/// A bit for each of the numbers from 0 on, so many.
+/// A table of `COUNT` bits, numbered from 0 on.
 #[derive(Drop)]
 pub struct BitTable<const COUNT: usize> {
     numbers: Vec<u64>,
@@ -27,7 +27,7 @@ impl<const COUNT: usize> Model for BitTable<COUNT> {
 }
 
 impl<const COUNT: usize> BitTable<COUNT> {
-    /// All are clear. 21 where memory is refused.
+    /// Returns a table in which all bits are clear. OutOfMemory (21) if allocation fails.
     pub fn new(alloc: Global) -> Result<Self, AllocError>
         ensures { IfOk result (All (λ bit. bit ≡ false)) }
     {
@@ -36,7 +36,7 @@ impl<const COUNT: usize> BitTable<COUNT> {
         Ok(BitTable { numbers })
     }
 
-    /// A bit, where there is one.
+    /// Returns the bit at a place, or `None` if `place` is not below `COUNT`.
     #[inline(always)]
     pub fn get(&self, place: usize) -> Option<bool>
         ensures { result ≡ slice_get self.now place }
@@ -48,7 +48,7 @@ impl<const COUNT: usize> BitTable<COUNT> {
         }
     }
 
-    /// Sets or clears a bit, where there is one.
+    /// Sets or clears the bit at a place. Does nothing if `place` is not below `COUNT`.
     pub fn set(&mut self, place: usize, bit: bool)
         ensures { self.new ≡ slice_set self.old place bit }
     {
@@ -59,7 +59,7 @@ impl<const COUNT: usize> BitTable<COUNT> {
     }
 }
 
-/// A number with a bit that is set or clear.
+/// Returns the number with the bit at `place` set or cleared, and all other bits unchanged. Bit 0 is the lowest.
 fn with_bit(number: u64, place: usize, bit: bool) -> u64
     requires { place < 64 }
     ensures { IsWithBit number place bit result }

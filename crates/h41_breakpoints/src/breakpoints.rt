@@ -1,4 +1,4 @@
-//! The breakpoints that are set: where a run stops.
+//! The set of breakpoints: the locations at which a run stops.
 
 ghost use Rattle.std.specs.Prelude.{◌≡◌, ◌≤◌, IfOk, OnErr, OnOk, is_err, position};
 ghost use Rattle.std.specs.FinSet.{len};
@@ -14,22 +14,22 @@ use arrayvec::ArrayVec;
 use std::alloc::{AllocError, Global};
 use std::marker::Model;
 
-/// How many breakpoints can be set.
+/// The most breakpoints that can be set.
 const MOST: usize = 16;
 
-/// 19: as many others are set as there can be.
+/// BreakFull (19): the breakpoint is not set, and 16 others are.
 #[derive(Clone, Copy, Debug, PartialEq, Eq)]
 pub struct BreakFull;
 
-/// 20: the breakpoint is not set.
+/// NoBreak (20): the breakpoint is not set.
 #[derive(Clone, Copy, Debug, PartialEq, Eq)]
 pub struct NoBreak;
 
-/// The breakpoints that are set.
+/// A set of at most 16 breakpoints.
 #[derive(Drop)]
 pub struct Breakpoints {
     items: ArrayVec<Location, MOST>,
-    /// Which words and lines have one, so that a step looks in no list.
+    /// Which words and lines have a breakpoint, so that most steps need not search the list.
     tables: Tables,
 }
 
@@ -51,7 +51,7 @@ impl Model for Breakpoints {
 }
 
 impl Breakpoints {
-    /// None is set. 21 where memory is refused.
+    /// Returns the set without breakpoints. OutOfMemory (21) if allocation fails.
     pub fn new(alloc: Global) -> Result<Self, AllocError>
         ensures { IfOk result (λ breakpoints. breakpoints ≡ no_breakpoints) }
     {
@@ -61,7 +61,7 @@ impl Breakpoints {
         })
     }
 
-    /// Whether a breakpoint is set.
+    /// Returns whether a breakpoint is set at this location.
     #[inline(always)]
     pub fn contains(&self, location: Location) -> bool
         ensures { result ≡ is_set self.now location }
@@ -72,7 +72,7 @@ impl Breakpoints {
         }
     }
 
-    /// How many are set.
+    /// Returns the number of breakpoints that are set, at most 16.
     pub fn count(&self) -> usize
         ensures count { result ≡ len self.now }
         ensures most { result ≤ most_breakpoints }
@@ -80,8 +80,8 @@ impl Breakpoints {
         self.items.len()
     }
 
-    /// Sets a breakpoint; one that is set stays so. 19 where it is not, and as many others are as
-    /// there can be.
+    /// Sets a breakpoint at this location; one that is already set stays. BreakFull (19) if it is not set and 16 others are; the set is
+    /// then unchanged.
     pub fn insert(&mut self, location: Location) -> Result<(), BreakFull>
         ensures refusal { is_err result ≡ refuses_breakpoint self.old location }
         ensures change { OnOk result (self.new ≡ with_breakpoint location self.old) }
@@ -98,7 +98,7 @@ impl Breakpoints {
         Ok(())
     }
 
-    /// Takes a breakpoint away. 20 where it is not set.
+    /// Removes the breakpoint at this location. NoBreak (20) if there is none; the set is then unchanged.
     pub fn remove(&mut self, location: Location) -> Result<(), NoBreak>
         ensures refusal { is_err result ≡ lacks_breakpoint self.old location }
         ensures change { OnOk result (self.new ≡ without_breakpoint location self.old) }
@@ -115,7 +115,7 @@ impl Breakpoints {
     }
 }
 
-/// Whether a location is among these.
+/// Returns whether a location is among these.
 #[inline(never)]
 fn is_among(set: &[Location], location: Location) -> bool
     ensures { result ≡ list_any (is_same location) set.now }
@@ -123,7 +123,7 @@ fn is_among(set: &[Location], location: Location) -> bool
     set.iter().any(|each| location.is(*each))
 }
 
-/// The index of the first of these that is this location.
+/// Returns the index of the first of these that is this location, or `None` if there is none.
 fn index_among(set: &[Location], location: Location) -> Option<usize>
     ensures { result ≡ position (is_same location) set.now }
 {

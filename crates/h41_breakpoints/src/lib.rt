@@ -1,4 +1,4 @@
-//! Breakpoints: the places where a run can stop, and the set of those where it does.
+//! Breakpoints: the locations at which a run can stop, and the set of those at which it does.
 #![tactic(auto)]
 
 mod bit_table;

@@ -1,4 +1,4 @@
-//! Where the calculator can be, and a run can stop.
+//! The locations at which the calculator can be, and at which a run can stop.
 
 ghost use Rattle.std.specs.Prelude.{◌≡◌};
 ghost use Rattle.h41_breakpoints.specs.private.Members.{is_same};
@@ -6,25 +6,26 @@ ghost use Rattle.h41_breakpoints.specs.declared.location.Location.TheVariants.{W
 
 use h41_positions::Position;
 
-/// Where the calculator can be. A breakpoint is such a place, and has a run stop there.
+/// A location of the calculator: a word of microcode or a program line. A run stops at a location that has a breakpoint.
 #[derive(Clone, Copy, Debug, PartialEq, Eq)]
 pub enum Location {
-    /// While a function runs: before the word at this address.
+    /// Before the word at this address, 0000 to FFFF. The calculator is there while a function in microcode runs.
     Word(u16),
-    /// While no function runs: before the line at this position.
+    /// Before the program line at this position. The calculator is there while no function in microcode runs.
     Line(Position),
 }
 
 impl Default for Location {
     ghost is_default = { λ location. location ≡ Word 0 };
 
+    /// Returns the word at address 0.
     fn default() -> Self {
         Location::Word(0)
     }
 }
 
 impl Location {
-    /// Whether the other is the same.
+    /// Returns whether the other location is the same.
     pub(crate) fn is(self, other: Self) -> bool
         ensures { result ≡ is_same self other }
     {

@@ -1,4 +1,4 @@
-//! Which words and lines have a breakpoint, by tables of bits.
+//! Tables of bits that say which words and lines have a breakpoint.
 
 ghost use Rattle.std.specs.Prelude.{◌≡◌, [], IfOk};
 ghost use Rattle.h41_breakpoints.specs.private.Tables.{AreMarksOf, mark_at, with_mark};
@@ -9,13 +9,14 @@ use h41_positions::Position;
 use std::alloc::{AllocError, Global};
 use std::marker::Model;
 
-/// How many words can have an address, and how many lines of pages.
+/// The number of addresses of words, and of positions in pages.
 const ADDRESSES: usize = 65_536;
 
-/// How many positions in memory have a bit: all those below.
+/// The number of positions in program memory that have a bit: 0 to 9,999.
 const POSITIONS: usize = 10_000;
 
-/// A bit for each word's address, one for each of the first positions in memory, and one for each address of a line in a page.
+/// Three tables of bits: one for each word's address, one for each of the first positions in program memory, and one for each position in a
+/// page.
 #[derive(Drop)]
 pub struct Tables {
     words: BitTable<ADDRESSES>,
@@ -36,7 +37,7 @@ impl Model for Tables {
 }
 
 impl Tables {
-    /// Those of no breakpoint. 21 where memory is refused.
+    /// Returns the tables for an empty set of breakpoints. OutOfMemory (21) if allocation fails.
     pub fn new(alloc: Global) -> Result<Self, AllocError>
         ensures { IfOk result (AreMarksOf []) }
     {
@@ -47,7 +48,7 @@ impl Tables {
         })
     }
 
-    /// The bit of a location, where there is one.
+    /// Returns the bit of a location, or `None` if it has none: positions in program memory from 10,000 on have no bit.
     #[inline(always)]
     pub fn get(&self, location: Location) -> Option<bool>
         ensures { result ≡ mark_at self.now location }
@@ -59,7 +60,7 @@ impl Tables {
         }
     }
 
-    /// Sets or clears the bit of a location, where there is one.
+    /// Sets or clears the bit of a location. Does nothing if the location has none.
     pub fn set(&mut self, location: Location, bit: bool)
         ensures { self.new ≡ with_mark self.old location bit }
     {

@@ -1,4 +1,4 @@
--- Bytes begin with one line at most, and how a line at the front is shown.
+-- Bytes begin with one line at most; how to prove that they begin with a line.
 use Rattle.std.proofs.Common.{◌≡◌, ℕ, suc, zero, ◌+◌, ◌-◌, ◌*◌, ◌<◌, ◌≤◌, ◌↔◌, set, add-one, List, [], ◌∷◌, ◌++◌, map, length, take, drop}
 use Rattle.std.proofs.Common.{get_or, refl, sym, ◌∙◌, ap, subst, arith, Result, Ok, Err, IfOk, OnErr, IsErr, length-append, length-take-le}
 use Rattle.std.proofs.Common.{take-append-drop}
@@ -14,11 +14,11 @@ use Rattle.h41_codes.specs.Heads.{IsIn}
 use Rattle.h41_codes.specs.ByteGrammar.{spelling, link_high, link_low, GoesOn, IsBytes, IsLine, IsWhole, Spells, Begins, BeginsNoLine}
 use Rattle.h41_codes.proofs.Reading.{line_at, line_again}
 
--- the bytes are those of the line, and the rest
+-- The bytes are those of the line and the rest.
 pub parted : (bytes : List ℕ) (line : Line) (count : ℕ) → Spells (take count bytes) line → bytes ≡ spelling line ++ drop count bytes
 parted bytes line count spelled = sym (take-append-drop count bytes) ∙ ap (λ front. front ++ drop count bytes) spelled.same
 
--- the line that bytes begin with
+-- The line that bytes begin with.
 pub line_of : (bytes : List ℕ) (line : Line) (count : ℕ) → Begins bytes line count → line_at bytes ≡ line
 line_of bytes line count begins =
     ap line_at (parted bytes line count begins.spells) ∙ line_again line (drop count bytes) begins.spells.valid begins.whole
@@ -26,7 +26,7 @@ line_of bytes line count begins =
 pub length_of : (bytes : List ℕ) (line : Line) (count : ℕ) → Begins bytes line count → length (spelling line) ≡ count
 length_of bytes line count begins = ap length (sym begins.spells.same) ∙ length-take-le count bytes begins.inside
 
--- there is just one
+-- There is only one such line.
 pub one_line : (bytes : List ℕ) (line other : Line) (count size : ℕ) → Begins bytes line count → Begins bytes other size
     → (line ≡ other) × (count ≡ size)
 one_line bytes line other count size first second =
@@ -37,7 +37,7 @@ same_answer : {E : Type 0} (line other : Line) (count size : ℕ) → line ≡ o
     → let answer : Line → ℕ → Result (Line × ℕ) E = λ l n. Ok (l, n) in answer line count ≡ answer other size
 same_answer line other count size first second = λ i. Ok (first i, second i)
 
--- what a reader answers is the line that the bytes begin with
+-- The result of a decoder is the line that the bytes begin with.
 pub answers_line : {E : Type 0} (bytes : List ℕ) (result : Result (Line × ℕ) E) → IfOk result (λ found. Begins bytes found.0 found.1)
     → OnErr result (BeginsNoLine bytes) → (line : Line) (count : ℕ) → (result ≡ Ok (line, count)) ↔ Begins bytes line count
 answers_line {E} bytes (Ok found) begins broken line count = (
@@ -50,13 +50,13 @@ answers_line {E} bytes (Ok found) begins broken line count = (
 answers_line {E} bytes (Err fault) begins broken line count =
     ((λ same. cc), (λ other. absurd (broken line count other.spells)))
 
--- bytes in front of which a line stands begin with it
+-- Bytes whose first ones are those of a line begin with it.
 pub begins_by : (bytes : List ℕ) (line : Line) (count : ℕ) → count ≤ length bytes → IsLine line → spelling line ≡ take count bytes
     → IsWhole line (drop count bytes) → Begins bytes line count
 begins_by bytes line count inside valid same whole =
     record { inside = inside; spells = record { valid = valid; same = sym same }; whole = whole }
 
--- a line's bytes, whatever follows
+-- The bytes of a line begin with it, whatever follows.
 pub begins_spelled : (line : Line) (rest : List ℕ) → IsLine line → IsWhole line rest
     → Begins (spelling line ++ rest) line (length (spelling line))
 begins_spelled line rest valid whole = record {
@@ -65,7 +65,7 @@ begins_spelled line rest valid whole = record {
   whole = subst (λ (bytes : List ℕ). IsWhole line bytes) (sym (drop-append_seam (spelling line) rest)) whole;
 }
 
--- the first bytes
+-- The first bytes of a list.
 pub take_one : (bytes : List ℕ) → 0 < length bytes → take 1 bytes ≡ get_or bytes 0 0 ∷ []
 take_one [] inside = absurd (omega arith)
 take_one (a ∷ bytes) inside = refl
@@ -95,7 +95,7 @@ pub answers_broken : {E : Type 0} (bytes : List ℕ) (result : Result (Line × �
 answers_broken bytes (Ok found) begins broken = ((λ none. absurd (false≢true none)), (λ none. absurd (none found.0 found.1 begins.spells)))
 answers_broken bytes (Err fault) begins broken = ((λ is. broken), (λ none. refl))
 
--- a global label at the front
+-- Bytes that begin with a global label.
 pub begins_label : (bytes : List ℕ) (link size : ℕ) (name : List ℕ) → 0xC0 ≤ get_or bytes 0 0 → get_or bytes 0 0 < 0xCE
     → get_or bytes 1 0 < 256 → link ≡ (get_or bytes 0 0 - 0xC0) * 256 + get_or bytes 1 0 → 0xF0 ≤ get_or bytes 2 0 → get_or bytes 2 0 < 256
     → get_or bytes 3 0 < 256 → size ≡ get_or bytes 2 0 - 0xF0 → 4 ≤ 3 + size → 3 + size ≤ length bytes
@@ -114,7 +114,7 @@ begins_label bytes link size name from below second linked label third key sized
     (omega arith, key, record { fits = omega arith; bytes = characters })
     (spelled ∙ ap (λ k. take k bytes) all) tt
 
--- a number at the front
+-- Bytes that begin with a number.
 goes_on : (bytes : List ℕ) (n : ℕ) → GoesOn (drop n bytes) → (n < length bytes) × IsIn 0x10 0x1D (get_or bytes n 0)
 goes_on [] zero on = absurd on
 goes_on [] (suc n) on = absurd on
@@ -131,7 +131,7 @@ begins_number bytes characters cells count some first most inside whole size sam
     begins_by bytes (Number characters) count inside (omega (arith, none), omega arith) (ap (map character_code) taken ∙ same)
     (λ on. let next = goes_on bytes count on in long ∙ whole next.0 next.1)
 
--- one more character of a number
+-- One more character of a number is written.
 pub written_next : (cells : List Character) (bytes : List ℕ) (n : ℕ) (character : Character) → n < length cells → n < length bytes
     → map character_code (take n cells) ≡ take n bytes → character_code character ≡ get_or bytes n 0
     → map character_code (take (n + 1) (set cells n character)) ≡ take (n + 1) bytes

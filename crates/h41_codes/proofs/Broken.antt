@@ -1,4 +1,4 @@
--- What bytes must have for a line of the kind of their first byte to stand in front.
+-- The conditions on bytes that begin with a line of the kind of their first byte.
 use Rattle.std.proofs.Common.{◌≡◌, ℕ, ◌+◌, ◌/◌, ◌<◌, ◌≤◌, true, List, [], ◌∷◌, ◌++◌, length, drop, get_or, ◌⊎◌, inl, inr, refl, sym, ap}
 use Rattle.std.proofs.Common.{subst, arith, length-append}
 use Rattle.std.proofs.lemmas.Bool.Decides.{leb_tells}
@@ -15,7 +15,7 @@ use Rattle.h41_codes.proofs.Intervals.{edges, kind, is_interval, kind_at}
 use Rattle.h41_codes.proofs.Reading.{byte, name_function_range, branch_range, register_range}
 use Rattle.h41_codes.proofs.Tables.{function_range, character_range}
 
--- lines of one byte and numbers need no more; a byte of no kind begins none
+-- Lines of one byte and numbers have no further condition; a byte of no kind begins no line.
 abbrev pub Any : List ℕ → Type 0
 Any bytes = Unit {0}
 
@@ -28,14 +28,14 @@ Two bytes = 2 ≤ length bytes
 abbrev pub Three : List ℕ → Type 0
 Three bytes = 3 ≤ length bytes
 
--- a text behind the first byte, and a text
+-- The condition on a text after the first byte, and on a text.
 abbrev pub NamedFits : List ℕ → Type 0
 NamedFits bytes = (2 ≤ length bytes) × (0xF0 ≤ byte bytes 1) × (2 + byte bytes 1 ≤ 0xF0 + length bytes)
 
 abbrev pub TextFits : List ℕ → Type 0
 TextFits bytes = 1 + byte bytes 0 ≤ 0xF0 + length bytes
 
--- a global label, an END or .END.
+-- The condition on a global label, an END or .END.
 abbrev pub LinkedFits : List ℕ → Type 0
 LinkedFits bytes = (3 ≤ length bytes) × (0xF0 ≤ byte bytes 2 → (0xF0 < byte bytes 2) × (3 + byte bytes 2 ≤ 0xF0 + length bytes))
 
@@ -46,7 +46,7 @@ needs =
 abbrev pub Needs : ℕ → List ℕ → Type 0
 Needs k bytes = get_or needs k Any bytes
 
--- the need of bytes whose first is of a kind, there and back
+-- The condition on bytes whose first byte is of a kind, in both directions.
 by_kind : (k low high : ℕ) (bytes : List ℕ) → is_interval edges k low high ≡ true → low ≤ byte bytes 0 → byte bytes 0 < high
     → Needs k bytes → Needs (kind (byte bytes 0)) bytes
 by_kind k low high bytes fits from below need =
@@ -64,7 +64,7 @@ number_needs (character ∷ characters) rest valid =
     let range = character_range character in
     by_kind 2 0x10 0x1D (spelling (Number (character ∷ characters)) ++ rest) refl range.0 (omega (arith, range.1)) tt
 
--- a line's bytes have what they need
+-- The bytes of a line satisfy their condition.
 needs_of : (line : Line) (rest : List ℕ) → IsLine line → Needs (kind (byte (spelling line ++ rest) 0)) (spelling line ++ rest)
 needs_of Null rest valid = by_kind 0 0x00 0x01 (0x00 ∷ rest) refl (omega arith) (omega arith) tt
 needs_of (LocalLabel label) rest valid = by_kind 1 0x01 0x10 ((0x01 + label) ∷ rest) refl (omega arith) (omega arith) tt
@@ -102,7 +102,7 @@ needs_of (Text characters) rest valid =
     by_kind 15 0xF0 0x100 (spelling (Text characters) ++ rest) refl (omega arith)
     (omega (arith, valid.fits)) (omega (arith, length-append characters rest))
 
--- bytes that have not what their first byte needs begin with no line
+-- Bytes that do not satisfy the condition of their first byte begin with no line.
 pub broken_at : (k low high : ℕ) (bytes : List ℕ) → is_interval edges k low high ≡ true → low ≤ byte bytes 0 → byte bytes 0 < high
     → (Needs k bytes → ⊥) → BeginsNoLine bytes
 broken_at k low high bytes fits from below lacks line count spelled =
@@ -111,7 +111,7 @@ broken_at k low high bytes fits from below lacks line count spelled =
     subst (λ (all : List ℕ). Needs (kind (byte all 0)) all) (sym same) (needs_of line (drop count bytes) spelled.valid) in
     lacks (subst (λ (n : ℕ). Needs n bytes) (kind_at k low high (byte bytes 0) fits from below) need)
 
--- no bytes at all begin with none
+-- An empty list of bytes begins with no line.
 some_bytes : (line : Line) → IsLine line → 0 < length (spelling line)
 some_bytes (Number []) valid = absurd (omega (arith, valid.0))
 some_bytes (Number (character ∷ characters)) valid = omega arith
@@ -123,7 +123,7 @@ broken_empty bytes empty line count spelled =
     let same = parted bytes line count spelled in
     omega (arith, some_bytes line spelled.valid, ap length same, length-append (spelling line) (drop count bytes))
 
--- what a text at the front lacks
+-- Bytes that begin with no complete text do not satisfy the condition of a text.
 pub text_broken : (bytes : List ℕ) → 0 < length bytes → 0xF0 ≤ byte bytes 0 → LacksText bytes → TextFits bytes → ⊥
 text_broken bytes some from lacks fits =
     elim lacks [ inl none ↦ omega (arith, ap length none) | inr (inl low) ↦ omega arith | inr (inr cut) ↦ omega arith ]
@@ -137,11 +137,11 @@ named_broken (first ∷ bytes) lacks fits =
       | inr (inr cut) ↦ omega (arith, fits.2, cut)
     ]
 
--- which of two numbers is the lower
+-- One of two numbers is lower, or they are equal.
 order : (a b : ℕ) → (a < b) ⊎ (b ≤ a)
 order a b = elim (leb_tells b a) [ inl low ↦ inr low.1 | inr high ↦ inl high.1 ]
 
--- lines of two bytes that are cut
+-- Incomplete lines of two bytes.
 broken_from_90 : (bytes : List ℕ) → 0x90 ≤ byte bytes 0 → byte bytes 0 < 0xAF → length bytes < 2 → BeginsNoLine bytes
 broken_from_90 bytes from below cut =
     elim (order (byte bytes 0) 0xA0) [
@@ -165,7 +165,7 @@ broken_pair bytes first cut =
       | inr (inr at) ↦ broken_at 13 0xCE 0xD0 bytes refl at.0 at.1 (λ need. omega arith)
     ]
 
--- a cut line of three bytes, and the bytes of no kind
+-- An incomplete line of three bytes, and the bytes of no kind.
 pub broken_triple : (bytes : List ℕ) → 0xD0 ≤ byte bytes 0 → byte bytes 0 < 0xF0 → length bytes < 3 → BeginsNoLine bytes
 broken_triple bytes from below cut = broken_at 14 0xD0 0xF0 bytes refl from below (λ need. omega arith)
 

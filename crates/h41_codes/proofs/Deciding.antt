@@ -12,7 +12,7 @@ use Rattle.h41_codes.specs.declared.line.Operand.TheVariants.{Direct, Indirect}
 use Rattle.h41_codes.proofs.Beginnings.{length_of, line_of}
 use Rattle.h41_codes.proofs.Reading.{line_at}
 
--- a fact that holds or does not
+-- A fact is true or false.
 abbrev pub Either : Type 0 → Type 0
 Either A = A ⊎ (A → ⊥)
 
@@ -38,7 +38,7 @@ follows (inr lacks) other = inl (λ a. absurd (lacks a))
 follows (inl a) (inl b) = inl (λ _. b)
 follows (inl a) (inr lacks) = inr (λ f. lacks (f a))
 
--- whether a line's parts are in their ranges
+-- It is decidable whether the parts of a line are in their ranges.
 operand_either : (operand : Operand) → Either (IsOperand operand)
 operand_either (Direct parameter) = below parameter 128
 operand_either (Indirect parameter) = below parameter 128
@@ -80,7 +80,7 @@ valid_either (FinalEnd link marks) = both (below link 3584) (below marks 112)
 valid_either (BranchTo branch distance backwards label) = both (below distance 4096) (below label 128)
 valid_either (Text characters) = text_either 15 characters
 
--- whether bytes are the same
+-- It is decidable whether bytes are equal.
 bytes_either : (bytes others : List ℕ) → Either (bytes ≡ others)
 bytes_either [] [] = inl refl
 bytes_either [] (other ∷ others) = inr (λ same. cc)
@@ -93,7 +93,7 @@ bytes_either (byte ∷ bytes) (other ∷ others) = elim (cases_eq byte other) [
   | inr lacks ↦ inr (λ same. let first : byte ≡ other = cc in lacks first)
 ]
 
--- whether a line is whole before other bytes
+-- It is decidable whether a line is complete before other bytes.
 goes_either : (bytes : List ℕ) → Either (GoesOn bytes)
 goes_either [] = inr (λ goes. goes)
 goes_either (byte ∷ bytes) = both (at_most 0x10 byte) (at_most byte 0x1C)
@@ -109,7 +109,7 @@ whole_either (Number characters) rest = follows (goes_either rest) (equal_either
 whole_either Null rest = inl tt
 whole_either line rest = inl tt
 
--- whether bytes begin with a line of so many bytes
+-- It is decidable whether bytes begin with a line of so many bytes.
 begins_either : (bytes : List ℕ) (line : Line) (count : ℕ) → Either (Begins bytes line count)
 begins_either bytes line count = elim (at_most count (length bytes)) [
   | inr lacks ↦ inr (λ begins. lacks begins.inside)
@@ -125,7 +125,7 @@ begins_either bytes line count = elim (at_most count (length bytes)) [
   ]
 ]
 
--- the only line that bytes can begin with is the one that their first byte tells
+-- The only line that bytes can begin with is the one that their first byte determines.
 pub line_or_none : LineOrNone
 line_or_none bytes =
     let line = line_at bytes in

@@ -5,11 +5,11 @@ use Rattle.std.proofs.Math.Seq.{take-suc, set-append_seam}
 use Rattle.std.proofs.lemmas.List.{take_at, take_all, length-append, length-replicate}
 use Rattle.h41_codes.specs.Cells.{IsPadded}
 
--- cells of which the first n are those of a list
+-- The cells after the first n elements of a list are written.
 abbrev pub filling : {A : Type 0} → A → ℕ → List A → ℕ → List A
 filling blank most items n = take n items ++ replicate (most - n) blank
 
--- the next one written
+-- The next element is written.
 pub fill_next : {A : Type 0} (blank other : A) (most : ℕ) (items : List A) (n : ℕ) → n < length items → length items ≤ most
     → set (filling blank most items n) n (get_or items n other) ≡ filling blank most items (n + 1)
 fill_next {A} blank other most items n inside room =
@@ -23,7 +23,7 @@ fill_next {A} blank other most items n inside room =
     ∙ sym (append_assoc (take n items) (x ∷ []) rest)
     ∙ ap (λ front. front ++ rest) (sym (take-suc items n other inside) ∙ ap (λ k. take k items) (sym (add-one n)))
 
--- all of them written
+-- All elements are written.
 pub fill_all : {A : Type 0} (blank : A) (most : ℕ) (items : List A) → length items ≤ most
     → (take (length items) (filling blank most items (length items)) ≡ items)
     × (length (filling blank most items (length items)) ≡ most)

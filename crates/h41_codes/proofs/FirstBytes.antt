@@ -1,4 +1,4 @@
--- What a line's first byte tells: whether it is a number, and whether it is the null.
+-- What the first byte of a line says: whether it is a number, and whether it is the null.
 use Rattle.std.proofs.Common.{◌≡◌, ℕ, ◌/◌, ◌≤◌, List, [], ◌∷◌, ◌++◌, refl, ap, arith}
 use Rattle.h41_codes.specs.declared.functions.ParameterFunction.{ParameterFunction}
 use Rattle.h41_codes.specs.declared.functions.ParameterFunction.TheVariants.{Recall}
@@ -15,7 +15,7 @@ operand_range : (function : ParameterFunction) → 0x90 ≤ parameter_function_c
 operand_range Recall = omega arith
 operand_range function = omega arith
 
--- a number goes on, any other line does not
+-- The first byte of a number is 10 to 1C, and that of any other line is not.
 goes : (line : Line) (rest : List ℕ) → IsLine line → IsNumber line → GoesOn (spelling line ++ rest)
 goes (Number []) rest valid is = absurd (omega (arith, valid.0))
 goes (Number (character ∷ characters)) rest valid is = character_range character
@@ -43,7 +43,7 @@ stops (Text characters) rest valid on = absurd (omega (arith, on.1))
 pub number_begins : NumberBegins
 number_begins line rest valid = (stops line rest valid, goes line rest valid)
 
--- no other line begins as the null does
+-- No other line begins with the byte of the null.
 only_null : (line : Line) (rest : List ℕ) → IsLine line → byte (spelling line ++ rest) 0 ≡ 0x00 → line ≡ Null
 only_null Null rest valid null = refl
 only_null (LocalLabel label) rest valid null = absurd (omega (arith, null))

@@ -1,22 +1,22 @@
--- The kinds of lines by their first byte. The families of the byte table stand in intervals, one after another.
+-- The kinds of lines by their first byte. Each kind is an interval of the byte table.
 use Rattle.std.proofs.Common.{◌≡◌, ℕ, zero, suc, ◌<◌, ◌≤◌, Bool, true, false, ◌&&◌, List, [], ◌∷◌, leb, if◌then◌else◌, refl, ◌∙◌, ap, arith}
 use Rattle.std.proofs.lemmas.Bool.{le-leb, lt-leb, leb-true, cond-true, cond-false, and_parts}
 
--- where the intervals from the second on begin
+-- The first bytes of the intervals from the second on.
 abbrev pub edges : List ℕ
 edges =
     0x01 ∷ 0x10 ∷ 0x1D ∷ 0x20 ∷ 0x40 ∷ 0x90 ∷ 0xA0 ∷ 0xA8 ∷ 0xAE ∷ 0xAF ∷ 0xB1 ∷ 0xC0 ∷ 0xCE ∷ 0xD0 ∷ 0xF0 ∷ []
 
--- how many of them a byte has passed
+-- How many of these bounds a byte has reached.
 abbrev pub passed : List ℕ → ℕ → ℕ
 passed [] byte = 0
 passed (edge ∷ more) byte = if leb edge byte then suc (passed more byte) else 0
 
--- the kind of a byte
+-- The kind of a byte.
 unfoldable pub kind : ℕ → ℕ
 kind byte = passed edges byte
 
--- whether an interval is that of a kind
+-- Whether an interval is that of a kind.
 abbrev pub is_interval : List ℕ → ℕ → ℕ → ℕ → Bool
 is_interval [] zero low high = true
 is_interval [] (suc k) low high = false
@@ -33,7 +33,7 @@ passed_at (edge ∷ more) (suc k) low high byte fits from below =
     cond-true (leb edge byte) (suc (passed more byte)) 0 (le-leb edge byte (omega (arith, leb-true edge low parts.0)))
     ∙ ap suc (passed_at more k low high byte parts.1 from below)
 
--- the kind of a byte of an interval
+-- The kind of a byte in an interval.
 pub kind_at : (k low high byte : ℕ) → is_interval edges k low high ≡ true → low ≤ byte → byte < high → kind byte ≡ k
 unfolding kind
 kind_at k low high byte fits from below = passed_at edges k low high byte fits from below

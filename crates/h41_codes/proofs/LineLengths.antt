@@ -1,4 +1,4 @@
--- How many bytes a line has: 1 to 18.
+-- A line has 1 to 18 bytes.
 use Rattle.std.proofs.Common.{◌≤◌, length, arith}
 use Rattle.h41_codes.specs.Codes.{character_code}
 use Rattle.h41_codes.specs.ByteGrammar.{spelling, IsLine}

@@ -15,7 +15,7 @@ use Rattle.h41_codes.specs.ByteLaws.{IsNumber, NoPrefix, CanonicalIsLine, Canoni
 use Rattle.h41_codes.specs.Canon.{canonical_line, shortest_function, shortest_branch}
 use Rattle.h41_codes.proofs.Reading.{line_at, line_again}
 
--- a line that is no number is whole, and so is each at the end
+-- A line that is no number is complete, and so is any line at the end of the bytes.
 whole_unless : (line : Line) (rest : List ℕ) → (IsNumber line → ⊥) → IsWhole line rest
 whole_unless (Number characters) rest other = absurd (other tt)
 whole_unless Null rest other = tt
@@ -33,7 +33,7 @@ no_prefix line other rest valid other_valid no_number same =
     let one : other ≡ line = sym first ∙ ap line_at (append-nil (spelling other) ∙ same) ∙ second in
     (one, append_cancel_left (spelling line) rest [] (sym same ∙ ap spelling one ∙ sym (append-nil (spelling line))))
 
--- the canonical line is a line
+-- The canonical line is a line.
 function_is_line : (function : ParameterFunction) (operand : Operand) → IsLine (WithOperand function operand)
     → IsLine (shortest_function function operand)
 function_is_line Recall (Direct register) valid =
@@ -59,7 +59,7 @@ canonical_is_line (FinalEnd link marks) valid = (omega arith, omega arith)
 canonical_is_line Null valid = valid
 canonical_is_line line valid = valid
 
--- of no more bytes
+-- The canonical line has no more bytes than the line.
 function_is_shortest : (function : ParameterFunction) (operand : Operand) → length (spelling (shortest_function function operand)) ≤ 2
 function_is_shortest Recall (Direct register) =
     cond_both (nat_lt register 16) _ _ (λ line. length (spelling line) ≤ 2) (λ short. omega arith) (λ long. omega arith)
@@ -84,7 +84,7 @@ pub canonical_is_shortest : CanonicalIsShortest
 canonical_is_shortest line other same =
     subst (λ shortest. length (spelling shortest) ≤ length (spelling other)) same (canonical_is_no_longer other)
 
--- and its own
+-- The canonical line is its own canonical line.
 function_once : (function : ParameterFunction) (operand : Operand)
     → canonical_line (shortest_function function operand) ≡ shortest_function function operand
 function_once Recall (Direct register) =

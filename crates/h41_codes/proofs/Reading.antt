@@ -1,4 +1,4 @@
--- Bytes that spell a line say which: reading them by their first byte gives the line again, whatever follows.
+-- The bytes of a line determine it: reading them by their first byte gives the line again, whatever follows.
 use Rattle.std.proofs.Common.{◌≡◌, ℕ, zero, suc, ◌+◌, ◌-◌, ◌*◌, ◌/◌, ◌%◌, ◌<◌, ◌≤◌, Bool, true, false, ◌&&◌, ◌==◌, List, [], ◌∷◌, ◌++◌, map}
 use Rattle.std.proofs.Common.{length, take, drop, get_or, leb, if◌then◌else◌, refl, ◌∙◌, ap, arith, inl, inr}
 use Rattle.std.proofs.lemmas.Bool.{le-leb, lt-leb, cond-true, cond-false, eq-eqb, ne_eqb}
@@ -25,11 +25,11 @@ use Rattle.h41_codes.proofs.Intervals.{edges, kind, is_interval, kind_at}
 use Rattle.h41_codes.proofs.Tables.{function_at, function_again, function_range, parameter_function_at, parameter_function_again}
 use Rattle.h41_codes.proofs.Tables.{character_at, character_again, character_range}
 
--- the byte at a place
+-- The byte at an index.
 abbrev pub byte : List ℕ → ℕ → ℕ
 byte bytes k = get_or bytes k 0
 
--- the characters of a number, at most so many
+-- The characters of a number, at most so many.
 abbrev pub is_number : ℕ → Bool
 is_number code = leb 0x10 code && leb code 0x1C
 
@@ -38,7 +38,7 @@ leading zero bytes = []
 leading (suc n) [] = []
 leading (suc n) (code ∷ bytes) = if is_number code then character_at code ∷ leading n bytes else []
 
--- what each kind of line is read from
+-- The parts of each kind of line, read from its bytes.
 abbrev pub name_function_at : ℕ → NameFunction
 name_function_at code = get_or (GoToName ∷ ExecuteName ∷ Wordless ∷ []) (code - 0x1D) GoToName
 
@@ -78,7 +78,7 @@ abbrev pub branch_line : List ℕ → Line
 branch_line bytes =
     BranchTo (branch_at (byte bytes 0)) (byte bytes 0 % 16 * 256 + byte bytes 1) (backwards_at (byte bytes 2)) (byte bytes 2 % 0x80)
 
--- the lines of the kinds, in their order
+-- The lines of the kinds, in the order of the kinds.
 abbrev pub lines : List (List ℕ → Line)
 lines =
     (λ bytes. Null)
@@ -105,14 +105,14 @@ line_of_kind k bytes = get_or lines k (λ (_ : List ℕ). Null) bytes
 unfoldable pub line_at : List ℕ → Line
 line_at bytes = line_of_kind (kind (byte bytes 0)) bytes
 
--- the line of bytes whose first is of a kind
+-- The line of bytes whose first byte is of a kind.
 by_kind : (k low high : ℕ) (bytes : List ℕ) (line : Line) → is_interval edges k low high ≡ true → low ≤ byte bytes 0 → byte bytes 0 < high
     → line_of_kind k bytes ≡ line → line_at bytes ≡ line
 unfolding line_at
 by_kind k low high bytes line fits from below same =
     ap (λ n. line_of_kind n bytes) (kind_at k low high (byte bytes 0) fits from below) ∙ same
 
--- a name's function again, and an operand
+-- The function of a name is read again, and so is an operand.
 name_function_again : (function : NameFunction) → name_function_at (name_function_code function) ≡ function
 name_function_again GoToName = refl
 name_function_again function = refl
@@ -139,14 +139,14 @@ register_again RecallRegister register inside =
 register_again StoreRegister register inside =
     cond-true (leb 0x30 (0x30 + register)) _ _ (le-leb 0x30 (0x30 + register) (omega arith)) ∙ ap (Register StoreRegister) (omega arith)
 
--- the functions with an operand have three kinds
+-- The functions with an operand have three kinds.
 operand_kinds : (function : ParameterFunction) (bytes : List ℕ)
     → line_of_kind (kind (parameter_function_code function)) bytes ≡ operand_line bytes
 unfolding kind
 operand_kinds Recall bytes = refl
 operand_kinds function bytes = refl
 
--- a number's characters again
+-- The characters of a number are read again.
 number_code : (character : Character) → is_number (character_code character) ≡ true
 number_code Zero = refl
 number_code character = refl
@@ -180,7 +180,7 @@ number_again (character ∷ characters) rest valid whole =
     (Number (character ∷ characters)) refl range.0 (omega (arith, range.1))
     (ap Number (leading_again 16 (character ∷ characters) rest valid.1 whole))
 
--- an END's marks again
+-- The status bits of an END are read again.
 end_again : (link marks : ℕ) → marks < 128 → end_line link (mark_bits marks) ≡ End link marks
 end_again link marks inside =
     cond-true (mark_bits marks / 32 % 2 == 0) _ _ (eq-eqb _ 0 (omega arith)) ∙ ap (End link) (omega arith)
@@ -193,7 +193,7 @@ linked_end : (bytes : List ℕ) (line : Line) → byte bytes 2 < 0xF0 → end_li
     → linked_line bytes ≡ line
 linked_end bytes line below same = cond-false (leb 0xF0 (byte bytes 2)) _ _ (lt-leb 0xF0 (byte bytes 2) below) ∙ same
 
--- a branch's parts again
+-- The parts of a branch are read again.
 backwards_again : (backwards : Bool) (label : ℕ) → label < 0x80
     → (backwards_at (label_byte backwards label) ≡ backwards) × (label_byte backwards label % 0x80 ≡ label)
 backwards_again false label inside = (lt-leb 0x80 label (omega arith), omega arith)
@@ -213,7 +213,7 @@ pub register_range : (function : RegisterFunction) (register : ℕ) → register
 register_range RecallRegister register inside = (omega arith, omega arith)
 register_range StoreRegister register inside = (omega arith, omega arith)
 
--- the line of a line's bytes
+-- The bytes of a line are read as that line.
 pub line_again : (line : Line) (rest : List ℕ) → IsLine line → IsWhole line rest → line_at (spelling line ++ rest) ≡ line
 unfolding line_at
 line_again Null rest valid whole = by_kind 0 0x00 0x01 (0x00 ∷ rest) Null refl (omega arith) (omega arith) refl

@@ -1,4 +1,4 @@
--- The first byte of a short line tells how many it has.
+-- The first byte of a short line determines how many bytes it has.
 use Rattle.std.proofs.Common.{◌≡◌, ℕ, zero, suc, ◌/◌, ◌<◌, ◌≤◌, List, ◌∷◌, length, take, get_or, inl, inr, refl, sym, ap, subst, arith}
 use Rattle.std.proofs.lemmas.List.{length-take}
 use Rattle.h41_codes.specs.ByteGrammar.{spelling, Begins, IsLine}
@@ -60,7 +60,7 @@ first_of : (first : ℕ) (rest : List ℕ) (line : Line) (size : ℕ) → 1 ≤ 
 first_of first rest line zero some same = absurd (omega (arith, some, ap length same))
 first_of first rest line (suc n) some same = sym (ap (λ (bytes : List ℕ). get_or bytes 0 0) same)
 
--- what begins a short line is the first byte of one of so many bytes
+-- The first byte of a short line with so many bytes is the first byte of such lines.
 pub short_head : (first : ℕ) (rest : List ℕ) (line : ShortLine) (count : ℕ) → Begins (first ∷ rest) (line_of line) count
     → IsShort first count
 short_head first rest line count begins =
@@ -71,6 +71,6 @@ short_head first rest line count begins =
     subst (λ (n : ℕ). IsShort first n) count_is
     (subst (λ (byte : ℕ). IsShort byte (length (spelling (line_of line)))) same (head_of line valid))
 
--- a short line that begins so has as many bytes as another
+-- All short lines with the same first byte have the same number of bytes.
 pub size_of_head : (first size : ℕ) → IsShort first size → BeginsShorts first size
 size_of_head first size is rest line count begins = one_size first count size (short_head first rest line count begins) is

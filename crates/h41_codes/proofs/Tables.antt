@@ -1,4 +1,4 @@
--- Back from codes to functions and characters.
+-- From codes back to functions and characters.
 use Rattle.std.proofs.Common.{◌≡◌, ℕ, ◌+◌, ◌-◌, ◌<◌, ◌≤◌, get_or, if◌then◌else◌, leb, refl, arith}
 use Rattle.h41_codes.specs.declared.functions.Function.{Function}
 use Rattle.h41_codes.specs.declared.functions.Function.TheVariants.{Add}
@@ -9,7 +9,7 @@ use Rattle.h41_codes.specs.declared.characters.Character.TheVariants.{Zero}
 use Rattle.h41_codes.specs.Codes.{function_code, parameter_function_code, character_code}
 use Rattle.h41_codes.specs.Functions.{functions, parameter_functions, characters}
 
--- the function of a code
+-- The function with a code.
 abbrev pub function_at : ℕ → Function
 function_at code = get_or functions (code - 0x40) Add
 
@@ -21,7 +21,7 @@ pub function_range : (function : Function) → (0x40 ≤ function_code function)
 function_range Add = (omega arith, omega arith)
 function_range function = (omega arith, omega arith)
 
--- the function with a parameter of a code
+-- The function with a parameter that has a code.
 abbrev pub parameter_function_at : ℕ → ParameterFunction
 parameter_function_at code =
     get_or parameter_functions (if leb 0xCE code then code - 0xCE + 22 else if leb 0xA8 code then code - 0xA8 + 16 else code - 0x90) Recall
@@ -30,7 +30,7 @@ pub parameter_function_again : (function : ParameterFunction) → parameter_func
 parameter_function_again Recall = refl
 parameter_function_again function = refl
 
--- the character of a code
+-- The character with a code.
 abbrev pub character_at : ℕ → Character
 character_at code = get_or characters (code - 0x10) Zero
 

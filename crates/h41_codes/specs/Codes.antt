@@ -1,4 +1,4 @@
--- The codes of functions and characters, those of HP's byte table. Each stands beside its name.
+-- The codes of functions and characters, which are those of HP's byte table.
 use Rattle.std.specs.Prelude.{ℕ}
 use Rattle.h41_codes.specs.declared.functions.Function.{Function}
 use Rattle.h41_codes.specs.declared.functions.Function.TheVariants.{Add, Subtract, Multiply, Divide}
@@ -69,7 +69,7 @@ use Rattle.h41_codes.specs.declared.characters.Character.TheVariants.{Zero, One,
 use Rattle.h41_codes.specs.declared.characters.Character.TheVariants.{Five, Six, Seven, Eight, Nine}
 use Rattle.h41_codes.specs.declared.characters.Character.TheVariants.{Point, Exponent, Minus}
 
--- functions that are a byte of their own, 40 to 8F
+-- The codes of the functions of one byte, 40 to 8F.
 abbrev pub function_code : Function → ℕ
 function_code Add = 0x40
 function_code Subtract = 0x41
@@ -152,7 +152,8 @@ function_code TurnOff = 0x8D
 function_code Prompt = 0x8E
 function_code Advance = 0x8F
 
--- functions with a parameter: 90 to 9F, A8 to AD, CE and CF, in front of a byte for the parameter
+-- The codes of the functions with a parameter: 90 to 9F, A8 to AD, CE and CF. A byte for the
+-- parameter follows.
 abbrev pub parameter_function_code : ParameterFunction → ℕ
 parameter_function_code Recall = 0x90
 parameter_function_code Store = 0x91
@@ -179,7 +180,7 @@ parameter_function_code TestClear = 0xAD
 parameter_function_code Exchange = 0xCE
 parameter_function_code Label = 0xCF
 
--- the characters of numbers, 10 to 1C
+-- The codes of the characters of numbers, 10 to 1C.
 abbrev pub character_code : Character → ℕ
 character_code Zero = 0x10
 character_code One = 0x11
@@ -195,18 +196,18 @@ character_code Point = 0x1A
 character_code Exponent = 0x1B
 character_code Minus = 0x1C
 
--- RCL and STO of the registers 00 to 15, to which the register's number is added
+-- The codes of RCL 00 and STO 00 in one byte. The register's number, up to 15, is added.
 abbrev pub register_function_code : RegisterFunction → ℕ
 register_function_code RecallRegister = 0x20
 register_function_code StoreRegister = 0x30
 
--- functions in front of a text
+-- The codes of the functions that a text follows.
 abbrev pub name_function_code : NameFunction → ℕ
 name_function_code GoToName = 0x1D
 name_function_code ExecuteName = 0x1E
 name_function_code Wordless = 0x1F
 
--- GTO and XEQ of any label, to which the high four bits of the distance are added
+-- The codes of GTO and XEQ in three bytes. The high four bits of the distance are added.
 abbrev pub branch_code : Branch → ℕ
 branch_code GoTo = 0xD0
 branch_code Execute = 0xE0

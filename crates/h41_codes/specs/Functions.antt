@@ -1,4 +1,4 @@
--- The functions and characters of the byte table, each once, by their codes.
+-- Lists of the functions and characters of the byte table, in the order of their codes.
 use Rattle.std.specs.Prelude.{List, [], ◌∷◌}
 use Rattle.h41_codes.specs.declared.functions.Function.{Function}
 use Rattle.h41_codes.specs.declared.functions.Function.TheVariants.{Add, Subtract, Multiply, Divide}
@@ -61,7 +61,7 @@ use Rattle.h41_codes.specs.declared.characters.Character.TheVariants.{Zero, One,
 use Rattle.h41_codes.specs.declared.characters.Character.TheVariants.{Five, Six, Seven, Eight, Nine}
 use Rattle.h41_codes.specs.declared.characters.Character.TheVariants.{Point, Exponent, Minus}
 
--- those without a parameter
+-- The functions without a parameter.
 abbrev pub functions : List Function
 functions =
     Add ∷ Subtract ∷ Multiply ∷ Divide ∷ TestXLessThanY ∷ TestXGreaterThanY ∷ TestXAtMostY
@@ -77,7 +77,7 @@ functions =
     ∷ ClearDisplay ∷ Degrees ∷ Radians ∷ Grads ∷ Enter ∷ Stop ∷ Return ∷ Beep ∷ ClearAlpha
     ∷ ShiftAlpha ∷ Pause ∷ ClearRegisters ∷ AlphaOff ∷ AlphaOn ∷ TurnOff ∷ Prompt ∷ Advance ∷ []
 
--- those with one
+-- The functions with a parameter.
 abbrev pub parameter_functions : List ParameterFunction
 parameter_functions =
     Recall ∷ Store ∷ StoreAdd ∷ StoreSubtract ∷ StoreMultiply ∷ StoreDivide ∷ IncrementSkip
@@ -85,7 +85,7 @@ parameter_functions =
     ∷ Engineering ∷ Tone ∷ SetFlag ∷ ClearFlag ∷ TestSetAndClear ∷ TestClearAndClear ∷ TestSet
     ∷ TestClear ∷ Exchange ∷ Label ∷ []
 
--- what numbers are written with
+-- The characters of numbers.
 abbrev pub characters : List Character
 characters =
     Zero ∷ One ∷ Two ∷ Three ∷ Four ∷ Five ∷ Six ∷ Seven ∷ Eight ∷ Nine ∷ Point ∷ Exponent ∷ Minus

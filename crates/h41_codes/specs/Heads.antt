@@ -1,43 +1,46 @@
--- What first bytes stand for, as the functions that read bytes promise it one another. Of public
--- contracts only those of lines of one to three bytes need this file.
+-- What the first byte of a line says about the line. The functions that decode bytes use these
+-- definitions; of the public contracts only those for lines of one to three bytes do.
 use Rattle.h41_codes.specs.ByteGrammar.{Spells}
 use Rattle.h41_codes.specs.declared.line.Line.{Line}
 use Rattle.std.specs.Prelude.{ℕ, ◌<◌, ◌≤◌, ◌⊎◌, ◌≡◌, ◌≢◌, ◌+◌, List, [], ◌∷◌, length, slice_index}
 
--- a number from the first on and below the second
+-- A number is in the range from the first bound to just below the second.
 abbrev pub IsIn : ℕ → ℕ → ℕ → Type 0
 IsIn low high number = (low ≤ number) × (number < high)
 
--- the null, LBL 00 to 14, RCL and STO 00 to 15 and the functions without a parameter
+-- The first bytes of lines of one byte: the null, LBL 00 to LBL 14, RCL and STO 00 to 15, and the
+-- functions without a parameter.
 abbrev pub IsOneByte : ℕ → Type 0
 IsOneByte first = (first < 0x10) ⊎ IsIn 0x20 0x90 first
 
--- a byte is a line of its own
+-- A byte is a line on its own.
 abbrev pub IsAlone : ℕ → Type 0
 IsAlone byte = (line : Line) × Spells (byte ∷ []) line
 
--- functions with an operand, XROM, GTO IND and XEQ IND, GTO 00 to 14
+-- The first bytes of lines of two bytes: functions with an operand, XROM, GTO IND and XEQ IND, GTO
+-- 00 to GTO 14.
 abbrev pub IsTwoBytes : ℕ → Type 0
 IsTwoBytes first = IsIn 0x90 0xAF first ⊎ IsIn 0xB1 0xC0 first ⊎ IsIn 0xCE 0xD0 first
 
--- a short line that a first byte begins has so many bytes
+-- A short line that begins with this first byte has so many bytes.
 abbrev pub IsShort : ℕ → ℕ → Type 0
 IsShort first size =
     ((size ≡ 1) × IsOneByte first × (first ≢ 0))
     ⊎ ((size ≡ 2) × IsTwoBytes first)
     ⊎ ((size ≡ 3) × IsIn 0xD0 0xF0 first)
 
--- bytes without a whole text in front: none, one below F0, or fewer than it counts
+-- Bytes begin with no complete text: there are none, the first is below F0, or there are fewer than
+-- it counts.
 abbrev pub LacksText : List ℕ → Type 0
 LacksText bytes =
     (bytes ≡ []) ⊎ (slice_index bytes 0 < 0xF0) ⊎ (length bytes + 0xF0 ≤ slice_index bytes 0)
 
--- so many characters of a number are all: no further one follows, or there are 16
+-- So many characters of a number are all that there are: no further one follows, or there are 16.
 abbrev pub IsWholeRun : List ℕ → ℕ → Type 0
 IsWholeRun bytes count =
     count < length bytes → IsIn 0x10 0x1D (slice_index bytes count) → count ≡ 16
 
--- a byte is the code of a function with a parameter
+-- A byte is the code of a function with a parameter.
 abbrev pub IsParameterCode : ℕ → Type 0
 IsParameterCode code =
     ((0x90 ≤ code) × (code ≤ 0x9F))

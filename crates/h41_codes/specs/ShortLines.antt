@@ -1,4 +1,4 @@
--- Lines of one to three bytes that are told in numbers alone: each is a line.
+-- Short lines: lines of one to three bytes that contain no characters.
 use Rattle.std.specs.Prelude.{◌≡◌, ℕ, List, ◌∷◌}
 use Rattle.h41_codes.specs.ByteGrammar.{Begins}
 use Rattle.h41_codes.specs.declared.line.Line.{Line}
@@ -6,7 +6,7 @@ use Rattle.h41_codes.specs.declared.line.Line.TheVariants as lines
 use Rattle.h41_codes.specs.declared.short_lines.ShortLine.{ShortLine}
 use Rattle.h41_codes.specs.declared.short_lines.ShortLine.TheVariants as short
 
--- the line itself
+-- A short line as a line.
 abbrev pub line_of : ShortLine → Line
 line_of (short.LocalLabel label) = lines.LocalLabel label
 line_of (short.Register function register) = lines.Register function register
@@ -18,11 +18,11 @@ line_of (short.ShortGoTo label distance) = lines.ShortGoTo label distance
 line_of (short.BranchTo branch distance backwards label) =
     lines.BranchTo branch distance backwards label
 
--- bytes begin with no such line
+-- Bytes begin with no short line.
 abbrev pub BeginsNoShort : List ℕ → Type 0
 BeginsNoShort bytes = (one : ShortLine) (size : ℕ) → Begins bytes (line_of one) size → ⊥
 
--- the short lines that begin with a first byte have so many bytes each
+-- All short lines that begin with this first byte have so many bytes.
 abbrev pub BeginsShorts : ℕ → ℕ → Type 0
 BeginsShorts first size =
     (rest : List ℕ) (line : ShortLine) (count : ℕ) → Begins (first ∷ rest) (line_of line) count

@@ -7,14 +7,14 @@ use crate::functions::{Branch, ParameterFunction, RegisterFunction};
 use crate::line::{Line, Operand};
 use crate::numbers::{Distance, EndMarks, FinalMarks, Link, Parameter, ShortLabel, ShortRegister};
 
-/// The first register without a short spelling.
+/// The number of registers with a short spelling, 00 to 15; register 16 is the first without one.
 const SHORT_REGISTERS: u8 = 16;
 
-/// The first label without a short spelling.
+/// The number of labels with a short spelling, 00 to 14; label 15 is the first without one.
 const SHORT_LABELS: u8 = 15;
 
-/// The canonical line: of all lines with that canonical line the one of the fewest bytes, without the distances, links, keys
-/// and marks that only the calculator uses.
+/// Returns the canonical line, which takes the fewest bytes of all lines that have the same canonical line. For example, `RCL 05` in two
+/// bytes becomes `RCL 05` in one. Distances, links, keys and the status bits of an END, which only the calculator uses, become 0.
 pub fn canon(line: Line) -> Line
     ensures { result ≡ canonical_line line }
 {
@@ -29,7 +29,7 @@ pub fn canon(line: Line) -> Line
     }
 }
 
-/// The shortest line of a function with a parameter.
+/// Returns the shortest line of a function with a parameter.
 fn short_function(function: ParameterFunction, operand: Operand) -> Line
     ensures { result ≡ shortest_function function operand }
 {
@@ -39,7 +39,7 @@ fn short_function(function: ParameterFunction, operand: Operand) -> Line
     }
 }
 
-/// The shortest line of a function with a parameter that is not indirect.
+/// Returns the shortest line of a function with a direct parameter.
 fn short_direct(function: ParameterFunction, parameter: Parameter) -> Line
     ensures { result ≡ shortest_function function (Direct parameter) }
 {
@@ -58,7 +58,7 @@ fn short_direct(function: ParameterFunction, parameter: Parameter) -> Line
     }
 }
 
-/// The shortest line of a GTO or XEQ.
+/// Returns the shortest line of `GTO` or `XEQ` with a local label.
 fn short_branch(branch: Branch, label: Parameter) -> Line
     ensures { result ≡ shortest_branch branch label }
 {

@@ -11,7 +11,7 @@ use std::marker::Model;
 /// The most characters of a number.
 pub const NUMBER_MOST: usize = 16;
 
-/// A text of at most `MOST` characters, each a byte.
+/// A text of at most `MOST` characters. Each character is a byte.
 #[derive(Clone, Copy, Debug, PartialEq, Eq)]
 pub struct Text<const MOST: usize> {
     cells: [u8; MOST],
@@ -38,7 +38,7 @@ impl<const MOST: usize> Model for Text<MOST> {
 }
 
 impl<const MOST: usize> Text<MOST> {
-    /// The text of these characters, or nothing where there are more than `MOST`.
+    /// Returns the text of these characters, or `None` if there are more than `MOST`.
     pub fn new(characters: &[u8]) -> Option<Self>
         ensures fits { IsSome result ↔ (length characters.now ≤ MOST) }
         ensures value { IfSome result (λ text. text ≡ characters.now) }
@@ -50,7 +50,7 @@ impl<const MOST: usize> Text<MOST> {
         }
     }
 
-    /// The text of these characters, of which there are at most `MOST`.
+    /// Returns the text of these characters, of which there are at most `MOST`.
     pub(crate) fn of(characters: &[u8]) -> Self
         requires { length characters.now ≤ MOST }
         ensures value { result ≡ characters.now }
@@ -66,7 +66,7 @@ impl<const MOST: usize> Text<MOST> {
         }
     }
 
-    /// Its characters.
+    /// Returns the characters of the text, at most `MOST`.
     pub fn characters(&self) -> &[u8]
         ensures value { result.now ≡ self.now }
         ensures bound { length self.now ≤ MOST }
@@ -76,7 +76,7 @@ impl<const MOST: usize> Text<MOST> {
     }
 }
 
-/// These characters: those of a slice are bytes.
+/// Returns the same characters. Its contract adds that the elements of a slice are bytes.
 fn bytes(characters: &[u8]) -> &[u8]
     ensures value { result.now ≡ characters.now }
     ensures bytes { IsBytes result.now }
@@ -87,52 +87,52 @@ fn bytes(characters: &[u8]) -> &[u8]
 /// A character of a number.
 #[derive(Clone, Copy, Debug, PartialEq, Eq)]
 pub enum Character {
-    /// `0`.
+    /// The digit `0`.
     Zero,
-    /// `1`.
+    /// The digit `1`.
     One,
-    /// `2`.
+    /// The digit `2`.
     Two,
-    /// `3`.
+    /// The digit `3`.
     Three,
-    /// `4`.
+    /// The digit `4`.
     Four,
-    /// `5`.
+    /// The digit `5`.
     Five,
-    /// `6`.
+    /// The digit `6`.
     Six,
-    /// `7`.
+    /// The digit `7`.
     Seven,
-    /// `8`.
+    /// The digit `8`.
     Eight,
-    /// `9`.
+    /// The digit `9`.
     Nine,
     /// `.`, the radix mark.
     Point,
-    /// `E`, in front of the exponent.
+    /// `E`, which precedes the exponent.
     Exponent,
-    /// `-`, the sign of mantissa or exponent.
+    /// `-`, the sign of the mantissa or of the exponent.
     Minus,
 }
 
 impl Character {
     ghost use Rattle.h41_codes.specs.NumberCharacters as spec;
 
-    /// Whether it is the radix mark.
+    /// Returns whether the character is the radix mark.
     pub fn is_point(self) -> bool
         ensures { result ≡ spec.is_point self }
     {
         matches!(self, Character::Point)
     }
 
-    /// Whether it is the E in front of an exponent.
+    /// Returns whether the character is the `E` before an exponent.
     pub fn is_exponent(self) -> bool
         ensures { result ≡ spec.is_exponent self }
     {
         matches!(self, Character::Exponent)
     }
 
-    /// Whether it is a sign.
+    /// Returns whether the character is a minus sign.
     pub fn is_minus(self) -> bool
         ensures { result ≡ spec.is_minus self }
     {
@@ -140,7 +140,7 @@ impl Character {
     }
 }
 
-/// Where the first E stands, or the length where there is none.
+/// Returns the index of the first `E`, or the number of characters if there is none.
 pub fn exponent_place(text: &[Character]) -> usize
     ensures place { result ≡ exponent_place text.now }
     ensures bound { result ≤ length text.now }
@@ -184,7 +184,7 @@ impl Model for Number {
 }
 
 impl Number {
-    /// The number of these characters, or nothing where there is none or more than 16.
+    /// Returns the number of these characters, or `None` if there are none or more than 16.
     pub fn new(characters: &[Character]) -> Option<Self>
         ensures fits { IsSome result ↔ FitsNumber characters.now }
         ensures value { IfSome result (λ number. number ≡ characters.now) }
@@ -196,7 +196,7 @@ impl Number {
         }
     }
 
-    /// The number of these characters, of which there are 1 to 16.
+    /// Returns the number of these characters, of which there are 1 to 16.
     pub(crate) fn of(characters: &[Character]) -> Self
         requires low { 1 ≤ length characters.now }
         requires high { length characters.now ≤ number_most }
@@ -212,7 +212,7 @@ impl Number {
         }
     }
 
-    /// Its characters, 1 to 16.
+    /// Returns the characters of the number, 1 to 16.
     pub fn characters(&self) -> &[Character]
         ensures value { result.now ≡ self.now }
         ensures low { 1 ≤ length self.now }

@@ -1,4 +1,4 @@
-//! From bytes to the line that they begin with.
+//! The decoder, which reads the line that bytes begin with.
 ghost use Rattle.std.specs.Prelude.{◌≡◌, ℕ, ◌+◌, ◌*◌, ◌<◌, ◌≤◌, ◌↔◌, ◌⊎◌, [], ◌∷◌, map, length};
 ghost use Rattle.std.specs.Prelude.{take, drop, slice_index, IfOk, OnErr, IfSome, IfNone, IsErr};
 ghost use Rattle.std.specs.Prelude.{IsTrue, Ok};
@@ -17,8 +17,8 @@ use crate::numbers::{EndMarks, FinalMarks, Link};
 use crate::short_lines::{short_branch, short_byte, short_pair};
 use crate::table::character;
 
-/// Reads the line that bytes begin with, and answers how many bytes it takes. Other bytes may follow. A number takes as
-/// many as it can, up to 16.
+/// Returns the line that the bytes begin with, and the number of bytes that it takes. Other bytes may follow. A number takes as many
+/// characters as possible, at most 16. BrokenProgram (14) if the bytes begin with no line.
 #[inline(always)]
 pub fn decode(bytes: &[u8]) -> Result<(Line, usize), BrokenProgram>
     ensures line { AnswersLine result bytes.now }
@@ -27,7 +27,7 @@ pub fn decode(bytes: &[u8]) -> Result<(Line, usize), BrokenProgram>
     front(bytes)
 }
 
-/// Reads the line that bytes begin with, by their first byte.
+/// Returns the line that the bytes begin with and its number of bytes. The first byte determines the kind of line.
 #[inline(always)]
 fn front(bytes: &[u8]) -> Result<(Line, usize), BrokenProgram>
     ensures line { IfOk result (λ found. Begins bytes.now found.0 found.1) }
@@ -49,8 +49,8 @@ fn front(bytes: &[u8]) -> Result<(Line, usize), BrokenProgram>
     }
 }
 
-/// The line that a byte is of its own: the null, a short label, RCL and STO of a short register, a function without an operand.
-/// `None` for bytes with which other lines begin, numbers among them, or none.
+/// Returns the line that this byte is on its own: the null, a short label, `RCL` or `STO` of a short register, or a function without an
+/// operand. `None` if the byte begins other lines, such as numbers, or no line.
 pub fn one_byte_line(byte: u8) -> Option<Line>
     ensures some { IfSome result (λ line. IsOneByte byte × Spells (byte ∷ []) line) }
     ensures none { IfNone result (IsOneByte byte → ⊥) }
@@ -61,7 +61,7 @@ pub fn one_byte_line(byte: u8) -> Option<Line>
     }
 }
 
-/// Whether a byte is a line of its own, as in `one_byte_line`, without that line.
+/// Returns whether this byte is a line on its own, as `one_byte_line` defines it, without building the line.
 pub fn is_one_byte(byte: u8) -> bool
     ensures which { IsTrue result ↔ IsOneByte byte }
     ensures line { IsTrue result → IsAlone byte }
@@ -75,8 +75,8 @@ pub fn is_one_byte(byte: u8) -> bool
     }
 }
 
-/// The line that two bytes are, told by the first: a function with an operand, XROM, GTO IND and XEQ IND, GTO 00 to 14. `None` for
-/// bytes with which other lines begin, or none.
+/// Returns the line that these two bytes are: a function with an operand, `XROM`, `GTO IND`, `XEQ IND`, or `GTO 00` to `GTO 14`. `None` if
+/// the first byte begins other lines or none.
 #[inline(always)]
 pub fn two_byte_line(first: u8, second: u8) -> Option<Line>
     ensures some { IfSome result (λ line. IsTwoBytes first × Spells (first ∷ second ∷ []) line) }
@@ -88,7 +88,7 @@ pub fn two_byte_line(first: u8, second: u8) -> Option<Line>
     }
 }
 
-/// The line of one byte.
+/// Returns the line of one byte.
 fn one_byte(first: u8) -> Line
     requires { IsOneByte first }
     ensures spelled { spelling result ≡ first ∷ [] }
@@ -100,7 +100,7 @@ fn one_byte(first: u8) -> Line
     short_byte(first).line()
 }
 
-/// The line of two bytes that bytes begin with.
+/// Returns the line of two bytes that the bytes begin with.
 fn pair(bytes: &[u8]) -> Result<(Line, usize), BrokenProgram>
     requires some { 0 < length bytes.now }
     requires first { IsTwoBytes (slice_index bytes.now 0) }
@@ -113,7 +113,7 @@ fn pair(bytes: &[u8]) -> Result<(Line, usize), BrokenProgram>
     Ok((two_bytes(bytes[0], bytes[1]), 2))
 }
 
-/// The GTO or XEQ of three bytes that bytes begin with.
+/// Returns the `GTO` or `XEQ` of three bytes that the bytes begin with.
 fn triple(bytes: &[u8]) -> Result<(Line, usize), BrokenProgram>
     requires some { 0 < length bytes.now }
     requires first { IsIn 0xD0 0xF0 (slice_index bytes.now 0) }
@@ -126,7 +126,7 @@ fn triple(bytes: &[u8]) -> Result<(Line, usize), BrokenProgram>
     Ok((short_branch(bytes[0], bytes[1], bytes[2]).line(), 3))
 }
 
-/// The line of two bytes.
+/// Returns the line of two bytes.
 fn two_bytes(first: u8, second: u8) -> Line
     requires { IsTwoBytes first }
     ensures spelled { spelling result ≡ first ∷ second ∷ [] }
@@ -135,7 +135,7 @@ fn two_bytes(first: u8, second: u8) -> Line
     short_pair(first, second).line()
 }
 
-/// The number that bytes begin with, and how many characters it has.
+/// Returns the number that the bytes begin with, and how many characters it has.
 #[inline(never)]
 fn number(bytes: &[u8]) -> (Line, usize)
     requires some { 0 < length bytes.now }
@@ -150,7 +150,7 @@ fn number(bytes: &[u8]) -> (Line, usize)
     (Line::Number(Number::of(&characters[..count])), count)
 }
 
-/// How many bytes of a number stand at the front, up to 16.
+/// Returns how many characters of a number the bytes begin with, at most 16.
 fn number_length(bytes: &[u8]) -> usize
     ensures most { result ≤ 16 }
     ensures inside { result ≤ length bytes.now }
@@ -165,7 +165,7 @@ fn number_length(bytes: &[u8]) -> usize
     bytes.len()
 }
 
-/// The text at the front, F0 to FF and so many characters, or nothing where it is not whole.
+/// Returns the text that the bytes begin with: a byte F0 to FF, which counts the characters, and these. `None` if it is not complete.
 fn text_at(bytes: &[u8]) -> Option<Text<15>>
     ensures text { IfSome result (λ text. take (1 + length text) bytes.now ≡ text_bytes text) }
     ensures inside { IfSome result (λ text. 1 + length text ≤ length bytes.now) }
@@ -183,7 +183,7 @@ fn text_at(bytes: &[u8]) -> Option<Text<15>>
     Some(Text::of(&bytes[1..end]))
 }
 
-/// The GTO, XEQ or W of a name that bytes begin with.
+/// Returns the `GTO`, `XEQ` or `W` with a name that the bytes begin with.
 #[inline(never)]
 fn named(bytes: &[u8]) -> Result<(Line, usize), BrokenProgram>
     requires some { 0 < length bytes.now }
@@ -200,7 +200,7 @@ fn named(bytes: &[u8]) -> Result<(Line, usize), BrokenProgram>
     }
 }
 
-/// What a line does with a name, by its first byte, 1D to 1F.
+/// Returns what a line does with a name, by its first byte, 1D to 1F.
 fn name_function(first: u8) -> NameFunction
     requires { IsIn 0x1D 0x20 first }
     ensures { code.name_function_code result ≡ first }
@@ -212,7 +212,7 @@ fn name_function(first: u8) -> NameFunction
     }
 }
 
-/// The text that bytes begin with.
+/// Returns the text line that the bytes begin with.
 #[inline(never)]
 fn text(bytes: &[u8]) -> Result<(Line, usize), BrokenProgram>
     requires some { 0 < length bytes.now }
@@ -229,7 +229,7 @@ fn text(bytes: &[u8]) -> Result<(Line, usize), BrokenProgram>
     }
 }
 
-/// The global label, END or .END. that bytes begin with.
+/// Returns the global label, `END` or `.END.` that the bytes begin with.
 #[inline(never)]
 fn linked(bytes: &[u8]) -> Result<(Line, usize), BrokenProgram>
     requires some { 0 < length bytes.now }
@@ -253,7 +253,7 @@ fn linked(bytes: &[u8]) -> Result<(Line, usize), BrokenProgram>
     Ok((Line::GlobalLabel(link, bytes[3], name), end))
 }
 
-/// The END or .END. of a link and a third byte.
+/// Returns the `END` or `.END.` with this link and this third byte.
 fn end(link: Link, third: u8) -> Line
     requires { third < 0xF0 }
     ensures spelled { spelling result ≡ link_high link ∷ link_low link ∷ third ∷ [] }

@@ -1,4 +1,4 @@
-//! From a line to its bytes.
+//! The encoder, which writes the bytes of a line.
 ghost use Rattle.std.specs.Prelude.{◌≡◌, ◌+◌, ◌*◌, ◌<◌, ◌≤◌, ◌↔◌, [], ◌∷◌, ◌++◌, map, length, drop};
 ghost use Rattle.std.specs.Prelude.{IfOk, OnOk, OnErr, IsErr};
 ghost use Rattle.arrayvec.specs.ArrayVec.{array_vec_len};
@@ -20,14 +20,14 @@ use crate::table::{
 };
 use arrayvec::ArrayVec;
 
-/// The most bytes of a line: a label with a name of 14 characters.
+/// The most bytes of a line. A label with a name of 14 characters has as many.
 pub const LINE_CAPACITY: usize = 18;
 
 /// The bytes of a line.
 type Bytes = ArrayVec<u8, LINE_CAPACITY>;
 
-/// Writes a line's bytes at the front of a slice, and answers how many there are. The rest of the slice stays as it is, and
-/// all of it where the line does not fit.
+/// Writes the bytes of a line at the start of a slice, and returns how many there are. The rest of the slice is unchanged. BufferShort (40)
+/// if the line does not fit; the slice is then unchanged.
 pub fn encode(line: Line, out: &mut [u8]) -> Result<usize, BufferShort>
     ensures length { IfOk result (λ count. count ≡ length (spelling line)) }
     ensures written { OnOk result (out.new ≡ written_over line out.old) }
@@ -43,7 +43,7 @@ pub fn encode(line: Line, out: &mut [u8]) -> Result<usize, BufferShort>
     Ok(count)
 }
 
-/// The bytes of a line.
+/// Returns the bytes of a line.
 fn bytes_of(line: Line) -> Bytes
     ensures { result.items ≡ spelling line }
 {
@@ -78,7 +78,7 @@ fn bytes_of(line: Line) -> Bytes
     }
 }
 
-/// The two bytes of an XROM.
+/// Returns the two bytes of an `XROM`.
 fn module_bytes(number: ModuleNumber, entry: EntryNumber) -> Bytes
     ensures { result.items ≡ spelling (line.Module number entry) }
 {
@@ -86,7 +86,7 @@ fn module_bytes(number: ModuleNumber, entry: EntryNumber) -> Bytes
     two(0xA0 + bits / 4, bits % 4 * 64 + entry.number())
 }
 
-/// The three bytes of a GTO or XEQ.
+/// Returns the three bytes of a `GTO` or `XEQ`.
 fn branch_bytes(branch: Branch, distance: Distance, backwards: bool, label: Parameter) -> Bytes
     ensures { result.items ≡ spelling (line.BranchTo branch distance backwards label) }
 {
@@ -100,7 +100,7 @@ fn branch_bytes(branch: Branch, distance: Distance, backwards: bool, label: Para
     )
 }
 
-/// One byte.
+/// Returns one byte as a list.
 fn one(byte: u8) -> Bytes
     ensures { result.items ≡ byte ∷ [] }
 {
@@ -109,7 +109,7 @@ fn one(byte: u8) -> Bytes
     bytes
 }
 
-/// Two bytes.
+/// Returns two bytes as a list.
 fn two(first: u8, second: u8) -> Bytes
     ensures { result.items ≡ first ∷ second ∷ [] }
 {
@@ -118,7 +118,7 @@ fn two(first: u8, second: u8) -> Bytes
     bytes
 }
 
-/// Three bytes.
+/// Returns three bytes as a list.
 fn three(first: u8, second: u8, third: u8) -> Bytes
     ensures { result.items ≡ first ∷ second ∷ third ∷ [] }
 {
@@ -127,7 +127,7 @@ fn three(first: u8, second: u8, third: u8) -> Bytes
     bytes
 }
 
-/// Bytes and a text of at most 15 characters behind them.
+/// Appends the bytes of a text of at most 15 characters.
 fn with_text(mut front: Bytes, text: &[u8]) -> Bytes
     requires front { length front.items ≤ 1 }
     requires text { length text.now ≤ 15 }
@@ -137,7 +137,7 @@ fn with_text(mut front: Bytes, text: &[u8]) -> Bytes
     with_all(front, text)
 }
 
-/// Bytes and more behind them.
+/// Appends bytes.
 fn with_all(mut front: Bytes, more: &[u8]) -> Bytes
     requires { length front.items + length more.now ≤ 18 }
     ensures { result.items ≡ front.items ++ more.now }
@@ -148,7 +148,7 @@ fn with_all(mut front: Bytes, more: &[u8]) -> Bytes
     front
 }
 
-/// The bytes of a number of at most 16 characters.
+/// Returns the bytes of a number of at most 16 characters.
 fn number_bytes(characters: &[Character]) -> Bytes
     requires { length characters.now ≤ 16 }
     ensures { result.items ≡ map code.character_code characters.now }
@@ -160,7 +160,7 @@ fn number_bytes(characters: &[Character]) -> Bytes
     bytes
 }
 
-/// The bytes of a label with a name of at most 14 characters.
+/// Returns the bytes of a label with a name of at most 14 characters.
 fn global_label_bytes(link: u16, key: u8, name: &[u8]) -> Bytes
     requires link { link < link_count }
     requires name { length name.now ≤ 14 }
@@ -171,7 +171,7 @@ fn global_label_bytes(link: u16, key: u8, name: &[u8]) -> Bytes
     with_all(front, name)
 }
 
-/// The bytes of a link and one more.
+/// Returns the two bytes of a link, and one more.
 fn link_bytes(link: u16, last: u8) -> Bytes
     requires { link < link_count }
     ensures { result.items ≡ link_high link ∷ link_low link ∷ last ∷ [] }
@@ -179,7 +179,7 @@ fn link_bytes(link: u16, last: u8) -> Bytes
     three(0xC0 + (link / 256) as u8, (link % 256) as u8, last)
 }
 
-/// The byte of an operand.
+/// Returns the byte of an operand.
 fn operand_byte(operand: Operand) -> u8
     ensures { result ≡ grammar.operand_byte operand }
 {
@@ -189,7 +189,7 @@ fn operand_byte(operand: Operand) -> u8
     }
 }
 
-/// The byte of the register that holds the label of a GTO or XEQ.
+/// Returns the second byte of a `GTO IND` or `XEQ IND`, which contains the register.
 fn indirect_byte(branch: Branch, register: Parameter) -> u8
     ensures { result ≡ grammar.indirect_byte branch register }
 {
@@ -199,7 +199,7 @@ fn indirect_byte(branch: Branch, register: Parameter) -> u8
     }
 }
 
-/// The bits that the marks of an END, below 128, take in its last byte.
+/// Returns the bits of the last byte of an `END` that contain its status bits, given as a number below 128.
 fn mark_bits(marks: u8) -> u8
     requires { marks < 128 }
     ensures value { result ≡ grammar.mark_bits marks }

@@ -1,12 +1,12 @@
-//! What can be wrong.
+//! The errors of reading and writing lines.
 use thiserror::Error;
 
-/// 14: bytes that begin with no line.
+/// BrokenProgram (14): the bytes begin with no line.
 #[derive(Clone, Copy, Debug, PartialEq, Eq, Error)]
 #[error("these bytes begin with no line")]
 pub struct BrokenProgram;
 
-/// 40: a slice that is too short for a line.
+/// BufferShort (40): the slice is too short for the line.
 #[derive(Clone, Copy, Debug, PartialEq, Eq, Error)]
 #[error("the line does not fit")]
 pub struct BufferShort;

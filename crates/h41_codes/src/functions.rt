@@ -1,248 +1,248 @@
-//! The functions of the HP-41, by name. Each comment has the name that a listing shows.
+//! The functions of the HP-41. Each comment begins with the name that a listing shows.
 
-/// A function whose line is a byte of its own.
+/// A function whose line is a single byte.
 #[derive(Clone, Copy, Debug, PartialEq, Eq)]
 pub enum Function {
-    /// `+`.
+    /// `+`: adds X to Y.
     Add,
-    /// `-`.
+    /// `-`: subtracts X from Y.
     Subtract,
-    /// `*`.
+    /// `*`: multiplies Y by X.
     Multiply,
-    /// `/`.
+    /// `/`: divides Y by X.
     Divide,
-    /// `X<Y?`.
+    /// `X<Y?`: tests whether X is less than Y.
     TestXLessThanY,
-    /// `X>Y?`.
+    /// `X>Y?`: tests whether X is greater than Y.
     TestXGreaterThanY,
-    /// `X<=Y?`.
+    /// `X<=Y?`: tests whether X is at most Y.
     TestXAtMostY,
-    /// `S+`.
+    /// `S+`: adds X and Y to the statistics registers.
     AddStatistics,
-    /// `S-`.
+    /// `S-`: subtracts X and Y from the statistics registers.
     SubtractStatistics,
-    /// `HMS+`.
+    /// `HMS+`: adds X to Y, in hours, minutes and seconds.
     AddHours,
-    /// `HMS-`.
+    /// `HMS-`: subtracts X from Y, in hours, minutes and seconds.
     SubtractHours,
-    /// `MOD`.
+    /// `MOD`: the remainder of Y divided by X.
     Modulo,
-    /// `%`.
+    /// `%`: X percent of Y.
     Percent,
-    /// `%CH`.
+    /// `%CH`: the change from Y to X, in percent.
     PercentChange,
-    /// `P-R`.
+    /// `P-R`: polar to rectangular coordinates.
     PolarToRectangular,
-    /// `R-P`.
+    /// `R-P`: rectangular to polar coordinates.
     RectangularToPolar,
-    /// `LN`.
+    /// `LN`: the natural logarithm.
     NaturalLogarithm,
-    /// `X^2`.
+    /// `X^2`: the square.
     Square,
-    /// `SQRT`.
+    /// `SQRT`: the square root.
     SquareRoot,
-    /// `Y^X`.
+    /// `Y^X`: Y to the power of X.
     Power,
-    /// `CHS`.
+    /// `CHS`: changes the sign of X.
     ChangeSign,
-    /// `E^X`.
+    /// `E^X`: the natural exponential function.
     Exponential,
-    /// `LOG`.
+    /// `LOG`: the common logarithm.
     CommonLogarithm,
-    /// `10^X`.
+    /// `10^X`: ten to the power of X.
     PowerOfTen,
-    /// `E^X-1`.
+    /// `E^X-1`: the natural exponential function less 1.
     ExponentialLessOne,
-    /// `SIN`.
+    /// `SIN`: the sine.
     Sine,
-    /// `COS`.
+    /// `COS`: the cosine.
     Cosine,
-    /// `TAN`.
+    /// `TAN`: the tangent.
     Tangent,
-    /// `ASIN`.
+    /// `ASIN`: the arc sine.
     ArcSine,
-    /// `ACOS`.
+    /// `ACOS`: the arc cosine.
     ArcCosine,
-    /// `ATAN`.
+    /// `ATAN`: the arc tangent.
     ArcTangent,
-    /// `DEC`.
+    /// `DEC`: octal to decimal.
     OctalToDecimal,
-    /// `1/X`.
+    /// `1/X`: the reciprocal.
     Reciprocal,
-    /// `ABS`.
+    /// `ABS`: the absolute value.
     AbsoluteValue,
-    /// `FACT`.
+    /// `FACT`: the factorial.
     Factorial,
-    /// `X#0?`.
+    /// `X#0?`: tests whether X is not 0.
     TestXNotZero,
-    /// `X>0?`.
+    /// `X>0?`: tests whether X is positive.
     TestXPositive,
-    /// `LN1+X`.
+    /// `LN1+X`: the natural logarithm of 1 + X.
     LogarithmOfOneMore,
-    /// `X<0?`.
+    /// `X<0?`: tests whether X is negative.
     TestXNegative,
-    /// `X=0?`.
+    /// `X=0?`: tests whether X is 0.
     TestXZero,
-    /// `INT`.
+    /// `INT`: the integer part.
     IntegerPart,
-    /// `FRC`.
+    /// `FRC`: the fraction part.
     FractionPart,
-    /// `D-R`.
+    /// `D-R`: degrees to radians.
     DegreesToRadians,
-    /// `R-D`.
+    /// `R-D`: radians to degrees.
     RadiansToDegrees,
-    /// `HMS`.
+    /// `HMS`: decimal hours to hours, minutes and seconds.
     DecimalToHours,
-    /// `HR`.
+    /// `HR`: hours, minutes and seconds to decimal hours.
     HoursToDecimal,
-    /// `RND`.
+    /// `RND`: rounds X to the digits of the display.
     Round,
-    /// `OCT`.
+    /// `OCT`: decimal to octal.
     DecimalToOctal,
-    /// `CLS`.
+    /// `CLS`: clears the statistics registers.
     ClearStatistics,
-    /// `X<>Y`.
+    /// `X<>Y`: exchanges X and Y.
     ExchangeXY,
-    /// `PI`.
+    /// `PI`: the number pi.
     Pi,
-    /// `CLST`.
+    /// `CLST`: clears the stack.
     ClearStack,
-    /// `R^`.
+    /// `R^`: rolls the stack up.
     RollUp,
-    /// `RDN`.
+    /// `RDN`: rolls the stack down.
     RollDown,
-    /// `LASTX`.
+    /// `LASTX`: recalls LAST X.
     LastX,
-    /// `CLX`.
+    /// `CLX`: clears X.
     ClearX,
-    /// `X=Y?`.
+    /// `X=Y?`: tests whether X equals Y.
     TestXEqualsY,
-    /// `X#Y?`.
+    /// `X#Y?`: tests whether X differs from Y.
     TestXDiffersFromY,
-    /// `SIGN`.
+    /// `SIGN`: the sign of X.
     Signum,
-    /// `X<=0?`.
+    /// `X<=0?`: tests whether X is at most 0.
     TestXAtMostZero,
-    /// `MEAN`.
+    /// `MEAN`: the means of the statistics.
     Mean,
-    /// `SDEV`.
+    /// `SDEV`: the standard deviations of the statistics.
     StandardDeviation,
-    /// `AVIEW`.
+    /// `AVIEW`: shows ALPHA.
     ViewAlpha,
-    /// `CLD`.
+    /// `CLD`: clears the display.
     ClearDisplay,
-    /// `DEG`.
+    /// `DEG`: selects degrees.
     Degrees,
-    /// `RAD`.
+    /// `RAD`: selects radians.
     Radians,
-    /// `GRAD`.
+    /// `GRAD`: selects grads.
     Grads,
-    /// `ENTER^`.
+    /// `ENTER^`: copies X to Y.
     Enter,
-    /// `STOP`.
+    /// `STOP`: stops the program.
     Stop,
-    /// `RTN`.
+    /// `RTN`: returns from a program.
     Return,
-    /// `BEEP`.
+    /// `BEEP`: plays four tones.
     Beep,
-    /// `CLA`.
+    /// `CLA`: clears ALPHA.
     ClearAlpha,
-    /// `ASHF`.
+    /// `ASHF`: shifts ALPHA six characters to the left.
     ShiftAlpha,
-    /// `PSE`.
+    /// `PSE`: pauses the program.
     Pause,
-    /// `CLRG`.
+    /// `CLRG`: clears the data registers.
     ClearRegisters,
-    /// `AOFF`.
+    /// `AOFF`: switches ALPHA mode off.
     AlphaOff,
-    /// `AON`.
+    /// `AON`: switches ALPHA mode on.
     AlphaOn,
-    /// `OFF`.
+    /// `OFF`: turns the calculator off.
     TurnOff,
-    /// `PROMPT`.
+    /// `PROMPT`: shows ALPHA and stops the program.
     Prompt,
-    /// `ADV`.
+    /// `ADV`: advances the printer's paper.
     Advance,
 }
 
 /// A function with a parameter, direct or indirect.
 #[derive(Clone, Copy, Debug, PartialEq, Eq)]
 pub enum ParameterFunction {
-    /// `RCL`.
+    /// `RCL`: recalls a register.
     Recall,
-    /// `STO`.
+    /// `STO`: stores X in a register.
     Store,
-    /// `ST+`.
+    /// `ST+`: adds X to a register.
     StoreAdd,
-    /// `ST-`.
+    /// `ST-`: subtracts X from a register.
     StoreSubtract,
-    /// `ST*`.
+    /// `ST*`: multiplies a register by X.
     StoreMultiply,
-    /// `ST/`.
+    /// `ST/`: divides a register by X.
     StoreDivide,
-    /// `ISG`.
+    /// `ISG`: increments a loop counter, and skips a line if it is greater than its limit.
     IncrementSkip,
-    /// `DSE`.
+    /// `DSE`: decrements a loop counter, and skips a line if it is at most its limit.
     DecrementSkip,
-    /// `VIEW`.
+    /// `VIEW`: shows a register.
     View,
-    /// `SREG`.
+    /// `SREG`: selects the statistics registers.
     StatisticsRegisters,
-    /// `ASTO`.
+    /// `ASTO`: stores characters of ALPHA in a register.
     StoreAlpha,
-    /// `ARCL`.
+    /// `ARCL`: appends a register to ALPHA.
     RecallAlpha,
-    /// `FIX`.
+    /// `FIX`: selects the fixed display format.
     Fixed,
-    /// `SCI`.
+    /// `SCI`: selects the scientific display format.
     Scientific,
-    /// `ENG`.
+    /// `ENG`: selects the engineering display format.
     Engineering,
-    /// `TONE`.
+    /// `TONE`: plays a tone.
     Tone,
-    /// `SF`.
+    /// `SF`: sets a flag.
     SetFlag,
-    /// `CF`.
+    /// `CF`: clears a flag.
     ClearFlag,
-    /// `FS?C`.
+    /// `FS?C`: tests whether a flag is set, and clears it.
     TestSetAndClear,
-    /// `FC?C`.
+    /// `FC?C`: tests whether a flag is clear, and clears it.
     TestClearAndClear,
-    /// `FS?`.
+    /// `FS?`: tests whether a flag is set.
     TestSet,
-    /// `FC?`.
+    /// `FC?`: tests whether a flag is clear.
     TestClear,
-    /// `X<>`.
+    /// `X<>`: exchanges X with a register.
     Exchange,
-    /// `LBL`.
+    /// `LBL`: a local label.
     Label,
 }
 
-/// Whether a line goes to a label or executes it, with a return to come.
+/// What a line with a label does: it goes to the label, or calls it.
 #[derive(Clone, Copy, Debug, PartialEq, Eq)]
 pub enum Branch {
-    /// `GTO`.
+    /// `GTO`: goes to the label.
     GoTo,
-    /// `XEQ`.
+    /// `XEQ`: calls the label, and adds a return address.
     Execute,
 }
 
 /// What a line does with a name.
 #[derive(Clone, Copy, Debug, PartialEq, Eq)]
 pub enum NameFunction {
-    /// `GTO "NAME"`.
+    /// `GTO "NAME"`: goes to the label with this name.
     GoToName,
-    /// `XEQ "NAME"`.
+    /// `XEQ "NAME"`: calls the label or the function with this name.
     ExecuteName,
-    /// `W "NAME"`: a code that the calculator never writes; it is stored and listed only.
+    /// `W "NAME"`: a code that the calculator never writes. It can be stored and listed, but has no other use.
     Wordless,
 }
 
-/// A function on a register with short spellings for the registers 00 to 15.
+/// A function with short spellings for the registers 00 to 15.
 #[derive(Clone, Copy, Debug, PartialEq, Eq)]
 pub enum RegisterFunction {
-    /// `RCL`.
+    /// `RCL`: recalls a register.
     RecallRegister,
-    /// `STO`.
+    /// `STO`: stores X in a register.
     StoreRegister,
 }

@@ -1,5 +1,5 @@
-//! The byte codes of HP-41 programs: lines, the bytes that spell them, and the shortest spelling of each. Codes are those
-//! of HP's byte table.
+//! The byte codes of HP-41 programs: lines, the bytes that spell them, and the shortest spelling of each. The codes are those of HP's byte
+//! table.
 #![tactic(auto)]
 
 mod canonical;

@@ -1,4 +1,4 @@
-//! A line of a program.
+//! The lines of programs.
 use crate::characters::{Number, Text};
 use crate::functions::{Branch, Function, NameFunction, ParameterFunction, RegisterFunction};
 use crate::numbers::{
@@ -6,47 +6,47 @@ use crate::numbers::{
     ShortRegister,
 };
 
-/// What a function works on: its parameter itself, or the one whose number a register holds.
+/// The operand of a function: its parameter, or the register that contains the parameter.
 #[derive(Clone, Copy, Debug, PartialEq, Eq)]
 pub enum Operand {
     /// The parameter itself.
     Direct(Parameter),
-    /// `IND`: the parameter whose number this register holds.
+    /// `IND`: the register whose content is the parameter.
     Indirect(Parameter),
 }
 
-/// A line of a program, with all that its bytes say: a line that can be spelled in two ways is two lines, and bits that
-/// only the calculator uses are kept.
+/// A line of a program, with all information in its bytes. A line that can be spelled in two ways is therefore two values, and bits that
+/// only the calculator uses are part of the value.
 #[derive(Clone, Copy, Debug, PartialEq, Eq)]
 pub enum Line {
-    /// The null: nothing at all. It parts numbers and fills gaps.
+    /// The null, which does nothing. It separates numbers and fills gaps.
     Null,
     /// `LBL 00` to `LBL 14` in one byte.
     LocalLabel(ShortLabel),
-    /// A number, as `-1.5E3`.
+    /// A number, such as `-1.5E3`.
     Number(Number),
-    /// `GTO "NAME"` and the like.
+    /// `GTO`, `XEQ` or `W` with a name, such as `GTO "NAME"`.
     Named(NameFunction, Text<15>),
     /// `RCL 00` to `RCL 15` and `STO 00` to `STO 15` in one byte.
     Register(RegisterFunction, ShortRegister),
-    /// A function without a parameter, as `SIN`.
+    /// A function without a parameter, such as `SIN`.
     Plain(Function),
-    /// A function with a parameter, as `ST+ 05` or `FIX IND X`.
+    /// A function with a parameter, such as `ST+ 05` or `FIX IND X`.
     WithOperand(ParameterFunction, Operand),
     /// `XROM ii,jj`: a function of a module.
     Module(ModuleNumber, EntryNumber),
-    /// `GTO IND 05` and `XEQ IND 05`: the register that holds the label.
+    /// `GTO IND` and `XEQ IND`, such as `GTO IND 05`, with the register that contains the label.
     BranchIndirect(Branch, Parameter),
-    /// `GTO 00` to `GTO 14` in two bytes, and the second byte, which holds a distance.
+    /// `GTO 00` to `GTO 14` in two bytes. The second byte contains a distance.
     ShortGoTo(ShortLabel, u8),
-    /// `LBL "NAME"`: its link, the key that it is assigned to, and its name.
+    /// `LBL "NAME"`: its link, the key to which it is assigned, and its name.
     GlobalLabel(Link, u8, Text<14>),
-    /// `END`.
+    /// `END`, with its link and status bits.
     End(Link, EndMarks),
-    /// `.END.`, the last line of program memory.
+    /// `.END.`, the last line of program memory, with its link and status bits.
     FinalEnd(Link, FinalMarks),
-    /// `GTO 00` to `GTO e` and `XEQ 00` to `XEQ e` in three bytes: the distance, whether it leads backwards, the label.
+    /// `GTO 00` to `GTO e` and `XEQ 00` to `XEQ e` in three bytes: the distance, whether it leads backwards, and the label.
     BranchTo(Branch, Distance, bool, Parameter),
-    /// A text for ALPHA. One that begins with HP's append sign, the character 7F, adds the rest to what ALPHA holds.
+    /// A text for ALPHA. If it begins with HP's append sign, the character 7F, the rest is appended to ALPHA; otherwise it replaces ALPHA.
     Text(Text<15>),
 }

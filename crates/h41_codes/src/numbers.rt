@@ -1,4 +1,4 @@
-//! The numbers that lines hold, each with its range.
+//! The numbers in lines, each with its range.
 ghost use Rattle.std.specs.Prelude.{◌≡◌, ℕ, ◌<◌};
 ghost use Rattle.h41_codes.specs.Counts.{parameter_count, short_label_count, short_register_count};
 ghost use Rattle.h41_codes.specs.Counts.{module_count, entry_count, distance_count, link_count};
@@ -6,9 +6,9 @@ ghost use Rattle.h41_codes.specs.Counts.{end_mark_count, final_mark_count};
 
 use std::marker::Model;
 
-/// What a function works on, 0 to 127: a register, a flag, a label, a number of digits. 0 to 101 stand for themselves, 102
-/// to 111 are the labels A to J, 112 to 116 the stack's T, Z, Y, X and L, 117 to 121 the registers M, N, O, P and Q, 122
-/// is the append register, 123 to 127 are the labels a to e.
+/// A parameter of a function, 0 to 127: a register, a flag, a label, or a number of digits. 0 to 101 are written as numbers, 102 to 111 are
+/// the labels A to J, 112 to 116 the stack registers T, Z, Y, X and L, 117 to 121 the registers M, N, O, P and Q, 122 is the append
+/// register, and 123 to 127 are the labels a to e.
 #[derive(Clone, Copy, Debug, PartialEq, Eq)]
 pub struct Parameter {
     number: u8,
@@ -25,7 +25,7 @@ impl Model for Parameter {
 }
 
 impl Parameter {
-    /// The parameter with this number.
+    /// Returns the parameter with this number, 0 to 127.
     pub fn new(number: u8) -> Self
         requires { number < parameter_count }
         ensures { result ≡ number }
@@ -33,7 +33,7 @@ impl Parameter {
         Parameter { number }
     }
 
-    /// Its number, 0 to 127.
+    /// Returns the parameter's number, 0 to 127.
     pub fn number(self) -> u8
         ensures value { result ≡ self }
         ensures bound { result < parameter_count }
@@ -42,7 +42,7 @@ impl Parameter {
     }
 }
 
-/// A label with a spelling of its own, 0 to 14.
+/// A label with a spelling in one byte, 0 to 14.
 #[derive(Clone, Copy, Debug, PartialEq, Eq)]
 pub struct ShortLabel {
     number: u8,
@@ -59,7 +59,7 @@ impl Model for ShortLabel {
 }
 
 impl ShortLabel {
-    /// The label with this number.
+    /// Returns the label with this number, 0 to 14.
     pub fn new(number: u8) -> Self
         requires { number < short_label_count }
         ensures { result ≡ number }
@@ -67,7 +67,7 @@ impl ShortLabel {
         ShortLabel { number }
     }
 
-    /// Its number, 0 to 14.
+    /// Returns the label's number, 0 to 14.
     pub fn number(self) -> u8
         ensures value { result ≡ self }
         ensures bound { result < short_label_count }
@@ -76,7 +76,7 @@ impl ShortLabel {
     }
 }
 
-/// A register with a spelling of its own, 0 to 15.
+/// A register with a spelling in one byte, 0 to 15.
 #[derive(Clone, Copy, Debug, PartialEq, Eq)]
 pub struct ShortRegister {
     number: u8,
@@ -93,7 +93,7 @@ impl Model for ShortRegister {
 }
 
 impl ShortRegister {
-    /// The register with this number.
+    /// Returns the register with this number, 0 to 15.
     pub fn new(number: u8) -> Self
         requires { number < short_register_count }
         ensures { result ≡ number }
@@ -101,7 +101,7 @@ impl ShortRegister {
         ShortRegister { number }
     }
 
-    /// Its number, 0 to 15.
+    /// Returns the register's number, 0 to 15.
     pub fn number(self) -> u8
         ensures value { result ≡ self }
         ensures bound { result < short_register_count }
@@ -110,7 +110,7 @@ impl ShortRegister {
     }
 }
 
-/// The number of a module, 0 to 31: the first of the two of an `XROM`.
+/// The number of a module, 0 to 31, which is the first number of an `XROM`.
 #[derive(Clone, Copy, Debug, PartialEq, Eq)]
 pub struct ModuleNumber {
     number: u8,
@@ -127,7 +127,7 @@ impl Model for ModuleNumber {
 }
 
 impl ModuleNumber {
-    /// The module with this number.
+    /// Returns the module number, 0 to 31.
     pub fn new(number: u8) -> Self
         requires { number < module_count }
         ensures { result ≡ number }
@@ -135,7 +135,7 @@ impl ModuleNumber {
         ModuleNumber { number }
     }
 
-    /// Its number, 0 to 31.
+    /// Returns the module's number, 0 to 31.
     pub fn number(self) -> u8
         ensures value { result ≡ self }
         ensures bound { result < module_count }
@@ -144,7 +144,7 @@ impl ModuleNumber {
     }
 }
 
-/// The number of a function in its module, 0 to 63: the second of the two of an `XROM`.
+/// The number of a function in its module, 0 to 63, which is the second number of an `XROM`.
 #[derive(Clone, Copy, Debug, PartialEq, Eq)]
 pub struct EntryNumber {
     number: u8,
@@ -161,7 +161,7 @@ impl Model for EntryNumber {
 }
 
 impl EntryNumber {
-    /// The function with this number.
+    /// Returns the function number, 0 to 63.
     pub fn new(number: u8) -> Self
         requires { number < entry_count }
         ensures { result ≡ number }
@@ -169,7 +169,7 @@ impl EntryNumber {
         EntryNumber { number }
     }
 
-    /// Its number, 0 to 63.
+    /// Returns the function's number, 0 to 63.
     pub fn number(self) -> u8
         ensures value { result ≡ self }
         ensures bound { result < entry_count }
@@ -178,7 +178,7 @@ impl EntryNumber {
     }
 }
 
-/// How far away the calculator found a label, twelve bits that a line keeps. Nothing here reads them.
+/// The distance of a branch to its label, in twelve bits that the calculator writes. The crate stores the bits without using them.
 #[derive(Clone, Copy, Debug, PartialEq, Eq)]
 pub struct Distance {
     number: u16,
@@ -195,7 +195,7 @@ impl Model for Distance {
 }
 
 impl Distance {
-    /// The distance with these bits.
+    /// Returns the distance with these bits, 0 to 4095.
     pub fn new(number: u16) -> Self
         requires { number < distance_count }
         ensures { result ≡ number }
@@ -203,7 +203,7 @@ impl Distance {
         Distance { number }
     }
 
-    /// Its number, 0 to 4095.
+    /// Returns the distance's bits as a number, 0 to 4095.
     pub fn number(self) -> u16
         ensures value { result ≡ self }
         ensures bound { result < distance_count }
@@ -212,7 +212,7 @@ impl Distance {
     }
 }
 
-/// Where the calculator found the ALPHA label or END before this one. Nothing here reads it.
+/// The link of a global label or `END` to the one before it, which the calculator writes. The crate stores it without using it.
 #[derive(Clone, Copy, Debug, PartialEq, Eq)]
 pub struct Link {
     number: u16,
@@ -229,7 +229,7 @@ impl Model for Link {
 }
 
 impl Link {
-    /// The link with these bits.
+    /// Returns the link with these bits, 0 to 3583.
     pub fn new(number: u16) -> Self
         requires { number < link_count }
         ensures { result ≡ number }
@@ -237,7 +237,7 @@ impl Link {
         Link { number }
     }
 
-    /// Its number, 0 to 3583.
+    /// Returns the link's bits as a number, 0 to 3583.
     pub fn number(self) -> u16
         ensures value { result ≡ self }
         ensures bound { result < link_count }
@@ -246,7 +246,7 @@ impl Link {
     }
 }
 
-/// The bits of an END that say how its program was packed. Nothing here reads them.
+/// The status bits of an `END`, which say how its program was packed. The crate stores them without using them.
 #[derive(Clone, Copy, Debug, PartialEq, Eq)]
 pub struct EndMarks {
     number: u8,
@@ -263,7 +263,7 @@ impl Model for EndMarks {
 }
 
 impl EndMarks {
-    /// The marks with these bits.
+    /// Returns the status bits with this number, 0 to 127.
     pub fn new(number: u8) -> Self
         requires { number < end_mark_count }
         ensures { result ≡ number }
@@ -271,7 +271,7 @@ impl EndMarks {
         EndMarks { number }
     }
 
-    /// Its number, 0 to 127.
+    /// Returns the status bits as a number, 0 to 127.
     pub fn number(self) -> u8
         ensures value { result ≡ self }
         ensures bound { result < end_mark_count }
@@ -280,7 +280,8 @@ impl EndMarks {
     }
 }
 
-/// The bits of .END. that say how its program was packed. Nothing here reads them. From 112 on they would spell a label.
+/// The status bits of `.END.`, which say how its program was packed. The crate stores them without using them. The numbers 112 to 127 are
+/// missing, because their bytes spell a label.
 #[derive(Clone, Copy, Debug, PartialEq, Eq)]
 pub struct FinalMarks {
     number: u8,
@@ -297,7 +298,7 @@ impl Model for FinalMarks {
 }
 
 impl FinalMarks {
-    /// The marks with these bits.
+    /// Returns the status bits with this number, 0 to 111.
     pub fn new(number: u8) -> Self
         requires { number < final_mark_count }
         ensures { result ≡ number }
@@ -305,7 +306,7 @@ impl FinalMarks {
         FinalMarks { number }
     }
 
-    /// Its number, 0 to 111.
+    /// Returns the status bits as a number, 0 to 111.
     pub fn number(self) -> u8
         ensures value { result ≡ self }
         ensures bound { result < final_mark_count }

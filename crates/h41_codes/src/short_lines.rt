@@ -1,4 +1,4 @@
-//! Lines of one to three bytes, in numbers alone.
+//! Short lines: lines of one to three bytes that contain no characters.
 ghost use Rattle.std.specs.Prelude.{◌≡◌, ◌≢◌, ℕ, List, ◌∷◌, [], IfSome, IfNone};
 ghost use Rattle.h41_codes.specs.ByteGrammar.{operand_byte, spelling, Begins, IsLine};
 ghost use Rattle.h41_codes.specs.ByteGrammar as grammar;
@@ -10,30 +10,30 @@ use crate::line::{Line, Operand};
 use crate::numbers::{Distance, EntryNumber, ModuleNumber, Parameter, ShortLabel, ShortRegister};
 use crate::table::{function, parameter_function};
 
-/// A line of one to three bytes, but for a null, a number, a text, `END` and `.END.`: what a `Line` has, without room for
-/// characters.
+/// A line of one to three bytes that is no null, number, text, global label, `END`, `.END.` or line with a name. It has the same parts as a
+/// `Line`, but no room for characters, so that it is fast to copy.
 #[derive(Clone, Copy, Debug, PartialEq, Eq)]
 pub enum ShortLine {
     /// `LBL 00` to `LBL 14` in one byte.
     LocalLabel(ShortLabel),
     /// `RCL 00` to `RCL 15` and `STO 00` to `STO 15` in one byte.
     Register(RegisterFunction, ShortRegister),
-    /// A function without a parameter.
+    /// A function without a parameter, such as `SIN`.
     Plain(Function),
-    /// A function with a parameter.
+    /// A function with a parameter, such as `ST+ 05` or `FIX IND X`.
     WithOperand(ParameterFunction, Operand),
-    /// `XROM ii,jj`.
+    /// `XROM ii,jj`: a function of a module.
     Module(ModuleNumber, EntryNumber),
-    /// `GTO IND` and `XEQ IND`.
+    /// `GTO IND` and `XEQ IND`, with the register that contains the label.
     BranchIndirect(Branch, Parameter),
-    /// `GTO 00` to `GTO 14` in two bytes.
+    /// `GTO 00` to `GTO 14` in two bytes. The second byte contains a distance.
     ShortGoTo(ShortLabel, u8),
-    /// `GTO` and `XEQ` of a label in three bytes.
+    /// `GTO` and `XEQ` with a label in three bytes: the distance, whether it leads backwards, and the label.
     BranchTo(Branch, Distance, bool, Parameter),
 }
 
 impl ShortLine {
-    /// The line itself.
+    /// Returns the short line as a `Line`.
     pub fn line(self) -> Line
         ensures { result ≡ line_of self }
     {
@@ -52,8 +52,8 @@ impl ShortLine {
     }
 }
 
-/// How many bytes the short line has that a first byte begins. `None` where it begins another line, or none. Those of which
-/// programs have most are told first.
+/// Returns the number of bytes, 1 to 3, of a short line that begins with this byte. `None` if the byte begins other lines or none. The
+/// kinds of lines that are most frequent in programs are tested first.
 #[inline(always)]
 pub fn short_size(first: u8) -> Option<u16>
     ensures some { IfSome result (IsShort first) }
@@ -71,7 +71,7 @@ pub fn short_size(first: u8) -> Option<u16>
     }
 }
 
-/// The short line that three bytes begin with, the first of which begins one.
+/// Returns the short line that these three bytes begin with. The first byte must begin a short line.
 #[inline(always)]
 pub fn short_line(first: u8, second: u8, third: u8) -> ShortLine
     requires { (size : ℕ) × IsShort first size }
@@ -85,7 +85,7 @@ pub fn short_line(first: u8, second: u8, third: u8) -> ShortLine
     }
 }
 
-/// The line of one byte, which is no null.
+/// Returns the line of one byte, which is not the null.
 #[inline(always)]
 pub(crate) fn short_byte(first: u8) -> ShortLine
     requires byte { IsOneByte first }
@@ -107,7 +107,7 @@ pub(crate) fn short_byte(first: u8) -> ShortLine
     }
 }
 
-/// The line of two bytes.
+/// Returns the line of two bytes.
 #[inline(always)]
 pub(crate) fn short_pair(first: u8, second: u8) -> ShortLine
     requires { IsTwoBytes first }
@@ -125,7 +125,7 @@ pub(crate) fn short_pair(first: u8, second: u8) -> ShortLine
     }
 }
 
-/// The operand of a byte.
+/// Returns the operand of a byte. Bit 7 is set if it is indirect.
 #[inline(always)]
 fn operand(byte: u8) -> Operand
     ensures spelled { operand_byte result ≡ byte }
@@ -139,7 +139,7 @@ fn operand(byte: u8) -> Operand
     }
 }
 
-/// The GTO IND or XEQ IND of a second byte.
+/// Returns the `GTO IND` or `XEQ IND` with this second byte. Bit 7 is set for `XEQ IND`.
 #[inline(always)]
 fn indirect_branch(second: u8) -> ShortLine
     ensures spelled { spelling (line_of result) ≡ 0xAE ∷ second ∷ [] }
@@ -154,7 +154,7 @@ fn indirect_branch(second: u8) -> ShortLine
     ShortLine::BranchIndirect(branch, register)
 }
 
-/// The GTO or XEQ of three bytes.
+/// Returns the `GTO` or `XEQ` of three bytes.
 #[inline(always)]
 pub(crate) fn short_branch(first: u8, second: u8, third: u8) -> ShortLine
     requires { IsIn 0xD0 0xF0 first }

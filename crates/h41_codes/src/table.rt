@@ -1,4 +1,4 @@
-//! The codes of functions and characters. Each number stands once, in a list of which macros write both directions.
+//! The codes of functions and characters. Each number is written once, in a list from which macros generate both directions.
 ghost use Rattle.std.specs.Prelude.{◌≡◌, ◌<◌, ◌≤◌, ◌⊎◌};
 ghost use Rattle.h41_codes.specs.Codes as spec;
 ghost use Rattle.h41_codes.specs.Heads.{IsParameterCode};
@@ -6,8 +6,8 @@ ghost use Rattle.h41_codes.specs.Heads.{IsParameterCode};
 use crate::characters::Character;
 use crate::functions::{Branch, Function, NameFunction, ParameterFunction, RegisterFunction};
 
-/// Functions that are a byte of their own, sixteen to a part. `$write` is the macro that writes a direction, and `$with`
-/// what it writes it with.
+/// The functions whose line is a single byte, sixteen to a part. `$write` is the macro that generates one direction, and `$with` are its
+/// arguments.
 macro_rules! functions {
     ($write:ident $with:tt) => {
         $write! { $with Function
@@ -105,7 +105,7 @@ macro_rules! functions {
     };
 }
 
-/// Functions with a parameter.
+/// The functions with a parameter.
 macro_rules! parameter_functions {
     ($write:ident $with:tt) => {
         $write! { $with ParameterFunction
@@ -162,7 +162,7 @@ macro_rules! characters {
     };
 }
 
-/// Writes the match from a code to the name beside it in one part of a list; the code is one of that part.
+/// Generates the match from a code to its name, for one part of a list. The code must be in that part.
 macro_rules! name_beside {
     ((all $value:expr) $kind:ident all $part:tt) => { match_code!($kind $part $value) };
     ((from_40 $value:expr) $kind:ident from_40 $part:tt $($more:tt)*) => { match_code!($kind $part $value) };
@@ -173,7 +173,7 @@ macro_rules! name_beside {
     ($with:tt $kind:ident $other:ident $part:tt $($more:tt)*) => { name_beside!($with $kind $($more)*) };
 }
 
-/// Writes the match of `name_beside` over its part of the list.
+/// Generates the match of `name_beside` for its part of the list.
 macro_rules! match_code {
     ($kind:ident { $($code:literal => $name:ident,)* } $value:expr) => {
         match $value {
@@ -183,7 +183,7 @@ macro_rules! match_code {
     };
 }
 
-/// Writes the match from each name of a list to the code beside it.
+/// Generates the match from each name of a list to its code.
 macro_rules! code_beside {
     (($value:expr) $kind:ident $($part:ident { $($code:literal => $name:ident,)* })*) => {
         match $value {
@@ -192,7 +192,7 @@ macro_rules! code_beside {
     };
 }
 
-/// The function of a code, 40 to 8F.
+/// Returns the function with this code, 40 to 8F.
 pub(crate) fn function(code: u8) -> Function
     requires low { 0x40 ≤ code }
     requires high { code < 0x90 }
@@ -207,7 +207,7 @@ pub(crate) fn function(code: u8) -> Function
     }
 }
 
-/// The function of a code, 40 to 4F.
+/// Returns the function with this code, 40 to 4F.
 fn function_from_40(code: u8) -> Function
     requires low { 0x40 ≤ code }
     requires high { code ≤ 0x4F }
@@ -216,7 +216,7 @@ fn function_from_40(code: u8) -> Function
     functions!(name_beside (from_40 code))
 }
 
-/// The function of a code, 50 to 5F.
+/// Returns the function with this code, 50 to 5F.
 fn function_from_50(code: u8) -> Function
     requires low { 0x50 ≤ code }
     requires high { code ≤ 0x5F }
@@ -225,7 +225,7 @@ fn function_from_50(code: u8) -> Function
     functions!(name_beside (from_50 code))
 }
 
-/// The function of a code, 60 to 6F.
+/// Returns the function with this code, 60 to 6F.
 fn function_from_60(code: u8) -> Function
     requires low { 0x60 ≤ code }
     requires high { code ≤ 0x6F }
@@ -234,7 +234,7 @@ fn function_from_60(code: u8) -> Function
     functions!(name_beside (from_60 code))
 }
 
-/// The function of a code, 70 to 7F.
+/// Returns the function with this code, 70 to 7F.
 fn function_from_70(code: u8) -> Function
     requires low { 0x70 ≤ code }
     requires high { code ≤ 0x7F }
@@ -243,7 +243,7 @@ fn function_from_70(code: u8) -> Function
     functions!(name_beside (from_70 code))
 }
 
-/// The function of a code, 80 to 8F.
+/// Returns the function with this code, 80 to 8F.
 fn function_from_80(code: u8) -> Function
     requires low { 0x80 ≤ code }
     requires high { code ≤ 0x8F }
@@ -252,14 +252,14 @@ fn function_from_80(code: u8) -> Function
     functions!(name_beside (from_80 code))
 }
 
-/// The code of a function, 40 to 8F.
+/// Returns the code of a function, 40 to 8F.
 pub(crate) fn function_code(function: Function) -> u8
     ensures { result ≡ spec.function_code function }
 {
     functions!(code_beside(function))
 }
 
-/// The function with a parameter of a code, 90 to 9F, A8 to AD, CE or CF.
+/// Returns the function with a parameter that has this code, 90 to 9F, A8 to AD, CE or CF.
 #[inline(always)]
 pub(crate) fn parameter_function(code: u8) -> ParameterFunction
     requires { IsParameterCode code }
@@ -268,14 +268,14 @@ pub(crate) fn parameter_function(code: u8) -> ParameterFunction
     parameter_functions!(name_beside (all code))
 }
 
-/// The code of a function with a parameter.
+/// Returns the code of a function with a parameter.
 pub(crate) fn parameter_function_code(function: ParameterFunction) -> u8
     ensures { result ≡ spec.parameter_function_code function }
 {
     parameter_functions!(code_beside(function))
 }
 
-/// The character of a number of a code, 10 to 1C.
+/// Returns the character of a number with this code, 10 to 1C.
 pub(crate) fn character(code: u8) -> Character
     requires low { 0x10 ≤ code }
     requires high { code ≤ 0x1C }
@@ -284,14 +284,14 @@ pub(crate) fn character(code: u8) -> Character
     characters!(name_beside (all code))
 }
 
-/// The code of a character of a number.
+/// Returns the code of a character of a number, 10 to 1C.
 pub(crate) fn character_code(character: Character) -> u8
     ensures { result ≡ spec.character_code character }
 {
     characters!(code_beside(character))
 }
 
-/// The code in front of the name that a function works on.
+/// Returns the code that precedes a name, 1D to 1F.
 pub(crate) fn name_function_code(function: NameFunction) -> u8
     ensures { result ≡ spec.name_function_code function }
 {
@@ -302,7 +302,7 @@ pub(crate) fn name_function_code(function: NameFunction) -> u8
     }
 }
 
-/// The code of `RCL 00` or `STO 00` in one byte.
+/// Returns the code of `RCL 00` or `STO 00` in one byte.
 pub(crate) fn register_function_code(function: RegisterFunction) -> u8
     ensures { result ≡ spec.register_function_code function }
 {
@@ -312,7 +312,7 @@ pub(crate) fn register_function_code(function: RegisterFunction) -> u8
     }
 }
 
-/// The code of `GTO` or `XEQ` in three bytes, without a distance.
+/// Returns the code of `GTO` or `XEQ` in three bytes, without a distance.
 pub(crate) fn branch_code(branch: Branch) -> u8
     ensures { result ≡ spec.branch_code branch }
 {

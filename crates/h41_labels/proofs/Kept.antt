@@ -1,4 +1,4 @@
--- Lists of kept answers.
+-- Lists of cached answers.
 use Rattle.std.proofs.Common.{◌≡◌, ◌≢◌, ◌+◌, ◌<◌, ℕ, Bool, true, false, Some, None, refl, sym, ap, ◌∙◌}
 use Rattle.std.proofs.Common.{List, ◌∷◌, ◌++◌, drop, get_or, length, map}
 use Rattle.std.specs.Prelude.{◌&&◌, ◌==◌, Option, find}
@@ -18,7 +18,7 @@ both true true h = (refl, refl)
 both true false h = cc
 both false q h = cc
 
--- the same search is one search, with one mark
+-- Equal searches have the same key.
 pub same_search : (search other : Search) → is_same search other ≡ true → search ≡ other
 same_search (Local at n) (Local other m) same =
     let parts = both (at == other) (n == m) same in
@@ -31,7 +31,7 @@ other_mark : (search other : Search) → mark_of search ≢ mark_of other → is
 other_mark search other apart =
     false_from_ne_true (is_same search other) (λ same. apart (ap mark_of (same_search search other same)))
 
--- an answer is passed over where its search is another
+-- An answer is skipped if its search is another one,
 module _ (search : Search) (slots : List KeptAnswer) (index : ℕ) (first : KeptAnswer) (inside : index < length slots) where
   pub passed : first ≡ get_or slots index first → is_same search first.search ≡ false
       → answer_of search (drop index slots) ≡ answer_of search (drop (index + 1) slots)
@@ -43,7 +43,7 @@ module _ (search : Search) (slots : List KeptAnswer) (index : ℕ) (first : Kept
           → answer_of search (first ∷ drop (index + 1) slots) ≡ answer_of search (drop (index + 1) slots)
       over other = rw other refl
 
--- or has another mark
+-- or if its key is different.
 pub passed_by_mark : (search : Search) (slots : List KeptAnswer) (marks : List ℕ) (index : ℕ) (blank : KeptAnswer) → index < length slots
     → marks ≡ map mark_beside slots → get_or marks index 0 ≢ mark_of search
     → answer_of search (drop index slots) ≡ answer_of search (drop (index + 1) slots)
@@ -54,7 +54,7 @@ passed_by_mark search slots marks index blank inside marked apart =
     passed search slots index first inside (get_or_default slots index blank first inside)
     (other_mark search first.search (λ same. apart (at_mark ∙ sym same)))
 
--- the first answer of two lists is that of the first list, else that of the second
+-- The first answer in two lists is that of the first list if it has one, otherwise that of the second.
 taken : (found other : Option KeptAnswer) (answer : Option ℕ) → option_map (λ one. one.answer) found ≡ Some answer
     → option_map (λ one. one.answer) (option_or found other) ≡ Some answer
 taken (Some one) other answer is = is

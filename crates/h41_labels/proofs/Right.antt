@@ -1,4 +1,4 @@
--- Answers that are those of the searches.
+-- Cached answers that are what their searches find.
 use Rattle.std.proofs.Common.{◌≡◌, ℕ, Bool, true, false, None, Some, refl, sym, subst, arith}
 use Rattle.std.proofs.Common.{List, [], ◌∷◌, drop, length}
 use Rattle.std.specs.Prelude.{MatchOption, Option, is_some, nat_lt, if◌then◌else◌, slice_index_or}
@@ -14,7 +14,7 @@ use Rattle.h41_program.specs.Searches.{named_in, position_of}
 use Rattle.h41_ram.specs.RamState.{SameProgram}
 use Rattle.h41_ram.specs.RegisterMap.{RegisterMap}
 
--- a kept answer is the search's
+-- A cached answer is what its search finds.
 pub right_found : (memory : RegisterMap) (search : Search) (kept : List KeptAnswer) (answer : Option ℕ)
     → answer_of search kept ≡ Some answer → IsRight kept memory → Finds memory search answer
 right_found memory search [] answer is right = cc
@@ -32,7 +32,7 @@ right_found memory search (first ∷ rest) answer is right =
         (right 0 first (omega arith)))
     by_first others false other = others (rw other at is)
 
--- with a search's own answer put last all stay so
+-- If a search's own answer is appended, all answers stay right.
 pub right_put : (memory : RegisterMap) (search : Search) (answer : Option ℕ) (kept : List KeptAnswer)
     → IsRight kept memory → Finds memory search answer → IsRight (with_answer search answer kept) memory
 right_put memory search answer kept right finds =
@@ -46,7 +46,7 @@ right_put memory search answer kept right finds =
     left_right true = right
     left_right false = All-drop (λ one. Finds memory one.search one.answer) 1 kept right
 
--- behind a search all stay so, whether its answer was kept or not
+-- After a search all answers are right, whether its answer was cached or not.
 pub stays_right : (memory : RegisterMap) (search : Option Search) (old new : List KeptAnswer) → KeepsSearch memory search old new
     → IsRight old memory → IsRight new memory
 stays_right memory None old new is right = rw is right
@@ -58,7 +58,7 @@ stays_right memory (Some search) old new (answer, answers, is) right =
     by_known None finds = right_put memory search answer old right finds
     by_known (Some one) same = right
 
--- what a search finds depends on the program alone
+-- What a search finds depends on the program alone.
 finds_depend : (memory other : RegisterMap) (search : Search) (answer : Option ℕ) → AnswersDepend (Option ℕ) → LocalDepends
     → SameProgram memory other → Finds memory search answer → Finds other search answer
 finds_depend memory other (Local at n) answer lists labels same finds = labels memory other at n answer same finds

@@ -1,4 +1,4 @@
--- How answers lie in their slots.
+-- The slots in which the cache stores its answers.
 use Rattle.std.proofs.Common.{◌≡◌, ◌+◌, ◌-◌, ◌%◌, ◌<◌, ◌≤◌, ◌⊎◌, ℕ, inl, inr, sym, ap, subst, ◌∙◌, arith}
 use Rattle.std.proofs.Common.{List, [], ◌∷◌, ◌++◌, drop, length, map, set, take, append-nil, append_assoc}
 use Rattle.std.proofs.Common.{length-append, length-drop, length-set, take_all}
@@ -12,13 +12,13 @@ use Rattle.h41_labels.specs.declared.search.KeptAnswer.{KeptAnswer}
 use Rattle.h41_labels.specs.declared.search.Search.{Search}
 use Rattle.h41_labels.specs.private.Slots.{IsRing, in_turn, mark_beside}
 
--- a list of the same length takes the place of another
+-- A list is replaced as a whole by one of the same length.
 pub refilled : {X : Type 0} (xs ws : List X) → length ws ≡ length xs → refill (length xs) xs ws ≡ ws
 refilled xs ws same =
     ap (λ rest. take (length xs) (ws ++ rest)) (drop_all (length ws) xs (omega (arith, same))) ∙ ap (take (length xs)) (append-nil ws)
     ∙ take_all (length xs) ws (omega (arith, same))
 
--- a write through the slice
+-- A write through a slice changes one element of the list.
 pub in_place : {X : Type 0} (xs ws : List X) (i : ℕ) (y : X) → ws ≡ xs → refill (length xs) xs (set ws i y) ≡ set xs i y
 in_place xs ws i y same = ap (λ all. refill (length xs) xs (set all i y)) same ∙ refilled xs (set xs i y) (length-set xs i y)
 
@@ -26,7 +26,7 @@ pub length-in_turn : (oldest : ℕ) (slots : List KeptAnswer) → oldest ≤ len
 length-in_turn oldest slots inside =
     omega (arith, length-append (drop oldest slots) (take oldest slots), length-drop oldest slots, length-take oldest slots)
 
--- the slot behind the oldest's is the next, or the first behind the last
+-- The slot after the oldest answer's is the next one; after the last slot it is the first.
 next_slot : (oldest : ℕ) → oldest < 64 → ((oldest < 63) × ((oldest + 1) % 64 ≡ oldest + 1)) ⊎ ((oldest ≡ 63) × ((oldest + 1) % 64 ≡ 0))
 next_slot oldest inside =
     elim (cases_eq oldest 63) [
@@ -34,7 +34,7 @@ next_slot oldest inside =
       | inr other ↦ inl (omega (arith, other), omega (arith, other))
     ]
 
--- an answer in the slot of the oldest comes last in turn
+-- An answer that replaces the oldest one is the last in order of age.
 module _ (slots : List KeptAnswer) (oldest : ℕ) (kept : KeptAnswer) (inside : oldest < length slots) where
   behind : in_turn (oldest + 1) (set slots oldest kept) ≡ drop 1 (in_turn oldest slots) ++ kept ∷ []
   behind =
@@ -71,14 +71,14 @@ ring_turned slots marks oldest kept ring full = record {
   taken = λ _. length-set slots oldest kept ∙ full;
 }
 
--- slots that are the same lie the same
+-- Equal slots and keys keep the invariant.
 pub same_ring : (slots others : List KeptAnswer) (marks more : List ℕ) (oldest : ℕ) → others ≡ slots → more ≡ marks
     → IsRing slots marks oldest → IsRing others more oldest
 same_ring slots others marks more oldest same too ring =
     subst (λ (all : List KeptAnswer). IsRing all more oldest) (sym same)
     (subst (λ (all : List ℕ). IsRing slots all oldest) (sym too) ring)
 
--- of a full list the oldest drops out
+-- From a full list the oldest answer is dropped.
 put_last : (search : Search) (answer : Option ℕ) (kept : List KeptAnswer) → length kept ≡ 64
     → with_answer search answer kept ≡ drop 1 kept ++ record { search = search; answer = answer } ∷ []
 put_last search answer kept full =
@@ -92,7 +92,7 @@ put_in_slot search answer slots kept oldest full inside view =
     ∙ sym (put_last search answer (in_turn oldest slots) (length-in_turn oldest slots (omega (arith, full, inside)) ∙ full))
     ∙ ap (with_answer search answer) view
 
--- the marks of the slots from the oldest's on, and of those before
+-- The keys of the slots from the oldest answer's on, and of those before it.
 pub behind_marked : (slots : List KeptAnswer) (marks : List ℕ) (oldest : ℕ) → marks ≡ map mark_beside slots
     → take (length marks - oldest) (drop oldest marks) ≡ map mark_beside (take (length slots - oldest) (drop oldest slots))
 behind_marked slots marks oldest marked =

@@ -1,4 +1,4 @@
--- Laws of kept answers.
+-- Laws of the label cache.
 use Rattle.std.specs.Prelude.{List, Option}
 use Rattle.h41_labels.specs.KeptAnswers.{IsRight, KeepsSearch}
 use Rattle.h41_labels.specs.declared.search.KeptAnswer.{KeptAnswer}
@@ -6,13 +6,13 @@ use Rattle.h41_labels.specs.declared.search.Search.{Search}
 use Rattle.h41_ram.specs.RamState.{SameProgram}
 use Rattle.h41_ram.specs.RegisterMap.{RegisterMap}
 
--- where two memories agree on the program, answers that are right over one are right over the other
+-- If two memories have the same program, a cache that is right for one is right for the other.
 abbrev pub RightnessDepends : Type 0
 RightnessDepends =
     (memory other : RegisterMap) (kept : List KeptAnswer) → SameProgram memory other
     → IsRight kept memory → IsRight kept other
 
--- answers that are right stay so behind a search, and where none is made
+-- A cache that is right stays right after a search, and if no search is made.
 abbrev pub SearchesStayRight : Type 0
 SearchesStayRight =
     (memory : RegisterMap) (search : Option Search) (old new : List KeptAnswer)

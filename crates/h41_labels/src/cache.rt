@@ -1,4 +1,4 @@
-//! The searches that are kept, with their answers.
+//! The label cache: recent searches for labels, each with its answer.
 
 ghost use Rattle.std.specs.Prelude.{◌≡◌, ◌≤◌, List, [], length, map, IsTrue, Option};
 ghost use Rattle.h41_labels.specs.KeptAnswers.{Answers, Finds, IsRight, after_search};
@@ -16,17 +16,17 @@ use h41_program::{global, local};
 use h41_ram::Ram;
 use std::marker::Model;
 
-/// How many answers are kept at most.
+/// The most answers that the cache stores. The number is this project's choice.
 const MOST: usize = 64;
 
-/// The searches for labels that were made last, each with its answer.
+/// A list of at most 64 recent searches for labels with their answers, the oldest first. "No such label" is an answer too.
 #[derive(Drop)]
 pub struct LabelCache {
-    /// The answers in their slots. Once all are taken, the next answer takes that of the oldest.
+    /// The answers in their slots. If all slots are used, the next answer replaces the oldest one.
     slots: ArrayVec<KeptAnswer, MOST>,
-    /// The marks of the searches, each in the slot of its answer: most searches are told apart by them alone.
+    /// A key for each search, in the slot of its answer. Keys are compared first, because they differ for most pairs of searches.
     marks: ArrayVec<u32, MOST>,
-    /// The slot of the oldest.
+    /// The slot of the oldest answer.
     oldest: usize,
 }
 
@@ -43,7 +43,7 @@ impl Model for LabelCache {
 }
 
 impl LabelCache {
-    /// None is kept.
+    /// Returns an empty cache, which is right for any memory.
     pub fn new() -> Self
         ensures none { result ≡ [] }
         ensures right { (memory : RegisterMap) → IsRight result memory }
@@ -55,8 +55,9 @@ impl LabelCache {
         }
     }
 
-    /// Where the `LBL n` stands that a byte of program memory finds, as `local` of h41_program has it: the kept answer, else the
-    /// search's, which is then kept.
+    /// Returns the byte of program memory at which the `LBL n` is that a search from the byte `at` finds, or `None` if there is no such
+    /// label. The answer is the cached one if there is one. Otherwise it is that of `h41_program::local`, and the cache stores it. Memory
+    /// must be sound.
     pub fn local<const REGS: usize>(
         &mut self,
         ram: &Ram<REGS>,
@@ -68,7 +69,7 @@ impl LabelCache {
         ensures kept { self.new ≡ after_search (Local at label) result self.old }
         ensures most { length self.new ≤ most_answers }
 
-        // Where each kept answer is the search's, this one is too, and all stay so.
+        // If each cached answer is what its search finds in this memory, so is the result, and so are all cached answers afterwards.
         ensures found { IsRight self.old ram.now.registers
             → AnswersLocal ram.now.registers at label result }
         ensures right { IsRight self.old ram.now.registers → IsRight self.new ram.now.registers }
@@ -76,7 +77,8 @@ impl LabelCache {
         self.answer(ram, Search::Local(at, label))
     }
 
-    /// Where the last `LBL` of a name stands in memory, as `global` of h41_program has it: likewise.
+    /// Returns the byte of program memory at which the last `LBL` with this name is, or `None` if there is no such label. The answer is the
+    /// cached one if there is one. Otherwise it is that of `h41_program::global`, and the cache stores it. Memory must be sound.
     pub fn global<const REGS: usize>(&mut self, ram: &Ram<REGS>, name: Text<15>) -> Option<u16>
         requires { IsTrue (is_sound ram.now.registers) }
         ensures answer { Answers ram.now.registers self.old (Global name) result }
@@ -89,21 +91,23 @@ impl LabelCache {
         self.answer(ram, Search::Global(name))
     }
 
-    /// The kept answer of `local`, without memory; `None` where it is not kept.
+    /// Returns the cached answer for `LBL n` from the byte `at`, or `None` if the cache has none. Does not read program memory. An answer
+    /// `Some(None)` means that there is no such label.
     pub fn kept_local(&self, at: u16, label: Parameter) -> Option<Option<u16>>
         ensures { result ≡ answer_of (Local at label) self.now }
     {
         self.kept(&Search::Local(at, label))
     }
 
-    /// The kept answer of `global`, without memory; `None` where it is not kept.
+    /// Returns the cached answer for the `LBL` with this name, or `None` if the cache has none. Does not read program memory. An answer
+    /// `Some(None)` means that there is no such label.
     pub fn kept_global(&self, name: Text<15>) -> Option<Option<u16>>
         ensures { result ≡ answer_of (Global name) self.now }
     {
         self.kept(&Search::Global(name))
     }
 
-    /// None is kept any more.
+    /// Removes all answers. Callers do this if the program may have changed, because the answers may then be out of date.
     pub fn forget(&mut self)
         ensures none { self.new ≡ [] }
         ensures right { (memory : RegisterMap) → IsRight self.new memory }
@@ -113,7 +117,7 @@ impl LabelCache {
         self.oldest = 0;
     }
 
-    /// The answer of a search: the kept one, else what memory has, which is then kept.
+    /// Returns the cached answer of a search. If there is none, makes the search in memory and stores its answer.
     fn answer<const REGS: usize>(&mut self, ram: &Ram<REGS>, search: Search) -> Option<u16>
         requires { IsTrue (is_sound ram.now.registers) }
         ensures answer { Answers ram.now.registers self.old search result }
@@ -132,7 +136,7 @@ impl LabelCache {
         }
     }
 
-    /// The kept answer of a search.
+    /// Returns the cached answer of a search, or `None` if the cache has none.
     fn kept(&self, search: &Search) -> Option<Option<u16>>
         ensures value { result ≡ answer_of search.now self.now }
         ensures most { length self.now ≤ most_answers }
@@ -145,7 +149,7 @@ impl LabelCache {
         }
     }
 
-    /// Keeps an answer as the last; of as many as there can be the oldest drops out.
+    /// Appends an answer. If the cache is full, the oldest answer is dropped.
     fn keep(&mut self, search: Search, answer: Option<u16>)
         ensures { self.new ≡ with_answer search answer self.old }
     {
@@ -162,7 +166,7 @@ impl LabelCache {
     }
 }
 
-/// The first answer of a search among these, which have these marks.
+/// Returns the first answer of a search among these answers, whose keys are `marks`.
 fn kept_among(slots: &[KeptAnswer], marks: &[u32], search: &Search) -> Option<Option<u16>>
     requires { marks.now ≡ map mark_beside slots.now }
     ensures { result ≡ answer_of search.now slots.now }
@@ -176,7 +180,7 @@ fn kept_among(slots: &[KeptAnswer], marks: &[u32], search: &Search) -> Option<Op
     None
 }
 
-/// What a search finds in memory.
+/// Returns what a search finds in program memory, without the cache.
 fn found<const REGS: usize>(ram: &Ram<REGS>, search: &Search) -> Option<u16>
     requires { IsTrue (is_sound ram.now.registers) }
     ensures { Finds ram.now.registers search.now result }

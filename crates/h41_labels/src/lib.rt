@@ -1,4 +1,4 @@
-//! Labels that were searched, kept with what was found.
+//! The label cache, which stores recent searches for labels with their answers.
 #![tactic(auto)]
 
 mod cache;

@@ -7,31 +7,31 @@ ghost use Rattle.h41_labels.specs.declared.search.Search.TheVariants.{Local};
 
 use h41_codes::{Parameter, Text};
 
-/// The marks of names begin here, behind those of local labels.
+/// The lowest key of a name. The keys of local labels are lower.
 const NAMES: u32 = 0x800000;
 
-/// A search for a label. A name has at most 15 characters, as in every line that searches one.
+/// A search for a label in program memory.
 #[derive(Clone, Copy, Debug, PartialEq, Eq)]
 pub enum Search {
-    /// `LBL n`, from a byte of program memory on. Other places where a line can stand are no such bytes, and are never kept.
+    /// A search for `LBL n`, forward from this byte of program memory. The cache has no searches from positions in pages.
     Local(u16, Parameter),
-    /// `LBL` of a name, in the whole of program memory.
+    /// A search for the last `LBL` with this name, in all of program memory. A name has at most 15 characters.
     Global(Text<15>),
 }
 
-/// A search, and what it found.
+/// A search for a label with its answer.
 #[derive(Clone, Copy, Debug, PartialEq, Eq)]
 pub struct KeptAnswer {
-    /// What was searched.
+    /// The search.
     pub search: Search,
-    /// The byte of program memory where the label stands; `None` where there is no such label.
+    /// The byte of program memory at which the label is, or `None` if there is no such label.
     pub answer: Option<u16>,
 }
 
 impl Default for KeptAnswer {
     ghost is_default = { λ kept. kept ≡ record { search = Local 0 0; answer = None } };
 
-    /// What stands in a slot that is not used.
+    /// Returns the value of a slot that is not used: a search for `LBL 00` from byte 0, without a label.
     fn default() -> Self {
         KeptAnswer {
             search: Search::Local(0, Parameter::new(0)),
@@ -41,7 +41,7 @@ impl Default for KeptAnswer {
 }
 
 impl Search {
-    /// Whether the other is the same.
+    /// Returns whether the other search is the same: for the same label from the same byte, or for the same name.
     pub(crate) fn is(&self, other: &Self) -> bool
         ensures { result ≡ is_same self.now other.now }
     {
@@ -56,7 +56,7 @@ impl Search {
         }
     }
 
-    /// Its mark, a small number by which most searches are told apart.
+    /// Returns the key of the search, which is below 2^24. Equal searches have equal keys; most different searches have different ones.
     pub(crate) fn mark(&self) -> u32
         ensures { result ≡ mark_of self.now }
     {
@@ -67,7 +67,7 @@ impl Search {
     }
 }
 
-/// The mark of a name, by its length and its first and last character.
+/// Returns the key of a name, made of its length, its first and its last character. An empty name has the key 0.
 fn mark_of_name(name: &[u8]) -> u32
     requires { length name.now ≤ 15 }
     ensures value { result ≡ name_mark name.now }

@@ -1,5 +1,5 @@
--- Which words and lines have a breakpoint, as three tables of bits have it that stand beside the
--- list of breakpoints. A reader of the promises can leave it out.
+-- Three tables of bits that repeat the list of breakpoints, so that most steps need not search the
+-- list. Readers of the public contracts can skip this file.
 use Rattle.std.specs.Prelude.{◌≡◌, ◌≢◌, ◌<◌, ℕ, ◌/◌, ◌%◌, ◌==◌, Bool, List, map, Option, Some}
 use Rattle.std.specs.Prelude.{slice_get, slice_index, slice_set}
 use Rattle.std.specs.Int.{bit_at}
@@ -10,33 +10,33 @@ use Rattle.h41_breakpoints.specs.declared.location.Location.{Location}
 use Rattle.h41_breakpoints.specs.declared.location.Location.TheVariants.{Line, Word}
 use Rattle.h41_positions.specs.declared.position.Position.TheVariants.{Memory, Page}
 
--- a bit of numbers that have 64 bits each, counted from the lowest of the first
+-- Bit n of a list of numbers with 64 bits each, counted from the lowest bit of the first number.
 abbrev pub bit_of : List ℕ → ℕ → Bool
 bit_of numbers n = bit_at (slice_index numbers (n / 64)) (n % 64) == 1
 
--- their first bits, so many
+-- The first bits of such a list.
 unfoldable pub bits_of : ℕ → List ℕ → List Bool
 bits_of count numbers = map (bit_of numbers) (range_with_len 0 count)
 
--- a number with another bit, and no other one changed
+-- A number in which one bit is changed to this value, and every other bit is unchanged.
 pub record IsWithBit (number place : ℕ) (bit : Bool) (changed : ℕ) : Type 0 where
   pub here : (bit_at changed place == 1) ≡ bit
   pub others : (i : ℕ) → i < 64 → i ≢ place → bit_at changed i ≡ bit_at number i
 
--- the three tables: a bit for each word's address, one for each of the first positions in memory,
--- and one for each address of a line in a page
+-- The three tables: a bit for each word's address, one for each of the first positions in program
+-- memory, and one for each position in a page.
 pub record Marks : Type 0 where
   pub words : List Bool
   pub lines : List Bool
   pub page_lines : List Bool
 
--- the bit of a location; positions of memory above the table have none
+-- The bit of a location. Positions in program memory after the end of their table have none.
 abbrev pub mark_at : Marks → Location → Option Bool
 mark_at marks (Word address) = slice_get marks.words address
 mark_at marks (Line (Memory byte)) = slice_get marks.lines byte
 mark_at marks (Line (Page address)) = slice_get marks.page_lines address
 
--- the tables with another bit for a location
+-- The tables after the bit of a location is changed.
 abbrev pub with_mark : Marks → Location → Bool → Marks
 with_mark marks (Word address) mark = record marks { words = slice_set marks.words address mark }
 with_mark marks (Line (Memory byte)) mark =
@@ -44,7 +44,7 @@ with_mark marks (Line (Memory byte)) mark =
 with_mark marks (Line (Page address)) mark =
     record marks { page_lines = slice_set marks.page_lines address mark }
 
--- each bit is whether its location is among these
+-- Each bit says whether its location is in the list.
 abbrev pub AreMarksOf : List Location → Marks → Type 0
 AreMarksOf members marks =
     (q : Location) (mark : Bool) → mark_at marks q ≡ Some mark → mark ≡ is_set (set_of members) q

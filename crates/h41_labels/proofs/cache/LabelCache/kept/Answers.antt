@@ -7,7 +7,7 @@ use Rattle.h41_labels.proofs.Kept.{answer_of-back, answer_of-front}
 use Rattle.h41_labels.proofs.Slots.{before_marked, behind_marked}
 use Rattle.h41_labels.proofs.cache.LabelCache.kept.Goals as goal
 
--- what slices show has these marks
+-- A part of the slots and the same part of the keys belong together.
 same_marks : (slots shown : List KeptAnswer) (marks shown_marks : List ℕ) → marks ≡ map mark_beside slots → shown ≡ slots
     → shown_marks ≡ marks → shown_marks ≡ map mark_beside shown
 same_marks slots shown marks shown_marks marked same too = too ∙ marked ∙ ap (map mark_beside) (sym same)

@@ -218,10 +218,10 @@ pub enum ParameterFunction {
     Label,
 }
 
-/// What a line with a label does: it goes to the label, or calls it.
+/// What a line with a label does: it continues at the label, or calls it.
 #[derive(Clone, Copy, Debug, PartialEq, Eq)]
 pub enum Branch {
-    /// `GTO`: goes to the label.
+    /// `GTO`: continues at the label.
     GoTo,
     /// `XEQ`: calls the label, and adds a return address.
     Execute,
@@ -230,7 +230,7 @@ pub enum Branch {
 /// What a line does with a name.
 #[derive(Clone, Copy, Debug, PartialEq, Eq)]
 pub enum NameFunction {
-    /// `GTO "NAME"`: goes to the label with this name.
+    /// `GTO "NAME"`: continues at the label with this name.
     GoToName,
     /// `XEQ "NAME"`: calls the label or the function with this name.
     ExecuteName,

@@ -10,8 +10,8 @@ use crate::line::{Line, Operand};
 use crate::numbers::{Distance, EntryNumber, ModuleNumber, Parameter, ShortLabel, ShortRegister};
 use crate::table::{function, parameter_function};
 
-/// A line of one to three bytes that is no null, number, text, global label, `END`, `.END.` or line with a name. It has the same parts as a
-/// `Line`, but no room for characters, so that it is fast to copy.
+/// A line of one to three bytes that is no null, number, text, global label, `END`, `.END.` or line with a name. It has the same parts as
+/// the `Line`, but no room for characters.
 #[derive(Clone, Copy, Debug, PartialEq, Eq)]
 pub enum ShortLine {
     /// `LBL 00` to `LBL 14` in one byte.

@@ -1,4 +1,4 @@
--- What changes of lines leave, by the answers of program memory.
+-- The state after changes of lines, by the answers of program memory.
 use Rattle.std.proofs.Common.{◌≡◌, ℕ, false, List, refl, sym, subst, Some, Result, Ok, Err}
 use Rattle.h41_codes.specs.declared.line.Line.{Line}
 use Rattle.h41_editor.specs.Changes.{Changed, Deletes, Inserts, InsertsAt, Replaces, shown_in_front, with_line_shown}
@@ -19,7 +19,7 @@ use Rattle.h41_program.specs.declared.refusal.ProgramRefusal.{ProgramRefusal}
 use Rattle.h41_program.specs.declared.refusal.ProgramRefusal.TheVariants.{BrokenProgram}
 use Rattle.h41_ram.specs.RegisterMap.{RegisterMap}
 
--- a change that was made gave this memory
+-- An accepted change has this memory.
 given_made :
     (memory new : RegisterMap) (change : ℕ → ListedLine → List Line) (at : ℕ) (outcome : Changed)
     → EditGives memory change at outcome
@@ -35,7 +35,7 @@ edit_made :
     → EditGives memory change at (Ok (new, tt))
 edit_made memory new change at edits = given_made memory new change at edits.0 edits.1 edits.2
 
--- one that was refused gave the refusal
+-- A refused change has this refusal.
 given_refused :
     (memory new : RegisterMap) (change : ℕ → ListedLine → List Line) (at : ℕ) (refusal : ProgramRefusal) (outcome : Changed)
     → EditGives memory change at outcome
@@ -54,7 +54,7 @@ edit_refused :
     → EditGives memory change at (Err refusal)
 edit_refused memory new change at refusal edits = given_refused memory new change at refusal edits.0 edits.1 edits.2
 
--- a line is inserted
+-- A line is inserted.
 pub line_inserted :
     (pages : PageMap) (line : Line) (from machine : Machine) (new : RegisterMap) (after : FocalState) (numbered : NumberedLine)
     (place : Position) (before position : ℕ)
@@ -93,7 +93,7 @@ insert_refused pages line from machine new numbered place before refusal is has 
       (Memory before, here, (Err refusal, edit_refused from.memory new (with_inserted line) before refusal edits, refl)),
     )
 
--- one is put in the place of another
+-- A line is replaced.
 pub line_replaced :
     (line : Line) (from machine : Machine) (new : RegisterMap) (after : FocalState) (at position : ℕ)
     → from ≡ machine
@@ -114,7 +114,7 @@ pub replace_refused :
 replace_refused line from machine new at refusal is byte edits =
     rw (← is, byte) (Err refusal, edit_refused from.memory new (with_replaced line) at refusal edits, refl)
 
--- one is taken away
+-- A line is deleted.
 pub line_deleted :
     (pages : PageMap) (from machine left : Machine) (new : RegisterMap) (first : PlacedLine) (at : ℕ) (front : InFront)
     → from ≡ machine
@@ -146,7 +146,7 @@ delete_refused pages from machine new first at refusal is behind there inner byt
     rw (← is, behind)
     (Ok first, there, rw (sym inner, byte) (Err refusal, edit_refused from.memory new without_deleted at refusal edits, refl))
 
--- in a page nothing is changed
+-- In a page nothing is changed.
 pub insert_in_page :
     (pages : PageMap) (line : Line) (machine : Machine) (numbered : NumberedLine) (place : Position) (address : ℕ)
     → HasNumbered pages machine.memory machine.focal.position (Some numbered)

@@ -1,4 +1,4 @@
--- GTO . . goes to line 00 of the last program, by the answers of program memory.
+-- `GTO . .` shows line 00 of the last program, by the answers of program memory.
 use Rattle.std.proofs.Common.{◌≡◌, ℕ, Bool, true, false, List, [], refl, ap, ◌∙◌, Result, Ok, Err}
 use Rattle.std.specs.Result.{result_unwrap_or}
 use Rattle.h41_editor.specs.Moves.{EndsBy, GoesToEnd, returns_kept}
@@ -16,7 +16,7 @@ use Rattle.h41_program.specs.declared.listed_line.ListedLine.{ListedLine}
 use Rattle.h41_program.specs.declared.refusal.ProgramRefusal.{ProgramRefusal}
 use Rattle.h41_ram.specs.RegisterMap.{RegisterMap}
 
--- what closing gave, and what there is then to return to
+-- The outcome of closing the last program, and the return addresses after it.
 by_outcome :
     (machine : Machine) (new : RegisterMap) (lines : List ListedLine) (start : ℕ) (left : FocalState)
     (outcome : Result (RegisterMap × Unit {0}) ProgramRefusal)
@@ -40,7 +40,7 @@ ended machine new last start left one closes opens begins is =
     let same = opens.2 ∙ ap open_in (one machine.memory 0 opens.0 closes.0 opens.1 closes.1) in
     (closes.0, closes.1, by_outcome machine new closes.0 start left _ closes.2 begins (rw (← same) is))
 
--- nothing is left to return to where it was open, and else what there was
+-- All return addresses are cleared if the program was open, and are kept otherwise.
 pub none_kept : (last : Result Bool ProgramRefusal) (returns : List Position) → result_unwrap_or last false ≡ true
     → returns_kept last returns ≡ []
 none_kept (Ok true) returns was = refl

@@ -1,4 +1,4 @@
--- Why what a position shows, each move and each change have one answer.
+-- The line at a position, each move and each change have one outcome.
 use Rattle.std.proofs.Common.{◌≡◌, ℕ, Bool, true, false, List, Option, Some, None, Result, Ok, Err, sym, ap, ◌∙◌, subst}
 use Rattle.std.specs.Prelude.{MatchBool}
 use Rattle.std.specs.Option.{option_map}
@@ -34,28 +34,28 @@ use Rattle.h41_positions.specs.declared.position.Position.TheVariants.{Memory, P
 use Rattle.h41_program.specs.declared.refusal.ProgramRefusal.{ProgramRefusal}
 use Rattle.h41_ram.specs.RegisterMap.{RegisterMap, is_sound}
 
--- what a key leaves, or its refusal
+-- The outcome of a key: the machine after it, or a refusal.
 abbrev Moved : Type 0
 Moved = Result Machine ProgramRefusal
 
--- the next line is shown
+-- The next line is shown.
 abbrev GoesOn : PageMap → Machine → Moved → Type 0
 GoesOn pages machine moved = (next : Position) × NextAt pages machine.memory machine.focal.position (Ok next)
     × (moved ≡ Ok (at_line next machine))
 
--- what holds of the line at the position, or of there being none
+-- A fact about the line at the position, or about there being none.
 abbrev ByFirst : PageMap → Machine → (Result PlacedLine ProgramRefusal → Type 0) → Type 0
 ByFirst pages machine holds = (first : Result PlacedLine ProgramRefusal) × LineAt pages machine.memory machine.focal.position first
     × holds first
 
--- line 00, where each program has one start
+-- Line 00, given that each program has one start.
 module _ (same_start : HasOneAnswer StartOf) where
   same_shown_start : (pages : PageMap) (machine : Machine) (a b : Moved) → ShowsStart pages machine a → ShowsStart pages machine b → a ≡ b
   same_shown_start pages machine a b p q =
       let same = same_start pages machine.memory machine.focal.position p.0 q.0 p.1 q.1 in
       p.2 ∙ ap (λ (start : Position). Ok (record machine { focal = at_line_00 start machine.focal })) same ∙ sym q.2
 
--- the line that a position stands for, and the text, where besides each line has one number
+-- The line at a position and its text, given also that each line has one number.
 module _ (once : IsReadOnce) (same_one : HasOneAnswer NumberAt) where
   same_number : (pages : PageMap) (memory : RegisterMap) (first : Result PlacedLine ProgramRefusal) (a b : Option NumberedLine)
       → Numbers pages memory first a → Numbers pages memory first b → a ≡ b
@@ -91,7 +91,7 @@ module _ (once : IsReadOnce) (same_one : HasOneAnswer NumberAt) where
   pub text_determined : TextIsDetermined
   text_determined pages machine a b p q = same_text pages (is_sound machine.memory) machine a b p q
 
--- SST
+-- SST has one outcome.
 module _ (once : IsReadOnce) (same_start : HasOneAnswer StartOf) where
   same_onward : (pages : PageMap) (last : Bool) (machine : Machine) (a b : Moved)
       → MatchBool last (ShowsStart pages machine a) (GoesOn pages machine a)
@@ -121,7 +121,7 @@ module _ (once : IsReadOnce) (same_start : HasOneAnswer StartOf) where
   pub next_determined : (pages : PageMap) → MoveIsDetermined (ShowsNext pages)
   next_determined pages machine a b p q = same_step pages machine.focal.at_line_00 machine a b p q
 
--- BST
+-- BST has one outcome.
 module _
     (once : IsReadOnce)
     (same_start : HasOneAnswer StartOf)
@@ -162,7 +162,7 @@ module _
       same_before_line pages machine q.0 a b (subst (λ (numbered : Option NumberedLine). ShowsBeforeLine pages machine numbered a) same p.2)
       q.2
 
--- GTO . .
+-- `GTO . .` has one outcome.
 module _ (same_lines : ListsAreDetermined) (same_start : AnswersAreDetermined ℕ) where
   same_end : (machine : Machine) (lines : List ListedLine) (closed : Changed) (a b : Moved)
       → EndsBy machine lines closed a → EndsBy machine lines closed b → a ≡ b
@@ -188,7 +188,7 @@ module _ (same_lines : ListsAreDetermined) (same_start : AnswersAreDetermined �
       same_end machine q.0 (close_behind machine.memory (before_end q.0)) a b
       (subst (λ (lines : List ListedLine). EndsBy machine lines (close_behind machine.memory (before_end lines)) a) same p.2) q.2
 
--- a new line
+-- A new line is shown at one position.
 module _ (same_edit : EditsAreDetermined) (same_place : PlacesAreDetermined (Option ℕ)) where
   same_position : (position other : ℕ) → Some position ≡ Some other → position ≡ other
   same_position position other is = cc
@@ -210,7 +210,7 @@ module _ (same_edit : EditsAreDetermined) (same_place : PlacesAreDetermined (Opt
   pub replacement_determined : ChangeIsDetermined Replaces
   replacement_determined line machine a b p q = same_replaced line machine machine.focal.position a b p q
 
-  -- a line that is inserted
+  -- Inserting a line has one outcome.
   module _ (once : IsReadOnce) (same_start : HasOneAnswer StartOf) (same_one : HasOneAnswer NumberAt) where
     same_behind_shown : (pages : PageMap) (last : Bool) (machine : Machine) (shown : PlacedLine) (a b : Position)
         → MatchBool last (a ≡ shown.position) (NextAt pages machine.memory machine.focal.position (Ok a))
@@ -252,7 +252,7 @@ module _ (same_edit : EditsAreDetermined) (same_place : PlacesAreDetermined (Opt
         same_inserted pages line machine q.0 a b (subst (λ (numbered : Option NumberedLine). InsertsBy pages line machine numbered a) same
         p.2) q.2
 
--- BACK
+-- BACK has one outcome.
 module _ (same_edit : EditsAreDetermined) (same_front : PlacesAreDetermined InFront) (once : IsReadOnce) where
   same_shown_front : (machine : Machine) (at : ℕ) (changed : Changed) (a b : Moved) → ShowsFront machine at changed a
       → ShowsFront machine at changed b → a ≡ b

@@ -1,4 +1,4 @@
--- What is read of what lines work on, opened, is what is read of it with memory.
+-- A state that is known under two names gives the same machine with memory.
 use Rattle.std.proofs.Common.{◌≡◌}
 use Rattle.h41_positions.specs.FocalState.{machine_with}
 use Rattle.h41_positions.specs.LabelledMachine.{LabelledFocal}

@@ -11,7 +11,7 @@ use Rattle.h41_positions.specs.declared.position.PlacedLine.{PlacedLine}
 use Rattle.h41_positions.specs.declared.position.Position.{Position}
 use Rattle.h41_program.specs.declared.refusal.ProgramRefusal.{ProgramRefusal}
 
--- the next one
+-- The next line is shown.
 pub next_shown :
     (pages : PageMap) (from machine moved : Machine) (first : PlacedLine) (next : Position)
     → from ≡ machine
@@ -24,7 +24,7 @@ pub next_shown :
 next_shown pages from machine moved first next is behind there inner goes at_line =
     rw (at_line, ← is, behind) (Ok first, there, rw (sym inner) (next, goes, refl))
 
--- the one before
+-- The line before is shown.
 pub before_shown :
     (pages : PageMap) (from machine moved : Machine) (numbered : NumberedLine) (before : Position)
     → from ≡ machine
@@ -37,7 +37,7 @@ before_shown pages from machine moved numbered before is behind has stands at_li
     let there = rw (← is) at has in
     rw (at_line, ← is) (Some numbered, there, rw behind (Some before, stands, refl))
 
--- the end, from line 00
+-- The end is shown, from line 00.
 pub end_shown :
     (pages : PageMap) (from machine : Machine) (moved : Result Machine ProgramRefusal) (numbered : NumberedLine)
     → from ≡ machine
@@ -50,7 +50,7 @@ end_shown pages from machine moved numbered is at_start has shows =
     let end = rw (← is) at shows in
     rw (← is) (Some numbered, there, rw at_start end)
 
--- where a line is inserted behind the shown one
+-- The position at which a line is inserted after the shown one.
 pub place_behind :
     (pages : PageMap) (from machine : Machine) (shown : PlacedLine) (next : Result Position ProgramRefusal)
     → from ≡ machine

@@ -1,5 +1,5 @@
--- Laws of program mode, whatever the code does: what a position shows, what a key does, and the
--- text of the display are determined.
+-- Laws of program mode, which hold for the definitions alone: the line at a position, the effect of
+-- a key, and the text of the display are determined.
 use Rattle.std.specs.Prelude.{◌≡◌, ℕ, List, Result}
 use Rattle.h41_codes.specs.declared.line.Line.{Line}
 use Rattle.h41_editor.specs.NumberedLines.{HasNumbered}
@@ -9,21 +9,21 @@ use Rattle.h41_pages.specs.PageMap.{PageMap}
 use Rattle.h41_positions.specs.PositionLaws.{HasOneAnswer}
 use Rattle.h41_program.specs.declared.refusal.ProgramRefusal.{ProgramRefusal}
 
--- what a key does has one outcome: what it leaves, or its refusal
+-- The effect of a key has one outcome: a state, or a refusal.
 abbrev pub MoveIsDetermined : (Machine → Result Machine ProgramRefusal → Type 0) → Type 0
 MoveIsDetermined Moves =
     (machine : Machine) (moved other : Result Machine ProgramRefusal) → Moves machine moved
     → Moves machine other → moved ≡ other
 
--- so has what it does with a line, whatever the line
+-- The effect of a key that changes lines has one outcome, whatever the line is.
 abbrev pub ChangeIsDetermined : (Line → Machine → Result Machine ProgramRefusal → Type 0) → Type 0
 ChangeIsDetermined Makes = (line : Line) → MoveIsDetermined (Makes line)
 
--- a position stands for one line with one number, or for none
+-- A position has one line with one number, or none.
 abbrev pub NumberedIsDetermined : Type 0
 NumberedIsDetermined = HasOneAnswer HasNumbered
 
--- the display shows one text
+-- The display shows one text.
 abbrev pub TextIsDetermined : Type 0
 TextIsDetermined =
     (pages : PageMap) (machine : Machine) (text other : List ℕ) → ShowsProgram pages machine text

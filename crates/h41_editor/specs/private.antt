@@ -1,2 +1,3 @@
--- What private functions promise one another. A reader of the promises can leave it out.
+-- Definitions for the contracts of this crate's private functions. Readers of the public contracts
+-- can skip them.
 pub mod Placing

@@ -1,4 +1,4 @@
-//! Lines inserted, replaced and deleted by keys.
+//! Inserting, replacing and deleting lines in program mode.
 ghost use Rattle.std.specs.Prelude.{◌≡◌, is_ok, IfErr, IfOk, IsTrue, OnErr};
 ghost use Rattle.h41_editor.specs.Changes.{Deletes, Inserts, InsertsAt, MarksDeletion, Replaces};
 ghost use Rattle.h41_editor.specs.Changes.{with_line_shown};
@@ -19,9 +19,11 @@ use h41_positions::{Focal, PlacedLine, Position, line_at, next, start_of};
 use h41_program::{InFront, ProgramRefusal, delete, insert, is_final_end, replace};
 use h41_ram::Ram;
 
-/// A line, neither a null nor `.END.`, is inserted behind the shown one, in front of it where that is an END or `.END.`, and at line
-/// 00 in front of the program's first line. It is shown, and nothing is left to return to. 14 where the program has no line at
-/// the position and where the list of lines does not reach `.END.`, 16 where there is no room; nothing is changed then. In a page 14.
+/// Inserts a line after the shown line, and shows the new one. If an END or `.END.` is shown, the line is inserted before it; at line 00 it
+/// becomes the first line of the program. All return addresses are cleared. The line must not be a null or `.END.`.
+///
+/// BrokenProgram (14) if the program has no line at the position, if the list of lines does not reach `.END.`, or in a page; NoRoom (16) if
+/// there is no room. A refusal changes neither programs nor position. The rules are in docs/KEYBOARD.md.
 pub fn insert_line<const REGS: usize>(
     ram: &mut Ram<REGS>,
     pages: &Pages,
@@ -54,7 +56,7 @@ pub fn insert_line<const REGS: usize>(
     }
 }
 
-/// Where a line is inserted.
+/// Returns the position before which a line is inserted. BrokenProgram (14) if no line can be read at the position.
 fn place_for_line<const REGS: usize>(
     ram: &Ram<REGS>,
     pages: &Pages,
@@ -76,9 +78,10 @@ fn place_for_line<const REGS: usize>(
     }
 }
 
-/// A line, neither a null nor `.END.`, comes in the place of the shown one and is shown; nothing is left to return to. 14 where the
-/// list of lines has none at the position or does not reach `.END.`, 16 where there is no room; nothing is changed then. In a page
-/// 14.
+/// Replaces the shown line by another one, and shows it. All return addresses are cleared. The line must not be a null or `.END.`.
+///
+/// BrokenProgram (14) if the list of lines has none at the position or does not reach `.END.`, or in a page; NoRoom (16) if there is no
+/// room. A refusal changes neither programs nor position.
 pub fn replace_line<const REGS: usize>(
     ram: &mut Ram<REGS>,
     focal: &mut Focal,
@@ -105,9 +108,12 @@ pub fn replace_line<const REGS: usize>(
     }
 }
 
-/// The shown line goes, and the one before it is shown, or line 00 where it was its program's first; nothing is left to return to.
-/// At line 00 and at `.END.` nothing is changed. 14 where no line can be read at the position, where the list of lines has none there
-/// or does not reach `.END.`, 16 where there is no room; nothing is changed then. In a page each other line is 14.
+/// Deletes the shown line, and shows the line before it, or line 00 if it was the first line of its program. All return addresses are
+/// cleared. At line 00 and at `.END.` nothing changes.
+///
+/// BrokenProgram (14) if no line can be read at the position, if the list of lines has none there or does not reach `.END.`, and at any
+/// line of a page except `.END.`; NoRoom (16) if there is no room. A refusal changes neither programs nor position. The rules are in
+/// docs/KEYBOARD.md.
 pub fn delete_line<const REGS: usize>(
     ram: &mut Ram<REGS>,
     pages: &Pages,
@@ -140,7 +146,7 @@ pub fn delete_line<const REGS: usize>(
     }
 }
 
-/// A line in memory is shown, and nothing is left to return to.
+/// Moves to a line in program memory, and clears all return addresses.
 fn show_line(focal: &mut Focal, byte: u16)
     ensures state { focal.new.state ≡ with_line_shown (Memory byte) focal.old.state }
     ensures labels { focal.new.labels ≡ focal.old.labels }

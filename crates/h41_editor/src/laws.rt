@@ -1,4 +1,4 @@
-//! Laws of program mode: each is the contract of a function with nothing to do but to call the laws it rests on.
+//! Laws of program mode. Each law is the contract of a function that only calls the laws on which it rests.
 
 ghost use Rattle.h41_editor.specs.Changes.{Deletes, Inserts, Replaces};
 ghost use Rattle.h41_editor.specs.EditorLaws.{ChangeIsDetermined, MoveIsDetermined};
@@ -9,7 +9,7 @@ ghost use Rattle.h41_pages.specs.PageMap.{PageMap};
 use h41_positions::laws::positions_are_read;
 use h41_program::laws::{edits_are_determined, lists_are_determined, searches_are_determined};
 
-/// A position stands for one line with one number, or for none.
+/// A position has one line with one number, or none.
 pub fn numbered_is_determined()
     ensures { NumberedIsDetermined }
 {
@@ -27,7 +27,7 @@ pub fn moves_are_determined()
     positions_are_read();
 }
 
-/// A line that is inserted, one that comes in the place of another and BACK have one outcome each.
+/// Inserting a line, replacing a line and BACK have one outcome each.
 pub fn changes_are_determined()
     ensures insertion { (pages : PageMap) → ChangeIsDetermined (Inserts pages) }
     ensures replacement { ChangeIsDetermined Replaces }

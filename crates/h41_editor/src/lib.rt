@@ -1,4 +1,4 @@
-//! Program mode: what keys do to the programs in memory and to the position, and the line that is shown.
+//! Program mode: the effect of keys on the programs in memory and on the position, and the text of the shown line.
 #![tactic(auto)]
 
 mod changes;

@@ -1,4 +1,4 @@
-//! What SST, BST and `GTO . .` do to the position.
+//! The effect of SST, BST and `GTO . .` in program mode.
 ghost use Rattle.std.specs.Prelude.{◌≡◌, is_ok, IsTrue, Ok, OnErr};
 ghost use Rattle.h41_editor.specs.Moves.{GoesToEnd, ShowsBefore, ShowsEnd, ShowsNext, ShowsStart};
 ghost use Rattle.h41_editor.specs.Moves.{made_as};
@@ -15,8 +15,8 @@ use h41_program::laws::lists_are_determined;
 use h41_program::{ProgramRefusal, close_last, final_position, is_end, is_final_end, is_last_open};
 use h41_ram::Ram;
 
-/// `SST` in program mode shows the next line: from line 00 the line that the position stands for, from the last of a program its
-/// line 00. 14 where the shown line cannot be read; nothing is changed then.
+/// Moves to the next line, as `SST` does in program mode: from line 00 to the line at the position, and from the last line of a program to
+/// its line 00. BrokenProgram (14) if no line can be read at the position; nothing changes then. The rules are in docs/KEYBOARD.md.
 pub fn show_next<const REGS: usize>(
     ram: &Ram<REGS>,
     pages: &Pages,
@@ -42,8 +42,9 @@ pub fn show_next<const REGS: usize>(
     Ok(())
 }
 
-/// `BST` shows the line before: from line 1 line 00, from line 00 the program's END or `.END.`. 14 where the program has no line
-/// at the position, and from line 00 where it has no end; nothing is changed then.
+/// Moves to the line before, as `BST` does in program mode: from the first line to line 00, and from line 00 to the program's END or
+/// `.END.`. BrokenProgram (14) if the program has no line at the position, or from line 00 if it has no end; nothing changes then. The
+/// rules are in docs/KEYBOARD.md.
 pub fn show_before<const REGS: usize>(
     ram: &Ram<REGS>,
     pages: &Pages,
@@ -69,8 +70,9 @@ pub fn show_before<const REGS: usize>(
     Ok(())
 }
 
-/// `GTO . .` goes to line 00 of the last program, with an END behind it first where it has lines and none; what there is to return
-/// to goes then. 14 where the list of lines does not reach `.END.`, 16 where there is no room; nothing is changed then.
+/// Moves to line 00 of the last program, as `GTO . .` does. If the last program has lines but no END, an END is appended first, and all
+/// return addresses are cleared. BrokenProgram (14) if the list of lines does not reach `.END.`; NoRoom (16) if there is no room for the
+/// END. A refusal changes neither programs nor position.
 pub fn go_to_end<const REGS: usize>(
     ram: &mut Ram<REGS>,
     focal: &mut Focal,
@@ -97,14 +99,14 @@ pub fn go_to_end<const REGS: usize>(
     Ok(())
 }
 
-/// Whether a line is the last of its program.
+/// Returns whether a line is the last of its program: an END or `.END.`.
 pub fn is_last(placed: &PlacedLine) -> bool
     ensures { result ≡ spec.is_last placed.now }
 {
     is_end(&placed.line) || is_final_end(placed.line)
 }
 
-/// Line 00 of the position's program is shown.
+/// Moves to line 00 of the position's program.
 fn show_start<const REGS: usize>(ram: &Ram<REGS>, pages: &Pages, focal: &mut Focal)
     requires { IsTrue (is_sound ram.now.registers) }
     ensures done { ShowsStart pages.now (machine_with ram.now.registers focal.old.state)
@@ -115,7 +117,7 @@ fn show_start<const REGS: usize>(ram: &Ram<REGS>, pages: &Pages, focal: &mut Foc
     focal.go_to_line_00(start);
 }
 
-/// The end of the program is shown that a line is of.
+/// Moves to the end of the shown line's program. BrokenProgram (14) if it has none.
 fn show_end<const REGS: usize>(
     ram: &Ram<REGS>,
     pages: &Pages,

@@ -1,4 +1,4 @@
-//! The line that a position stands for, with its number.
+//! The line at a position, with its number.
 ghost use Rattle.std.specs.Prelude.{IsTrue};
 ghost use Rattle.h41_editor.specs.NumberedLines.{HasNumbered};
 ghost use Rattle.h41_ram.specs.RegisterMap.{is_sound};
@@ -7,17 +7,17 @@ use h41_pages::Pages;
 use h41_positions::{Focal, PlacedLine, line_at, line_number};
 use h41_ram::Ram;
 
-/// A line of a program with its number there.
+/// A line of a program with its position and its number.
 #[derive(Clone, Copy, Debug, PartialEq, Eq)]
 pub struct NumberedLine {
-    /// The line, where it stands.
+    /// The line with its position.
     pub placed: PlacedLine,
-    /// Its number in its program, where the first has number 1.
+    /// The number of the line in its program. The first line has number 1.
     pub number: u16,
 }
 
-/// The line that the position stands for: the first from there on. `None` where no line can be read there, and where its program
-/// has none there, as within a line.
+/// Returns the line at the calculator's position, which is the first line from there on, with its number. `None` if no line can be read
+/// there, or if its program has no line there, for example because the position is inside another line.
 pub fn numbered_line<const REGS: usize>(
     ram: &Ram<REGS>,
     pages: &Pages,

@@ -1,4 +1,4 @@
-//! What the display shows in program mode.
+//! The text that the display shows in program mode.
 ghost use Rattle.std.specs.Prelude.{◌≡◌, ◌≤◌, ◌++◌, length, IsTrue};
 ghost use Rattle.h41_editor.specs.ProgramText as spec;
 ghost use Rattle.h41_positions.specs.FocalState.{machine_with};
@@ -12,14 +12,15 @@ use h41_ram::Ram;
 use h41_text::write_line;
 use itoa::Buffer;
 
-/// How many characters the text of a line with its number has at most.
+/// The capacity of the text of a line with its number, in characters.
 pub const PROGRAM_TEXT_CAPACITY: usize = 60;
 
 /// The address of the first register of main memory.
 const MAIN_START: u16 = 0x0C0;
 
-/// The line that the position shows: its number, of two digits at least, and its text; `00 REG n` at line 00, with the number of
-/// registers that are left for programs; `?` where its program has no line there, and where memory is not sound.
+/// Returns the text that the display shows in program mode: the number of the line at the position, with at least two digits, and its text.
+/// At line 00 it is `00 REG n`, with the number of registers that are free for programs. It is `?` if the program has no line at the
+/// position, or if memory is not sound. The rules are in docs/KEYBOARD.md.
 pub fn program_text<const REGS: usize>(
     ram: &Ram<REGS>,
     pages: &Pages,
@@ -40,7 +41,7 @@ pub fn program_text<const REGS: usize>(
     }
 }
 
-/// What stands for a line that is not known.
+/// Returns the text for a line that cannot be shown.
 fn unknown_text() -> ArrayString<PROGRAM_TEXT_CAPACITY>
     ensures { result.bytes ≡ spec.unknown_text }
 {
@@ -49,7 +50,7 @@ fn unknown_text() -> ArrayString<PROGRAM_TEXT_CAPACITY>
     text
 }
 
-/// Line 00, with the number of registers that are left.
+/// Returns the text of line 00, with the number of free registers.
 fn line_00_text<const REGS: usize>(ram: &Ram<REGS>) -> ArrayString<PROGRAM_TEXT_CAPACITY>
     requires { IsTrue (is_sound ram.now.registers) }
     ensures { result.bytes ≡ spec.line_00_text ram.now.registers }
@@ -60,7 +61,7 @@ fn line_00_text<const REGS: usize>(ram: &Ram<REGS>) -> ArrayString<PROGRAM_TEXT_
     text
 }
 
-/// A line with its number.
+/// Returns the text of a line with its number.
 fn numbered_text(numbered: &NumberedLine) -> ArrayString<PROGRAM_TEXT_CAPACITY>
     ensures { result.bytes ≡ spec.numbered_text numbered.now }
 {

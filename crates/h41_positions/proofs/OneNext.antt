@@ -1,4 +1,4 @@
--- A position has one next position, as answers do.
+-- A position has one next position.
 use Rattle.std.proofs.Common.{◌≡◌, Ok}
 use Rattle.h41_pages.specs.PageMap.{PageMap}
 use Rattle.h41_positions.specs.PositionLaws.{IsReadOnce}

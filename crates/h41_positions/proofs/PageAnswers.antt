@@ -1,4 +1,4 @@
--- What is found in the code of a page is what an address of it has.
+-- What is found in the code of a page is what an address of the page has.
 use Rattle.std.proofs.Common.{◌≡◌, ℕ, List, Option, Ok, Err, ap, refl, sym, subst, ◌∙◌}
 use Rattle.h41_codes.specs.declared.line.Line.{Line}
 use Rattle.h41_pages.specs.Addresses.{offset_of, page_of}
@@ -14,7 +14,7 @@ use Rattle.h41_program.specs.declared.refusal.ProgramRefusal.{ProgramRefusal}
 use Rattle.h41_program.specs.declared.refusal.ProgramRefusal.TheVariants.{BrokenProgram}
 use Rattle.h41_ram.specs.RegisterMap.{RegisterMap}
 
--- what is found at a byte of memory
+-- What is found at a byte of memory.
 pub both_here : (pages : PageMap) (memory : RegisterMap) (at : ℕ) (line : Line) (byte : ℕ)
     → memories.AnswersBoth memory at (Ok (line, byte)) → LineAndNext pages memory (Memory at) (Ok (line, Memory byte))
 both_here pages memory at line byte both = ((in_memory both.0.0, (Ok both.0.0, both.0.1, refl), both.0.2), (Ok byte, both.1, refl))
@@ -25,7 +25,7 @@ none_here pages memory at refusal both = (both.0, (Err BrokenProgram, (refl, bot
 
 module _ (pages : PageMap) (memory : RegisterMap) (address page offset : ℕ) (code : List ℕ) (here : page ≡ page_of address)
     (there : offset ≡ offset_of address) (own : code ≡ code_of pages page) where
-  -- in the code of the address's page, at its offset
+  -- What is true of the code of the address's page is true at its offset.
   moved : (P : List ℕ → ℕ → Type 0) → P code offset → P (code_of pages (page_of address)) (offset_of address)
   moved P is =
       subst (λ (n : ℕ). P (code_of pages (page_of address)) n) there

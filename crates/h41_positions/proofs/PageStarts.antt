@@ -1,4 +1,4 @@
--- Where programs of a page begin.
+-- The start of a page's programs.
 use Rattle.std.proofs.Common.{◌≡◌, ℕ, ◌+◌, ◌<◌, ◌≤◌, true, false, List, length, Option, Some, None, refl, sym, ap, subst, ◌∙◌, arith}
 use Rattle.std.proofs.Common.{inl, inr}
 use Rattle.std.specs.Prelude.{is_some, slice_index}
@@ -13,7 +13,7 @@ use Rattle.h41_program.proofs.SearchSteps.{some_or}
 use Rattle.h41_program.specs.declared.listed_line.ListedLine.{ListedLine}
 use Rattle.h41_program.specs.declared.reading.Found.{Found}
 
--- a list that has the line of an offset reaches it
+-- A list that contains the line of an offset reaches the offset.
 pub found_reaches : (code : List ℕ) (at begin : ℕ) (first : Found) (lines : List ListedLine)
     → CodeHasFirst code at first → begin ≤ at → LinesIn code begin lines → is_some (number_in first.listed.position lines) ≡ true
     → Reaches code at begin
@@ -26,7 +26,7 @@ found_reaches code at begin first lines is before from has = record {
   has = has;
 }
 
--- one that has it not does not
+-- A list that does not contain it does not reach the offset.
 pub lost_reaches : (code : List ℕ) (at begin : ℕ) (first : Found)
     → CodeHasFirst code at first
     → ((lines : List ListedLine) → LinesIn code begin lines → false ≡ is_some (number_in first.listed.position lines))
@@ -37,15 +37,15 @@ lost_reaches code at begin first is lost reaches =
     subst (λ (line : ListedLine). is_some (number_in line.position reaches.lines) ≡ true) same reaches.has in
     true≢false (sym has ∙ sym (lost reaches.lines reaches.from))
 
--- and none reaches where no line stands
+-- If there is no line at an offset, no list reaches it.
 pub none_reaches : (code : List ℕ) (at begin : ℕ) → HasNoLine code at → Reaches code at begin → ⊥
 none_reaches code at begin none reaches = none reaches.first reaches.stands
 
--- one of the offsets so far
+-- One of the offsets so far.
 abbrev pub IsSoFar : List ℕ → ℕ → ℕ → Type 0
 IsSoFar begins count begin = (k : ℕ) × (k < count) × (k < length begins) × (slice_index begins k ≡ begin)
 
--- the least of those so far that reach an offset; where none does, one behind it
+-- The least of the offsets so far that reach an offset; if none does, one more than that offset.
 pub record IsKept (code begins : List ℕ) (at count least : ℕ) : Type 0 where
   pub most : least ≤ at + 1
   pub own : least ≤ at → IsSoFar begins count least × Reaches code at least
@@ -59,7 +59,7 @@ none_kept code begins at = record {
 }
 
 module _ (code begins : List ℕ) (at count least : ℕ) (inside : count < length begins) (kept : IsKept code begins at count least) where
-  -- the next offset is taken
+  -- The next offset is taken.
   pub taken : slice_index begins count < least → Reaches code at (slice_index begins count)
       → IsKept code begins at (count + 1) (slice_index begins count)
   taken below reaches = record {
@@ -76,7 +76,7 @@ module _ (code begins : List ℕ) (at count least : ℕ) (inside : count < lengt
     ];
   }
 
-  -- or passed over
+  -- The next offset is skipped.
   pub passed : (Reaches code at (slice_index begins count) → least ≤ slice_index begins count) → IsKept code begins at (count + 1) least
   passed late = record {
     most = kept.most;
@@ -92,7 +92,7 @@ module _ (code begins : List ℕ) (at count least : ℕ) (inside : count < lengt
     ];
   }
 
--- all were seen
+-- All offsets were examined.
 module _ (code begins : List ℕ) (at count least : ℕ) (all : length begins ≤ count) (kept : IsKept code begins at count least) where
   each_among : (begin : ℕ) → IsAmong begins begin → Reaches code at begin → least ≤ begin
   each_among begin among reaches = kept.each begin (among.0, omega (arith, among.1, all), among.1, among.2) reaches
@@ -112,7 +112,7 @@ module _ (code begins : List ℕ) (at count least : ℕ) (all : length begins �
         refl,
       )
 
--- an answer on the program of an offset
+-- The answer for the program of an offset.
 pub of_own : {A : Type 0} (answer : List ListedLine → A) (code begins : List ℕ) (at start : ℕ) (result : A) → EachIsListed
     → StartsAt code begins at start → AnswersAll answer code start result → AnswersOwn answer code begins at result
 of_own answer code begins at start result lists starts asked =
@@ -124,7 +124,7 @@ none_or : (first second : Option ListedLine) (found : Option ℕ) → position_o
 none_or None second found none is = is
 none_or (Some listed) second found none is = cc
 
--- a label
+-- The answer for a label.
 module _ (code begins : List ℕ) (at n start : ℕ) (lists : EachIsListed) (starts : StartsAt code begins at start) where
   labelled : (found : Option ℕ)
       → ((onward own : List ListedLine) → LinesIn code at onward → LinesIn code start own

@@ -1,4 +1,4 @@
--- Lists of lines of a page, line after line.
+-- Lists of lines of a page, line by line.
 use Rattle.std.proofs.Common.{◌≡◌, ℕ, suc, ◌+◌, ◌-◌, Bool, true, false, List, [], ◌∷◌, length, Option, Some, None, Ok, refl, sym, ap, ◌∙◌}
 use Rattle.std.proofs.Common.{arith, inl, inr, subst}
 use Rattle.std.specs.Prelude.{MatchBool, ◌==◌}
@@ -16,7 +16,7 @@ use Rattle.h41_program.specs.declared.reading.Found.{Found}
 use Rattle.h41_program.proofs.SearchSteps.{label_in-end, label_in-here, label_in-other}
 use Rattle.std.proofs.lemmas.Bool.{cases_Bool}
 
--- the list from an offset on, by its first line
+-- The list from an offset on, by its first line.
 pub first_rest : (code : List ℕ) (at next : ℕ) (listed : ListedLine) (lines : List ListedLine)
     → IsFirst code (length code) at listed next → LinesIn code at lines
     → (rest : List ListedLine) × (lines ≡ listed ∷ rest) × MatchBool (is_page_end listed.line) (rest ≡ []) (LinesIn code next rest)
@@ -41,7 +41,7 @@ pub more_rest : (code : List ℕ) (next : ℕ) (b : Bool) (rest : List ListedLin
     → MatchBool b (rest ≡ []) (LinesIn code next rest) → LinesIn code next rest
 more_rest code next b rest is matches = subst (λ (t : Bool). MatchBool t (rest ≡ []) (LinesIn code next rest)) is matches
 
--- what is asked of a list that is left is what was asked of the whole one
+-- The question about the remaining list has the same answer as the question about the whole list.
 abbrev pub Asks : {A : Type 0} → List ℕ → ℕ → ℕ → (List ListedLine → A) → (List ListedLine → A) → Type 0
 Asks code from at answer left =
     (lines : List ListedLine) → LinesIn code from lines
@@ -50,7 +50,7 @@ Asks code from at answer left =
 pub asks_all : {A : Type 0} (code : List ℕ) (from : ℕ) (answer : List ListedLine → A) → Asks code from from answer answer
 asks_all code from answer lines reads = (lines, reads, refl)
 
--- behind a line that ends nothing
+-- The question after a line that is no end.
 pub asks_more : {A : Type 0} (code : List ℕ) (from at next : ℕ) (answer left more : List ListedLine → A) (listed : ListedLine)
     → Asks code from at answer left → IsFirst code (length code) at listed next → is_page_end listed.line ≡ false
     → ((rest : List ListedLine) → left (listed ∷ rest) ≡ more rest)
@@ -63,7 +63,7 @@ asks_more code from at next answer left more listed asks is other goes lines rea
       here.2 ∙ ap left parts.1 ∙ goes parts.0,
     )
 
--- the answer where the list is at its end, at a line, and at a line that ends it
+-- The answer at the end of the list, at a line, and at a line that ends the list.
 pub asked_none : {A : Type 0} (code : List ℕ) (from at : ℕ) (answer left : List ListedLine → A) (lines : List ListedLine)
     → Asks code from at answer left → HasNoLine code at → LinesIn code from lines → answer lines ≡ left []
 asked_none code from at answer left lines asks none reads =
@@ -88,7 +88,7 @@ asked_last code from at next answer left listed lines asks is last reads =
     here.2 ∙ ap left (parts.1 ∙ ap (λ (rest : List ListedLine). listed ∷ rest)
     (last_rest code next (is_page_end listed.line) parts.0 last parts.2))
 
--- the end of a list
+-- The end of a list.
 pub end_here : (listed : ListedLine) (rest : List ListedLine) → is_page_end listed.line ≡ true
     → end_in (listed ∷ rest) ≡ Some listed.position
 end_here listed rest ends = rw ends refl
@@ -97,7 +97,7 @@ pub end_other : (listed : ListedLine) (rest : List ListedLine) → is_page_end l
     → end_in (listed ∷ rest) ≡ end_in rest
 end_other listed rest other = rw other refl
 
--- a label
+-- A label in a list.
 no_end : (line : Line) → is_page_end line ≡ false → is_end line ≡ false
 no_end (End link marks) other = cc
 no_end line other = refl
@@ -117,7 +117,7 @@ label_last n listed none = elim (cases_Bool (is_end listed.line)) [
   | inr other ↦ ap position_of (label_in-other n listed [] other none)
 ]
 
--- the number of a line, where so many were counted
+-- The number of a line, if so many lines were counted.
 abbrev pub counted : ℕ → ℕ → List ListedLine → Option ℕ
 counted count position lines = option_map (λ n. count + n) (number_in position lines)
 
@@ -141,7 +141,7 @@ pub counted_other : (count position : ℕ) (listed : ListedLine) (rest : List Li
     → counted count position (listed ∷ rest) ≡ counted (count + 1) position rest
 counted_other count position listed rest other = rw other (one_more count (number_in position rest))
 
--- the line of a number
+-- The line with a number.
 pub numbered_here : (number : ℕ) (listed : ListedLine) (rest : List ListedLine) → (number == 1) ≡ true
     → numbered_in number (listed ∷ rest) ≡ Some listed.position
 numbered_here number listed rest same = rw same refl
@@ -150,7 +150,7 @@ pub numbered_other : (number : ℕ) (listed : ListedLine) (rest : List ListedLin
     → numbered_in number (listed ∷ rest) ≡ numbered_in (number - 1) rest
 numbered_other number listed rest other = rw other refl
 
--- the offset behind a line that was found
+-- The offset after a line that was found.
 pub offset_found : (code : List ℕ) (at : ℕ) (found : Found) (offset : ℕ) → CodeHasFirst code at found → FoundBehind code found offset
     → AnswersOffset code at (Ok offset)
 offset_found code at found offset is follows = (

@@ -1,4 +1,4 @@
--- Each position is read, and what is found from it is determined; a line has a next one.
+-- Each position has a line or a refusal, what is found from it is determined, and a line has a next position.
 use Rattle.std.proofs.Common.{◌≡◌, ℕ, Bool, true, false, List, length, Option, Result, Ok, Err, MatchBool}
 use Rattle.std.proofs.Common.{arith, inl, inr, refl, sym, ap, subst, ◌∙◌}
 use Rattle.std.specs.Option.{option_map, option_or}
@@ -22,7 +22,7 @@ use Rattle.h41_program.specs.declared.refusal.ProgramRefusal.{ProgramRefusal}
 use Rattle.h41_program.specs.declared.refusal.ProgramRefusal.TheVariants.{BrokenProgram}
 use Rattle.h41_ram.specs.RegisterMap.{RegisterMap}
 
--- what is found in the code of a page is one
+-- What is found in the code of a page is determined.
 module _ (first : FirstIsDetermined) (code : List ℕ) where
   same_first : (at : ℕ) (answer other : Result ListedLine ProgramRefusal) → AnswersLine code at answer → AnswersLine code at other
       → answer ≡ other
@@ -95,7 +95,7 @@ module _ (first : FirstIsDetermined) (code : List ℕ) where
         is.is ∙ ap (λ (l : List ListedLine). position_of (option_or (label_in n l) (label_in n is.own))) onward
         ∙ ap (λ (l : List ListedLine). position_of (option_or (label_in n again.onward) (label_in n l))) own ∙ sym again.is
 
--- what is found from a position is one
+-- What is found from a position is determined.
 module _ (first : FirstIsDetermined) (read : ReadIsDetermined) where
   pub line : LineIsDetermined → HasOneAnswer LineAt
   line lines pages memory (Memory at) result other p q =
@@ -157,7 +157,7 @@ each firsts pages memory (Page address) =
       | inr none ↦ (Err BrokenProgram, (Err BrokenProgram, (refl, none), refl))
     ]
 
--- where there is a first line, there is a next position
+-- If there is a first line, there is a next position.
 next_refused :
     (memory : RegisterMap) (at : ℕ) (first : Result ListedLine ProgramRefusal) (found : PlacedLine)
     (next : Result ℕ ProgramRefusal) (refusal : ProgramRefusal)

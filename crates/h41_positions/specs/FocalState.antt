@@ -1,52 +1,54 @@
--- What lines work on beside memory: the position, the positions to return to, and stack lift; and
--- where that goes.
+-- The state of keystroke programs besides memory: the position, the return addresses and stack
+-- lift; and how the position changes.
 use Rattle.std.specs.Prelude.{Bool, true, false, List, []}
 use Rattle.h41_positions.specs.declared.position.Position.{Position}
 use Rattle.h41_positions.specs.declared.position.Position.TheVariants.{Memory}
 use Rattle.h41_ram.specs.RegisterMap.{RegisterMap}
 
--- what lines work on, beside memory
+-- The state of keystroke programs besides memory.
 pub record FocalState : Type 0 where
-  -- where the next line stands, and whether that is line 00, the place before its program's first
-  -- line
+  -- the position of the next line; at line 00, the place before the program's first line, it is the
+  -- start of the program
   pub position : Position
   pub at_line_00 : Bool
-  -- the positions to return to, the latest last
+  -- the return addresses, the newest last
   pub returns : List Position
-  -- whether the stack is lifted when a number comes in
+  -- whether stack lift is on, so that the next number that is entered lifts the stack
   pub lift : Bool
 
--- the start: line 00 of the first program, nowhere to return to, lift on
+-- The initial state: line 00 of the first program, no return addresses, stack lift on.
 abbrev pub start : FocalState
 start = record { position = Memory 0; at_line_00 = true; returns = []; lift = true }
 
--- with memory
+-- The state with memory.
 pub record Machine : Type 0 where
   pub memory : RegisterMap
   pub focal : FocalState
 
+-- Memory and state put together.
 abbrev pub machine_with : RegisterMap → FocalState → Machine
 machine_with memory focal = record { memory = memory; focal = focal }
 
--- where lines go on: at a line, at line 00 of the program that begins at a position, and there with
--- nowhere to return to
+-- The state at the line at a position.
 abbrev pub at_position : Position → FocalState → FocalState
 at_position position focal = record focal { position = position; at_line_00 = false }
 
+-- The state at line 00 of the program that begins at a position.
 abbrev pub at_line_00 : Position → FocalState → FocalState
 at_line_00 start focal = record focal { position = start; at_line_00 = true }
 
+-- The state at line 00 without return addresses.
 abbrev pub halted_at : Position → FocalState → FocalState
 halted_at start focal = record (at_line_00 start focal) { returns = [] }
 
--- a machine at a position that is not line 00
+-- A machine at the line at a position.
 abbrev pub at_line : Position → Machine → Machine
 at_line position machine = record machine { focal = at_position position machine.focal }
 
--- with positions to return to
+-- A machine with other return addresses.
 abbrev pub with_returns : List Position → Machine → Machine
 with_returns returns machine = record machine { focal = record machine.focal { returns = returns } }
 
--- halted at line 00 of a program
+-- A machine at line 00 without return addresses.
 abbrev pub at_halt : Position → Machine → Machine
 at_halt start machine = record machine { focal = halted_at start machine.focal }

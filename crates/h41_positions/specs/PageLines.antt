@@ -1,6 +1,6 @@
--- The lines of a page: they are read from its keystroke code, up to an END or .END., which both end
--- a program there, to the page's end, or to bytes that are no line. Where a program of a page
--- begins, and that nulls stand for the line behind them, is this project's choice.
+-- The lines of a page are read from its keystroke code, up to an END or .END., which both end a
+-- program there, to the end of the page, or to bytes that are no line. The start of a page's
+-- program, and that a position at nulls has the line after them, are this project's choices.
 use Rattle.std.specs.Prelude.{◌≡◌, ◌⊎◌, ℕ, ◌+◌, ◌*◌, ◌%◌, ◌<◌, ◌≤◌, Bool, IsTrue, MatchBool, ◌||◌}
 use Rattle.std.specs.Prelude.{List, length, slice_index, Option, is_some, Result, Ok, Err}
 use Rattle.std.specs.Option.{option_or}
@@ -14,46 +14,49 @@ use Rattle.h41_program.specs.declared.listed_line.ListedLine.{ListedLine}
 use Rattle.h41_program.specs.declared.refusal.ProgramRefusal.{ProgramRefusal}
 use Rattle.h41_program.specs.declared.refusal.ProgramRefusal.TheVariants.{BrokenProgram}
 
--- the lines that end a program of a page
+-- The lines that end a program of a page.
 abbrev pub is_page_end : Line → Bool
 is_page_end line = is_end line || is_final_end line
 
--- the first line of keystroke code from an offset on, that there is none, and all lines from there
+-- The first line of keystroke code from an offset on.
 abbrev pub IsFirstLine : List ℕ → ℕ → ListedLine → Type 0
 IsFirstLine code at first = FirstFrom code (length code) at first
 
+-- There is no line from an offset on.
 abbrev pub HasNoLine : List ℕ → ℕ → Type 0
 HasNoLine code at = NoneFrom code (length code) at
 
+-- All lines from an offset on, to the end of their program.
 abbrev pub LinesIn : List ℕ → ℕ → List ListedLine → Type 0
 LinesIn code at lines = ReadsTo is_page_end code (length code) at lines
 
--- an answer is the first line from an offset on, or a refusal where there is none
+-- The answer is the first line from an offset on, or BrokenProgram (14) if there is none.
 abbrev pub AnswersLine : List ℕ → ℕ → Result ListedLine ProgramRefusal → Type 0
 AnswersLine code at (Ok first) = IsFirstLine code at first
 AnswersLine code at (Err refusal) = (refusal ≡ BrokenProgram) × HasNoLine code at
 
--- the offset of the first line from an offset on, or that offset where no line follows
+-- The offset of the first line from an offset on, or that offset if no line follows.
 abbrev pub OffsetFrom : List ℕ → ℕ → ℕ → Type 0
 OffsetFrom code at offset =
     ((first : ListedLine) × IsFirstLine code at first × (offset ≡ first.position))
     ⊎ (HasNoLine code at × (offset ≡ at))
 
--- the offset of the line behind a line, or that behind the line where no line follows or it ends
--- its program
+-- The offset of the line after a line, or the offset just after that line if no line follows or if
+-- it ends its program.
 abbrev pub OffsetBehind : List ℕ → ListedLine → ℕ → Type 0
 OffsetBehind code first offset =
     MatchBool (is_page_end first.line) (offset ≡ behind first)
     (OffsetFrom code (behind first) offset)
 
--- an answer is the offset behind the first line from an offset on, or a refusal where there is none
+-- The answer is the offset after the first line from an offset on, or BrokenProgram (14) if there
+-- is none.
 abbrev pub AnswersOffset : List ℕ → ℕ → Result ℕ ProgramRefusal → Type 0
 AnswersOffset code at (Ok offset) =
     (first : ListedLine) × IsFirstLine code at first × OffsetBehind code first offset
 AnswersOffset code at (Err refusal) = (refusal ≡ BrokenProgram) × HasNoLine code at
 
--- a function of the page begins at or before an offset, and the lines from there on have the one
--- that the offset stands for
+-- A function of the page begins at or before an offset, and the lines from there on contain the
+-- line at the offset.
 pub record Reaches (code : List ℕ) (at begin : ℕ) : Type 0 where
   pub before : begin ≤ at
   pub first : ListedLine
@@ -62,26 +65,28 @@ pub record Reaches (code : List ℕ) (at begin : ℕ) : Type 0 where
   pub from : LinesIn code begin lines
   pub has : IsTrue (is_some (number_in first.position lines))
 
--- one of the offsets where functions begin
+-- One of the offsets at which functions begin.
 abbrev pub IsAmong : List ℕ → ℕ → Type 0
 IsAmong begins begin = (k : ℕ) × (k < length begins) × (slice_index begins k ≡ begin)
 
--- where the program of an offset begins: at the lowest of the page's functions in keystroke code
--- that reach it, or there itself where none does
+-- The lowest start of a keystroke function from which the lines reach an offset.
 abbrev pub IsLeast : List ℕ → List ℕ → ℕ → ℕ → Type 0
 IsLeast code begins at start =
     IsAmong begins start
     × Reaches code at start
     × ((begin : ℕ) → IsAmong begins begin → Reaches code at begin → start ≤ begin)
 
+-- No keystroke function reaches the offset.
 abbrev pub NoneReaches : List ℕ → List ℕ → ℕ → Type 0
 NoneReaches code begins at = (begin : ℕ) → IsAmong begins begin → Reaches code at begin → ⊥
 
+-- The program of an offset begins at the lowest keystroke function that reaches it, or at the
+-- offset itself if none does.
 abbrev pub StartsAt : List ℕ → List ℕ → ℕ → ℕ → Type 0
 StartsAt code begins at start =
     IsLeast code begins at start ⊎ (NoneReaches code begins at × (start ≡ at))
 
--- an answer on the program of an offset: it is that of the lines from the program's start on
+-- The answer for the program of an offset is that for the lines from the program's start on.
 pub record AnswersOwn {A : Type 0} (answer : List ListedLine → A)
     (code begins : List ℕ) (at : ℕ) (result : A) : Type 0 where
   pub start : ℕ
@@ -90,7 +95,8 @@ pub record AnswersOwn {A : Type 0} (answer : List ListedLine → A)
   pub program : LinesIn code start own
   pub is : result ≡ answer own
 
--- where LBL n stands that an offset finds: the first from there on, else the first of its program
+-- The offset of LBL n for a search from an offset: the first one from there on, otherwise the first
+-- one of the program.
 pub record AnswersLabel (code begins : List ℕ) (at n : ℕ) (result : Option ℕ) : Type 0 where
   pub start : ℕ
   pub onward : List ListedLine
@@ -100,6 +106,6 @@ pub record AnswersLabel (code begins : List ℕ) (at n : ℕ) (result : Option �
   pub program : LinesIn code start own
   pub is : result ≡ position_of (option_or (label_in n onward) (label_in n own))
 
--- the address of an offset of a page; behind the last page comes the first
+-- The address of an offset of a page. Page 0 follows page F.
 abbrev pub address_of : ℕ → ℕ → ℕ
 address_of page offset = (page * page_size + offset) % 0x10000

@@ -1,4 +1,4 @@
--- Laws of positions, whatever kinds there are: what is found from one is determined.
+-- Laws of positions, for each kind of position: what is found from a position is determined.
 use Rattle.std.specs.Prelude.{◌≡◌, ℕ, Result, Ok, Err}
 use Rattle.h41_pages.specs.PageMap.{PageMap}
 use Rattle.h41_positions.specs.Positions.{LineAt, NextAt}
@@ -7,32 +7,32 @@ use Rattle.h41_positions.specs.declared.position.Position.{Position}
 use Rattle.h41_program.specs.declared.refusal.ProgramRefusal.{ProgramRefusal}
 use Rattle.h41_ram.specs.RegisterMap.{RegisterMap}
 
--- what is found from a position, in pages and memory
+-- What is found from a position, in pages and memory.
 abbrev pub Finding : Type 0 → Type 1
 Finding A = PageMap → RegisterMap → Position → A → Type 0
 
--- a position has one answer of a kind
+-- A position has one answer of a kind.
 abbrev pub HasOneAnswer : {A : Type 0} → Finding A → Type 0
 HasOneAnswer {A} answers =
     (pages : PageMap) (memory : RegisterMap) (at : Position) (result other : A)
     → answers pages memory at result → answers pages memory at other → result ≡ other
 
--- so it is for each number
+-- A position has one answer of a kind for each number.
 abbrev pub HasOneAnswerEach : {A : Type 0} → (ℕ → Finding A) → Type 0
 HasOneAnswerEach answers = (n : ℕ) → HasOneAnswer (answers n)
 
--- each position stands for one line, or is refused, and has one next position
+-- Each position has one line or one refusal, and one next position.
 pub record IsReadOnce : Type 0 where
   pub line : HasOneAnswer LineAt
   pub next : HasOneAnswer NextAt
 
--- each position stands for a line, or none is there
+-- Each position has a line or a refusal.
 abbrev pub EachIsRead : Type 0
 EachIsRead =
     (pages : PageMap) (memory : RegisterMap) (at : Position)
     → (answer : Result PlacedLine ProgramRefusal) × LineAt pages memory at answer
 
--- where a line stands there is a next position
+-- A position with a line has a next position.
 abbrev pub LinesHaveNext : Type 0
 LinesHaveNext =
     (pages : PageMap) (memory : RegisterMap) (at : Position) (first : PlacedLine)

@@ -1,4 +1,4 @@
-//! What lines work on, beside memory.
+//! The state of keystroke programs besides memory.
 ghost use Rattle.std.specs.Prelude.{◌≡◌, [], IsTrue, Some};
 ghost use Rattle.h41_positions.specs.LabelledMachine.{local_search};
 ghost use Rattle.h41_positions.specs.FocalState.{at_line_00, at_position, halted_at, start};
@@ -16,21 +16,21 @@ use h41_pages::Pages;
 use h41_ram::Ram;
 use std::marker::Model;
 
-/// How many positions can be returned to at most.
+/// The most return addresses that are kept, as on a calculator.
 pub const RETURNS: usize = 6;
 
-/// What lines work on, beside memory.
+/// The state of keystroke programs besides memory: the position, the return addresses, stack lift, and the label cache.
 #[derive(Drop)]
 pub struct Focal {
-    /// Where the next line stands.
+    /// The position of the next line.
     pub position: Position,
-    /// Whether that is line 00, the place before its program's first line.
+    /// Whether the calculator is at line 00, the place before the program's first line. `position` is then the start of the program.
     pub is_at_line_00: bool,
-    /// The positions to return to, the latest last.
+    /// The return addresses, at most 6. The newest is the last.
     pub returns: ArrayVec<Position, RETURNS>,
-    /// Whether the stack is lifted when a number comes in.
+    /// Whether stack lift is on, so that the next number that is entered lifts the stack.
     pub lift: bool,
-    /// The searches for labels that lines made, with their answers.
+    /// The label cache: recent searches for labels with their answers.
     labels: LabelCache,
 }
 
@@ -51,7 +51,7 @@ impl Model for Focal {
 }
 
 impl Focal {
-    /// The start: line 00 of the first program, nowhere to return to, lift on, no search kept.
+    /// Returns the initial state: line 00 of the first program, no return addresses, stack lift on, and an empty label cache.
     pub fn new() -> Self
         ensures state { result.state ≡ start }
         ensures labels { result.labels ≡ [] }
@@ -65,14 +65,14 @@ impl Focal {
         }
     }
 
-    /// The searches for labels that are kept, with their answers.
+    /// Returns the label cache.
     pub fn cache(&self) -> &LabelCache
         ensures { result.now ≡ self.now.labels }
     {
         &self.labels
     }
 
-    /// No search is kept any more.
+    /// Empties the label cache. Everything else is unchanged.
     pub fn forget_labels(&mut self)
         ensures labels { self.new.labels ≡ [] }
         ensures state { self.new.state ≡ self.old.state }
@@ -80,7 +80,7 @@ impl Focal {
         self.labels.forget();
     }
 
-    /// On to the line at a position.
+    /// Moves to the line at a position. The return addresses, stack lift and the label cache are unchanged.
     pub fn go_to(&mut self, position: Position)
         ensures state { self.new.state ≡ at_position position self.old.state }
         ensures labels { self.new.labels ≡ self.old.labels }
@@ -89,7 +89,7 @@ impl Focal {
         self.is_at_line_00 = false;
     }
 
-    /// To line 00 of the program that begins at a position.
+    /// Moves to line 00 of the program that begins at a position. The return addresses, stack lift and the label cache are unchanged.
     pub fn go_to_line_00(&mut self, start: Position)
         ensures state { self.new.state ≡ at_line_00 start self.old.state }
         ensures labels { self.new.labels ≡ self.old.labels }
@@ -98,7 +98,7 @@ impl Focal {
         self.is_at_line_00 = true;
     }
 
-    /// To line 00 of the program that begins at a position, with nowhere to return to.
+    /// Moves to line 00 of the program that begins at a position, and clears all return addresses.
     pub fn halt_at(&mut self, start: Position)
         ensures state { self.new.state ≡ halted_at start self.old.state }
         ensures labels { self.new.labels ≡ self.old.labels }
@@ -107,8 +107,9 @@ impl Focal {
         self.returns.clear();
     }
 
-    /// Where the local label stands that a position finds: in memory a kept answer, else what the search finds, which is then kept; in
-    /// a page what the search finds.
+    /// Returns the position of the `LBL n` that a search from this position finds, or `None` if there is none. In memory the answer is the
+    /// cached one if there is one; otherwise the search is made and its answer is stored in the label cache. In a page the search is always
+    /// made. Memory must be sound, and the cache must be right for it.
     pub fn local<const REGS: usize>(
         &mut self,
         ram: &Ram<REGS>,
@@ -129,7 +130,9 @@ impl Focal {
         }
     }
 
-    /// Where the last label of a name stands in memory: likewise.
+    /// Returns the byte of memory at which the last `LBL` with this name is, or `None` if there is none. The answer is the cached one if
+    /// there is one; otherwise the search is made and its answer is stored in the label cache. Memory must be sound, and the cache must be
+    /// right for it.
     pub fn global<const REGS: usize>(&mut self, ram: &Ram<REGS>, name: Text<15>) -> Option<u16>
         requires sound { IsTrue (is_sound ram.now.registers) }
         requires right { IsRight self.old.labels ram.now.registers }

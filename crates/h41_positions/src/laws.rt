@@ -1,4 +1,4 @@
-//! Laws of positions: each is the contract of a function whose result is not looked at.
+//! Laws of positions. Each law is the contract of a function that does nothing else.
 
 ghost use Rattle.h41_positions.specs.PositionLaws.{EachIsRead, HasOneAnswer, HasOneAnswerEach};
 ghost use Rattle.h41_positions.specs.PositionLaws.{IsReadOnce, LinesHaveNext};
@@ -6,8 +6,9 @@ ghost use Rattle.h41_positions.specs.Positions.{EndOf, LineBefore, LocalFrom, Nu
 
 use h41_program::laws::{each_is_listed, lists_are_determined, searches_are_determined};
 
-/// Each position is read, and what is found from it is determined, over any memory and pages: its line and the next position, which
-/// there is for each line, where its program begins and ends, where labels and the line before stand, and its line's number.
+/// Each position has a line or a refusal, over any memory and pages, and what is found from it is determined: its line and the next
+/// position, which each line has, the start and the end of its program, the positions of labels and of the line before, and the number of
+/// its line.
 pub fn positions_are_read()
     ensures each { EachIsRead }
     ensures read { IsReadOnce }

@@ -1,5 +1,5 @@
-//! Positions of keystroke programs, in memory and in plugged pages: the line that stands at one, and what is found from there; and
-//! the position of the lines that are carried out, with those to return to.
+//! Positions of keystroke programs, in memory and in plugged pages: the line at a position, and what is found from there; and the state of
+//! programs besides memory, with the current position and the return addresses.
 #![tactic(auto)]
 
 mod focal;

@@ -1,4 +1,4 @@
-//! The lines of a page's keystroke code, of which each word of the page has a byte.
+//! The lines of a page's keystroke code. Each word of the page contains one byte of it.
 
 ghost use Rattle.std.specs.Prelude.{◌≡◌, ◌<◌, ◌≤◌, length, is_some, IfSome, IfNone};
 ghost use Rattle.h41_positions.specs.PageLines as spec;
@@ -13,14 +13,14 @@ use h41_program::{
     Found, ListedLine, ProgramRefusal, Taken, is_end, is_final_end, is_label, line_in,
 };
 
-/// Whether a line ends a program of a page: END and `.END.` both do.
+/// Returns whether a line ends a program of a page: END and `.END.` both do.
 fn is_page_end(line: &Line) -> bool
     ensures { result ≡ spec.is_page_end line.now }
 {
     is_end(line) || is_final_end(*line)
 }
 
-/// The first line from an offset on, nulls passed over, and the offset behind it. `None` where no line follows.
+/// Returns the first line from an offset on, after any nulls, and the offset after it. `None` if no line follows.
 pub fn first_from(code: &[u8], at: u16) -> Option<Found>
     requires { length code.now ≤ 4096 }
     ensures first { IfSome result (λ found. CodeHasFirst code.now at found) }
@@ -47,7 +47,7 @@ pub fn first_from(code: &[u8], at: u16) -> Option<Found>
     }
 }
 
-/// The first line from an offset on. 14 where there is none.
+/// Returns the first line from an offset on, with its offset. BrokenProgram (14) if there is none.
 pub fn line_at(code: &[u8], at: u16) -> Result<ListedLine, ProgramRefusal>
     requires { length code.now ≤ 4096 }
     ensures { AnswersLine code.now at result }
@@ -58,8 +58,8 @@ pub fn line_at(code: &[u8], at: u16) -> Result<ListedLine, ProgramRefusal>
     }
 }
 
-/// The offset of the line behind the first from an offset on, or that behind this one where no line follows or it ends its program. 14
-/// where there is no first.
+/// Returns the offset of the line after the first line from an offset on. If no line follows, or the first line ends its program, it is the
+/// offset just after the first line. BrokenProgram (14) if there is no first line.
 #[inline(never)]
 pub fn next(code: &[u8], at: u16) -> Result<u16, ProgramRefusal>
     requires { length code.now ≤ 4096 }
@@ -71,7 +71,7 @@ pub fn next(code: &[u8], at: u16) -> Result<u16, ProgramRefusal>
     }
 }
 
-/// Both in one.
+/// Returns the first line from an offset on, and the offset that `next` returns, in one pass. BrokenProgram (14) if there is no first line.
 pub fn line_and_next(code: &[u8], at: u16) -> Result<(Line, u16), ProgramRefusal>
     requires { length code.now ≤ 4096 }
     ensures { AnswersBoth code.now at result }
@@ -87,7 +87,7 @@ pub fn line_and_next(code: &[u8], at: u16) -> Result<(Line, u16), ProgramRefusal
     }
 }
 
-/// The offset of the line behind a line, or that behind this one where no line follows or it ends its program.
+/// Returns the offset of the line after a line, or the offset just after that line if no line follows or if it ends its program.
 fn offset_behind(code: &[u8], found: Found) -> u16
     requires { length code.now ≤ 4096 }
     ensures { FoundBehind code.now found result }
@@ -102,7 +102,7 @@ fn offset_behind(code: &[u8], found: Found) -> u16
     }
 }
 
-/// Where the END or `.END.` stands that ends the list from an offset on.
+/// Returns the offset of the END or `.END.` that ends the list of lines from an offset on, or `None` if the list has none.
 pub fn end_from(code: &[u8], from: u16) -> Option<u16>
     requires { length code.now ≤ 4096 }
     ensures { AnswersAll end_in code.now from result }
@@ -118,7 +118,7 @@ pub fn end_from(code: &[u8], from: u16) -> Option<u16>
     None
 }
 
-/// Where the first `LBL n` stands in the list from an offset on.
+/// Returns the offset of the first `LBL n` in the list of lines from an offset on, or `None` if there is none.
 pub fn label_from(code: &[u8], from: u16, label: Parameter) -> Option<u16>
     requires { length code.now ≤ 4096 }
     ensures { AnswersAll (λ lines. position_of (label_in label lines)) code.now from result }
@@ -137,7 +137,8 @@ pub fn label_from(code: &[u8], from: u16, label: Parameter) -> Option<u16>
     None
 }
 
-/// The number of the line at an offset, counted from another.
+/// Returns the number of the line at `position`, counted from the offset `from` with 1 as the first, or `None` if the list has no line
+/// there.
 pub fn number_from(code: &[u8], from: u16, position: u16) -> Option<u16>
     requires { length code.now ≤ 4096 }
     ensures is { AnswersAll (number_in position) code.now from result }
@@ -159,7 +160,7 @@ pub fn number_from(code: &[u8], from: u16, position: u16) -> Option<u16>
     None
 }
 
-/// Where the line of a number stands, counted from an offset.
+/// Returns the offset of the line with this number, counted from the offset `from` with 1 as the first, or `None` if there is none.
 pub fn numbered_from(code: &[u8], from: u16, number: u16) -> Option<u16>
     requires { length code.now ≤ 4096 }
     ensures { AnswersAll (numbered_in number) code.now from result }
@@ -180,7 +181,7 @@ pub fn numbered_from(code: &[u8], from: u16, number: u16) -> Option<u16>
     None
 }
 
-/// Whether the list from an offset on has a line at another.
+/// Returns whether the list of lines from the offset `from` on has a line at the offset `position`.
 pub fn has_line(code: &[u8], from: u16, position: u16) -> bool
     requires { length code.now ≤ 4096 }
     ensures { AnswersAll (λ lines. is_some (number_in position lines)) code.now from result }

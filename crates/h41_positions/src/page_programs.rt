@@ -1,4 +1,4 @@
-//! Where a program of a page begins, and what is found in it.
+//! The start of a page's programs, and what is found in them.
 
 ghost use Rattle.std.specs.Prelude.{◌<◌, ◌≤◌, length};
 ghost use Rattle.h41_positions.specs.PageLines.{AnswersLabel, AnswersOwn, StartsAt};
@@ -11,8 +11,9 @@ use h41_codes::Parameter;
 use h41_program::Found;
 use h41_program::laws::each_is_listed;
 
-/// Where the program of an offset begins: at the lowest of these offsets, where functions begin, from which the list has the line that
-/// the offset stands for; they come in any order, and those behind it do not count. The offset itself where there is none.
+/// Returns the offset at which the program of the offset `at` begins. It is the lowest of the offsets `begins`, at which functions begin,
+/// that is at most `at` and from which the list of lines has the line at `at`. The offsets can be in any order. If none qualifies, it is
+/// `at` itself.
 pub fn start_of(code: &[u8], begins: &[u16], at: u16) -> u16
     requires size { length code.now ≤ 4096 }
     requires inside { at < 4096 }
@@ -24,7 +25,7 @@ pub fn start_of(code: &[u8], begins: &[u16], at: u16) -> u16
     }
 }
 
-/// The same where this line is the one that the offset stands for.
+/// Returns the start of the program of the offset `at`, if the line at `at` is `first`.
 fn start_reaching(code: &[u8], begins: &[u16], at: u16, first: Found) -> u16
     requires size { length code.now ≤ 4096 }
     requires inside { at < 4096 }
@@ -42,7 +43,8 @@ fn start_reaching(code: &[u8], begins: &[u16], at: u16, first: Found) -> u16
     if least <= at { least } else { at }
 }
 
-/// Where the `LBL n` stands that an offset finds: the first from there on, else the first of its program.
+/// Returns the offset of the first `LBL n` from the offset `at` on, otherwise that of the first one in the program, or `None` if there is
+/// none.
 pub fn local(code: &[u8], begins: &[u16], at: u16, label: Parameter) -> Option<u16>
     requires size { length code.now ≤ 4096 }
     requires inside { at < 4096 }
@@ -56,7 +58,7 @@ pub fn local(code: &[u8], begins: &[u16], at: u16, label: Parameter) -> Option<u
     }
 }
 
-/// Where the program of an offset ends, at its END or `.END.`.
+/// Returns the offset of the END or `.END.` of the program of the offset `at`, or `None` if the program has none.
 pub fn end_of(code: &[u8], begins: &[u16], at: u16) -> Option<u16>
     requires size { length code.now ≤ 4096 }
     requires inside { at < 4096 }
@@ -66,7 +68,8 @@ pub fn end_of(code: &[u8], begins: &[u16], at: u16) -> Option<u16>
     end_from(code, start_of(code, begins, at))
 }
 
-/// The number of the line at its own offset in its program, where the first has number 1.
+/// Returns the number of the line at exactly the offset `at` in its program, where the first line has number 1. `None` if its program has
+/// no line there.
 pub fn line_number(code: &[u8], begins: &[u16], at: u16) -> Option<u16>
     requires size { length code.now ≤ 4096 }
     requires inside { at < 4096 }
@@ -76,7 +79,7 @@ pub fn line_number(code: &[u8], begins: &[u16], at: u16) -> Option<u16>
     number_from(code, start_of(code, begins, at), at)
 }
 
-/// Where the line before the one at an offset stands in its program.
+/// Returns the offset of the line before the line at `at` in its program. `None` if its program has no line there, or if it is the first.
 pub fn line_before(code: &[u8], begins: &[u16], at: u16) -> Option<u16>
     requires size { length code.now ≤ 4096 }
     requires inside { at < 4096 }

@@ -1,33 +1,33 @@
-//! Where lines stand.
+//! The positions of program lines.
 
 ghost use Rattle.std.specs.Prelude.{◌≡◌};
 ghost use Rattle.h41_positions.specs.declared.position.Position.TheVariants.{Memory};
 
 use h41_codes::Line;
 
-/// Where a line stands, or could: what is next, what there is to return to and where searches begin are positions. Each kind has
-/// its row in every call that takes one.
+/// The position of a program line, in program memory or in a page. The next line, return addresses and the starts of searches are
+/// positions.
 #[derive(Clone, Copy, Debug, PartialEq, Eq)]
 pub enum Position {
-    /// A byte of program memory by its index: 0 is the first, in the register below the curtain.
+    /// A byte of program memory, by its index. Byte 0 is the first one of the register below the curtain.
     Memory(u16),
-    /// A word of a page by its address: keystroke code has one byte of a program in each word.
+    /// A word of a page, by its address, 0000 to FFFF. Each word of keystroke code contains one byte of a program.
     Page(u16),
 }
 
 impl Default for Position {
     ghost is_default = { λ position. position ≡ Memory 0 };
 
-    /// The first byte of program memory.
+    /// Returns the position of the first byte of program memory.
     fn default() -> Self {
         Position::Memory(0)
     }
 }
 
-/// A line, where it stands.
+/// A program line with its position.
 #[derive(Clone, Copy, Debug, PartialEq, Eq)]
 pub struct PlacedLine {
-    /// The position of its first byte.
+    /// The position of the line's first byte.
     pub position: Position,
     /// The line.
     pub line: Line,

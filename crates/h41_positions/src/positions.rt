@@ -1,4 +1,4 @@
-//! What stands at a position, and what is found from there: one row a kind of position.
+//! The line at a position and what is found from there, for each kind of position.
 
 ghost use Rattle.std.specs.Prelude.{◌≡◌, ◌<◌, IsTrue};
 ghost use Rattle.std.specs.Option.{option_map};
@@ -17,13 +17,13 @@ use h41_pages::{PAGE_WORDS, Pages};
 use h41_program::ProgramRefusal;
 use h41_ram::Ram;
 
-/// How many words a page has.
+/// The number of words of a page.
 const WORDS: u16 = PAGE_WORDS as u16;
 
-/// How many addresses there are.
+/// The number of addresses.
 const ADDRESSES: usize = 0x10000;
 
-/// The page of an address, and the offset of its word there.
+/// Returns the page of an address, and the offset of its word in the page.
 fn place_of(address: u16) -> (usize, u16)
     ensures page { result.0 ≡ addresses.page_of address }
     ensures offset { result.1 ≡ addresses.offset_of address }
@@ -33,7 +33,7 @@ fn place_of(address: u16) -> (usize, u16)
     (usize::from(address / WORDS), address % WORDS)
 }
 
-/// The position of an offset of a page; behind the last page comes the first.
+/// Returns the position of an offset of a page. The offset 4096 is the start of the next page; after page F this is page 0.
 fn in_page(page: usize, offset: u16) -> Position
     requires { page < 16 }
     ensures { result ≡ spec.in_page page offset }
@@ -41,7 +41,7 @@ fn in_page(page: usize, offset: u16) -> Position
     Position::Page(((page * PAGE_WORDS + usize::from(offset)) % ADDRESSES) as u16)
 }
 
-/// The position of a byte of memory that was found.
+/// Returns the position of a byte of memory, or `None` for `None`.
 #[inline(always)]
 pub fn byte_found(found: Option<u16>) -> Option<Position>
     ensures { result ≡ option_map Memory found }
@@ -52,7 +52,7 @@ pub fn byte_found(found: Option<u16>) -> Option<Position>
     }
 }
 
-/// The position of an offset of a page that was found.
+/// Returns the position of an offset of a page, or `None` for `None`.
 #[inline(always)]
 fn offset_found(page: usize, found: Option<u16>) -> Option<Position>
     requires { page < 16 }
@@ -64,7 +64,8 @@ fn offset_found(page: usize, found: Option<u16>) -> Option<Position>
     }
 }
 
-/// The line that a position stands for: the first from there on, nulls passed over. 14 where there is none.
+/// Returns the line at a position, which is the first line from there on after any nulls, with the position of its first byte.
+/// BrokenProgram (14) if there is none. Memory must be sound.
 pub fn line_at<const REGS: usize>(
     ram: &Ram<REGS>,
     pages: &Pages,
@@ -85,7 +86,8 @@ pub fn line_at<const REGS: usize>(
     }
 }
 
-/// The line that an address of a page stands for, as of `line_at`.
+/// Returns the line at an address of a page, which is the first line from there on after any nulls, with the position of its first byte.
+/// BrokenProgram (14) if there is none.
 pub fn line_in_page(pages: &Pages, address: u16) -> Result<PlacedLine, ProgramRefusal>
     ensures { LineInPage pages.now address result }
 {
@@ -99,9 +101,9 @@ pub fn line_in_page(pages: &Pages, address: u16) -> Result<PlacedLine, ProgramRe
     }
 }
 
-/// The position of the line behind the one that a position stands for, or the byte or word behind that one where no line follows;
-/// of memory's `.END.` its own, and behind what ends a page's program the next word; behind FFFF comes 0000. 14 where there is no
-/// line.
+/// Returns the position of the line after the line at a position. If no line follows, it is the position of the byte or word just after
+/// that line. The position after the `.END.` of memory is its own; after the END or `.END.` of a page's program it is the next word. 0000
+/// follows FFFF. BrokenProgram (14) if there is no line at the position.
 pub fn next<const REGS: usize>(
     ram: &Ram<REGS>,
     pages: &Pages,
@@ -125,7 +127,8 @@ pub fn next<const REGS: usize>(
     }
 }
 
-/// The line that a position stands for, as of `line_at`, and the position of `next`: read in one. 14 where there is no line.
+/// Returns the line at a position, as `line_at` does, and the next position, as `next` does, in one pass. BrokenProgram (14) if there is no
+/// line. Memory must be sound.
 #[inline(always)]
 pub fn line_and_next<const REGS: usize>(
     ram: &Ram<REGS>,
@@ -144,7 +147,7 @@ pub fn line_and_next<const REGS: usize>(
     }
 }
 
-/// The same of an address of a page.
+/// Returns the line at an address of a page, and the next position.
 #[inline(never)]
 fn in_page_and_next(pages: &Pages, address: u16) -> Result<(Line, Position), ProgramRefusal>
     ensures { InPageAndNext pages.now address result }
@@ -156,8 +159,8 @@ fn in_page_and_next(pages: &Pages, address: u16) -> Result<(Line, Position), Pro
     }
 }
 
-/// The short line that stands at a position of memory itself, and the position of `next`, in numbers alone. `None` where another line
-/// stands there, a null, or no line, and in pages.
+/// Returns the short line whose first byte is at this position of memory, and the next position, as `next` returns it. `None` for other
+/// lines, nulls and bytes that are no line, and always in pages. Memory must be sound.
 #[inline(always)]
 pub fn short_line<const REGS: usize>(
     ram: &Ram<REGS>,
@@ -176,9 +179,9 @@ pub fn short_line<const REGS: usize>(
     }
 }
 
-/// Where the program of a position begins: in memory behind the last END whose first byte is before the position, or at 0, `.END.`
-/// being no END here; in a page at the lowest function in keystroke code, at or before the position, from which the lines reach the
-/// position's, or at the position itself.
+/// Returns the start of the program of a position. In memory this is the byte after the last END whose first byte is before the position,
+/// or 0 if there is none; `.END.` does not count. In a page it is the lowest start of a keystroke function, at or before the position, from
+/// which the list of lines reaches the line at the position, or the position itself if there is none.
 #[inline(never)]
 pub fn start_of<const REGS: usize>(ram: &Ram<REGS>, pages: &Pages, at: Position) -> Position
     requires { IsTrue (is_sound ram.now.registers) }
@@ -197,7 +200,8 @@ pub fn start_of<const REGS: usize>(ram: &Ram<REGS>, pages: &Pages, at: Position)
     }
 }
 
-/// Where the `LBL n` stands that a position finds: the first from there to the END, else the first of its program.
+/// Returns the position of the first `LBL n` from a position to the end of its program, otherwise that of the first one in the program.
+/// `None` if there is none. Memory must be sound.
 #[inline(never)]
 pub fn local<const REGS: usize>(
     ram: &Ram<REGS>,
@@ -219,8 +223,8 @@ pub fn local<const REGS: usize>(
     }
 }
 
-/// Where the program of a position ends: where its END stands, or `.END.` where that comes first. `None` where its list has
-/// neither: bytes that are no line come first, or the page's end.
+/// Returns the position of the end of a position's program: its END, or `.END.` if that is before any END. `None` if the program has
+/// neither, because bytes that are no line or the end of the page precede it.
 pub fn end_of<const REGS: usize>(ram: &Ram<REGS>, pages: &Pages, at: Position) -> Option<Position>
     requires { IsTrue (is_sound ram.now.registers) }
     ensures { EndOf pages.now ram.now.registers at result }
@@ -236,8 +240,8 @@ pub fn end_of<const REGS: usize>(ram: &Ram<REGS>, pages: &Pages, at: Position) -
     }
 }
 
-/// The number of the line at its own position in its program, where the first has number 1. `None` where the list from the
-/// program's start to its END has no line at the position.
+/// Returns the number of the line at exactly this position in its program, where the first line has number 1. `None` if the list of lines
+/// from the program's start to its end has no line at the position.
 pub fn line_number<const REGS: usize>(
     ram: &Ram<REGS>,
     pages: &Pages,
@@ -256,8 +260,8 @@ pub fn line_number<const REGS: usize>(
     }
 }
 
-/// Where the line before the one at a position stands in its program. `None` where the list has no line at the position, or it
-/// is the first.
+/// Returns the position of the line before the line at exactly this position in its program. `None` if the list of lines has no line at the
+/// position, or if it is the first.
 pub fn line_before<const REGS: usize>(
     ram: &Ram<REGS>,
     pages: &Pages,

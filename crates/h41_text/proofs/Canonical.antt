@@ -14,7 +14,7 @@ use Rattle.h41_text.specs.Names.{parameter_function_name, branch_name}
 use Rattle.h41_text.specs.LineText.{line_text, parameter_text, ◌&◌}
 use Rattle.h41_text.specs.TextLaws.{SameText}
 
--- a number below 100 is two digits
+-- The text of a parameter below 100 is two digits.
 pub two_digits_of : (number most : ℕ) → most < 101 → nat_lt number most ≡ true → two_digits number ≡ parameter_text number
 two_digits_of number most small short =
     let below : number < most = ltb-true number most short in

@@ -11,7 +11,7 @@ use Rattle.h41_codes.specs.declared.line.Line.TheVariants.{Number}
 use Rattle.h41_text.specs.LineText.{parameter_text}
 use Rattle.h41_text.specs.private.TextParts.{with_text, parameter_of, number_of, character_of, characters_of, two_digits_of}
 
--- text with a byte that is no character is no number
+-- A text with a byte that is no character of a number is no number.
 pub characters_none : (text : List ℕ) (index : ℕ) → index < length text → character_of (get_or text index 0) ≡ None
     → characters_of (drop index text) ≡ None
 characters_none [] index inside none = absurd (omega arith)
@@ -24,7 +24,7 @@ number_none text none =
     cond_both (nat_lt 0 (length text) && nat_le (length text) 16) (option_map Number (characters_of text)) None (λ line. line ≡ None)
     (λ short. ap (option_map Number) none) (λ long. refl)
 
--- a parameter of two characters is two digits
+-- A parameter with two characters is two digits.
 reads_two : ℕ → Bool
 reads_two number =
     not (length (parameter_text number) == 2)
@@ -40,7 +40,7 @@ two_none text size none number inside same =
     let other : is_some (two_digits_of (get_or text 0 0) (get_or text 1 0)) ≡ true = rw same at read in
     absurd (false≢true (rw none at other))
 
--- parameters
+-- Each parameter is found by its text.
 finds_parameter : ℕ → Bool
 finds_parameter number = elim (parameter_of (parameter_text number)) [ None ↦ false | Some other ↦ other == number ]
 

@@ -1,4 +1,4 @@
--- A text is that of one canonical line at most.
+-- A text is read as one canonical line at most.
 use Rattle.std.proofs.Common.{◌≡◌, ℕ, ◌<◌, List, Some, None, Ok, Result, refl, sym, ◌∙◌, ap, subst, arith}
 use Rattle.std.specs.Prelude.{◌↔◌, nat_lt}
 use Rattle.std.specs.Option.{option_map}
@@ -22,7 +22,7 @@ use Rattle.h41_text.specs.private.TextParts.{candidate_line}
 use Rattle.h41_text.proofs.Canonical.{same_text}
 use Rattle.h41_text.proofs.Reading.{reading_again}
 
--- a line with a text that is its own canonical line
+-- A line that has a text and is its own canonical line.
 IsRead : Line → Type 0
 IsRead line = HasText line × (canonical_line line ≡ line)
 
@@ -58,14 +58,14 @@ canonical_read (FinalEnd link marks) has = (record { valid = (omega arith, omega
 canonical_read Null has = absurd (has.shown refl)
 canonical_read line has = (has, refl)
 
--- the text of a line is that of its canonical line
+-- The text of a line is read as its canonical line.
 pub round_trip : LineTextRoundTrip
 unfolding IsRead
 round_trip line has =
     let read = canonical_read line has in
     record { has = read.0; shortest = read.1; same = same_text line }
 
--- what a line's text is read as
+-- The line as which the text of a line is read.
 read_of : (text : List ℕ) (line : Line) → IsTextOf text line → option_map canonical_line (candidate_line text) ≡ Some line
 read_of text line of =
     ap (λ t. option_map canonical_line (candidate_line t)) (sym of.same) ∙ reading_again line of.has ∙ ap Some of.shortest
@@ -73,14 +73,14 @@ read_of text line of =
 pub one_line : OneLineOfText
 one_line text line other of also = same_Some line other (sym (read_of text line of) ∙ read_of text other also)
 
--- lines with one text have one canonical line, and it is the shortest
+-- Lines with the same text have the same canonical line, which is the shortest.
 pub shortest_of_text : CanonicalIsShortest → CanonicalIsShortestOfText
 shortest_of_text shortest line other has also same =
     let own = round_trip line has in
     let others = subst (λ (text : List ℕ). IsTextOf text (canonical_line other)) (sym same) (round_trip other also) in
     shortest line other (one_line (line_text line) (canonical_line other) (canonical_line line) others own)
 
--- a line that has the text
+-- A line that has the text.
 pub read_is : (text : List ℕ) (line : Line) → line_text line ≡ text → HasText line → IsTextOf text (canonical_line line)
 read_is text line same has = subst (λ (t : List ℕ). IsTextOf t (canonical_line line)) same (round_trip line has)
 
@@ -92,7 +92,7 @@ read_line_is text line read same has is other =
       λ also. ap Ok (is ∙ one_line text (canonical_line line) other of also),
     )
 
--- no line has the text where the only one that can has another
+-- If the only line that can have a text has another text, no line has it.
 pub other_text : (text : List ℕ) (line : Line) → Some line ≡ candidate_line text → (line_text line ≡ text → ⊥) → (other : Line)
     → IsTextOf text other → ⊥
 other_text text line found differs other of =

@@ -1,4 +1,4 @@
--- The code's places of names are right: a name is found at its hash, or nowhere.
+-- The tables of indices are right: a name is found by its hash if and only if it is in the list.
 use Rattle.std.proofs.Common.{◌≡◌, ℕ, ◌<◌, Bool, true, false, List, [], ◌∷◌, length, Some, None, refl, sym, ◌∙◌, inl, inr, bytes_eq}
 use Rattle.std.proofs.Common.{slice_index_or, subst}
 use Rattle.std.specs.Prelude.{nat_lt}
@@ -24,7 +24,7 @@ no_both : (test : Bool) → test ≡ true → test ≡ false → true ≡ false
 no_both test holds fails = sym holds ∙ fails
 
 module _ {A : Type 0} (text_of : A → List ℕ) (items : List A) (places : List ℕ) (other : A) where
-  -- whether an item stands at the hash of its own text
+  -- Whether an item is found by the hash of its own text.
   abbrev is_home : A → Bool
   is_home item = bytes_eq (text_of (at_place items places (text_of item) other)) (text_of item)
 
@@ -39,7 +39,7 @@ module _ {A : Type 0} (text_of : A → List ℕ) (items : List A) (places : List
       | inr differs ↦ differs
     ]
 
-    -- so a text that is not that of the item at its hash is none's
+    -- If the item at a text's hash has another text, no item has this text.
     pub missed_among : (some : List A) → list_all is_home some ≡ true → with_text text_of some name ≡ None
     missed_among [] home = refl
     missed_among (item ∷ some) home =
@@ -53,7 +53,7 @@ all_below count (place ∷ places) low =
     let both = and_parts (nat_lt place count) (list_all (λ place. nat_lt place count) places) low in
     (ltb-true place count both.0, all_below count places both.1)
 
--- each name is found
+-- Each name is found.
 function_found : (function : functions.Function) → with_text function_name FUNCTIONS (function_name function) ≡ Some function
 function_found Add = refl
 function_found function = refl

@@ -1,4 +1,4 @@
--- Which line a text is that of.
+-- Which line a text is read as.
 use Rattle.std.specs.Prelude.{◌≡◌, ◌≢◌, ℕ, List}
 use Rattle.h41_codes.specs.declared.line.Line.{Line}
 use Rattle.h41_codes.specs.declared.line.Line.TheVariants.{Null}
@@ -6,12 +6,12 @@ use Rattle.h41_codes.specs.ByteGrammar.{IsLine}
 use Rattle.h41_codes.specs.Canon.{canonical_line}
 use Rattle.h41_text.specs.LineText.{line_text}
 
--- the lines that have a text: all but the null
+-- The lines that have a text are all but the null.
 pub record HasText (line : Line) : Type 0 where
   pub valid : IsLine line
   pub shown : line ≢ Null
 
--- a text is that of a line: the line is canonical, and its text is this one
+-- A text is read as a line if the line is canonical and has this text.
 pub record IsTextOf (text : List ℕ) (line : Line) : Type 0 where
   pub has : HasText line
   pub shortest : canonical_line line ≡ line

@@ -17,8 +17,8 @@ use Rattle.h41_lines.specs.Characters.{two_digits, escape_of, character_text}
 use Rattle.h41_text.specs.Names.{function_name, parameter_function_name, register_function_name}
 use Rattle.h41_text.specs.Names.{name_function_name, branch_name, character_byte}
 
--- the names of the parameters from 100 on: two numbers, the labels A to J, the stack and the
--- registers behind it, the labels a to e
+-- The names of the parameters from 100 on: two numbers, the labels A to J, the stack and the
+-- registers after it, and the labels a to e.
 abbrev pub high_parameters : List (List ℕ)
 high_parameters =
     codes "100" ∷ codes "101"
@@ -27,43 +27,45 @@ high_parameters =
     ∷ codes "N" ∷ codes "O" ∷ codes "P" ∷ codes "Q" ∷ codes "append" ∷ codes "a" ∷ codes "b"
     ∷ codes "c" ∷ codes "d" ∷ codes "e" ∷ []
 
--- the text of a parameter: 00 to 99, else its name
+-- The text of a parameter: 00 to 99 as two digits, otherwise its name.
 abbrev pub parameter_text : ℕ → List ℕ
 parameter_text number =
     if nat_lt number 100 then two_digits number
     else slice_index_or high_parameters (number - 100) []
 
--- a character within quotes: as the display shows it, but " too is \ and two hexadecimal digits
+-- A character in quotes is as the display shows it, but a quote is \ and two hexadecimal digits,
+-- because it would end the text.
 abbrev pub character_quoted : ℕ → List ℕ
 character_quoted character =
     if character == 0x22 then escape_of character else character_text character
 
--- a text in its quotes
+-- A text in quotes.
 abbrev pub quoted_text : List ℕ → List ℕ
 quoted_text characters = 0x22 ∷ (flat_map character_quoted characters ++ 0x22 ∷ [])
 
--- a text for ALPHA; one that begins with the append sign has > in front of the rest
+-- The text of a text line. If it begins with the append sign, > precedes the quotes, and the sign
+-- is not in them.
 abbrev pub text_line : List ℕ → List ℕ
 text_line [] = quoted_text []
 text_line (first ∷ rest) =
     if first == 0x7F then 0x3E ∷ quoted_text rest else quoted_text (first ∷ rest)
 
--- a number's characters, and NEG for a lone minus
+-- The text of a number is its characters. A lone minus is NEG, because - is the function.
 abbrev pub number_line : List Character → List ℕ
 number_line (Minus ∷ []) = codes "NEG"
 number_line characters = map character_byte characters
 
--- an operand: the parameter, with IND in front where it is indirect
+-- The text of an operand is its parameter, preceded by IND if it is indirect.
 abbrev pub operand_text : Operand → List ℕ
 operand_text (Direct parameter) = parameter_text parameter
 operand_text (Indirect parameter) = codes "IND " ++ parameter_text parameter
 
--- a name, a blank and what follows
+-- A name, a space and what follows.
 infixr 10 ◌&◌
 abbrev pub ◌&◌ : List ℕ → List ℕ → List ℕ
 name & operand = name ++ 0x20 ∷ operand
 
--- the text of each line; two spellings of a line have one text, and the null has none
+-- The text of each line. Two spellings of a line have the same text, and the null has none.
 abbrev pub line_text : Line → List ℕ
 line_text Null = []
 line_text (LocalLabel label) = parameter_function_name Label & two_digits label

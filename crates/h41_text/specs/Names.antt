@@ -69,7 +69,7 @@ use Rattle.h41_codes.specs.declared.characters.Character.TheVariants.{Zero, One,
 use Rattle.h41_codes.specs.declared.characters.Character.TheVariants.{Five, Six, Seven, Eight, Nine}
 use Rattle.h41_codes.specs.declared.characters.Character.TheVariants.{Point, Exponent, Minus}
 
--- functions without a parameter
+-- The names of the functions without a parameter.
 abbrev pub function_name : Function → List ℕ
 function_name Add = codes "+"
 function_name Subtract = codes "-"
@@ -152,7 +152,7 @@ function_name TurnOff = codes "OFF"
 function_name Prompt = codes "PROMPT"
 function_name Advance = codes "ADV"
 
--- functions with a parameter
+-- The names of the functions with a parameter.
 abbrev pub parameter_function_name : ParameterFunction → List ℕ
 parameter_function_name Recall = codes "RCL"
 parameter_function_name Store = codes "STO"
@@ -179,23 +179,23 @@ parameter_function_name TestClear = codes "FC?"
 parameter_function_name Exchange = codes "X<>"
 parameter_function_name Label = codes "LBL"
 
--- RCL and STO of the registers 00 to 15
+-- The names of RCL and STO for the registers 00 to 15.
 abbrev pub register_function_name : RegisterFunction → List ℕ
 register_function_name RecallRegister = parameter_function_name Recall
 register_function_name StoreRegister = parameter_function_name Store
 
--- going and executing
+-- The names of the two branches.
 abbrev pub branch_name : Branch → List ℕ
 branch_name GoTo = codes "GTO"
 branch_name Execute = codes "XEQ"
 
--- functions on a name
+-- The names of the functions on a name.
 abbrev pub name_function_name : NameFunction → List ℕ
 name_function_name GoToName = branch_name GoTo
 name_function_name ExecuteName = branch_name Execute
 name_function_name Wordless = codes "W"
 
--- the characters of numbers, in ASCII
+-- The characters of numbers, in ASCII.
 abbrev pub character_byte : Character → ℕ
 character_byte Zero = 48
 character_byte One = 49

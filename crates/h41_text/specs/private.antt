@@ -1,4 +1,4 @@
--- What the functions of this crate promise one another. No public contract and no law needs these
--- files.
+-- Definitions for the contracts of this crate's private functions. No public contract and no law
+-- uses them.
 pub mod Places
 pub mod TextParts

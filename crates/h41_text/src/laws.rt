@@ -1,4 +1,4 @@
-//! Laws of the text of lines: each is the contract of a function with next to nothing to do.
+//! Laws of the text of lines. Each law is the contract of a function that does little else.
 
 ghost use Rattle.std.specs.Prelude.{◌≡◌, ◌≤◌, length};
 ghost use Rattle.h41_text.specs.LineText.{line_text};
@@ -9,25 +9,26 @@ use crate::write_line;
 use h41_codes::Line;
 use h41_codes::laws::canonical_is_shortest;
 
-/// A line and its canonical line have one text.
+/// A line and its canonical line have the same text.
 pub fn same_text()
     ensures { SameText }
 {}
 
-/// The line text round trip: the text of a line is read as its canonical line, and as no other. The null has no text.
+/// The line text round trip: the text of a line is read as its canonical line, and as no other line. The null is an exception, because it
+/// has no text.
 pub fn line_text_round_trip()
     ensures again { LineTextRoundTrip }
     ensures one { OneLineOfText }
 {}
 
-/// Of all lines with one text the canonical line has the fewest bytes.
+/// Of all lines with the same text, the canonical line has the fewest bytes.
 pub fn shortest_of_text()
     ensures { CanonicalIsShortestOfText }
 {
     canonical_is_shortest();
 }
 
-/// How many characters the text of a line has: at most 51.
+/// Returns the number of characters in the text of a line, at most 51.
 pub fn line_text_fits(line: Line) -> usize
     ensures size { result ≡ length (line_text line) }
     ensures fits { result ≤ 51 }

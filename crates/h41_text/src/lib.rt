@@ -1,4 +1,4 @@
-//! The text of HP-41 program lines, as a listing shows them, and the line of a text.
+//! The text of HP-41 program lines, as a listing shows them: written from a line, and read as a line.
 #![tactic(auto)]
 
 mod faults;

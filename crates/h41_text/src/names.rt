@@ -1,5 +1,5 @@
-//! The names of functions, as a listing shows them, and prompts too. Each stands once: those of functions without and with a
-//! parameter in two lists, of which macros write the look-ups and tables.
+//! The names of functions, as listings and prompts show them. Each name is written once. Those of functions with and without a parameter
+//! are in two lists, from which macros generate look-ups and tables.
 ghost use Rattle.std.specs.Prelude.{◌≡◌, ◌+◌, ◌-◌, ◌<◌, ◌≤◌, length, slice_index_or, []};
 ghost use Rattle.h41_text.specs.LineText.{high_parameters};
 ghost use Rattle.h41_text.specs.Names as spec;
@@ -9,7 +9,7 @@ ghost use Rattle.h41_text.specs.private.TextParts as part;
 use crate::places::{FUNCTION_PLACES, name_hash};
 use h41_codes::{Branch, Character, Function, NameFunction, ParameterFunction, RegisterFunction};
 
-/// Functions without a parameter. `$write` is the macro that writes a table, and `$with` what it writes it with.
+/// The functions without a parameter. `$write` is the macro that generates a table, and `$with` are its arguments.
 macro_rules! functions {
     ($write:ident $with:tt) => {
         $write! { $with Function
@@ -97,7 +97,7 @@ macro_rules! functions {
     };
 }
 
-/// Functions with a parameter.
+/// The functions with a parameter.
 macro_rules! parameter_functions {
     ($write:ident $with:tt) => {
         $write! { $with ParameterFunction
@@ -131,14 +131,14 @@ macro_rules! parameter_functions {
 
 pub(crate) use parameter_functions;
 
-/// Writes the array of the texts of a list.
+/// Generates the array of the texts of a list.
 macro_rules! all_texts {
     (() $kind:ident $($name:ident => $text:literal,)*) => {
         [$($text,)*]
     };
 }
 
-/// Writes the array of the names of a list.
+/// Generates the array of the names of a list.
 macro_rules! all_names {
     (() $kind:ident $($name:ident => $text:literal,)*) => {
         [$($kind::$name,)*]
@@ -148,20 +148,20 @@ macro_rules! all_names {
 /// The functions without a parameter.
 static FUNCTIONS: [Function; 80] = functions!(all_names());
 
-/// Their names, in the order of the functions.
+/// The names of the functions without a parameter, in the order of `FUNCTIONS`.
 static FUNCTION_NAMES: [&str; 80] = functions!(all_texts());
 
-/// The names of the functions with a parameter, in the order of these.
+/// The names of the functions with a parameter, in the order of `ParameterFunction`.
 static PARAMETER_FUNCTION_NAMES: [&str; 24] = parameter_functions!(all_texts());
 
-/// The function without a parameter of a name, or nothing where there is none.
+/// Returns the function without a parameter that has this name, or `None` if there is none.
 pub(crate) fn function_named(name: &[u8]) -> Option<Function>
     ensures { result ≡ part.function_of name.now }
 {
     function_among(&FUNCTIONS, &FUNCTION_PLACES, name)
 }
 
-/// The function of a name, by a table of places.
+/// Returns the function with this name, found by the hash of the name, or `None` if there is none.
 fn function_among(functions: &[Function], places: &[u8], name: &[u8]) -> Option<Function>
     requires { IsPlaced spec.function_name functions.now places.now }
     ensures { result ≡ part.with_text spec.function_name functions.now name.now }
@@ -174,7 +174,7 @@ fn function_among(functions: &[Function], places: &[u8], name: &[u8]) -> Option<
     }
 }
 
-/// The name of a function without a parameter, up to 6 characters.
+/// Returns the name of a function without a parameter, at most 6 characters, for example `SIN`.
 pub(crate) fn function_name(function: Function) -> &'static str
     ensures text { result.now ≡ spec.function_name function }
     ensures bound { length result.now ≤ 6 }
@@ -182,7 +182,7 @@ pub(crate) fn function_name(function: Function) -> &'static str
     FUNCTION_NAMES[function as usize]
 }
 
-/// The name of a function with a parameter, up to 4 characters.
+/// Returns the name of a function with a parameter, at most 4 characters, for example `STO`.
 pub fn parameter_function_name(function: ParameterFunction) -> &'static str
     ensures text { result.now ≡ spec.parameter_function_name function }
     ensures bound { length result.now ≤ 4 }
@@ -190,7 +190,7 @@ pub fn parameter_function_name(function: ParameterFunction) -> &'static str
     PARAMETER_FUNCTION_NAMES[function as usize]
 }
 
-/// The name of a function on one of the first registers.
+/// Returns the name of a function on one of the registers 00 to 15: `RCL` or `STO`.
 pub(crate) fn register_function_name(function: RegisterFunction) -> &'static str
     ensures text { result.now ≡ spec.register_function_name function }
     ensures bound { length result.now ≤ 6 }
@@ -201,7 +201,7 @@ pub(crate) fn register_function_name(function: RegisterFunction) -> &'static str
     }
 }
 
-/// The name of a function on a name.
+/// Returns the name of a function on a name: `GTO`, `XEQ` or `W`.
 pub(crate) fn name_function_name(function: NameFunction) -> &'static str
     ensures text { result.now ≡ spec.name_function_name function }
     ensures bound { length result.now ≤ 3 }
@@ -213,7 +213,7 @@ pub(crate) fn name_function_name(function: NameFunction) -> &'static str
     }
 }
 
-/// The name of going or executing.
+/// Returns the name of a branch: `GTO` or `XEQ`.
 pub fn branch_name(branch: Branch) -> &'static str
     ensures text { result.now ≡ spec.branch_name branch }
     ensures bound { length result.now ≤ 3 }
@@ -224,10 +224,10 @@ pub fn branch_name(branch: Branch) -> &'static str
     }
 }
 
-/// The characters of a number, in their order.
+/// The characters of numbers in ASCII, in the order of `Character`.
 static CHARACTER_BYTES: [u8; 13] = *b"0123456789.E-";
 
-/// A character of a number.
+/// Returns a character of a number in ASCII.
 pub(crate) fn character_byte(character: Character) -> u8
     ensures text { result ≡ spec.character_byte character }
     ensures bound { result < 128 }
@@ -235,7 +235,7 @@ pub(crate) fn character_byte(character: Character) -> u8
     CHARACTER_BYTES[character as usize]
 }
 
-/// The character of a number that a byte stands for, or nothing where there is none.
+/// Returns the character of a number that an ASCII character is, or `None` if it is none.
 pub(crate) fn character_of(byte: u8) -> Option<Character>
     ensures { result ≡ part.character_of byte }
 {
@@ -257,7 +257,7 @@ pub(crate) fn character_of(byte: u8) -> Option<Character>
     })
 }
 
-/// The name of a parameter from 100 on.
+/// Returns the name of a parameter from 100 to 127.
 pub(crate) fn high_parameter(number: u8) -> &'static str
     requires low { 100 ≤ number }
     requires high { number < 128 }

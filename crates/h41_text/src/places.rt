@@ -1,18 +1,18 @@
-//! Where names stand in their lists, by their hashes, as `tools/places` writes it.
+//! The indices of names in their lists, by their hashes. `tools/places` generates the tables.
 
 ghost use Rattle.std.specs.Prelude.{◌≡◌};
 ghost use Rattle.h41_text.specs.private.Places.{name_hash};
 
 use h41_lines::hashes::word_hash;
 
-/// The hash of a name. No two functions without a parameter have one, and no two words in front of operands.
+/// Returns the hash of a name, 0 to 255. No two functions without a parameter have the same hash, and no two leading words.
 pub(crate) fn name_hash(name: &[u8]) -> u8
     ensures { result ≡ name_hash name.now }
 {
     word_hash(name, 18352, 6855)
 }
 
-/// Where in `FUNCTIONS` the one stands whose name has each hash; where none has it, any place.
+/// For each hash, the index in `FUNCTIONS` of the function whose name has it, or any index if there is none.
 pub(crate) static FUNCTION_PLACES: [u8; 256] = [
     0, 0, 38, 0, 0, 76, 0, 0, 0, 27, 0, 0, 40, 0, 67, 0, 0, 25, 0, 0, 4, 42, 0, 13, 49, 0, 60, 0,
     11, 43, 0, 24, 0, 0, 0, 0, 31, 0, 45, 0, 0, 0, 0, 21, 0, 69, 0, 0, 39, 0, 0, 0, 33, 0, 0, 0,
@@ -25,7 +25,7 @@ pub(crate) static FUNCTION_PLACES: [u8; 256] = [
     0, 26, 0, 0, 0, 0, 0, 0, 0, 0, 0, 71, 0, 0, 0, 0, 18, 0, 0, 0, 46, 0, 0, 0, 0, 2, 68,
 ];
 
-/// Where in `WORDS` the one stands whose name has each hash; where none has it, any place.
+/// For each hash, the index in `WORDS` of the word whose name has it, or any index if there is none.
 pub(crate) static WORD_PLACES: [u8; 256] = [
     0, 0, 0, 0, 0, 0, 0, 25, 0, 0, 0, 0, 0, 0, 0, 0, 0, 0, 0, 0, 0, 0, 0, 0, 0, 0, 0, 0, 0, 9, 23,
     0, 0, 0, 0, 0, 0, 0, 0, 0, 0, 0, 0, 1, 0, 0, 20, 0, 0, 0, 0, 3, 0, 0, 0, 0, 0, 0, 0, 0, 0, 0,

@@ -1,4 +1,4 @@
-//! From a text to its line.
+//! The reader, which returns the line of a text.
 ghost use Rattle.std.specs.Prelude.{◌≡◌, ◌≢◌, ◌+◌, ◌-◌, ◌<◌, ◌≤◌, ◌↔◌, ◌++◌, ℕ, length, IsErr};
 ghost use Rattle.std.specs.Prelude.{IsTrue, [], ◌∷◌, IfSome, IfNone, Ok, Some, None};
 ghost use Rattle.arrayvec.specs.ArrayVec.{array_vec_len};
@@ -20,20 +20,20 @@ use h41_codes::{
 };
 use h41_lines::numbers::hexadecimal;
 
-/// The most characters of a text.
+/// The most characters of a text line or a name.
 const TEXT_MOST: usize = 15;
 
 /// The most characters of a number.
 const NUMBER_MOST: usize = 16;
 
-/// The append sign: a text for ALPHA that begins with it is added to what ALPHA holds.
+/// The append sign. A text for ALPHA that begins with it is appended to ALPHA.
 const APPEND: u8 = 0x7F;
 
 /// The characters of a text while it is read.
 type Characters = ArrayVec<u8, TEXT_MOST>;
 
-/// The line of a text, in its shortest spelling. A text is read exactly as `write_line` writes it; what is the text of no
-/// line is refused, and so is the null's, the empty text.
+/// Returns the line with this text, in its shortest spelling. The text must be exactly as `write_line` writes it. BadText (41) if no line
+/// has this text; the empty text of the null is refused too.
 pub fn read_line(text: &[u8]) -> Result<Line, BadText>
     ensures line { (line : AnyLine) → (result ≡ Ok line) ↔ IsTextOf text.now line }
     ensures refused { IsErr result ↔ ((line : AnyLine) → IsTextOf text.now line → ⊥) }
@@ -50,14 +50,14 @@ pub fn read_line(text: &[u8]) -> Result<Line, BadText>
     }
 }
 
-/// Whether this is the text of a line.
+/// Returns whether a line has this text.
 fn has_text(line: &Line, text: &[u8]) -> bool
     ensures { IsTrue result ↔ (line_text line.now ≡ text.now) }
 {
     write_line(*line).as_str().as_bytes() == text
 }
 
-/// The only line that can have a text; it is written again to see whether it has.
+/// Returns the only line that can have this text. The caller compares its text to find out whether it has.
 fn candidate(text: &[u8]) -> Option<Line>
     ensures line { result ≡ part.candidate_line text.now }
     ensures text { IfSome result HasText }
@@ -69,7 +69,7 @@ fn candidate(text: &[u8]) -> Option<Line>
     }
 }
 
-/// The characters of a text that begins with the append sign, as far as that.
+/// Returns the characters of a text that begins with the append sign: so far only this sign.
 fn append_sign() -> Characters
     ensures { result.items ≡ 0x7F ∷ [] }
 {
@@ -78,7 +78,7 @@ fn append_sign() -> Characters
     characters
 }
 
-/// The text for ALPHA of characters and what stands within quotes.
+/// Returns the text line of these characters, followed by those in quotes.
 fn alpha(mut characters: Characters, quoted: &[u8]) -> Option<Line>
     requires { array_vec_len characters ≤ 15 }
     ensures line { result ≡ part.alpha_line characters.items quoted.now }
@@ -89,7 +89,7 @@ fn alpha(mut characters: Characters, quoted: &[u8]) -> Option<Line>
     Some(Line::Text(Text::new(characters)?))
 }
 
-/// Adds characters that stand within quotes, up to the closing quote or until there are 15.
+/// Appends the characters in quotes, up to the closing quote or until there are 15.
 fn push_unquoted(characters: &mut Characters, quoted: &[u8])
     requires { array_vec_len characters.old ≤ 15 }
     ensures { characters.new.items ≡ part.text_behind characters.old.items quoted.now }
@@ -106,7 +106,7 @@ fn push_unquoted(characters: &mut Characters, quoted: &[u8])
     }
 }
 
-/// The first character within quotes, and what stands behind it; nothing where the quotes end.
+/// Returns the first character in quotes and what follows it, or `None` if the quotes end.
 fn first_character(quoted: &[u8]) -> Option<(u8, &[u8])>
     ensures first { IfSome result (λ p. part.first_character quoted.now ≡ Some (p.0, p.1.now)) }
     ensures none { IfNone result (part.first_character quoted.now ≡ None) }
@@ -119,7 +119,7 @@ fn first_character(quoted: &[u8]) -> Option<(u8, &[u8])>
     }
 }
 
-/// The line of a text that begins with no quote.
+/// Returns the line of a text that does not begin with a quote.
 fn unquoted(text: &[u8]) -> Option<Line>
     ensures line { result ≡ part.unquoted_line text.now }
     ensures text { IfSome result HasText }
@@ -133,7 +133,7 @@ fn unquoted(text: &[u8]) -> Option<Line>
     named_line(text)
 }
 
-/// The line of a text that is a minus sign alone, or the number of that sign.
+/// Returns the line of `-`, which is the function, or of `NEG`, which is the number of a lone minus sign. `None` for any other text.
 fn minus(text: &[u8]) -> Option<Line>
     ensures line { result ≡ part.minus_line text.now }
     ensures text { IfSome result HasText }
@@ -145,7 +145,7 @@ fn minus(text: &[u8]) -> Option<Line>
     }
 }
 
-/// The line of a text that begins with a name.
+/// Returns the line of a text that begins with a name.
 fn named_line(text: &[u8]) -> Option<Line>
     ensures line { result ≡ part.cut_line text.now (part.parts_at_blank text.now) }
     ensures text { IfSome result HasText }
@@ -156,7 +156,7 @@ fn named_line(text: &[u8]) -> Option<Line>
     }
 }
 
-/// The number of a text.
+/// Returns the number line of a text, or `None` if it is no number.
 fn number(text: &[u8]) -> Option<Line>
     ensures line { result ≡ part.number_of text.now }
     ensures text { IfSome result HasText }
@@ -171,7 +171,7 @@ fn number(text: &[u8]) -> Option<Line>
     Some(Line::Number(Number::new(&characters[..text.len()])?))
 }
 
-/// A text before its first blank, and behind it; nothing where it has none.
+/// Returns the text before the first space and the text after it, or `None` if there is no space.
 fn cut(text: &[u8]) -> Option<(&[u8], &[u8])>
     ensures parts { IfSome result (λ p. part.parts_at_blank text.now ≡ Some (p.0.now, p.1.now)) }
     ensures none { IfNone result (part.parts_at_blank text.now ≡ None) }
@@ -184,7 +184,7 @@ fn cut(text: &[u8]) -> Option<(&[u8], &[u8])>
     None
 }
 
-/// The line of a name without an operand.
+/// Returns the line of a name without an operand.
 fn lone(name: &[u8]) -> Option<Line>
     ensures line { result ≡ part.lone_line name.now }
     ensures text { IfSome result HasText }
@@ -195,7 +195,7 @@ fn lone(name: &[u8]) -> Option<Line>
     Some(Line::Plain(function_named(name)?))
 }
 
-/// The END or .END. of a name.
+/// Returns the `END` or `.END.` with this name, or `None` for any other name.
 fn end(name: &[u8]) -> Option<Line>
     ensures line { result ≡ part.end_line name.now }
     ensures text { IfSome result HasText }
@@ -207,7 +207,7 @@ fn end(name: &[u8]) -> Option<Line>
     }
 }
 
-/// The line of a word and what stands behind its blank.
+/// Returns the line of a word and the text after its space.
 fn worded(word: LeadingWord, behind: &[u8]) -> Option<Line>
     ensures line { result ≡ part.word_line word behind.now }
     ensures text { IfSome result HasText }
@@ -218,7 +218,7 @@ fn worded(word: LeadingWord, behind: &[u8]) -> Option<Line>
     }
 }
 
-/// The line of a word and a name in quotes.
+/// Returns the line of a word and a name in quotes.
 fn named(word: LeadingWord, quoted: &[u8]) -> Option<Line>
     ensures line { result ≡ part.named_line word (part.unquoted_text 15 quoted.now) }
     ensures text { IfSome result HasText }
@@ -242,7 +242,7 @@ fn named(word: LeadingWord, quoted: &[u8]) -> Option<Line>
     })
 }
 
-/// The line of a word and an operand.
+/// Returns the line of a word and an operand.
 fn with_operand(word: LeadingWord, text: &[u8]) -> Option<Line>
     ensures line { result ≡ part.operand_line word text.now }
     ensures text { IfSome result HasText }
@@ -255,7 +255,7 @@ fn with_operand(word: LeadingWord, text: &[u8]) -> Option<Line>
     }
 }
 
-/// The GTO or XEQ of an operand.
+/// Returns the `GTO` or `XEQ` with an operand.
 fn branch_line(branch: Branch, operand: Operand) -> Line
     ensures line { result ≡ part.branch_line branch operand }
     ensures text { HasText result }
@@ -266,7 +266,7 @@ fn branch_line(branch: Branch, operand: Operand) -> Line
     }
 }
 
-/// The XROM of two numbers.
+/// Returns the `XROM` with the two numbers in this text, or `None` if they are not two numbers in their ranges.
 fn module(text: &[u8]) -> Option<Line>
     ensures line { result ≡ part.module_of text.now }
     ensures text { IfSome result HasText }
@@ -285,7 +285,7 @@ fn module(text: &[u8]) -> Option<Line>
     }
 }
 
-/// The number of two decimal digits.
+/// Returns the number of two decimal digits, or `None` if they are not digits.
 fn two_digits(tens: u8, ones: u8) -> Option<u8>
     ensures value { result ≡ part.two_digits_of tens ones }
     ensures bound { IfSome result (λ number. number < 100) }
@@ -297,7 +297,7 @@ fn two_digits(tens: u8, ones: u8) -> Option<u8>
     }
 }
 
-/// The operand of a text.
+/// Returns the operand of a text, or `None` if it is no operand.
 fn operand(text: &[u8]) -> Option<Operand>
     ensures { result ≡ part.operand_of text.now }
 {
@@ -307,7 +307,7 @@ fn operand(text: &[u8]) -> Option<Operand>
     }
 }
 
-/// What stands behind `IND` and a blank; nothing where a text begins otherwise.
+/// Returns the text after `IND` and a space, or `None` if the text begins otherwise.
 fn behind_ind(text: &[u8]) -> Option<&[u8]>
     ensures rest { IfSome result (λ rest. part.behind_ind text.now ≡ Some rest.now) }
     ensures none { IfNone result (part.behind_ind text.now ≡ None) }
@@ -318,7 +318,7 @@ fn behind_ind(text: &[u8]) -> Option<&[u8]>
     }
 }
 
-/// The parameter of a text.
+/// Returns the parameter of a text, or `None` if it is no parameter.
 fn parameter(text: &[u8]) -> Option<Parameter>
     ensures named { IfSome result (λ number. parameter_text number ≡ text.now) }
     ensures inside { IfSome result (λ number. number < parameter_count) }

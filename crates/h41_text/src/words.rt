@@ -1,4 +1,4 @@
-//! The words in front of operands.
+//! The leading words, which precede operands.
 ghost use Rattle.std.specs.Prelude.{◌≡◌, ◌≤◌, length};
 ghost use Rattle.h41_text.specs.private.Places.{IsPlaced};
 ghost use Rattle.h41_text.specs.private.TextParts.{word_of, word_text, with_text};
@@ -7,20 +7,20 @@ use crate::names::{branch_name, name_function_name, parameter_function_name, par
 use crate::places::{WORD_PLACES, name_hash};
 use h41_codes::{Branch, NameFunction, ParameterFunction};
 
-/// The word in front of an operand.
+/// A leading word, which precedes an operand.
 #[derive(Clone, Copy)]
 pub(crate) enum LeadingWord {
-    /// A function with a parameter, as `STO`.
+    /// A function with a parameter, such as `STO`.
     Function(ParameterFunction),
     /// `GTO` or `XEQ`.
     Branch(Branch),
-    /// `W`, which stands in front of a text alone.
+    /// `W`, which only precedes a name in quotes.
     Wordless,
     /// `XROM`.
     Module,
 }
 
-/// Writes the array of all words from the list of functions with a parameter.
+/// Generates the array of all leading words from the list of functions with a parameter.
 macro_rules! all_words {
     (() $kind:ident $($name:ident => $text:literal,)*) => {
         [
@@ -33,18 +33,18 @@ macro_rules! all_words {
     };
 }
 
-/// All words.
+/// All leading words.
 static WORDS: [LeadingWord; 28] = parameter_functions!(all_words());
 
 impl LeadingWord {
-    /// The word of a name, or nothing where there is none.
+    /// Returns the leading word with this name, or `None` if there is none.
     pub(crate) fn named(name: &[u8]) -> Option<LeadingWord>
         ensures { result ≡ word_of name.now }
     {
         word_among(&WORDS, &WORD_PLACES, name)
     }
 
-    /// The name of a word.
+    /// Returns the name of a leading word.
     fn name(self) -> &'static str
         ensures { result.now ≡ word_text self }
     {
@@ -57,7 +57,7 @@ impl LeadingWord {
     }
 }
 
-/// The word of a name, by a table of places.
+/// Returns the leading word with this name, found by the hash of the name, or `None` if there is none.
 fn word_among(words: &[LeadingWord], places: &[u8], name: &[u8]) -> Option<LeadingWord>
     requires { IsPlaced word_text words.now places.now }
     ensures { result ≡ with_text word_text words.now name.now }

@@ -1,4 +1,4 @@
-//! From a line to its text.
+//! The writer, which returns the text of a line.
 ghost use Rattle.std.specs.Prelude.{◌≡◌, ◌+◌, ◌<◌, ◌≤◌, [], ◌∷◌, ◌++◌, length};
 ghost use Rattle.arrayvec.specs.ArrayString.{array_string_len};
 ghost use Rattle.h41_codes.specs.declared.line.Line.TheVariants as line;
@@ -15,16 +15,18 @@ use arrayvec::ArrayString;
 use h41_codes::{Branch, Character, EntryNumber, Line, ModuleNumber, Operand, ParameterFunction};
 use h41_lines::characters::{character_text, escaped, two_digits};
 
-/// How many characters a text has room for. The longest needs 51: `GTO ""`, and within the quotes 15 characters of three each.
+/// The capacity of a line's text, in characters. The longest text has 51: `GTO ""`, and in the quotes 15 characters that are written as
+/// three each.
 pub const TEXT_CAPACITY: usize = 64;
 
 /// The text of a line.
 type LineText = ArrayString<TEXT_CAPACITY>;
 
-/// The append sign: a text for ALPHA that begins with it is added to what ALPHA holds.
+/// The append sign. A text for ALPHA that begins with it is appended to ALPHA.
 const APPEND: u8 = 0x7F;
 
-/// The text of a line. Two spellings of a line have one text; the null's is empty.
+/// Returns the text of a line, at most 51 characters. Two spellings of a line have the same text, and the text of the null is empty.
+/// docs/PROGRAMS.md describes the texts.
 pub fn write_line(line: Line) -> ArrayString<TEXT_CAPACITY>
     ensures text { result.bytes ≡ line_text line }
     ensures fits { length result.bytes ≤ 51 }
@@ -64,7 +66,7 @@ pub fn write_line(line: Line) -> ArrayString<TEXT_CAPACITY>
     }
 }
 
-/// A name alone.
+/// Returns a name alone.
 fn alone(name: &str) -> LineText
     requires { length name.now ≤ 6 }
     ensures text { result.bytes ≡ name.now }
@@ -75,7 +77,7 @@ fn alone(name: &str) -> LineText
     text
 }
 
-/// A name and a blank.
+/// Returns a name and a space.
 fn begun(name: &str) -> LineText
     requires { length name.now ≤ 6 }
     ensures text { result.bytes ≡ name.now ++ 0x20 ∷ [] }
@@ -86,7 +88,7 @@ fn begun(name: &str) -> LineText
     text
 }
 
-/// A name and a number of two digits.
+/// Returns a name and a number of two digits.
 fn numbered(name: &str, number: u8) -> LineText
     requires name { length name.now ≤ 6 }
     requires number { number < 100 }
@@ -98,7 +100,7 @@ fn numbered(name: &str, number: u8) -> LineText
     text
 }
 
-/// A name and an operand.
+/// Returns a name and an operand.
 fn with_operand(name: &str, operand: Operand) -> LineText
     requires { length name.now ≤ 6 }
     ensures text { result.bytes ≡ name.now & spec.operand_text operand }
@@ -115,7 +117,7 @@ fn with_operand(name: &str, operand: Operand) -> LineText
     text
 }
 
-/// A name and a text in quotes, of at most 15 characters.
+/// Returns a name and a text in quotes of at most 15 characters.
 fn named(name: &str, characters: &[u8]) -> LineText
     requires name { length name.now ≤ 3 }
     requires characters { length characters.now ≤ 15 }
@@ -127,7 +129,7 @@ fn named(name: &str, characters: &[u8]) -> LineText
     text
 }
 
-/// An XROM and its two numbers.
+/// Returns the text of an `XROM` with its two numbers.
 fn module(number: ModuleNumber, entry: EntryNumber) -> LineText
     ensures text { result.bytes ≡ line_text (line.Module number entry) }
     ensures most { length result.bytes ≤ 12 }
@@ -138,7 +140,7 @@ fn module(number: ModuleNumber, entry: EntryNumber) -> LineText
     text
 }
 
-/// A number of at most 16 characters.
+/// Returns the text of a number of at most 16 characters.
 fn number_line(characters: &[Character]) -> LineText
     requires { length characters.now ≤ 16 }
     ensures text { result.bytes ≡ spec.number_line characters.now }
@@ -154,7 +156,7 @@ fn number_line(characters: &[Character]) -> LineText
     text
 }
 
-/// A text for ALPHA, of at most 15 characters.
+/// Returns the text of a text line of at most 15 characters.
 fn alpha(characters: &[u8]) -> LineText
     requires { length characters.now ≤ 15 }
     ensures text { result.bytes ≡ text_line characters.now }
@@ -171,7 +173,7 @@ fn alpha(characters: &[u8]) -> LineText
     text
 }
 
-/// Adds an ASCII character.
+/// Appends an ASCII character.
 fn push_ascii(text: &mut LineText, character: u8)
     requires room { array_string_len text.old < TEXT_CAPACITY }
     requires ascii { character < 128 }
@@ -180,7 +182,7 @@ fn push_ascii(text: &mut LineText, character: u8)
     text.push(char::from(character));
 }
 
-/// Adds a number below 100 in two decimal digits.
+/// Appends a number below 100 as two decimal digits.
 fn push_two_digits(text: &mut LineText, number: u8)
     requires room { array_string_len text.old + 2 ≤ TEXT_CAPACITY }
     requires number { number < 100 }
@@ -189,7 +191,7 @@ fn push_two_digits(text: &mut LineText, number: u8)
     text.push_str(two_digits(number).as_str());
 }
 
-/// Adds the text of a parameter.
+/// Appends the text of a parameter.
 fn push_parameter(text: &mut LineText, number: u8)
     requires room { array_string_len text.old + 6 ≤ TEXT_CAPACITY }
     requires number { number < parameter_count }
@@ -203,7 +205,7 @@ fn push_parameter(text: &mut LineText, number: u8)
     }
 }
 
-/// Adds a text of at most 15 characters in quotes.
+/// Appends a text of at most 15 characters in quotes.
 fn push_quoted(text: &mut LineText, characters: &[u8])
     requires room { array_string_len text.old ≤ 4 }
     requires characters { length characters.now ≤ 15 }
@@ -217,7 +219,7 @@ fn push_quoted(text: &mut LineText, characters: &[u8])
     text.push_str("\"");
 }
 
-/// A character of a text: as the display shows it, but `"` too is `\` and two hexadecimal digits.
+/// Returns a character of a text as the display shows it. A quote is an exception: it is written as `\` and two hexadecimal digits.
 fn character_quoted(character: u8) -> ArrayString<3>
     ensures { result.bytes ≡ spec.character_quoted character }
 {

@@ -3,10 +3,10 @@ use Rattle.h41_positions.proofs.PageWalks.{Asks}
 use Rattle.h41_program.specs.Numbering.{numbered_in}
 use Rattle.h41_positions.proofs.page_lines.numbered_from.Given as goal
 
--- what is asked of the lines that are left
+-- The question about the remaining lines.
 abbrev pub invariant-loop-found : goal.invariant-loop-found
 invariant-loop-found l = Asks l.code l.from l.at (numbered_in l.number) (numbered_in l.left)
 
--- the bytes that are left
+-- The number of remaining bytes.
 abbrev pub decreases-loop-found : goal.decreases-loop-found
 decreases-loop-found l = length l.code - l.at

@@ -68,7 +68,7 @@ pub fn end_of(code: &[u8], begins: &[u16], at: u16) -> Option<u16>
     end_from(code, start_of(code, begins, at))
 }
 
-/// Returns the number of the line at exactly the offset `at` in its program, where the first line has number 1. `None` if its program has
+/// Returns the number of the line at exactly the offset `at` in its program. The first line has number 1. `None` if its program has
 /// no line there.
 pub fn line_number(code: &[u8], begins: &[u16], at: u16) -> Option<u16>
     requires size { length code.now ≤ 4096 }

@@ -240,7 +240,7 @@ pub fn end_of<const REGS: usize>(ram: &Ram<REGS>, pages: &Pages, at: Position) -
     }
 }
 
-/// Returns the number of the line at exactly this position in its program, where the first line has number 1. `None` if the list of lines
+/// Returns the number of the line at exactly this position in its program. The first line has number 1. `None` if the list of lines
 /// from the program's start to its end has no line at the position.
 pub fn line_number<const REGS: usize>(
     ram: &Ram<REGS>,

@@ -1,4 +1,4 @@
--- ALPHA's 24 bytes.
+-- The 24 bytes of ALPHA.
 use Rattle.std.proofs.Common.{◌≡◌, ℕ, ◌+◌, ◌-◌, ◌≤◌, min, List, ◌++◌, length, take, drop, replicate, length-append, inl, inr, refl, ap, sym}
 use Rattle.std.proofs.Common.{◌∙◌, arith}
 use Rattle.std.proofs.lemmas.Bool.{cases_lt}
@@ -6,11 +6,11 @@ use Rattle.std.proofs.lemmas.List.{append-nil, drop-append-le, drop-drop, drop_a
 use Rattle.h41_rows.specs.RowEffects.{last_24}
 use borrow.Rule.Slice.PartMut.{post_of, put_mid}
 
--- behind nulls alone a text stands as it does alone
+-- A text after nulls alone is stored as the text alone.
 pub over_nulls : (text : List ℕ) → last_24 (replicate 24 0 ++ text) ≡ last_24 text
 over_nulls text = refl
 
--- behind 24 bytes, as many of them go as come
+-- After 24 bytes, as many bytes drop out as are appended.
 last_behind : (old text : List ℕ) → length old ≡ 24 → last_24 (old ++ text) ≡ drop (length text) (old ++ text)
 last_behind old text size =
     let long : length (old ++ text) ≡ 24 + length text = length-append old text ∙ ap (λ n. n + length text) size in
@@ -18,7 +18,7 @@ last_behind old text size =
     ∙ sym (drop-drop (length text) 24 (replicate 24 0 ++ (old ++ text)))
     ∙ ap (drop (length text)) (drop_at (replicate 24 0) (old ++ text) 24 refl)
 
--- those that stay, and those that come
+-- The bytes that remain, and those that are appended.
 kept_and_new : (old text : List ℕ) → length old ≡ 24
     → drop (min (length text) 24) old ++ drop (length text - 24) text ≡ drop (length text) (old ++ text)
 kept_and_new old text size = elim (cases_lt 24 (length text)) [
@@ -38,7 +38,7 @@ kept_and_new old text size = elim (cases_lt 24 (length text)) [
       ∙ sym (drop-append-le (length text) old text (omega (arith, short, size)))
 ]
 
--- a part that was written at the end
+-- A part that was written at the end.
 written_end : (front rest last : List ℕ) (a k : ℕ) → length front ≡ a → length (front ++ rest) ≤ a + k
     → put_mid a k (front ++ rest) last ≡ front ++ last
 written_end front rest last a k size most =
@@ -46,7 +46,7 @@ written_end front rest last a k size most =
     ∙ ap (λ (l : List ℕ). front ++ (last ++ l)) (drop_all k (drop a (front ++ rest)) (omega (arith, length-drop a (front ++ rest), most)))
     ∙ ap (λ (l : List ℕ). front ++ l) (append-nil last)
 
--- a text that was written behind another
+-- A text that was appended to another.
 pub put : (old text last front part : List ℕ) (from : ℕ) → length old ≡ 24 → from ≡ length text - 24
     → last ≡ take (length text - from) (drop from text) → front ≡ take (24 - length last) (drop (length last) old) → part ≡ last
     → put_mid (24 - length last) (24 - (24 - length last)) (front ++ drop (24 - length last) (replicate 24 0)) part ≡ last_24 (old ++ text)
@@ -68,7 +68,7 @@ put old text last front part from size is_from is_last is_front is_part =
     ∙ kept_and_new old text size
     ∙ sym (last_behind old text size)
 
--- what stands behind the first six
+-- The characters after the first six.
 pub past_six : (shown : List ℕ) (first : ℕ) → first ≡ min (length shown) 6 → take (length shown - first) (drop first shown) ≡ drop 6 shown
 past_six shown first is_first = take_rest shown first ∙ (elim (cases_lt (length shown) 6) [
   | inl few ↦ drop_all first shown (omega (arith, is_first, few)) ∙ sym (drop_all 6 shown (omega (arith, few)))

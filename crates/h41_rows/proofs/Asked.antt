@@ -1,4 +1,4 @@
--- Tests of numbers tell what their conditions ask.
+-- The tests of numbers return the truth of their conditions.
 use Rattle.std.proofs.Common.{◌≡◌, ℕ, List, true, Bool, sym, ◌∙◌, ap, Option, Some, None, Result, Ok, Err}
 use Rattle.std.specs.Prelude.{ℤ, pos, ◌&&◌, MatchBool, is_some}
 use Rattle.std.specs.Option.{option_map_or}
@@ -32,7 +32,7 @@ asked_right : (g : ℤ → ℤ → Bool) (a wa : Option ℤ) (z : ℤ) (result :
 asked_right g (Some x) wa z result ea e = e ∙ ap (λ o. Ok (g z (option_map_or (λ n. n) o (pos 0)))) (sym ea)
 asked_right g None wa z result ea e = e
 
--- the same of registers
+-- The same for registers.
 pub registers_asked : (g : ℤ → ℤ → Bool) (x y : List ℕ) (a b : Option ℤ) (result : Result Bool LineFault) → a ≡ worth (holding_of x)
     → b ≡ worth (holding_of y) → result ≡ answer_of_comparison g a b
     → MatchBool (is_some (number_in x) && (is_some (number_in y) && true))

@@ -12,7 +12,7 @@ use Rattle.std.proofs.lemmas.List.FromFn.{get_or-map-range_with_len, length-map-
 use Rattle.h41_ram.specs.RegisterMap.{RegisterMap, curtain_of, main_start, register_at, with_register, zeros}
 use Rattle.h41_rows.specs.RowEffects.{cleared_register, with_cleared_data}
 
--- a register of main memory, by its place there
+-- A register of main memory, by its index there.
 at_main : (memory : RegisterMap) (k : ℕ) → register_at memory (main_start + k) ≡ get_or memory.main k zeros
 at_main memory k =
     let low : nat_lt (192 + k) 16 ≡ false = grind (arith, nat_tests) in
@@ -37,7 +37,7 @@ with_main memory k register =
     ∙ ap (λ (test : Bool). if test then memory else written (192 + k - 192)) gap
     ∙ ap written same
 
--- below the curtain it is kept, from there on it is zero
+-- Below the curtain a register is unchanged, from there on it is zero.
 kept : (memory : RegisterMap) (k : ℕ) → 192 + k < curtain_of memory → cleared_register memory (main_start + k) ≡ get_or memory.main k zeros
 kept memory k below =
     let test : nat_lt (192 + k) (curtain_of memory) ≡ true = grind (arith, nat_tests) in
@@ -48,7 +48,7 @@ gone memory k above =
     let test : nat_lt (192 + k) (curtain_of memory) ≡ false = grind (arith, nat_tests) in
     ap (λ (t : Bool). if t then register_at memory (192 + k) else zeros) test
 
--- registers with zeros from one place to another
+-- Registers with zeros from one index to another.
 pub zeros_from : List (List ℕ) → ℕ → ℕ → List (List ℕ)
 zeros_from main first place = (take first main ++ replicate (place - first) zeros) ++ drop place main
 
@@ -85,7 +85,7 @@ zeros_more main first place from inside =
     ∙ sym (append_assoc (take first main) (replicate (place + 1 - first) zeros) (drop (suc place) main))
     ∙ ap (λ i. (take first main ++ replicate (place + 1 - first) zeros) ++ drop i main) (sym (add-one place))
 
--- memory with these, and one more register written
+-- Memory with these registers, and one more register written.
 pub partly_cleared : RegisterMap → ℕ → ℕ → RegisterMap
 partly_cleared memory first place = record memory { main = zeros_from memory.main first place }
 
@@ -104,7 +104,7 @@ cleared_more memory before after first place register from inside same cleared w
     ∙ with_main (partly_cleared memory first place) place zeros
     ∙ ap (λ (main : List (List ℕ)). record memory { main = main }) (zeros_more memory.main first place from inside)
 
--- the registers in front of a place, and zeros
+-- The registers before an index, and zeros.
 module _ (memory : RegisterMap) (first : ℕ) (is_first : first ≡ min (curtain_of memory - 192) (length memory.main)) where
   abbrev front : List (List ℕ)
   front = take first memory.main

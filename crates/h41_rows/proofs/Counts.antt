@@ -1,4 +1,4 @@
--- The ones and the fraction of a number that counts a loop.
+-- The integer part and the fraction of a loop's counter.
 use Rattle.std.proofs.Common.{◌≡◌, ℕ, true, false, zero, suc, ◌+◌, ◌-◌, ◌*◌, ◌/◌, ◌%◌, ◌^◌, ◌<◌, ◌≤◌, ◌⊎◌, inl, inr, ⊎_elim, sym, ◌∙◌, ap}
 use Rattle.std.proofs.Common.{refl, subst, arith}
 use Rattle.std.specs.Prelude.{ℤ, pos, negsuc, ◌+ℤ◌, ◌-ℤ◌, unsigned_abs}
@@ -24,7 +24,7 @@ use Rattle.h41_decimal.proofs.Wholes.{all_ones, ten_of_fewer, filled_worth}
 use Rattle.h41_rows.specs.Counters.{count_of, counter_of, fraction_of}
 use Rattle.h41_rows.specs.private.Counting.{count_in, number_along, with_ones}
 
--- a whole number of up to ten digits, filled with zeros
+-- A whole number of at most ten digits, filled with zeros.
 pub log_few : (log n : ℕ) → 10 ^ log ≤ n → n < 10 ^ 10 → log ≤ 9
 log_few log n least few =
     ⊎_elim
@@ -45,7 +45,7 @@ whole_worth log n p is fits =
     let steps : 108 - (9 - log) ≡ 99 + log = omega arith in
     ap (λ (t : ℕ). n * p * 10 ^ t) (sym steps) ∙ filled_worth n (9 - log) 108 p is (omega arith)
 
--- the size of a fraction
+-- The size of a fraction.
 signed_self : (z : ℤ) → z ≡ with_sign (sign_of z) (unsigned_abs z)
 signed_self (pos n) = refl
 signed_self (negsuc n) = refl
@@ -70,7 +70,7 @@ rest_size number rest sign x fraction is =
     sym (unsigned_abs-signed sign (size x))
     ∙ (ap (λ (t : Ten). unsigned_abs (units t)) (sym is) ∙ fraction_size (units number) (units rest) fraction)
 
--- a number with a fraction has not more than nine digits in front of it
+-- A number with a fraction has at most nine digits before it.
 small_size : (m s : ℕ) → m < 10 ^ 10 → 0 < m * 10 ^ s % 10 ^ 108 → m * 10 ^ s < 10 ^ 9 * 10 ^ 108
 small_size m s below rest =
     ⊎_elim
@@ -92,7 +92,7 @@ small_with_fraction (Nonzero sign x) some =
 pub few_ones : (number : Ten) (x : Magnitude) → size x ≡ fraction_of (units number) → unsigned_abs (units number) < 10 ^ 9 * 10 ^ 108
 few_ones number x same = small_with_fraction number (subst (λ (t : ℕ). 0 < t) same (size_pos x))
 
--- a number with no fraction counts 1
+-- A number without a fraction counts by 1.
 one_step : (s d : Sign) (q : ℕ) → with_ones (with_sign s q +ℤ with_sign d 1) 0 ≡ with_sign s (q * one) +ℤ with_sign d one
 one_step Plus Plus q = omega (arith, ints)
 one_step Plus Minus zero = omega (arith, ints)
@@ -124,7 +124,7 @@ counts_whole z d none =
     ∙ (one_step (sign_of z) d q
     ∙ (ap (λ (t : ℕ). with_sign (sign_of z) t +ℤ with_sign d one) whole ∙ ap (λ (t : ℤ). t +ℤ with_sign d one) (sym (signed_self z))))
 
--- a number with a fraction, by its ones
+-- A number with a fraction, by its integer part.
 pub counts_ones : (z : ℤ) (s d : Sign) (ones count rest : ℕ) → s ≡ sign_of z → HasOnes (unsigned_abs z) ones → count ≡ count_in rest
     → rest ≡ fraction_of z → with_ones (with_sign s ones +ℤ with_sign d count) rest ≡ number_along d z
 counts_ones z s d ones count rest sign has counts fraction =
@@ -136,13 +136,13 @@ counts_ones z s d ones count rest sign has counts fraction =
     ∙ (ap (λ (t : ℕ). with_ones (counter_of z +ℤ with_sign d t) rest) counts
     ∙ ap (λ (f : ℕ). with_ones (counter_of z +ℤ with_sign d (count_in f)) f) fraction))
 
--- a number of which all is moved, where its ones keep their sign
+-- If the integer part keeps its sign, the increment is added to the whole number.
 with_signed : (s : Sign) (n f : ℕ) → 0 < n → with_ones (with_sign s n) f ≡ with_sign s (n * one + f)
 with_signed s n f some =
     ap (λ (t : Sign). with_sign t (unsigned_abs (with_sign s n) * one + f)) (sign_of-signed s n some)
     ∙ ap (λ (k : ℕ). with_sign s (k * one + f)) (unsigned_abs-signed s n)
 
--- ones with a sign that are counted, in the four ways of `stepped`
+-- An integer part with a sign that is counted, in the four cases of `stepped`.
 counted_apart : (s d : Sign) (q c : ℕ) → false ≡ sameb the_type s d → with_sign s q +ℤ with_sign d c ≡ with_sign s q -ℤ with_sign s c
 counted_apart s d q c apart =
     ap (λ (t : Sign). with_sign s q +ℤ with_sign t c) (signs_apart s d apart) ∙ minus_same_sign s q c

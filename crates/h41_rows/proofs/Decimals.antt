@@ -7,7 +7,7 @@ use Rattle.h41_decimal.specs.WholeParts.{HasOnes}
 use Rattle.h41_decimal.proofs.Cuts.{power_parts}
 use Rattle.h41_decimal.proofs.Nearest.{ten_pow_pos}
 
--- a size below 1 has a low exponent
+-- A size below 1 has a low exponent.
 pub low_exponent : (m b : ℕ) → 10 ^ 9 ≤ m → m * 10 ^ b < 10 ^ 108 → b ≤ 98
 low_exponent m b large below =
     ⊎_elim
@@ -33,7 +33,7 @@ shifted m b =
     let q : m * (10 ^ b * 10 ^ 5) ≡ m * 10 ^ (b + 5) = ap (λ t. m * t) p in
     omega arith
 
--- its ones five places up
+-- The integer part after the radix mark is moved five places to the right.
 pub shifted_ones : (m b n : ℕ) → HasOnes (m * 10 ^ (b + 5)) n → n ≡ m * 10 ^ b / 10 ^ 103
 shifted_ones m b n has =
     let s = shifted m b in

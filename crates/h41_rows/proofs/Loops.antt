@@ -1,4 +1,4 @@
--- A counter of 10^10 and more is above each final value, and so is told from none there.
+-- A counter of 10^10 or more is above each final value, so that all of them can be treated alike.
 use Rattle.std.proofs.Common.{◌≡◌, ℕ, ◌+◌, ◌/◌, ◌%◌, ◌^◌, ◌<◌, ◌≤◌, ⊎_elim, sym, ◌∙◌, ap, arith, Bool, true, false}
 use Rattle.std.specs.Prelude.{ℤ, pos, neg_ℤ, ◌+ℤ◌, ◌-ℤ◌, int_le, int_lt, unsigned_abs, nat_lt, ◌==◌, if◌then◌else◌}
 use Rattle.std.proofs.lemmas.Bool.{cases_lt}
@@ -69,7 +69,7 @@ down_few s q c f small low =
 last_of : (n : ℕ) → n / 10 ^ 103 / 100 ≡ n / 10 ^ 105
 last_of n = omega arith
 
--- from the parts of a number
+-- The same from the parts of a number.
 pub goes_on_up : (a n : ℤ) (s : Sign) (o d c : ℕ) (r : Bool) → n ≡ a → s ≡ sign_of n → o ≡ told_ones (unsigned_abs n / one)
     → d ≡ fraction_of n / 10 ^ 103 → c ≡ (if d % 100 == 0 then 1 else d % 100) → c < 100 → d < 100000
     → r ≡ int_le (with_sign s o +ℤ pos c) (pos (d / 100)) → r ≡ goes_on Up a

@@ -1,4 +1,4 @@
--- Writes that leave the mark of sound memory, and calls in turn that do.
+-- Writes that do not change the dirty flag of sound memory, and sequences of calls that do not.
 use Rattle.std.proofs.Common.{◌≡◌, ◌≢◌, ℕ, ◌+◌, ◌<◌, ◌≤◌, Bool, true, false, List, [], ◌∷◌, refl, sym, ap, arith, ◌∙◌}
 use Rattle.std.specs.Prelude.{nat_lt, nat_le, ◌&&◌, ◌||◌, ◌==◌, IsFalse, IsTrue}
 use Rattle.std.proofs.lemmas.Bool.{ltb-true}
@@ -9,7 +9,7 @@ use Rattle.h41_ram.specs.RamState.{RamState, KeepsMark, SameProgram, exists_at, 
 use Rattle.h41_ram.proofs.Marks.{in_turn as turned, stays}
 use Rattle.h41_rows.specs.RowMarks.{IsApart, LeavesMark}
 
--- what sound memory is
+-- The conditions of sound memory.
 record Sound (memory : RegisterMap) : Type 0 where
   constant : (constant_of memory == 0x169) ≡ true
   end : 192 ≤ end_of memory
@@ -26,7 +26,7 @@ sound_parts memory sound = record {
   final = grind (arith, nat_tests);
 }
 
--- registers that are of no program where memory is sound: the status registers but c, and those from the curtain on
+-- Registers that contain no program if memory is sound: the status registers except c, and those from the curtain on.
 apart_test : (c e k : ℕ) (there : Bool) → c ≢ 13 → (192 ≤ e) → e < k → (c < 192) → (there && (c == 13 || nat_le e c && nat_lt c k)) ≡ false
 apart_test c e k there other low order below =
     let no_c : (c == 13) ≡ false = grind (arith, nat_tests) in
@@ -60,7 +60,7 @@ data_apart memory address sound above =
     let is = sound_parts memory sound in
     apart_above address (end_of memory) (curtain_of memory) (exists_at memory address) is.end is.below above
 
--- memory with the same program
+-- Memory with the same program.
 module _ (memory other : RegisterMap) (same : SameProgram memory other) where
   same_end : end_of other ≡ end_of memory
   same_end = sym (ap (λ (c : List ℕ). three_digits c 0) same.c)
@@ -104,12 +104,12 @@ module _ (memory other : RegisterMap) (same : SameProgram memory other) where
       ∙ ap (λ (k : ℕ). exists_at memory address && (address == 13 || nat_le (end_of memory) address && nat_lt address k)) same_curtain
       ∙ apart
 
--- calls in turn, of which the second is asked only where the mark was left clear
+-- Two calls in turn. Nothing is required of the second unless the dirty flag was clear after the first.
 in_turn : (old middle new : Bool) → middle ≡ old → (IsTrue middle → IsTrue new) → (IsFalse middle → new ≡ middle) → new ≡ old
 in_turn old true new same set clear = set refl ∙ same
 in_turn old false new same set clear = clear refl ∙ same
 
--- what calls in turn made of memory so far
+-- The effect of the calls so far.
 pub record Passed (old new : RamState) : Type 0 where
   pub keeps : KeepsMark old new
   pub left : LeavesMark old new
@@ -117,7 +117,7 @@ pub record Passed (old new : RamState) : Type 0 where
 pub none_yet : (ram : RamState) → Passed ram ram
 none_yet ram = record { keeps = stays ram; left = λ sound. refl }
 
--- one more call, asked only where the program is still as it was
+-- One more call. Something is required of it only if the program is unchanged so far.
 pub then_apart : (old middle new : RamState) → Passed old middle → KeepsMark middle new
     → (IsTrue (is_sound old.registers) → SameProgram old.registers middle.registers → new.touched ≡ middle.touched)
     → Passed old new
@@ -133,7 +133,7 @@ then_left old middle new first second then =
     then_apart old middle new first second
     (λ sound same. then (same_sound old.registers middle.registers same sound))
 
--- writes
+-- Writes of registers.
 one_apart : (was sets : Bool) → IsFalse sets → (was || (sets || false)) ≡ was
 one_apart true false apart = refl
 one_apart false false apart = refl
@@ -147,7 +147,7 @@ pub left_by_write : (ram new : RamState) (address : ℕ) → new.touched ≡ mar
     → (IsTrue (is_sound ram.registers) → IsApart ram.registers address) → LeavesMark ram new
 left_by_write ram new address written apart sound = left_by_apart ram new address written (apart sound)
 
--- of a status register in front of c, and of d
+-- Writes of a status register before c, and of d.
 pub left_by_status : (ram new : RamState) (address : ℕ) → new.touched ≡ marked_by (address ∷ []) ram
     → nat_lt address 13 ≡ true → LeavesMark ram new
 left_by_status ram new address written below =

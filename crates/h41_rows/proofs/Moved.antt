@@ -1,4 +1,4 @@
--- A size that is moved by whole ones, where this changes its digits alone.
+-- A size that is changed by whole ones, if only its digits change.
 use Rattle.std.proofs.Common.{◌≡◌, ℕ, ◌+◌, ◌-◌, ◌*◌, ◌<◌, Bool, true, false, sym, ◌∙◌, ap, arith}
 use Rattle.std.specs.Prelude.{◌+ℤ◌}
 use denote.Enum.Bare.{sameb}
@@ -10,7 +10,7 @@ use Rattle.h41_decimal.proofs.Signed.{signed-add, signed-sub}
 use Rattle.h41_decimal.proofs.Tens.{minus_same_sign, signs_apart, signs_same}
 use Rattle.h41_rows.specs.private.Counting.{IsMovedSize}
 
--- its digits, of which u count one
+-- Its digits, of which u units of the last make 1.
 pub moved_up : (grows : Bool) (m c u p digits : ℕ) → grows ≡ true → digits ≡ m + c * u → u * p ≡ one
     → IsMovedSize grows (m * p) (c * one) (digits * p)
 moved_up true m c u p digits way digits_is unit =
@@ -28,7 +28,7 @@ moved_down false m c u p digits way digits_is some unit =
     let f : c * (u * p) ≡ c * one = ap (λ t. c * t) unit in
     omega (arith, e, f)
 
--- with its sign
+-- The same with a sign.
 pub moved_units : (grows : Bool) (s d : Sign) (x step y : ℕ) → grows ≡ sameb the_type s d → IsMovedSize grows x step y
     → with_sign s x +ℤ with_sign d step ≡ with_sign s y
 moved_units true s d x step y way is =

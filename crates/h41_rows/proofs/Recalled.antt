@@ -1,4 +1,4 @@
--- A register as it comes into ALPHA.
+-- The text of a register that is appended to ALPHA.
 use Rattle.std.specs.Prelude.{◌≡◌, ◌≢◌, ℕ, Bool, true, false, List, Option, Some, None, ℤ, pos, slice_index, ◌==◌, ◌&&◌, if◌then◌else◌}
 use Rattle.std.specs.Prelude.{refl}
 use Rattle.std.proofs.Common.{ap, sym, ◌∙◌, arith}
@@ -14,7 +14,7 @@ never true false other = refl
 never false true other = refl
 never false false other = refl
 
--- no number has the mark of ALPHA data
+-- No number has the digit of ALPHA data in place 13.
 no_number : (mantissa exponent : Option ℕ) → parts_worth mantissa exponent 1 ≡ None
 no_number (Some m) (Some e) = never (m == 0) (e == 0) None
 no_number (Some m) None = refl
@@ -26,7 +26,7 @@ marked mantissa exponent register place =
     ap (λ n. holding n register) (ap (parts_worth mantissa exponent) place ∙ no_number mantissa exponent)
     ∙ ap (λ (digit : ℕ). if digit == 1 then Text (text_in register) else Other) place
 
--- ALPHA data comes as its characters
+-- The text of ALPHA data is its characters.
 pub recall_text-bytes : (format : Format) (register : List ℕ) → slice_index register 13 ≡ 1
     → recall_text format register (holding_of register) ≡ text_in register
 recall_text-bytes format register place =
@@ -42,7 +42,7 @@ unmarked format None register test =
     ap (λ (b : Bool). holding_text format register (if b then Text (text_in register) else Other)) test
     ∙ sym (ap (λ (b : Bool). recall_text format register (if b then Text (text_in register) else Other)) test)
 
--- all else comes as the display shows it
+-- The text of other registers is as the display shows them.
 pub recall_text-shown : (format : Format) (register : List ℕ) → slice_index register 13 ≢ 1
     → register_text format register ≡ recall_text format register (holding_of register)
 unfolding register_text

@@ -1,11 +1,11 @@
--- Status registers in front of c, and flags, that are written in turn: the registers behind them, and the mark.
+-- Writes of status registers before c, and of flags, one after another: the registers after them, and the dirty flag.
 use Rattle.std.proofs.Common.{◌≡◌, ℕ, Bool, true, List, refl, ap, ◌∙◌}
 use Rattle.std.specs.Prelude.{nat_lt}
 use Rattle.h41_ram.specs.RegisterMap.{RegisterMap, with_flag, with_register}
 use Rattle.h41_ram.specs.RamState.{RamState, KeepsMark, with_flag_written, with_written}
 use Rattle.h41_rows.proofs.MarksLeft.{Passed, none_yet, then_flag, then_status}
 
--- what was written so far
+-- The state after the writes so far.
 pub record Wrote (old : RamState) (memory : RegisterMap) (new : RamState) : Type 0 where
   pub registers : new.registers ≡ memory
   pub passed : Passed old new
@@ -24,7 +24,7 @@ then_written old middle new memory address register source first written keeps i
       then_status old middle new address first.passed keeps (ap (λ (ram : RamState). ram.touched) written) below;
 }
 
--- flags in turn
+-- Writes of flags, one after another.
 pub then_flag_written : (old middle new : RamState) (memory : RegisterMap) (flag : ℕ) (on : Bool) → Wrote old memory middle
     → new ≡ with_flag_written middle flag on → KeepsMark middle new → Wrote old (with_flag memory flag on) new
 then_flag_written old middle new memory flag on first written keeps = record {

@@ -1,4 +1,4 @@
--- What is asked of a whole number is asked of it as operands read it.
+-- A test of a whole number has the same result if all from 1000 on are treated alike.
 use Rattle.std.proofs.Common.{◌≡◌, ℕ, ◌<◌, ◌≤◌, ⊎_elim, sym, ◌∙◌, ap, arith, Some, true, false}
 use Rattle.std.specs.Prelude.{ℤ, if◌then◌else◌, nat_lt}
 use Rattle.std.proofs.lemmas.Bool.{cases_lt}
@@ -6,7 +6,7 @@ use Rattle.std.proofs.lemmas.Bool.Decides.{nat_tests}
 use Rattle.h41_decimal.specs.Holding.{Holding, Number, Text, Other, worth}
 use Rattle.h41_rows.specs.private.Wholes.{told_number}
 
--- where a test is below 1000, or at least it
+-- Numbers below 1000, and numbers from 1000 on.
 pub told_below : (n : ℕ) → n < 1000 → told_number n ≡ n
 told_below n small =
     let t : nat_lt n 1000 ≡ true = grind (arith, nat_tests) in
@@ -17,7 +17,7 @@ told_above n large =
     let t : nat_lt n 1000 ≡ false = grind (arith, nat_tests) in
     ap (λ b. if b then n else 1000) t
 
--- a test that fails from some number below 1000 on has one answer for both
+-- A test that fails from some number up to 1000 on has the same result for both.
 pub told_asked : {A : Type 0} (most : ℕ) (f : ℕ → A) (other : A) (n : ℕ) → most ≤ 1000
     → (if nat_lt (told_number n) most then f (told_number n) else other) ≡ (if nat_lt n most then f n else other)
 told_asked most f other n small =
@@ -30,7 +30,7 @@ told_asked most f other n small =
     ∙ (ap (λ t. if t then f 1000 else other) a ∙ sym (ap (λ t. if t then f n else other) b)))
     (cases_lt n 1000)
 
--- what is worth a number is that number
+-- A register's content that has a number is that number.
 pub number_held : (held : Holding) (value : ℤ) → worth held ≡ Some value → held ≡ Number value
 number_held (Number other) value e = ap Number (let same : other ≡ value = cc in same)
 number_held (Text bytes) value e = cc

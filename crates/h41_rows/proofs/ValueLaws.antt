@@ -1,4 +1,4 @@
--- Why a value leaves nothing open.
+-- Values are determined.
 use Rattle.std.proofs.Common.{◌≡◌, ℕ, ◌*◌, Bool, true, false, List, [], ◌∷◌, Result, Ok, Err, MatchBool, refl, sym, ap, subst, ◌∙◌}
 use Rattle.std.specs.Prelude.{ℤ, pos, neg_ℤ, ◌+ℤ◌, ◌-ℤ◌, ◌*ℤ◌, unsigned_abs, IsOkAnd}
 use Rattle.std.specs.Option.{option_map_or}
@@ -33,14 +33,14 @@ use Rattle.h41_rows.specs.Values.{places_of, sign_of_value, unit_of}
 use Rattle.h41_rows.specs.declared.fault.LineFault.{LineFault}
 use Rattle.h41_rows.specs.declared.fault.LineFault.TheVariants.{AlphaData}
 
--- the number of a number line
+-- The number of a number line.
 module _ (same_number : NumbersAreDetermined) where
   same_written : (text : List Character) (x y : Result Ten DecimalFault) → IsOkAnd x (IsNumberOf text) → IsOkAnd y (IsNumberOf text) → x ≡ y
   same_written text (Ok x) (Ok y) p q = ap Ok (same_number text x y p q)
   same_written text (Ok x) (Err fault) p q = absurd q
   same_written text (Err fault) y p q = absurd p
 
--- the answer for a value
+-- The result for a value.
 module _
     (same_nearest : NearestIsDetermined) (same_root : NearestRootIsDetermined)
     (same_part : IntegerPartIsDetermined) (same_fraction : FractionIsDetermined)
@@ -80,7 +80,7 @@ module _
       same_nearest (option_map_or unit_of (worth (holding_of (register_in memory named a))) (pos 0)) 1 x y p q
   same_answer (Counted way a) memory named x y p q = same_nearest (number_after way (amount_in memory named a)) 1 x y p q
 
--- what is kept of an answer
+-- The register of a result.
 module _ (same_register : RegisterIsDetermined) where
   same_held : (number : ℤ) (a b : Result (List ℕ) LineFault) → IsOkAnd a (IsRegisterOf number) → IsOkAnd b (IsRegisterOf number) → a ≡ b
   same_held number (Ok a) (Ok b) p q = ap Ok (same_register number a b p.valid q.valid p.holds q.holds)
@@ -94,11 +94,11 @@ module _ (same_register : RegisterIsDetermined) where
   same_kept sign true (Err Range) a b p q = same_held (with_sign sign size_of_greatest) a b p q
   same_kept sign false (Err Range) a b p q = p ∙ sym q
 
--- memory that holds nothing
+-- An empty memory.
 abbrev empty_memory : RegisterMap
 empty_memory = record { status = []; main = [] }
 
--- memory with two registers in Y and X, and with the flags of another
+-- Memory with two registers in Y and X, and the flags of another memory.
 abbrev with_two : RegisterMap → List ℕ → List ℕ → RegisterMap
 with_two memory y x =
     record {
@@ -111,7 +111,7 @@ with_two memory y x =
 same_held_register : (register other : List ℕ) → ◌≡◌ {A = Result (List ℕ) LineFault} (Ok register) (Ok other) → register ≡ other
 same_held_register register other is = cc
 
--- a test asks for numbers, or it is told
+-- A test needs numbers, or its result is an error.
 by_numbers : {A : Type 0} (numbers : Bool) (a b other fault : A) → MatchBool numbers (a ≡ other) (a ≡ fault)
     → MatchBool numbers (b ≡ other) (b ≡ fault) → a ≡ b
 by_numbers true a b other fault p q = p ∙ sym q
@@ -121,7 +121,7 @@ pub test_determined : TestIsDetermined
 test_determined memory condition a b p q =
     by_numbers (are_numbers memory 0 (places_in_condition condition)) a b (Ok (holds_in memory 0 condition)) (Err AlphaData) (p 0) (q 0)
 
--- the register of a value, or the fault
+-- The register of a value, or its error.
 module _
     (same_nearest : NearestIsDetermined) (same_root : NearestRootIsDetermined)
     (same_part : IntegerPartIsDetermined) (same_fraction : FractionIsDetermined)
@@ -139,7 +139,7 @@ module _
       in
       same_kept same_register (sign_of_value value memory named) (flag_of memory range_ignore) q.answer a b kept q.kept
 
-  -- a value that works on numbers
+  -- A value of numbers.
   works_determined : (memory : RegisterMap) (named : ℕ) (value : Value) (a b : Result (List ℕ) LineFault)
       → WorksOn memory named value a → WorksOn memory named value b → a ≡ b
   works_determined memory named value a b p q = by_numbers (are_numbers memory named (places_in_value value)) p q

@@ -1,4 +1,4 @@
--- What is computed of the numbers at addresses is computed of the places that have these addresses.
+-- What is computed from the registers at addresses is computed from the places with these addresses.
 use Rattle.std.proofs.Common.{◌≡◌, ℕ, sym, ◌∙◌, ap, refl, subst, Bool, true, false, MatchBool, IsOkAnd, List, [], ◌∷◌, Option, Some, None}
 use Rattle.std.proofs.Common.{Result, Ok, Err}
 use Rattle.std.specs.Prelude.{ℤ, pos, neg_ℤ, ◌+ℤ◌, ◌-ℤ◌, ◌*ℤ◌, ◌*◌, unsigned_abs, is_some, ◌&&◌, ◌==◌, if◌then◌else◌, slice_index}
@@ -27,14 +27,14 @@ use Rattle.h41_rows.specs.declared.values.ValueOfOne.TheVariants as ones
 use Rattle.h41_rows.specs.declared.values.ValueOfTwo.{ValueOfTwo}
 use Rattle.h41_rows.specs.declared.values.ValueOfTwo.TheVariants as twos
 
--- a test that holds, and one that fails
+-- A test that is true, and one that is false.
 pub where_true : (test : Bool) (A B : Type 0) → test ≡ true → A → MatchBool test A B
 where_true test A B e a = subst (λ (t : Bool). MatchBool t A B) (sym e) a
 
 pub where_false : (test : Bool) (A B : Type 0) → test ≡ false → B → MatchBool test A B
 where_false test A B e b = subst (λ (t : Bool). MatchBool t A B) (sym e) b
 
--- what is worth something is a number
+-- A register with a number contains that number.
 no_worth : (test : Bool) (text : Holding) → worth text ≡ None → worth (if test then text else Other) ≡ None
 no_worth true text e = e
 no_worth false text e = refl
@@ -43,11 +43,11 @@ worth_is_number : (number : Option ℤ) (register : List ℕ) → worth (holding
 worth_is_number (Some number) register = refl
 worth_is_number None register = no_worth (slice_index register 13 == 1) (Text (text_in register)) refl
 
--- the number in the register at an address
+-- The number in the register at an address.
 abbrev worth_at : RegisterMap → ℕ → Option ℤ
 worth_at memory address = worth (holding_of (register_at memory address))
 
--- the number in a place
+-- The number in a place.
 pub amount_of : (memory : RegisterMap) (named : ℕ) (a : RowPlace) (address : ℕ) (number : ℤ) → place_address named a ≡ address
     → worth_at memory address ≡ Some number → number ≡ amount_in memory named a
 amount_of memory named a address number e w =
@@ -58,7 +58,7 @@ pub number_of : (memory : RegisterMap) (named : ℕ) (a : RowPlace) (address : �
 number_of memory named a address number e w =
     sym (worth_is_number (number_in (register_in memory named a)) (register_in memory named a)) ∙ (ap (λ k. worth_at memory k) e ∙ w)
 
--- a register that stands in a place holds the number that it holds
+-- A register in a place contains the same number as the register itself.
 held_there : (register : List ℕ) (other : RegisterMap) (named : ℕ) (a : RowPlace) (number : Option ℤ)
     → register_in other named a ≡ register → worth (holding_of register) ≡ number
     → worth (holding_of (register_in other named a)) ≡ number
@@ -75,7 +75,7 @@ number_there : (register : List ℕ) (other : RegisterMap) (named : ℕ) (a : Ro
 number_there register other named a number e w =
     number_of other named a (place_address named a) number refl (held_there register other named a number e w)
 
--- one place
+-- A value of one place.
 pub computes_one : (value : ValueOfOne) (memory : RegisterMap) (named : ℕ) (a : RowPlace) (number : Ten)
     (places : Places) (result : Result (List ℕ) LineFault)
     → units number ≡ amount_in memory named a → worth (holding_of (register_in memory named a)) ≡ Some (units number)
@@ -147,7 +147,7 @@ works_one value register places ignores_range number result w k memory named a e
     worked ones.CountedUp t computes = where_true _ _ _ t computes
     worked ones.CountedDown t computes = where_true _ _ _ t computes
 
--- the unit of no number
+-- The unit of a register without a number.
 unit_of_none : (memory : RegisterMap) (named : ℕ) (a : RowPlace) (result : Result (List ℕ) LineFault)
     → worth (holding_of (register_in memory named a)) ≡ None → IsOkAnd result (λ register. IsAlways (Given (pos 0)) register)
     → Computes (values.Unit a) memory named result
@@ -185,7 +185,7 @@ works_without value register places ignores_range fault result w f without memor
     refused ones.CountedUp t none said without = where_false _ _ _ t (without ∙ said)
     refused ones.CountedDown t none said without = where_false _ _ _ t (without ∙ said)
 
--- the same of the register at an address
+-- A value of the register at an address.
 pub one_at : (value : ValueOfOne) (memory : RegisterMap) (address : ℕ) (register : List ℕ) (places : Places) (ignores_range : Bool)
     (result : Result (List ℕ) LineFault)
     → register ≡ register_at memory address → RoundsAt value memory places → ignores_range ≡ flag_of memory range_ignore
@@ -193,7 +193,7 @@ pub one_at : (value : ValueOfOne) (memory : RegisterMap) (address : ℕ) (regist
 one_at value memory address register places ignores_range result same at flag works named a e =
     works memory named a (ap (register_at memory) e ∙ sym same) at (sym flag)
 
--- two places
+-- A value of two places.
 pub computes_two : (value : ValueOfTwo) (memory : RegisterMap) (named : ℕ) (a b : RowPlace) (x y : Ten) (result : Result (List ℕ) LineFault)
     → units x ≡ amount_in memory named a → units y ≡ amount_in memory named b
     → KeptTwo value (flag_of memory range_ignore) x y result → Computes (value_of_two value a b) memory named result
@@ -237,11 +237,11 @@ computes_two twos.Percentage memory named a b x y result e f k =
       kept = subst (λ (t : ℤ). Kept (sign_of t) (flag_of memory range_ignore) k.answer result) together k.kept;
     }
 
--- where both hold numbers
+-- Both places contain numbers.
 both_numbers : (o p : Option ℤ) (x y : ℤ) → o ≡ Some x → p ≡ Some y → (is_some o && (is_some p && true)) ≡ true
 both_numbers o p x y e f = ap (λ (t : Option ℤ). is_some t && (is_some p && true)) e ∙ ap (λ (t : Option ℤ). is_some t && true) f
 
--- and where the first or the second holds none
+-- The first or the second place contains none.
 first_without : (o p : Option ℤ) → o ≡ None → (is_some o && (is_some p && true)) ≡ false
 first_without o p e = ap (λ (t : Option ℤ). is_some t && (is_some p && true)) e
 
@@ -249,7 +249,7 @@ second_without : (o p : Option ℤ) → p ≡ None → (is_some o && (is_some p 
 second_without None p e = refl
 second_without (Some x) p e = ap (λ (t : Option ℤ). is_some t && true) e
 
--- two places are asked for by each value of two numbers
+-- Each value of two numbers needs a number in both places.
 two_asked : (value : ValueOfTwo) (memory : RegisterMap) (named : ℕ) (a b : RowPlace)
     → are_numbers memory named (places_in_value (value_of_two value a b)) ≡ are_numbers memory named (a ∷ b ∷ [])
 two_asked twos.Sum memory named a b = refl
@@ -259,7 +259,7 @@ two_asked twos.Quotient memory named a b = refl
 two_asked twos.Remainder memory named a b = refl
 two_asked twos.Percentage memory named a b = refl
 
--- a value of the numbers in two registers
+-- A value of the numbers in two registers.
 pub works_two : (value : ValueOfTwo) (first second : List ℕ) (ignores_range : Bool) (x y : Ten) (result : Result (List ℕ) LineFault)
     → worth (holding_of first) ≡ Some (units x) → worth (holding_of second) ≡ Some (units y) → KeptTwo value ignores_range x y result
     → WorksOnRegisters value first second ignores_range result

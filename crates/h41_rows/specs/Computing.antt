@@ -1,5 +1,5 @@
--- What the calls of this crate promise: a value by the addresses of its numbers, a test by its
--- name, registers that are taken.
+-- The contracts of this crate's functions: a value by the addresses of its numbers, a test by its
+-- name, and registers that are written.
 use Rattle.std.specs.Prelude.{◌≡◌, ℕ, Bool, List, [], ◌∷◌, MatchBool, Some, Result, Ok, Err, ℤ, pos}
 use Rattle.std.specs.Option.{option_map_or}
 use Rattle.h41_decimal.specs.Holding.{holding_of, worth}
@@ -26,13 +26,13 @@ use Rattle.h41_rows.specs.declared.values.ValueOfOne.TheVariants as ones
 use Rattle.h41_rows.specs.declared.values.ValueOfTwo.{ValueOfTwo}
 use Rattle.h41_rows.specs.declared.values.ValueOfTwo.TheVariants as twos
 
--- a value is computed where its places hold numbers
+-- A value is computed if its places contain numbers, otherwise the result is ALPHA DATA.
 abbrev pub WorksOn : RegisterMap → ℕ → Value → Result (List ℕ) LineFault → Type 0
 WorksOn memory named value result =
     MatchBool (are_numbers memory named (places_in_value value))
     (Computes value memory named result) (result ≡ Err AlphaData)
 
--- a value of the number in one place
+-- A value of the number in one place.
 abbrev pub value_of_one : ValueOfOne → RowPlace → Value
 value_of_one ones.Root a = values.Root a
 value_of_one ones.Inverse a = values.Inverse a
@@ -45,7 +45,7 @@ value_of_one ones.Unit a = values.Unit a
 value_of_one ones.CountedUp a = values.Counted Up a
 value_of_one ones.CountedDown a = values.Counted Down a
 
--- a value of the numbers in two
+-- A value of the numbers in two places.
 abbrev pub value_of_two : ValueOfTwo → RowPlace → RowPlace → Value
 value_of_two twos.Sum a b = values.Sum a b
 value_of_two twos.Difference a b = values.Difference a b
@@ -54,15 +54,15 @@ value_of_two twos.Quotient a b = values.Quotient a b
 value_of_two twos.Remainder a b = values.Remainder a b
 value_of_two twos.Percentage a b = values.Percentage a b
 
--- it is computed of the register at this address, whatever its place is called
+-- The value is computed from the register at this address, whatever name its place has.
 abbrev pub WorksOnOne : ValueOfOne → RegisterMap → ℕ → Result (List ℕ) LineFault → Type 0
 WorksOnOne value memory address result =
     (named : ℕ) (a : RowPlace)
     → place_address named a ≡ address → WorksOn memory named (value_of_one value a) result
 
--- It is computed of the registers at these two addresses, whatever memory they stand in and
--- whatever their places are called: of all else flag 24 alone has a part in it. There is such a
--- memory for any two registers.
+-- The value is computed from the registers at these two addresses, whatever memory they are in and
+-- whatever names their places have. Besides them, only flag 24 affects the result. Any two
+-- registers are in some such memory.
 abbrev pub WorksOnTwo : ValueOfTwo → RegisterMap → ℕ → ℕ → Result (List ℕ) LineFault → Type 0
 WorksOnTwo value memory first second result =
     (other : RegisterMap) (named : ℕ) (a b : RowPlace)
@@ -71,17 +71,17 @@ WorksOnTwo value memory first second result =
     → flag_of other range_ignore ≡ flag_of memory range_ignore
     → WorksOn other named (value_of_two value a b) result
 
--- a value that memory has no part in
+-- A value that does not depend on memory.
 abbrev pub IsAlways : Value → List ℕ → Type 0
 IsAlways value register =
     (memory : RegisterMap) (named : ℕ) → Computes value memory named (Ok register)
 
--- the number in the register at an address; zero where it holds none
+-- The number in the register at an address, or zero if it contains none.
 abbrev pub amount_at : RegisterMap → ℕ → ℤ
 amount_at memory address =
     option_map_or (λ number. number) (worth (holding_of (register_at memory address))) (pos 0)
 
--- what the tests ask
+-- The conditions of the tests.
 abbrev pub condition_of : Test → Condition
 condition_of tests.XEqualsY = rows.Same (rows.In places.X) (rows.In places.Y)
 condition_of tests.XDiffersFromY = rows.Differ (rows.In places.X) (rows.In places.Y)
@@ -94,52 +94,54 @@ condition_of tests.XPositive = rows.Below rows.Nought (rows.In places.X)
 condition_of tests.XNegative = rows.Below (rows.In places.X) rows.Nought
 condition_of tests.XAtMostZero = rows.AtMost (rows.In places.X) rows.Nought
 
--- numbers are asked for where the test needs them
+-- A test that compares numbers gives ALPHA DATA if a register contains none.
 abbrev pub Tells : RegisterMap → Condition → Result Bool LineFault → Type 0
 Tells memory condition result =
     (named : ℕ)
     → MatchBool (are_numbers memory named (places_in_condition condition))
     (result ≡ Ok (holds_in memory named condition)) (result ≡ Err AlphaData)
 
--- registers are taken from memory as it was, wherever the register that the line names stands
+-- Registers are written with what memory contained before, whatever register the line names.
 abbrev pub Took : (old new : RegisterMap) → List ℕ → List Takes → Type 0
 Took old new register takes = (named : ℕ) → new ≡ with_taken old named register takes old
 
--- where GTO IND and XEQ IND go
+-- The meaning of the target of GTO IND or XEQ IND.
 abbrev pub meant_by : BranchTarget → Meant
 meant_by (targets.Label label) = Count label
 meant_by (targets.Name name) = Name name
 
--- X takes the register of a place at this address, X and that place change places, that place takes
--- X
+-- X receives the register at this address, after a stack lift if lift is on.
 abbrev pub BringsIn : (old new : RegisterMap) → ℕ → Bool → Type 0
 BringsIn old new address lift =
     (named : ℕ) (place : RowPlace) (register : List ℕ) → place_address named place ≡ address
     → new ≡ with_taken old named register (takes_of (coming_in (copy places.X place)) lift) old
 
+-- X and the register at this address are exchanged.
 abbrev pub Exchanges : (old new : RegisterMap) → ℕ → Type 0
 Exchanges old new address =
     (named : ℕ) (place : RowPlace) (register : List ℕ) → place_address named place ≡ address
     → new ≡ with_taken old named register (copy places.X place ∷ copy place places.X ∷ []) old
 
+-- The register at this address receives X.
 abbrev pub Stores : (old new : RegisterMap) → ℕ → Type 0
 Stores old new address =
     (named : ℕ) (place : RowPlace) (register : List ℕ) → place_address named place ≡ address
     → new ≡ with_taken old named register (copy place places.X ∷ []) old
 
--- the same where nothing is computed
+-- Registers are written and no value is computed.
 abbrev pub Moved : (old new : RegisterMap) → List Takes → Type 0
 Moved old new takes = (register : List ℕ) → Took old new register takes
 
--- ALPHA changes, wherever the register that the line names stands
+-- ALPHA is changed, whatever register the line names.
 abbrev pub ChangesAlpha : (old new : RegisterMap) → AlphaChange → Type 0
 ChangesAlpha old new change = (named : ℕ) → new ≡ with_alpha_change old named (Some change) old
 
--- the stack drops onto a register; the whole stack takes one
+-- The stack drops, and X receives the computed register.
 abbrev pub drop_takes : List Takes
 drop_takes =
     compute places.X ∷ copy places.Y places.Z ∷ copy places.Z places.T ∷ copy places.LastX places.X
     ∷ []
 
+-- The whole stack receives the computed register.
 abbrev pub whole_stack : List Takes
 whole_stack = compute places.T ∷ compute places.Z ∷ compute places.Y ∷ compute places.X ∷ []

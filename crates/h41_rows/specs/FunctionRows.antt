@@ -12,17 +12,18 @@ use Rattle.h41_rows.specs.Rows.{lifting_row}
 use Rattle.h41_rows.specs.Rows.{silent_row, copy, compute, of_x, of_y_and_x, coming_in, test}
 use Rattle.h41_rows.specs.Values as values
 
--- 3.141592654, in units: the exponent 0 is 99 steps above the lowest
+-- 3.141592654, in units. The exponent 0 is 99 above the lowest.
 abbrev pub pi : ℕ
 pi = size_of 3141592654 99
 
--- two flags tell the unit of angles: the one GRAD, the other RAD, none DEG
+-- Two flags select the unit of angles: the first is set for GRAD, the second for RAD, neither for
+-- DEG.
 abbrev pub angles : (for_grads for_radians : FlagChange) → LineRow
 angles for_grads for_radians = record lifting_row { flags = for_grads ∷ for_radians ∷ [] }
 
--- a function that is carried out has a row
+-- Each supported function has a row.
 abbrev pub function_row : Function → Option LineRow
--- Y and X: L keeps X, the stack drops
+-- functions of Y and X: LAST X receives X, and the stack drops
 function_row functions.Add = Some (of_y_and_x (values.Sum Y X))
 function_row functions.Subtract = Some (of_y_and_x (values.Difference Y X))
 function_row functions.Multiply = Some (of_y_and_x (values.Product Y X))
@@ -31,7 +32,7 @@ function_row functions.TestXLessThanY = Some (test (Below (In X) (In Y)))
 function_row functions.TestXGreaterThanY = Some (test (Below (In Y) (In X)))
 function_row functions.TestXAtMostY = Some (test (AtMost (In X) (In Y)))
 function_row functions.Modulo = Some (of_y_and_x (values.Remainder Y X))
--- Y stays, for the sum that comes next
+-- Y is unchanged, so that the percentage can be added to it next
 function_row functions.Percent =
     Some
     (record lifting_row {
@@ -39,10 +40,10 @@ function_row functions.Percent =
       takes = compute X ∷ copy LastX X
           ∷ [];
     })
--- X alone: L keeps it
+-- functions of X alone: LAST X receives X
 function_row functions.Square = Some (of_x (values.Product X X))
 function_row functions.SquareRoot = Some (of_x (values.Root X))
--- L stays
+-- LAST X is unchanged
 function_row functions.ChangeSign =
     Some (record lifting_row { value = Some (values.Negative X); takes = compute X ∷ [] })
 function_row functions.Reciprocal = Some (of_x (values.Inverse X))
@@ -54,7 +55,7 @@ function_row functions.TestXZero = Some (test (Same (In X) Nought))
 function_row functions.IntegerPart = Some (of_x (values.IntegerPart X))
 function_row functions.FractionPart = Some (of_x (values.Fraction X))
 function_row functions.Round = Some (of_x (values.Displayed X))
--- the stack
+-- functions of the stack
 function_row functions.ExchangeXY = Some (record lifting_row { takes = copy X Y ∷ copy Y X ∷ [] })
 function_row functions.Pi =
     Some (record (coming_in (compute X)) { value = Some (values.Given (pos pi)) })
@@ -68,16 +69,16 @@ function_row functions.RollUp =
 function_row functions.RollDown =
     Some (record lifting_row { takes = copy X Y ∷ copy Y Z ∷ copy Z T ∷ copy T X ∷ [] })
 function_row functions.LastX = Some (coming_in (copy X LastX))
--- the next number takes the place of this zero
+-- stack lift is off, so that the next number replaces this zero
 function_row functions.ClearX =
     Some
     (record lifting_row { value = Some (values.Given (pos 0)); takes = compute X ∷ []; lift = Off })
 function_row functions.TestXEqualsY = Some (test (Same (In X) (In Y)))
 function_row functions.TestXDiffersFromY = Some (test (Differ (In X) (In Y)))
--- 0 for what is no number
+-- the result is 0 if X contains no number
 function_row functions.Signum = Some (of_x (values.Unit X))
 function_row functions.TestXAtMostZero = Some (test (AtMost (In X) Nought))
--- the display
+-- functions of the display
 function_row functions.ViewAlpha = Some (record lifting_row { shows = AlphaText })
 function_row functions.ClearDisplay = Some (record lifting_row { shows = NoText })
 function_row functions.Degrees =
@@ -86,25 +87,25 @@ function_row functions.Radians =
     Some (angles (record { flag = grads; on = false }) (record { flag = radians; on = true }))
 function_row functions.Grads =
     Some (angles (record { flag = grads; on = true }) (record { flag = radians; on = false }))
--- X stays, and the next number takes its place
+-- X is unchanged, and stack lift is off, so that the next number replaces X
 function_row functions.Enter =
     Some (record lifting_row { takes = copy T Z ∷ copy Z Y ∷ copy Y X ∷ []; lift = Off })
 function_row functions.Stop = Some (record silent_row { ends = Stops })
 function_row functions.Return = Some (record silent_row { goes = Returns })
--- a sound, a pause and paper are nothing here
+-- the bench has no sound, no pause and no printer
 function_row functions.Beep = Some lifting_row
 function_row functions.Pause = Some lifting_row
 function_row functions.Advance = Some lifting_row
--- ALPHA
+-- functions of ALPHA
 function_row functions.ClearAlpha = Some (record lifting_row { alpha = Some (Becomes []) })
 function_row functions.ShiftAlpha = Some (record lifting_row { alpha = Some LosesSix })
 function_row functions.ClearRegisters = Some (record lifting_row { clears_data = true })
--- ALPHA comes into the display, or goes
+-- ALPHA mode is switched off or on
 function_row functions.AlphaOff =
     Some (record lifting_row { flags = record { flag = alpha_mode; on = false } ∷ [] })
 function_row functions.AlphaOn =
     Some (record lifting_row { flags = record { flag = alpha_mode; on = true } ∷ [] })
 function_row functions.TurnOff = Some (record lifting_row { ends = TurnsOff })
 function_row functions.Prompt = Some (record lifting_row { shows = AlphaText; ends = Stops })
--- the others are not carried out
+-- the other functions are not supported
 function_row other = None

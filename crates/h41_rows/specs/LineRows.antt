@@ -1,4 +1,4 @@
--- The rows of lines, once it is found what their operands mean.
+-- The rows of lines, given the meaning of their operands.
 use Rattle.std.specs.Prelude.{ℕ, ◌/◌, ◌%◌, Bool, true, false, List, [], ◌∷◌, Some, ◌==◌}
 use Rattle.std.specs.Prelude.{if◌then◌else◌}
 use Rattle.std.specs.Option.{option_map_or}
@@ -25,18 +25,19 @@ use Rattle.h41_rows.specs.Rows.{lifting_row}
 use Rattle.h41_rows.specs.Rows.{silent_row, copy, compute, coming_in, test}
 use Rattle.h41_rows.specs.Values as values
 
--- RCL and STO
+-- RCL brings the named register into X.
 abbrev pub recall : LineRow
 recall = coming_in (copy X Named)
 
+-- STO writes X to the named register.
 abbrev pub store : LineRow
 store = record lifting_row { takes = copy Named X ∷ [] }
 
--- arithmetic in a register: it takes a value of itself and X; X and L stay
+-- Arithmetic in a register: it receives a value of itself and X. X and LAST X are unchanged.
 abbrev pub into_register : values.Value → LineRow
 into_register value = record lifting_row { value = Some value; takes = compute Named ∷ [] }
 
--- ISG and DSE
+-- ISG and DSE count the named register, and continue the loop or skip a line.
 abbrev pub loop : Way → LineRow
 loop way = record lifting_row {
   value = Some (values.Counted way Named);
@@ -44,12 +45,12 @@ loop way = record lifting_row {
   goes = Counts (Loops way Named);
 }
 
--- a flag that is set, or cleared
+-- A flag is set or cleared.
 abbrev pub change : ℕ → Bool → FlagChange
 change flag on = record { flag = flag; on = on }
 
--- the display format: the digit in flags 36 to 39, 36 weighing 8, and the notation in flags 40
--- (FIX) and 41 (ENG)
+-- The display format: the number of digits in flags 36 to 39, of which 36 has the weight 8, and the
+-- notation in flags 40 (FIX) and 41 (ENG).
 abbrev pub format : ℕ → (fixed engineering : Bool) → LineRow
 format n fixed engineering = record lifting_row {
   flags =
@@ -58,7 +59,7 @@ format n fixed engineering = record lifting_row {
       ∷ change flags.fixed fixed ∷ change flags.engineering engineering ∷ [];
 }
 
--- functions of a number of digits, of a flag
+-- The rows of functions with a number of digits or a flag.
 abbrev pub count_row : ParameterFunction → ℕ → LineRow
 count_row functions.Fixed n = format n true false
 count_row functions.Scientific n = format n false false
@@ -71,12 +72,12 @@ count_row functions.TestClear n = test (Flag n false)
 count_row functions.TestSetAndClear n = record (test (Flag n true)) { flags = change n false ∷ [] }
 count_row functions.TestClearAndClear n =
     record (test (Flag n false)) { flags = change n false ∷ [] }
--- a sound is nothing here
+-- the bench has no sound
 count_row functions.Tone n = lifting_row
--- the others have no number
+-- the other functions have no number
 count_row function n = lifting_row
 
--- functions of a register
+-- The rows of functions with a register.
 abbrev pub register_row : ParameterFunction → LineRow
 register_row functions.Recall = recall
 register_row functions.Store = store
@@ -92,36 +93,41 @@ register_row functions.StoreAlpha =
 register_row functions.RecallAlpha = record lifting_row { alpha = Some AppendsNamed }
 register_row functions.Exchange = record lifting_row { takes = copy X Named ∷ copy Named X ∷ [] }
 register_row functions.Label = silent_row
--- the others have no register
+-- the other functions have no register
 register_row function = silent_row
 
+-- The row of a function with this operand.
 abbrev pub operand_row : ParameterFunction → Meant → LineRow
 operand_row function (Count n) = count_row function n
 operand_row function meant = register_row function
 
+-- The row of RCL or STO in one byte.
 abbrev pub short_row : RegisterFunction → LineRow
 short_row RecallRegister = recall
 short_row StoreRegister = store
 
--- GTO and XEQ
+-- The row of GTO or XEQ with a local label.
 abbrev pub to_label : Branch → ℕ → LineRow
 to_label branch label = record silent_row { goes = ToLabel branch label }
 
+-- The row of GTO or XEQ with a name.
 abbrev pub to_name : Branch → List ℕ → LineRow
 to_name branch name = record silent_row { goes = ToName branch name }
 
+-- The row of GTO IND or XEQ IND with this target.
 abbrev pub to_meant : Branch → Meant → LineRow
 to_meant branch (Count label) = to_label branch label
 to_meant branch (Name name) = to_name branch name
 to_meant branch meant = silent_row
 
+-- The row of a line with a name.
 abbrev pub named_row : NameFunction → List ℕ → LineRow
 named_row GoToName name = to_name GoTo name
 named_row ExecuteName name = to_name Execute name
 named_row Wordless name = silent_row
 
--- a text is put into ALPHA; one that begins with the append sign comes behind what it holds, and
--- one of no character does nothing
+-- A text replaces ALPHA. If it begins with the append sign, the rest is appended to ALPHA instead.
+-- A text without characters changes nothing.
 abbrev pub text_row : List ℕ → LineRow
 text_row [] = lifting_row
 text_row (character ∷ text) =
@@ -129,7 +135,7 @@ text_row (character ∷ text) =
       alpha = Some (if character == 0x7F then Appends text else Becomes (character ∷ text));
     }
 
--- the row of a line
+-- The row of a line.
 abbrev pub row_of : Line → Meant → LineRow
 row_of lines.Null meant = lifting_row
 row_of (lines.LocalLabel label) meant = silent_row

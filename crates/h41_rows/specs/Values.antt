@@ -1,5 +1,5 @@
--- The values that lines compute. Each is exact, of the numbers in the places that it names, and is
--- rounded to ten digits.
+-- The values that lines compute. Each is the exact result for the numbers in its places, rounded to
+-- ten digits.
 use Rattle.std.specs.Prelude.{◌≡◌, ℕ, ◌+◌, ◌*◌, Bool, List, Result, Ok, Err, IsOkAnd, MatchBool, ℤ}
 use Rattle.std.specs.Prelude.{pos, neg_ℤ, ◌+ℤ◌, ◌-ℤ◌, ◌*ℤ◌, unsigned_abs}
 use Rattle.std.specs.Option.{option_map_or}
@@ -31,19 +31,20 @@ use Rattle.h41_rows.specs.Places.{RowPlace, amount_in, register_in}
 use Rattle.h41_rows.specs.declared.fault.LineFault.{LineFault}
 use Rattle.h41_rows.specs.declared.fault.LineFault.TheVariants.{DataError, OutOfRange}
 
+-- A value, by the places of its numbers.
 pub data Value : Type 0 where
-  -- a number that is given, in units
+  -- a constant, in units
   Given : ℤ → Value
-  -- that of a number line
+  -- the number of a number line
   Written : List Character → Value
   -- the sum
   Sum : RowPlace → RowPlace → Value
-  -- the first without the second
+  -- the first number minus the second
   Difference : RowPlace → RowPlace → Value
   Product : RowPlace → RowPlace → Value
-  -- the first over the second
+  -- the first number divided by the second
   Quotient : RowPlace → RowPlace → Value
-  -- the first modulo the second
+  -- the first number modulo the second
   Remainder : RowPlace → RowPlace → Value
   -- a hundredth of the product
   Percentage : RowPlace → RowPlace → Value
@@ -53,31 +54,31 @@ pub data Value : Type 0 where
   AbsoluteValue : RowPlace → Value
   IntegerPart : RowPlace → Value
   Fraction : RowPlace → Value
-  -- the number rounded as the display format says
+  -- the number rounded to the display format
   Displayed : RowPlace → Value
-  -- 1 with the number's sign, and 0 where there is no number (this project's choice where there is
-  -- no ALPHA data either)
+  -- 1 with the number's sign, and 0 if the place contains no number (this project's choice if it
+  -- contains no ALPHA data either)
   Unit : RowPlace → Value
-  -- a loop's counter, counted
+  -- the counter of a loop, counted
   Counted : Way → RowPlace → Value
 
--- to how many decimals or digits the display format rounds: SCI and ENG have one digit in front of
--- the mark
+-- The decimals or digits to which the display format rounds. SCI and ENG have one digit before the
+-- radix mark, so that there is one more digit than decimals.
 abbrev pub places_of_notation : Notation → ℕ → Places
 places_of_notation Fixed digits = Decimals digits
 places_of_notation Scientific digits = Digits (digits + 1)
 places_of_notation Engineering digits = Digits (digits + 1)
 
+-- The decimals or digits to which a format rounds.
 abbrev pub places_of : Format → Places
 places_of format = places_of_notation format.notation format.digits
 
--- 1 with a number's sign
+-- 1 with the sign of a number.
 abbrev pub unit_of : ℤ → ℤ
 unit_of number = with_sign (sign_of number) one
 
--- the answer for a value: its nearest decimal, or why there is none. A zero divisor and the root of
--- a negative number are DATA ERROR:
--- so say `NearestQuotient` and `NearestRoot`.
+-- The result for a value is its nearest decimal, or an error. A zero divisor and the root of a
+-- negative number are DATA ERROR, as `NearestQuotient` and `NearestRoot` define.
 abbrev pub IsValue : Value → RegisterMap → ℕ → Result Ten DecimalFault → Type 0
 IsValue (Given number) memory named answer = Nearest number 1 answer
 IsValue (Written characters) memory named answer = IsOkAnd answer (IsNumberOf characters)
@@ -117,7 +118,7 @@ IsValue (Unit a) memory named answer =
 IsValue (Counted way a) memory named answer =
     Nearest (number_after way (amount_in memory named a)) 1 answer
 
--- the sign of a value that can be out of range
+-- The sign of a value that can be out of range. Other values have plus.
 abbrev pub sign_of_value : Value → RegisterMap → ℕ → Sign
 sign_of_value (Sum a b) memory named =
     sign_of (amount_in memory named a +ℤ amount_in memory named b)
@@ -132,12 +133,13 @@ sign_of_value (Percentage a b) memory named =
 sign_of_value (Displayed a) memory named = sign_of (amount_in memory named a)
 sign_of_value value memory named = Plus
 
--- the register that holds a number
+-- The register that contains a number.
 pub record IsRegisterOf (number : ℤ) (register : List ℕ) : Type 0 where
   pub valid : IsRegister 14 register
   pub holds : holding_of register ≡ Number number
 
--- the register of what was answered, or the fault: with flag 24 no result is out of range
+-- The register of a result, or its error. If flag 24 is set, a result that is out of range becomes
+-- the greatest number with the sign.
 abbrev pub Kept : Sign → Bool → Result Ten DecimalFault → Result (List ℕ) LineFault → Type 0
 Kept sign ignored (Ok number) result = IsOkAnd result (IsRegisterOf (units number))
 Kept sign ignored (Err Data) result = result ≡ Err DataError
@@ -145,7 +147,7 @@ Kept sign ignored (Err Range) result =
     MatchBool ignored (IsOkAnd result (IsRegisterOf (with_sign sign size_of_greatest)))
     (result ≡ Err OutOfRange)
 
--- a value is computed: the register of it, or the fault
+-- A value is computed: it has a register or an error.
 pub record Computes (value : Value) (memory : RegisterMap)
     (named : ℕ) (result : Result (List ℕ) LineFault) : Type 0 where
   pub answer : Result Ten DecimalFault

@@ -1,4 +1,4 @@
-//! What is answered for the numbers in registers, and the register of an answer.
+//! The results of computations with the numbers in registers.
 
 ghost use Rattle.std.specs.Prelude.{◌≡◌, Ok, pos, neg_ℤ, unsigned_abs, ℤ};
 ghost use Rattle.h41_decimal.specs.NearestDecimal.{Nearest};
@@ -20,7 +20,7 @@ use h41_numbers::{sign_of_difference, sign_of_product, sign_of_sum};
 use h41_ram::Ram;
 use h41_show::{Format, Notation};
 
-/// The number in a register, or that it holds none.
+/// Returns the number in a register, or ALPHA DATA if the register contains no number.
 #[inline(always)]
 pub fn number_in(register: Reg) -> Result<Ten, LineFault>
     ensures { IsNumberIn register result }
@@ -31,7 +31,7 @@ pub fn number_in(register: Reg) -> Result<Ten, LineFault>
     }
 }
 
-/// The register of a number.
+/// Returns the register that contains a number.
 #[inline(always)]
 pub fn register(number: Ten) -> Reg
     ensures { IsRegisterOf (units number) result }
@@ -39,7 +39,8 @@ pub fn register(number: Ten) -> Reg
     number.to_reg()
 }
 
-/// The register of an answer with a sign, or the fault that stands for it, where flag 24 is known.
+/// Returns the register of a result, or its error: DATA ERROR, or OUT OF RANGE if the exponent is above 99. If flag 24 is set
+/// (`ignores_range`), a result that is out of range becomes the greatest number with this sign.
 #[inline(always)]
 pub fn kept(
     answer: Result<Ten, DecimalFault>,
@@ -55,7 +56,7 @@ pub fn kept(
     }
 }
 
-/// What stands for a result out of range with a sign: the greatest number where flag 24 is set.
+/// Returns the register for a result that is out of range: the greatest number with this sign if flag 24 is set, otherwise OUT OF RANGE.
 pub fn kept_by_flag(ignores_range: bool, sign: Sign) -> Result<Reg, LineFault>
     ensures { KeptByFlag ignores_range sign result }
 {
@@ -66,7 +67,7 @@ pub fn kept_by_flag(ignores_range: bool, sign: Sign) -> Result<Reg, LineFault>
     }
 }
 
-/// The answer for one number, where it is known to how many decimals or digits the display format rounds.
+/// Returns the value of one number. `places` is the rounding of the display format; only `ValueOfOne::Displayed` uses it.
 #[inline(always)]
 pub fn answer_of_one(value: ValueOfOne, number: Ten, places: Places) -> Result<Ten, DecimalFault>
     ensures { AnswersOne value places number result }
@@ -85,7 +86,7 @@ pub fn answer_of_one(value: ValueOfOne, number: Ten, places: Places) -> Result<T
     }
 }
 
-/// The sign of an answer for one number, where it can be out of range.
+/// Returns the sign of a value of one number if it can be out of range, otherwise plus.
 pub fn sign_of_one(value: ValueOfOne, number: Ten) -> Sign
     ensures { result ≡ sign_of_one value (units number) }
 {
@@ -95,7 +96,7 @@ pub fn sign_of_one(value: ValueOfOne, number: Ten) -> Sign
     }
 }
 
-/// The answer for two numbers.
+/// Returns the value of two numbers.
 #[inline(always)]
 pub fn answer_of_two(value: ValueOfTwo, first: Ten, second: Ten) -> Result<Ten, DecimalFault>
     ensures { AnswersTwo value first second result }
@@ -113,7 +114,7 @@ pub fn answer_of_two(value: ValueOfTwo, first: Ten, second: Ten) -> Result<Ten, 
     }
 }
 
-/// The sign of an answer for two numbers, where it can be out of range.
+/// Returns the sign of a value of two numbers if it can be out of range, otherwise plus.
 pub fn sign_of_two(value: ValueOfTwo, first: Ten, second: Ten) -> Sign
     ensures { result ≡ sign_of_two value (units first) (units second) }
 {
@@ -127,7 +128,7 @@ pub fn sign_of_two(value: ValueOfTwo, first: Ten, second: Ten) -> Sign
     }
 }
 
-/// A number that is an answer as it is.
+/// Returns a number unchanged, because it is its own nearest decimal.
 pub fn exact(number: Ten) -> Result<Ten, DecimalFault>
     ensures nearest { Nearest (units number) 1 result }
     ensures same { result ≡ Ok number }
@@ -136,49 +137,49 @@ pub fn exact(number: Ten) -> Result<Ten, DecimalFault>
     Ok(number)
 }
 
-/// 1 divided by a number.
+/// Returns 1 divided by a number.
 fn inverse(number: Ten) -> Result<Ten, DecimalFault>
     ensures { NearestQuotient (pos one) (units number) result }
 {
     Ten::Zero.signum().div(number)
 }
 
-/// A number with the other sign.
+/// Returns a number with its sign changed.
 fn negative(number: Ten) -> Result<Ten, DecimalFault>
     ensures { Nearest (neg_ℤ (units number)) 1 result }
 {
     exact(number.negated())
 }
 
-/// A number without its sign.
+/// Returns a number without its sign.
 fn absolute_value(number: Ten) -> Result<Ten, DecimalFault>
     ensures { Nearest (pos (unsigned_abs (units number))) 1 result }
 {
     exact(number.abs())
 }
 
-/// What stands in front of a number's radix mark.
+/// Returns the digits before the radix mark of a number, with its sign.
 fn integer_part(number: Ten) -> Result<Ten, DecimalFault>
     ensures { (part : ℤ) × IsIntegerPart (units number) part × Nearest part 1 result }
 {
     exact(number.integer_part())
 }
 
-/// What stands behind a number's radix mark.
+/// Returns the digits after the radix mark of a number, with its sign.
 fn fraction(number: Ten) -> Result<Ten, DecimalFault>
     ensures { (rest : ℤ) × IsFraction (units number) rest × Nearest rest 1 result }
 {
     exact(number.fraction())
 }
 
-/// 1 with a number's sign.
+/// Returns 1 with the sign of a number.
 fn unit(number: Ten) -> Result<Ten, DecimalFault>
     ensures { Nearest (unit_of (units number)) 1 result }
 {
     exact(number.signum())
 }
 
-/// To how many decimals or digits a value rounds: the displayed one as the display format says.
+/// Returns the decimals or digits to which a value is rounded: those of the display format for the displayed value.
 pub fn places_of<const REGS: usize>(ram: &Ram<REGS>, value: ValueOfOne) -> Places
     ensures { RoundsAt value ram.now.registers result }
 {
@@ -188,7 +189,7 @@ pub fn places_of<const REGS: usize>(ram: &Ram<REGS>, value: ValueOfOne) -> Place
     }
 }
 
-/// To how many decimals or digits the display format rounds.
+/// Returns the decimals or digits to which the display format rounds.
 #[tactic(auto, unfolding(h41_show::specs::DisplayFormat::format_of))]
 fn display_places<const REGS: usize>(ram: &Ram<REGS>) -> Places
     ensures { result ≡ places_of (format_of ram.now.registers) }

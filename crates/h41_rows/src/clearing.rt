@@ -9,7 +9,7 @@ use h41_digits::Reg;
 use h41_ram::laws::mark_is_kept;
 use h41_ram::{MAIN_START, Ram};
 
-/// All data registers become zero.
+/// Sets all data registers to zero, as CLRG does.
 pub fn clear_data<const REGS: usize>(ram: &mut Ram<REGS>)
     ensures change { ram.new.registers ≡ with_cleared_data ram.old.registers }
     ensures mark { KeepsMark ram.old ram.new }

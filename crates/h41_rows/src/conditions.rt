@@ -14,32 +14,33 @@ use h41_decimal::Ten;
 use h41_digits::Reg;
 use h41_ram::{Ram, StatusRegister};
 
-/// A test of X.
+/// A test that compares X with Y or with 0.
 #[derive(Clone, Copy, Debug, PartialEq, Eq)]
 pub enum Test {
-    /// `X=Y?`.
+    /// `X=Y?`: the registers are the same, digit for digit.
     XEqualsY,
-    /// `X#Y?`.
+    /// `X#Y?`: the registers differ.
     XDiffersFromY,
-    /// `X<Y?`.
+    /// `X<Y?`: the number in X is less than the number in Y.
     XLessThanY,
-    /// `X>Y?`.
+    /// `X>Y?`: the number in X is greater than the number in Y.
     XGreaterThanY,
-    /// `X<=Y?`.
+    /// `X<=Y?`: the number in X is at most the number in Y.
     XAtMostY,
-    /// `X=0?`.
+    /// `X=0?`: X contains 0.
     XZero,
-    /// `X#0?`.
+    /// `X#0?`: X does not contain 0.
     XNotZero,
-    /// `X>0?`.
+    /// `X>0?`: the number in X is positive.
     XPositive,
-    /// `X<0?`.
+    /// `X<0?`: the number in X is negative.
     XNegative,
-    /// `X<=0?`.
+    /// `X<=0?`: the number in X is at most 0.
     XAtMostZero,
 }
 
-/// Whether a test holds, or that it needs numbers.
+/// Returns whether a test is true. ALPHA DATA if the test compares numbers and a register contains none; only `X=Y?`, `X#Y?`, `X=0?` and
+/// `X#0?` need no numbers.
 pub fn asks<const REGS: usize>(ram: &Ram<REGS>, test: Test) -> Result<bool, LineFault>
     ensures { Tells ram.now.registers (condition_of test) result }
 {
@@ -57,7 +58,7 @@ pub fn asks<const REGS: usize>(ram: &Ram<REGS>, test: Test) -> Result<bool, Line
     }
 }
 
-/// The register X.
+/// Returns the register X.
 #[inline(always)]
 fn x<const REGS: usize>(ram: &Ram<REGS>) -> Reg
     ensures { result ≡ status_of ram.now.registers names.X }
@@ -65,7 +66,7 @@ fn x<const REGS: usize>(ram: &Ram<REGS>) -> Reg
     ram.status_register(StatusRegister::X)
 }
 
-/// The register Y.
+/// Returns the register Y.
 #[inline(always)]
 fn y<const REGS: usize>(ram: &Ram<REGS>) -> Reg
     ensures { result ≡ status_of ram.now.registers names.Y }
@@ -73,7 +74,8 @@ fn y<const REGS: usize>(ram: &Ram<REGS>) -> Reg
     ram.status_register(StatusRegister::Y)
 }
 
-/// Whether the number in a register is below that in another, or that one of them holds none. All sizes of memory share this code.
+/// Returns whether the number in a register is less than that in another. ALPHA DATA if one of them contains no number. All sizes of memory
+/// share this code.
 #[inline(never)]
 fn below(x: Reg, y: Reg) -> Result<bool, LineFault>
     ensures { result ≡ answer_of_comparison int_lt (worth (holding_of x)) (worth (holding_of y)) }
@@ -81,7 +83,8 @@ fn below(x: Reg, y: Reg) -> Result<bool, LineFault>
     numbers_below(Ten::from_reg(x), Ten::from_reg(y))
 }
 
-/// Whether the number in a register is at most that in another, or that one of them holds none. All sizes of memory share this code.
+/// Returns whether the number in a register is at most that in another. ALPHA DATA if one of them contains no number. All sizes of memory
+/// share this code.
 #[inline(never)]
 fn at_most(x: Reg, y: Reg) -> Result<bool, LineFault>
     ensures { result ≡ answer_of_comparison int_le (worth (holding_of x)) (worth (holding_of y)) }
@@ -89,7 +92,7 @@ fn at_most(x: Reg, y: Reg) -> Result<bool, LineFault>
     numbers_at_most(Ten::from_reg(x), Ten::from_reg(y))
 }
 
-/// Whether a number is below another, or that one of them is none.
+/// Returns whether a number is less than another. ALPHA DATA if one of them is missing.
 #[inline(always)]
 fn numbers_below(x: Option<Ten>, y: Option<Ten>) -> Result<bool, LineFault>
     ensures { result ≡ answer_of_comparison int_lt (option_map units x) (option_map units y) }
@@ -100,7 +103,7 @@ fn numbers_below(x: Option<Ten>, y: Option<Ten>) -> Result<bool, LineFault>
     }
 }
 
-/// Whether a number is at most another, or that one of them is none.
+/// Returns whether a number is at most another. ALPHA DATA if one of them is missing.
 #[inline(always)]
 fn numbers_at_most(x: Option<Ten>, y: Option<Ten>) -> Result<bool, LineFault>
     ensures { result ≡ answer_of_comparison int_le (option_map units x) (option_map units y) }

@@ -1,4 +1,4 @@
-//! Loops: a counter is counted, and tells whether its loop goes on.
+//! Loops: counting the counter of a loop, and deciding whether the loop continues.
 
 ghost use Rattle.std.specs.Prelude.{◌≡◌, IfOk};
 ghost use Rattle.h41_rows.specs.Computing.{WorksOnOne, amount_at};
@@ -15,16 +15,16 @@ use h41_digits::Reg;
 use h41_ram::Ram;
 use h41_ram::flags::RANGE_IGNORE;
 
-/// A loop's counter, counted.
+/// The counter of a loop after it is counted.
 #[derive(Clone, Copy, Debug, PartialEq, Eq)]
 pub struct CountedLoop {
-    /// The register that it becomes.
+    /// The register with the new counter.
     pub register: Reg,
-    /// Whether the loop goes on.
+    /// Whether the loop continues.
     pub goes_on: bool,
 }
 
-/// The counter in the register at an address, counted up. It is AlphaData where there is no number.
+/// Returns the counter in the register at an address, counted up as ISG does. ALPHA DATA if the register contains no number.
 pub fn loop_up<const REGS: usize>(ram: &Ram<REGS>, address: u16) -> Result<CountedLoop, LineFault>
     ensures register { WorksOnOne CountedUp ram.now.registers address
         (result_map (λ counted. counted.register) result) }
@@ -34,7 +34,7 @@ pub fn loop_up<const REGS: usize>(ram: &Ram<REGS>, address: u16) -> Result<Count
     loop_along(ram, address, Sign::Plus)
 }
 
-/// The same, counted down.
+/// Returns the counter in the register at an address, counted down as DSE does. ALPHA DATA if the register contains no number.
 pub fn loop_down<const REGS: usize>(ram: &Ram<REGS>, address: u16) -> Result<CountedLoop, LineFault>
     ensures register { WorksOnOne CountedDown ram.now.registers address
         (result_map (λ counted. counted.register) result) }
@@ -44,7 +44,8 @@ pub fn loop_down<const REGS: usize>(ram: &Ram<REGS>, address: u16) -> Result<Cou
     loop_along(ram, address, Sign::Minus)
 }
 
-/// The same, counted up for plus and down for minus. The decimals of the counter are asked for once.
+/// Returns the counter in the register at an address, counted up for plus and down for minus. The decimals of the counter are computed
+/// once, because both results need them.
 fn loop_along<const REGS: usize>(
     ram: &Ram<REGS>,
     address: u16,

@@ -1,4 +1,4 @@
-//! Loops: whether they go on, and the numbers by which they count.
+//! The counters of loops: their new values, and whether their loops continue.
 
 ghost use Rattle.std.specs.Prelude.{◌≡◌, ℕ, ◌+◌, ◌*◌, ◌<◌, ◌≤◌, ◌/◌, ◌%◌, ◌^◌, ◌==◌, ◌+ℤ◌, ◌-ℤ◌};
 ghost use Rattle.std.specs.Prelude.{if◌then◌else◌, int_le, int_lt, pos, unsigned_abs, IfSome};
@@ -13,25 +13,25 @@ ghost use Rattle.h41_rows.specs.private.Wholes.{told_ones};
 use crate::answers::exact;
 use h41_decimal::{DecimalFault, Exponent, Magnitude, Mantissa, Sign, Ten};
 
-/// The highest exponent, counted from -99, with which a size has fewer than ten digits in front of its radix mark once this is
-/// five places further right.
+/// The highest exponent, counted from -99, for which the digits before the radix mark are still at most ten after the radix mark is moved
+/// five places to the right.
 const HIGHEST_SHIFTED: u32 = 103;
 
-/// A loop's counter, counted up.
+/// Returns the counter of a loop, counted up as ISG does.
 pub fn counted_up(number: Ten) -> Result<Ten, DecimalFault>
     ensures { Nearest (number_after Up (units number)) 1 result }
 {
     counted(number, Sign::Plus, five_decimals(number))
 }
 
-/// A loop's counter, counted down.
+/// Returns the counter of a loop, counted down as DSE does.
 pub fn counted_down(number: Ten) -> Result<Ten, DecimalFault>
     ensures { Nearest (number_after Down (units number)) 1 result }
 {
     counted(number, Sign::Minus, five_decimals(number))
 }
 
-/// Whether a loop goes on by its counter and its decimals, counted up for plus and down for minus.
+/// Returns whether a loop continues, from its counter and the first five decimals of it. It is counted up for plus and down for minus.
 pub fn goes_on(counter: Ten, direction: Sign, decimals: u64) -> bool
     requires { decimals ≡ decimals_of (units counter) }
     ensures { result ≡ goes_on (way_of direction) (units counter) }
@@ -45,7 +45,7 @@ pub fn goes_on(counter: Ten, direction: Sign, decimals: u64) -> bool
     }
 }
 
-/// The whole ones of a number's size, where 10^10 stands for more.
+/// Returns the integer part of a number's size, or 10^10 if it is 10^10 or more.
 fn ones(number: Ten) -> u64
     ensures { result ≡ told_ones (unsigned_abs (units number) / one) }
 {
@@ -55,7 +55,7 @@ fn ones(number: Ten) -> u64
     }
 }
 
-/// The first five decimals of a number's size, as a whole number.
+/// Returns the first five decimals of a number's size as a whole number, below 100,000.
 pub fn five_decimals(number: Ten) -> u64
     ensures value { result ≡ decimals_of (units number) }
     ensures bound { result < 100000 }
@@ -66,7 +66,7 @@ pub fn five_decimals(number: Ten) -> u64
     }
 }
 
-/// The first five decimals of a size.
+/// Returns the first five decimals of a size as a whole number, below 100,000.
 fn five_digits(x: Magnitude) -> u64
     ensures value { result ≡ size x % one / 10 ^ 103 }
     ensures bound { result < 100000 }
@@ -80,7 +80,7 @@ fn five_digits(x: Magnitude) -> u64
     }
 }
 
-/// How many times 10^-5 is in a size: its whole ones five places up.
+/// Returns how many times 10^-5 is contained in a size, which is its integer part after the radix mark is moved five places to the right.
 fn five_places_up(x: Magnitude) -> u64
     requires { x.exponent.biased ≤ 103 }
     ensures { result ≡ size x / 10 ^ 103 }
@@ -98,7 +98,7 @@ fn five_places_up(x: Magnitude) -> u64
     }
 }
 
-/// What a loop counts by: the last two of five decimals, and 1 where they are 00.
+/// Returns the increment of a loop, 1 to 99: the last two of five decimals, or 1 if they are 00.
 fn increment(decimals: u64) -> u64
     ensures value { result ≡ if decimals % 100 == 0 then 1 else decimals % 100 }
     ensures some { 0 < result }
@@ -108,7 +108,7 @@ fn increment(decimals: u64) -> u64
     if count == 0 { 1 } else { count }
 }
 
-/// Whether a counter, counted up, is at most a final value.
+/// Returns whether a counter that is counted up is at most the final value.
 fn is_at_most(sign: Sign, ones: u64, count: u64, last: u64) -> bool
     requires ones { ones ≤ 10 ^ 10 }
     requires count { count < 100 }
@@ -121,7 +121,7 @@ fn is_at_most(sign: Sign, ones: u64, count: u64, last: u64) -> bool
     }
 }
 
-/// Whether a counter, counted down, is above a final value.
+/// Returns whether a counter that is counted down is above the final value.
 fn is_above(sign: Sign, ones: u64, count: u64, last: u64) -> bool
     requires ones { ones ≤ 10 ^ 10 }
     requires count { count < 100 }
@@ -134,8 +134,8 @@ fn is_above(sign: Sign, ones: u64, count: u64, last: u64) -> bool
     }
 }
 
-/// A loop's counter with its decimals, counted up for plus and down for minus. Where its ones keep their sign, all of it is
-/// moved by what is counted.
+/// Returns the counter of a loop with these decimals, counted up for plus and down for minus. If the integer part keeps its sign, the
+/// increment can be added to the whole number.
 pub fn counted(number: Ten, direction: Sign, decimals: u64) -> Result<Ten, DecimalFault>
     requires { decimals ≡ decimals_of (units number) }
     ensures { Nearest (number_along direction (units number)) 1 result }
@@ -148,8 +148,8 @@ pub fn counted(number: Ten, direction: Sign, decimals: u64) -> Result<Ten, Decim
     }
 }
 
-/// A number moved by a whole number from 1 to 99, up for plus and down for minus. Most loops stay with ten digits and one
-/// exponent, so that nothing is rounded.
+/// Returns a number plus or minus a whole number from 1 to 99. In most loops the result has ten digits and the same exponent, so that
+/// nothing has to be rounded.
 fn moved(number: Ten, direction: Sign, count: u64) -> Result<Ten, DecimalFault>
     requires some { 0 < count }
     requires few { count < 100 }
@@ -163,7 +163,7 @@ fn moved(number: Ten, direction: Sign, count: u64) -> Result<Ten, DecimalFault>
     number.add(below_hundred(direction, count))
 }
 
-/// A size with so many ones more, or fewer, where this changes its digits alone.
+/// Returns a size with so many ones more or fewer if only its digits change, otherwise `None`.
 fn moved_size(x: Magnitude, grows: bool, count: u64) -> Option<Magnitude>
     requires { count < 100 }
     ensures { IfSome result (λ y. IsMovedSize grows (size x) (count * one) (size y)) }
@@ -184,7 +184,7 @@ fn moved_size(x: Magnitude, grows: bool, count: u64) -> Option<Magnitude>
     })
 }
 
-/// How many steps of the last of ten digits are 1, where up to five of the digits stand in front of the radix mark.
+/// Returns how many units of the mantissa's last digit make 1, if one to five digits are before the radix mark; otherwise `None`.
 fn digits_of_one(exponent: Exponent) -> Option<u64>
     ensures one { IfSome result (λ steps. steps * 10 ^ exponent.biased ≡ one) }
     ensures bound { IfSome result (λ steps. steps ≤ 10 ^ 9) }
@@ -199,7 +199,8 @@ fn digits_of_one(exponent: Exponent) -> Option<u64>
     }
 }
 
-/// A loop's counter, counted up for plus and down for minus, by its ones and its fraction. A number with no fraction counts 1.
+/// Returns the counter of a loop, counted up for plus and down for minus, from its integer part and its fraction. A number without a
+/// fraction counts by 1.
 fn counted_by_parts(number: Ten, direction: Sign) -> Result<Ten, DecimalFault>
     ensures { Nearest (number_along direction (units number)) 1 result }
 {
@@ -215,7 +216,7 @@ fn counted_by_parts(number: Ten, direction: Sign) -> Result<Ten, DecimalFault>
     }
 }
 
-/// A number from 1 to 99 with a sign.
+/// Returns a number from 1 to 99 with a sign.
 fn below_hundred(sign: Sign, number: u64) -> Ten
     requires some { 0 < number }
     requires few { number < 100 }
@@ -231,7 +232,7 @@ fn below_hundred(sign: Sign, number: u64) -> Ten
     Ten::Nonzero(sign, Magnitude { mantissa, exponent })
 }
 
-/// Ones with a sign counted in a direction, with the same fraction.
+/// Returns an integer part with a sign, counted in a direction, with the same fraction.
 fn stepped(
     sign: Sign,
     ones: u64,
@@ -255,7 +256,7 @@ fn stepped(
     }
 }
 
-/// The number of ones and a fraction, with a sign.
+/// Returns the number with this integer part, fraction and sign.
 fn joined(sign: Sign, ones: u64, fraction: Magnitude) -> Result<Ten, DecimalFault>
     requires { ones < 10 ^ 10 }
     ensures { Nearest (with_sign sign (ones * one + size fraction)) 1 result }
@@ -263,7 +264,7 @@ fn joined(sign: Sign, ones: u64, fraction: Magnitude) -> Result<Ten, DecimalFaul
     whole_number(sign, ones).add(Ten::Nonzero(sign, fraction))
 }
 
-/// A whole number of up to ten digits with a sign.
+/// Returns a whole number of at most ten digits with a sign.
 fn whole_number(sign: Sign, ones: u64) -> Ten
     requires { ones < 10 ^ 10 }
     ensures { units result ≡ with_sign sign (ones * one) }

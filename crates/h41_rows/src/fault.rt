@@ -1,19 +1,20 @@
-//! What stands in the display where a line cannot be done.
+//! The errors of program lines, which the display shows.
 use thiserror::Error;
 
-/// Why a line was not done. It is no refusal: the display shows it, or flag 25 lets the program go on.
+/// An error of a program line. It is not a refusal: the display shows its message, or the program continues if flag 25 is set. The rules
+/// are in docs/LINES.md.
 #[derive(Clone, Copy, Debug, PartialEq, Eq, Error)]
 pub enum LineFault {
-    /// A number was needed, and a register holds none.
+    /// ALPHA DATA: a number is needed, and a register contains none.
     #[error("ALPHA DATA")]
     AlphaData,
-    /// A divisor is zero, the root is that of a negative number, or a number of digits is above 9.
+    /// DATA ERROR: a divisor is zero, a square root is that of a negative number, or a number of digits is above 9.
     #[error("DATA ERROR")]
     DataError,
-    /// A result has an exponent above 99.
+    /// OUT OF RANGE: a result has an exponent above 99.
     #[error("OUT OF RANGE")]
     OutOfRange,
-    /// There is no such register, flag, label or function.
+    /// NONEXISTENT: there is no such register, flag, label or function.
     #[error("NONEXISTENT")]
     Nonexistent,
 }

@@ -1,4 +1,4 @@
-//! The flags of formats and angles.
+//! The flags of display formats and angle units.
 
 ghost use Rattle.std.specs.Prelude.{◌≡◌, ◌<◌, [], ◌∷◌};
 ghost use Rattle.h41_ram.specs.NamedFlags as named;
@@ -9,7 +9,7 @@ ghost use Rattle.h41_rows.specs.RowMarks.{LeavesMark};
 
 use h41_ram::{Ram, flags};
 
-/// The display format: the digit in flags 36 to 39, the notation in flags 40 (FIX) and 41 (ENG).
+/// Sets the display format: the number of digits in flags 36 to 39, and the notation in flags 40 (FIX) and 41 (ENG). Both clear is SCI.
 pub fn set_format<const REGS: usize>(
     ram: &mut Ram<REGS>,
     digits: u8,
@@ -30,7 +30,7 @@ pub fn set_format<const REGS: usize>(
     ram.set_flag(flags::ENGINEERING, engineering);
 }
 
-/// The unit of angles: flag 42 for GRAD, 43 for RAD.
+/// Sets the unit of angles: flag 42 is set for GRAD, flag 43 for RAD, and neither for DEG.
 pub fn set_angles<const REGS: usize>(ram: &mut Ram<REGS>, grads: bool, radians: bool)
     ensures change { ram.new.registers
         ≡ with_flags (change named.grads grads ∷ change named.radians radians ∷ [])

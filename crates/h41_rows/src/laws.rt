@@ -1,4 +1,4 @@
-//! Laws of rows: each is the contract of a function with nothing to do but to call the laws it rests on.
+//! Laws of rows. Each law is the contract of a function that only calls the laws on which it rests.
 
 ghost use Rattle.h41_rows.specs.RowLaws.{AlphaIsDetermined, AlwaysIsDetermined};
 ghost use Rattle.h41_rows.specs.RowLaws.{BringingIsDetermined, ExchangeIsDetermined};
@@ -12,7 +12,7 @@ use h41_decimal::laws::{
 };
 use h41_numbers::laws::numbers_are_determined;
 
-/// What a line computes is determined: the register, or the fault.
+/// The value that a line computes is determined: it has one register or one error.
 pub fn values_are_determined()
     ensures { ValuesAreDetermined }
 {
@@ -26,7 +26,7 @@ pub fn values_are_determined()
     register_is_determined();
 }
 
-/// What the calls answer is determined, whatever registers they work on.
+/// The results of this crate's functions are determined, whatever registers they work on.
 pub fn results_are_determined()
     ensures one { OneIsDetermined }
     ensures two { TwoIsDetermined }
@@ -43,7 +43,7 @@ pub fn results_are_determined()
     register_is_determined();
 }
 
-/// What the calls make of memory is determined, whatever registers they work on.
+/// The changes of memory by this crate's functions are determined, whatever registers they work on.
 pub fn changes_are_determined()
     ensures taking { TakingIsDetermined }
     ensures moving { MovingIsDetermined }

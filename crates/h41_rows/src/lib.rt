@@ -1,4 +1,4 @@
-//! What the rows of the table of lines compute, ask, take and change.
+//! The effects of program lines: what each line computes, tests and changes.
 #![tactic(auto)]
 
 mod alpha;

@@ -1,4 +1,4 @@
-//! What the operands of lines mean.
+//! The meaning of the operands of lines.
 
 ghost use Rattle.std.specs.Prelude.{◌≡◌, ◌<◌, ◌+◌, false, IfOk};
 ghost use Rattle.h41_rows.specs.Results.{result_map};
@@ -13,23 +13,24 @@ use crate::{readings, targets};
 use h41_codes::{Branch, Operand, Parameter, Text};
 use h41_ram::Ram;
 
-/// Where GTO IND and XEQ IND go.
+/// The target of a GTO IND or XEQ IND.
 #[derive(Clone, Copy, Debug, PartialEq, Eq)]
 pub enum BranchTarget {
-    /// To a local label, 0 to 99.
+    /// A local label, 0 to 99.
     Label(Parameter),
-    /// To a name.
+    /// A name.
     Name(Text<15>),
 }
 
-/// Where data register `n` stands.
+/// Returns the address of data register `n`. NONEXISTENT if `n` is not below SIZE.
 pub fn data_address<const REGS: usize>(ram: &Ram<REGS>, n: u16) -> Result<u16, LineFault>
     ensures { result ≡ data_register ram.now.registers n }
 {
     readings::numbered_register(ram, n)
 }
 
-/// Where the register of an operand stands.
+/// Returns the address of the register of an operand. NONEXISTENT if there is no such data register; ALPHA DATA if an indirect operand
+/// names a register without a number. The operand must be supported.
 #[inline(always)]
 pub fn register_of<const REGS: usize>(ram: &Ram<REGS>, operand: &Operand) -> Result<u16, LineFault>
     requires { is_operand_left_out operand.now ≡ false }
@@ -38,7 +39,8 @@ pub fn register_of<const REGS: usize>(ram: &Ram<REGS>, operand: &Operand) -> Res
     readings::operand_register(ram, operand)
 }
 
-/// The number of digits that an operand tells, 0 to 9.
+/// Returns the number of digits of an operand, 0 to 9. DATA ERROR if it is above 9; NONEXISTENT or ALPHA DATA as for other indirect
+/// operands. The operand must be supported.
 pub fn digit_of<const REGS: usize>(ram: &Ram<REGS>, operand: &Operand) -> Result<u8, LineFault>
     requires { is_operand_left_out operand.now ≡ false }
     ensures meant { result_map Count result ≡ meant_as DigitKind ram.now.registers operand.now }
@@ -52,7 +54,8 @@ pub fn digit_of<const REGS: usize>(ram: &Ram<REGS>, operand: &Operand) -> Result
     }
 }
 
-/// The flag that an operand tells, up to a highest.
+/// Returns the flag of an operand, 0 to `highest`. NONEXISTENT if it is above; NONEXISTENT or ALPHA DATA as for other indirect operands.
+/// The operand must be supported.
 pub fn flag_of<const REGS: usize>(
     ram: &Ram<REGS>,
     operand: &Operand,
@@ -71,7 +74,8 @@ pub fn flag_of<const REGS: usize>(
     }
 }
 
-/// Where GTO IND and XEQ IND go by the register of a parameter.
+/// Returns the target of GTO IND or XEQ IND with this register: a label from 0 to 99, or a name. NONEXISTENT if there is no such register
+/// or if its number is above 99; ALPHA DATA if it contains neither a number nor ALPHA data. The parameter must be supported.
 pub fn branch_target<const REGS: usize>(
     ram: &Ram<REGS>,
     branch: Branch,

@@ -1,4 +1,4 @@
-//! What the registers that operands name hold, as whole numbers.
+//! The whole numbers in the registers that operands name.
 
 ghost use Rattle.std.specs.Prelude.{◌≡◌, ◌<◌, ◌≤◌, ◌/◌, false, unsigned_abs};
 ghost use Rattle.h41_decimal.specs.Holding as holding;
@@ -15,13 +15,13 @@ use h41_decimal::Ten;
 use h41_digits::Reg;
 use h41_ram::Ram;
 
-/// The first whole number that is told from no greater one.
+/// Whole numbers from here on are treated alike, because no operand can be as large.
 const MOST_TOLD: u16 = 1000;
 
-/// The parameter that names the register T; those from there on name status registers, in the order of their addresses.
+/// The parameter of register T. The parameters from there on are status registers, in the order of their addresses.
 const STACK_START: u16 = 112;
 
-/// Where data register `n` stands. There are at most 512.
+/// Returns the address of data register `n`. NONEXISTENT if `n` is not below SIZE, which is at most 512.
 pub(crate) fn numbered_register<const REGS: usize>(
     ram: &Ram<REGS>,
     n: u16,
@@ -36,7 +36,7 @@ pub(crate) fn numbered_register<const REGS: usize>(
     }
 }
 
-/// Where the register of a parameter stands.
+/// Returns the address of the register of a parameter.
 #[inline(always)]
 pub(crate) fn parameter_register<const REGS: usize>(
     ram: &Ram<REGS>,
@@ -53,7 +53,7 @@ pub(crate) fn parameter_register<const REGS: usize>(
     }
 }
 
-/// The number that an operand is, or the whole number in the register that it names.
+/// Returns the number of a direct operand, or the whole number in the register of an indirect one.
 pub(crate) fn operand_number<const REGS: usize>(
     ram: &Ram<REGS>,
     operand: &Operand,
@@ -67,7 +67,7 @@ pub(crate) fn operand_number<const REGS: usize>(
     }
 }
 
-/// The whole number in the register of a parameter.
+/// Returns the whole number in the register of a parameter.
 fn parameter_number<const REGS: usize>(
     ram: &Ram<REGS>,
     parameter: Parameter,
@@ -79,7 +79,7 @@ fn parameter_number<const REGS: usize>(
     whole_in(ram.read(address))
 }
 
-/// The address of the register that an operand is, or of the data register whose number stands in the one that it names.
+/// Returns the address of the register of a direct operand, or of the data register whose number is in the register of an indirect one.
 #[inline(always)]
 pub(crate) fn operand_register<const REGS: usize>(
     ram: &Ram<REGS>,
@@ -94,7 +94,7 @@ pub(crate) fn operand_register<const REGS: usize>(
     }
 }
 
-/// The address of the data register whose number stands in the register of a parameter.
+/// Returns the address of the data register whose number is in the register of a parameter.
 #[inline(never)]
 fn indirect_register<const REGS: usize>(
     ram: &Ram<REGS>,
@@ -107,7 +107,7 @@ fn indirect_register<const REGS: usize>(
     numbered_register(ram, number)
 }
 
-/// The whole number in a register.
+/// Returns the whole number in a register. ALPHA DATA if it contains no number.
 fn whole_in(register: Reg) -> Result<u16, LineFault>
     ensures { IsTold (spec.whole_of (holding.worth (holding.holding_of register))) result }
 {
@@ -117,7 +117,7 @@ fn whole_in(register: Reg) -> Result<u16, LineFault>
     }
 }
 
-/// The integer part of the size of a number.
+/// Returns the integer part of a number's size, or 1000 if it is 1000 or more.
 pub(crate) fn told_whole(number: Ten) -> u16
     ensures { result ≡ told_number (unsigned_abs (units number) / one) }
 {
@@ -127,7 +127,7 @@ pub(crate) fn told_whole(number: Ten) -> u16
     }
 }
 
-/// A whole number as operands read it.
+/// Returns a whole number, or 1000 if it is 1000 or more.
 fn told_number(ones: u64) -> u16
     ensures { result ≡ told_number ones }
 {

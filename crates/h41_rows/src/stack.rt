@@ -1,4 +1,4 @@
-//! What stack, LAST X and registers take.
+//! Changes of the stack, LAST X and registers.
 
 ghost use Rattle.std.specs.Prelude.{ℕ, [], ◌∷◌};
 ghost use Rattle.h41_rows.specs.Computing.{BringsIn, Exchanges, Moved, Stores, Took, drop_takes};
@@ -12,7 +12,7 @@ ghost use Rattle.h41_rows.specs.RowMarks.{IsApart, LeavesMark};
 use h41_digits::Reg;
 use h41_ram::{Ram, StatusRegister};
 
-/// X takes a register; the stack is lifted first where lift is on.
+/// Writes a register to X. If stack lift is on, the stack is lifted first.
 #[inline(always)]
 pub fn bring_in<const REGS: usize>(ram: &mut Ram<REGS>, register: Reg, lift: bool)
     ensures change { Took ram.old.registers ram.new.registers register
@@ -26,7 +26,7 @@ pub fn bring_in<const REGS: usize>(ram: &mut Ram<REGS>, register: Reg, lift: boo
     ram.set_status_register(StatusRegister::X, register);
 }
 
-/// X takes the register at an address, as it was before the lift.
+/// Writes the register at an address to X. If stack lift is on, the stack is lifted first; the register is read before that.
 #[inline(always)]
 pub fn bring_in_from<const REGS: usize>(ram: &mut Ram<REGS>, address: u16, lift: bool)
     ensures change { BringsIn ram.old.registers ram.new.registers address lift }
@@ -37,7 +37,7 @@ pub fn bring_in_from<const REGS: usize>(ram: &mut Ram<REGS>, address: u16, lift:
     bring_in(ram, register, lift);
 }
 
-/// X takes a register, and LAST X what X held.
+/// Writes a register to X, and the old X to LAST X.
 #[inline(always)]
 pub fn keep_last<const REGS: usize>(ram: &mut Ram<REGS>, register: Reg)
     ensures change { Took ram.old.registers ram.new.registers register
@@ -50,7 +50,7 @@ pub fn keep_last<const REGS: usize>(ram: &mut Ram<REGS>, register: Reg)
     ram.set_status_register(StatusRegister::L, x);
 }
 
-/// X takes a register, LAST X what X held, and the stack drops: T stays.
+/// Writes a register to X and the old X to LAST X, and drops the stack: Y receives Z, Z receives T, and T is unchanged.
 #[inline(always)]
 pub fn drop_into<const REGS: usize>(ram: &mut Ram<REGS>, register: Reg)
     ensures change { Took ram.old.registers ram.new.registers register drop_takes }
@@ -66,7 +66,7 @@ pub fn drop_into<const REGS: usize>(ram: &mut Ram<REGS>, register: Reg)
     ram.set_status_register(StatusRegister::L, x);
 }
 
-/// X and the register at an address change places.
+/// Exchanges X and the register at an address.
 #[inline(always)]
 pub fn exchange<const REGS: usize>(ram: &mut Ram<REGS>, address: u16)
     ensures change { Exchanges ram.old.registers ram.new.registers address }
@@ -79,7 +79,7 @@ pub fn exchange<const REGS: usize>(ram: &mut Ram<REGS>, address: u16)
     ram.write(address, x);
 }
 
-/// The register at an address takes X.
+/// Writes X to the register at an address.
 #[inline(always)]
 pub fn store_x<const REGS: usize>(ram: &mut Ram<REGS>, address: u16)
     ensures change { Stores ram.old.registers ram.new.registers address }
@@ -90,7 +90,7 @@ pub fn store_x<const REGS: usize>(ram: &mut Ram<REGS>, address: u16)
     ram.write(address, x);
 }
 
-/// X comes from T, and the others go up.
+/// Rolls the stack up: X receives T, Y receives X, Z receives Y, and T receives Z.
 #[inline(always)]
 pub fn roll_up<const REGS: usize>(ram: &mut Ram<REGS>)
     ensures change { Moved ram.old.registers ram.new.registers
@@ -108,7 +108,7 @@ pub fn roll_up<const REGS: usize>(ram: &mut Ram<REGS>)
     ram.set_status_register(StatusRegister::T, z);
 }
 
-/// X goes to T, and the others come down.
+/// Rolls the stack down: X receives Y, Y receives Z, Z receives T, and T receives X.
 #[inline(always)]
 pub fn roll_down<const REGS: usize>(ram: &mut Ram<REGS>)
     ensures change { Moved ram.old.registers ram.new.registers
@@ -126,7 +126,7 @@ pub fn roll_down<const REGS: usize>(ram: &mut Ram<REGS>)
     ram.set_status_register(StatusRegister::T, x);
 }
 
-/// The stack is lifted, and X stays.
+/// Lifts the stack: T receives Z, Z receives Y, Y receives X, and X is unchanged.
 #[inline(always)]
 pub fn enter<const REGS: usize>(ram: &mut Ram<REGS>)
     ensures change { Moved ram.old.registers ram.new.registers
@@ -142,7 +142,7 @@ pub fn enter<const REGS: usize>(ram: &mut Ram<REGS>)
     ram.set_status_register(StatusRegister::Y, x);
 }
 
-/// The whole stack takes a register.
+/// Writes a register to X, Y, Z and T.
 pub fn clear_stack<const REGS: usize>(ram: &mut Ram<REGS>, register: Reg)
     ensures change { Took ram.old.registers ram.new.registers register whole_stack }
     ensures mark { KeepsMark ram.old ram.new }

@@ -1,4 +1,4 @@
-//! Where branches go by what registers hold.
+//! The targets of indirect branches.
 
 ghost use Rattle.std.specs.Prelude.{◌≡◌, ◌≤◌, length, None, Ok};
 ghost use Rattle.std.specs.Result.{result_map_both};
@@ -15,7 +15,7 @@ use h41_decimal::Ten;
 use h41_digits::Reg;
 use h41_show::characters::{ALPHA_DATA, KIND_PLACE, after_nulls, alpha_data};
 
-/// Where a branch goes by what a register holds.
+/// Returns the target of a branch for the content of a register: a label for a number, a name for ALPHA data. ALPHA DATA if it is neither.
 pub(crate) fn target_in(register: Reg) -> Result<BranchTarget, LineFault>
     ensures { LeadsTo (spec.target_of (holding_of register)) result }
 {
@@ -25,7 +25,7 @@ pub(crate) fn target_in(register: Reg) -> Result<BranchTarget, LineFault>
     }
 }
 
-/// The local label with a number, as operands read it.
+/// Returns the local label with this number. NONEXISTENT if it is above 99.
 fn label(number: u16) -> Result<BranchTarget, LineFault>
     ensures { LeadsTo (spec.label_of number) result }
 {
@@ -36,7 +36,7 @@ fn label(number: u16) -> Result<BranchTarget, LineFault>
     }
 }
 
-/// The name that a register holds, or that it holds none.
+/// Returns the name in a register that contains no number. ALPHA DATA if it contains no ALPHA data.
 fn name_in(register: Reg) -> Result<BranchTarget, LineFault>
     requires { worth (holding_of register) ≡ None }
     ensures { LeadsTo (spec.target_of (holding_of register)) result }
@@ -48,7 +48,7 @@ fn name_in(register: Reg) -> Result<BranchTarget, LineFault>
     }
 }
 
-/// A name of these characters, six at most.
+/// Returns the name of these characters, at most six.
 fn name(characters: &[u8]) -> Result<BranchTarget, LineFault>
     requires { length characters.now ≤ 6 }
     ensures { result_map_both meant_by (λ fault. fault) result ≡ Ok (spec.Name characters.now) }

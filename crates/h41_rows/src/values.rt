@@ -23,51 +23,51 @@ use h41_numbers::number_of;
 use h41_ram::Ram;
 use h41_ram::flags::RANGE_IGNORE;
 
-/// A value of one number.
+/// A value that is computed from one number.
 #[derive(Clone, Copy, Debug, PartialEq, Eq)]
 pub enum ValueOfOne {
-    /// Its square root.
+    /// The square root.
     Root,
-    /// 1 divided by it.
+    /// 1 divided by the number.
     Inverse,
-    /// It with the other sign.
+    /// The number with its sign changed.
     Negative,
-    /// It without its sign.
+    /// The number without its sign.
     AbsoluteValue,
-    /// Its digits in front of the point.
+    /// The digits before the radix mark, with the sign.
     IntegerPart,
-    /// Its digits behind the point.
+    /// The digits after the radix mark, with the sign.
     Fraction,
-    /// It rounded as the display format says.
+    /// The number rounded to the display format.
     Displayed,
-    /// 1 with its sign; 0 where there is no number.
+    /// 1 with the sign of the number, or 0 if the register contains no number.
     Unit,
-    /// A loop's counter, counted up.
+    /// The counter of a loop, counted up.
     CountedUp,
-    /// A loop's counter, counted down.
+    /// The counter of a loop, counted down.
     CountedDown,
 }
 
-/// A value of two numbers.
+/// A value that is computed from two numbers.
 #[derive(Clone, Copy, Debug, PartialEq, Eq)]
 pub enum ValueOfTwo {
-    /// Their sum.
+    /// The sum.
     Sum,
-    /// The first without the second.
+    /// The first number minus the second.
     Difference,
-    /// Their product.
+    /// The product.
     Product,
-    /// The first divided by the second.
+    /// The first number divided by the second.
     Quotient,
-    /// The first modulo the second.
+    /// The first number modulo the second.
     Remainder,
-    /// A hundredth of their product.
+    /// A hundredth of the product.
     Percentage,
 }
 
-/// The register of a value of the number at an address. It is AlphaData where there is none, but for the unit; DataError for
-/// the inverse of zero and the root of a negative number; OutOfRange above exponent 99, unless flag 24 is set, which has the
-/// greatest number with the sign instead.
+/// Returns the register with a value of the number at an address. ALPHA DATA if the register there contains no number, except for `Unit`.
+/// DATA ERROR for the inverse of zero and the root of a negative number. OUT OF RANGE if the exponent is above 99; if flag 24 is set, the
+/// result is the greatest number with the sign instead.
 pub fn compute_of_one<const REGS: usize>(
     ram: &Ram<REGS>,
     value: ValueOfOne,
@@ -83,7 +83,7 @@ pub fn compute_of_one<const REGS: usize>(
     )
 }
 
-/// The same of the number in a register, where it is known to how many places the value rounds, and flag 24. All sizes of memory
+/// Returns the register with a value of the number in a register, rounded to these places if it is the displayed value. All sizes of memory
 /// share this code.
 #[inline(never)]
 fn of_register(
@@ -100,8 +100,9 @@ fn of_register(
     }
 }
 
-/// The register of a value of the numbers at two addresses. It is AlphaData where one holds none; DataError for a quotient by
-/// zero; OutOfRange above exponent 99, unless flag 24 is set, which has the greatest number with the sign instead.
+/// Returns the register with a value of the numbers at two addresses. ALPHA DATA if one of the registers contains no number. DATA ERROR for
+/// a quotient with the divisor zero. OUT OF RANGE if the exponent is above 99; if flag 24 is set, the result is the greatest number with
+/// the sign instead.
 #[inline(always)]
 pub fn compute_of_two<const REGS: usize>(
     ram: &Ram<REGS>,
@@ -119,7 +120,7 @@ pub fn compute_of_two<const REGS: usize>(
     )
 }
 
-/// The same of the numbers in two registers, where flag 24 is known. All sizes of memory share this code.
+/// Returns the register with a value of the numbers in two registers. All sizes of memory share this code.
 #[inline(never)]
 fn of_registers(
     value: ValueOfTwo,
@@ -134,7 +135,7 @@ fn of_registers(
     kept_of_two(value, x, y, ignores_range)
 }
 
-/// The register of 3.141592654.
+/// Returns the register with 3.141592654.
 pub fn pi() -> Reg
     ensures { IsAlways (Given (pos functions.pi)) result }
 {
@@ -145,28 +146,28 @@ pub fn pi() -> Reg
     always(Ten::Nonzero(Sign::Plus, Magnitude { mantissa, exponent }))
 }
 
-/// The register of zero.
+/// Returns the register with zero.
 pub fn zero() -> Reg
     ensures { IsAlways (Given (pos 0)) result }
 {
     always(Ten::Zero)
 }
 
-/// The register of the number that a number line is.
+/// Returns the register with the number of a number line.
 pub fn written(number: &Number) -> Reg
     ensures { IsAlways (Written number.now) result }
 {
     register(number_of(number.characters()))
 }
 
-/// The register of the number of a number line.
+/// Returns the register with a number that was read from a number line.
 pub fn number_register(number: Ten) -> Reg
     ensures { (text : List Character) → IsNumberOf text number → IsAlways (Written text) result }
 {
     register(number)
 }
 
-/// The register of a value of one number, likewise.
+/// Returns the register with a value of one number, or its error.
 #[inline(always)]
 fn kept_of_one(
     value: ValueOfOne,
@@ -183,7 +184,7 @@ fn kept_of_one(
     )
 }
 
-/// What is computed of a register with no number: a fault, but for the unit, which is zero.
+/// Returns the result for a register without a number: the error, except for `Unit`, which is zero.
 fn without_number(value: ValueOfOne, fault: LineFault) -> Result<Reg, LineFault>
     ensures { WithoutNumber value fault result }
 {
@@ -193,7 +194,7 @@ fn without_number(value: ValueOfOne, fault: LineFault) -> Result<Reg, LineFault>
     }
 }
 
-/// The register of a value of two numbers, where flag 24 is known.
+/// Returns the register with a value of two numbers, or its error.
 #[inline(always)]
 fn kept_of_two(
     value: ValueOfTwo,
@@ -212,7 +213,7 @@ fn kept_of_two(
     }
 }
 
-/// The register of a number that is given.
+/// Returns the register with a constant.
 fn always(number: Ten) -> Reg
     ensures { IsAlways (Given (units number)) result }
 {

@@ -39,7 +39,7 @@ use Rattle.h41_text.proofs.Canonical as canonical_text
 use Rattle.h41_text.proofs.Finding.{is_found, parameter_found, number_none}
 use Rattle.h41_text.proofs.Unquoting.{unquoted_more, unquoted_end}
 
--- a character within quotes
+-- A character in quotes is read again.
 escaped_again : (byte : ℕ) (rest : List ℕ) → byte < 256 → first_character (escape_of byte ++ rest) ≡ Some (byte, rest)
 escaped_again byte rest inside = ap (option_map (λ character. (character, rest))) (read_hexadecimal 2 byte (omega arith) inside)
 
@@ -60,7 +60,7 @@ first_again byte rest inside =
     cond_both (byte == 0x22) (escape_of byte) (character_text byte) (λ text. first_character (text ++ rest) ≡ Some (byte, rest))
     (λ quote. escaped_again byte rest inside) (shown_again byte rest inside)
 
--- all characters within quotes
+-- All characters in quotes are read again.
 unquoted_again : (most : ℕ) (characters : List ℕ) → length characters ≤ most → IsBytes characters
     → unquoted_text most (flat_map character_quoted characters ++ 0x22 ∷ []) ≡ characters
 unquoted_again most [] room bytes = unquoted_end most (0x22 ∷ []) refl
@@ -74,7 +74,7 @@ unquoted_again (suc most) (byte ∷ more) room bytes =
 at_most_all : (most : ℕ) (characters : List ℕ) → length characters ≤ most → at_most most characters ≡ Some characters
 at_most_all most characters room = cond-true (nat_le (length characters) most) _ _ (le-leb _ most room)
 
--- a text for ALPHA
+-- A text line is read again.
 quoted_again : (characters : List ℕ) → length characters ≤ 15 → IsBytes characters
     → candidate_line (quoted_text characters) ≡ Some (Text characters)
 quoted_again characters room bytes =
@@ -97,13 +97,13 @@ text_again (first ∷ rest) room bytes =
     ∙ ap (λ byte. Some (Text (byte ∷ rest))) (sym (eqb-true first 0x7F append)))
     (λ other. quoted_again (first ∷ rest) room bytes)
 
--- a text that is no number is cut at its blank
+-- A text that is no number is separated at its space.
 cut_again : (text : List ℕ) → minus_line text ≡ None → characters_of text ≡ None → unquoted_line text ≡ cut_line text (parts_at_blank text)
 cut_again text minus none =
     ap (λ line. or_else line (or_else (number_of text) (cut_line text (parts_at_blank text)))) minus
     ∙ ap (λ line. or_else line (cut_line text (parts_at_blank text))) (number_none text none)
 
--- a word and its operand
+-- A word and its operand are read again.
 worded_again : (word : LeadingWord) (operand : List ℕ) → candidate_line (word_text word & operand) ≡ word_line word operand
 worded_again (word.Function Recall) operand = cut_again (parameter_function_name Recall & operand) refl refl
 worded_again (word.Function function) operand = cut_again (parameter_function_name function & operand) refl refl
@@ -112,7 +112,7 @@ worded_again (word.Branch Execute) operand = cut_again (branch_name Execute & op
 worded_again word.Wordless operand = cut_again (name_function_name Wordless & operand) refl refl
 worded_again word.Module operand = cut_again (codes "XROM" & operand) refl refl
 
--- operands
+-- Operands are read again.
 leads_nowhere : ℕ → Bool
 leads_nowhere number = is_none (behind_ind (parameter_text number))
 
@@ -137,7 +137,7 @@ unfolding begins_quoted
 operand_begins (Direct number) inside = agree_below_at begins_quoted (λ n. false) 128 number refl inside
 operand_begins (Indirect number) inside = refl
 
--- a function and its operand
+-- A function and its operand are read again.
 function_again : (function : ParameterFunction) (operand : Operand) → IsOperand operand
     → candidate_line (line_text (WithOperand function operand)) ≡ Some (WithOperand function operand)
 function_again function operand inside =
@@ -152,7 +152,7 @@ branch_again branch operand inside =
     ∙ cond-false (begins_with 0x22 (operand_text operand)) _ _ (operand_begins operand inside)
     ∙ ap (option_map (branch_line branch)) (operand_again operand inside)
 
--- the two numbers of an XROM
+-- The two numbers of an XROM are read again.
 finds_two : ℕ → Bool
 finds_two number = elim (two_digits_of (48 + number / 10) (48 + number % 10)) [ None ↦ false | Some other ↦ other == number ]
 
@@ -169,7 +169,7 @@ module_again number entry inside small =
     ∙ ap (option_and_then (λ e. module_line number e)) (two_again entry (omega arith))
     ∙ cond-true (nat_lt number 32 && nat_lt entry 64) _ _ (and_from _ _ (lt-ltb number 32 inside) (lt-ltb entry 64 small))
 
--- a number
+-- A number is read again.
 character_again : (character : Character) → character_of (character_byte character) ≡ Some character
 character_again Zero = refl
 character_again character = refl
@@ -189,7 +189,7 @@ number_again characters some most =
     (le-leb (length (map character_byte characters)) 16 (omega (arith, size))))
     ∙ ap (option_map Number) (characters_again characters)
 
--- a text that is no lone minus, and is a number
+-- A text that is no lone minus, and is a number.
 number_first : (text : List ℕ) (line : Line) → minus_line text ≡ None → number_of text ≡ Some line → unquoted_line text ≡ Some line
 number_first text line minus number =
     ap (λ first. or_else first (or_else (number_of text) (cut_line text (parts_at_blank text)))) minus
@@ -211,12 +211,12 @@ number_line_again (Zero ∷ []) some most = refl
 number_line_again (character ∷ []) some most = refl
 number_line_again (first ∷ second ∷ more) some most = several_again first second more (omega arith)
 
--- a function without a parameter
+-- A function without a parameter is read again.
 plain_line_again : (function : Function) → candidate_line (function_name function) ≡ Some (Plain function)
 plain_line_again Add = refl
 plain_line_again function = refl
 
--- a name in quotes
+-- A name in quotes is read again.
 name_again : (word : LeadingWord) (function : List ℕ → Line) (most : ℕ) (name : List ℕ) → most ≤ 15 → length name ≤ most → IsBytes name
     → ((text : List ℕ) → word_line word (0x22 ∷ text) ≡ option_map function (at_most most (unquoted_text 15 text)))
     → candidate_line (word_text word & quoted_text name) ≡ Some (function name)
@@ -225,7 +225,7 @@ name_again word function most name few room bytes reads =
     ∙ ap (λ read. option_map function (at_most most read)) (unquoted_again 15 name (omega arith) bytes)
     ∙ ap (option_map function) (at_most_all most name room)
 
--- the line in its longest spelling, with nothing kept that only the calculator uses
+-- The line in its longest spelling, without the bits that only the calculator uses.
 longest : Line → Line
 longest (LocalLabel label) = WithOperand Label (Direct label)
 longest (Register RecallRegister register) = WithOperand Recall (Direct register)
@@ -237,7 +237,7 @@ longest (FinalEnd link marks) = FinalEnd 0 0
 longest (BranchTo branch distance backwards label) = BranchTo branch 0 false label
 longest line = line
 
--- two digits read as a parameter
+-- Two digits are read as a parameter.
 short_again : (name : List ℕ) (number most : ℕ) (line : Line) → most < 101 → number < most
     → candidate_line (name & parameter_text number) ≡ Some line → candidate_line (name & two_digits number) ≡ Some line
 short_again name number most line few inside again =
@@ -277,7 +277,7 @@ longest_again (BranchTo GoTo distance backwards label) has = branch_again GoTo (
 longest_again (BranchTo Execute distance backwards label) has = branch_again Execute (Direct label) has.valid.1
 longest_again (Text characters) has = text_again characters has.valid.fits has.valid.bytes
 
--- and its canonical line is that of the line
+-- The longest spelling has the same canonical line.
 longest_canonical : (line : Line) → IsLine line → canonical_line (longest line) ≡ canonical_line line
 unfolding longest
 longest_canonical (LocalLabel label) valid = cond-true (nat_lt label 15) _ _ (lt-ltb label 15 valid)

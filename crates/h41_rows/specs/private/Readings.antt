@@ -1,4 +1,4 @@
--- What private functions promise one another, of what registers and operands hold.
+-- Definitions for the private functions that read registers and operands.
 use Rattle.std.specs.Prelude.{◌≡◌, ℕ, ◌+ℤ◌, Result}
 use Rattle.std.specs.Result.{result_map_both}
 use Rattle.h41_decimal.specs.NearestDecimal.{Nearest}
@@ -14,22 +14,23 @@ use Rattle.h41_rows.specs.private.Wholes.{told_number}
 use Rattle.h41_rows.specs.declared.fault.LineFault.{LineFault}
 use Rattle.h41_rows.specs.declared.operands.BranchTarget.{BranchTarget}
 
--- a whole number that was found, as it is told, or its fault
+-- A whole number with all from 1000 on treated as 1000, or its error.
 abbrev pub IsTold : Result ℕ LineFault → Result ℕ LineFault → Type 0
 IsTold found result = result ≡ result_map_both told_number (λ fault. fault) found
 
--- the whole number in the register of a parameter, and the data register of that number
+-- The whole number in the register of a parameter.
 abbrev pub number_found : RegisterMap → ℕ → Result ℕ LineFault
 number_found memory parameter = then_find (parameter_register memory parameter) (whole_at memory)
 
+-- The data register whose number is in the register of a parameter.
 abbrev pub register_found : RegisterMap → ℕ → Result ℕ LineFault
 register_found memory parameter = then_find (number_found memory parameter) (data_register memory)
 
--- where a branch goes, as operands mean it
+-- The target of a branch, by the meaning of its operand.
 abbrev pub LeadsTo : Result Meant LineFault → Result BranchTarget LineFault → Type 0
 LeadsTo target result = result_map_both meant_by (λ fault. fault) result ≡ target
 
--- a counter of so many ones and a fraction, counted
+-- A counter with this integer part and fraction, after counting.
 abbrev pub IsCounted : (sign : Sign) (ones : ℕ) (direction : Sign) (count fraction : ℕ)
     → Result Ten DecimalFault → Type 0
 IsCounted sign ones direction count fraction result =

@@ -7,7 +7,7 @@ use Rattle.h41_rows.proofs.Asked.{registers_asked, register_below, register_abov
 use Rattle.h41_rows.specs.private.Comparisons.{answer_of_comparison}
 use Rattle.h41_rows.proofs.conditions.asks.Goals as goal
 
--- the same registers hold the same
+-- Equal registers contain equal numbers.
 held : {x y : List ℕ} → x ≡ y → worth (holding_of x) ≡ worth (holding_of y)
 held same = ap (λ register. worth (holding_of register)) same
 

@@ -1,4 +1,4 @@
--- A counter so counted is the value that lines compute.
+-- A counter that is counted is the value that lines compute.
 use Rattle.std.proofs.Common.{◌≡◌, Bool, Err, List, Ok, Result, Some, refl, ℕ}
 use Rattle.h41_decimal.specs.NearestDecimal.{Nearest}
 use Rattle.h41_decimal.specs.Holding.{holding_of, worth}
@@ -18,7 +18,7 @@ use Rattle.h41_rows.specs.private.Answers.{KeptOne, RoundsAt, WithoutNumber}
 use Rattle.h41_rows.specs.private.Counting.{number_along, value_along}
 use Rattle.h41_rows.proofs.counted_loops.loop_along.Goals as goal
 
--- a counter is rounded to no places of the display
+-- The display format does not affect a counter.
 rounds : (direction : Sign) (memory : RegisterMap) → RoundsAt (value_along direction) memory (Decimals 0)
 rounds Plus memory = tt
 rounds Minus memory = tt

@@ -1,4 +1,4 @@
--- Where the ones keep their sign, the whole number is moved.
+-- If the integer part keeps its sign, the increment is added to the whole number.
 use Rattle.std.proofs.Common.{◌≡◌, ◌⊎◌, inl, inr, ◌/◌, ◌%◌, ◌<◌, ap, sym, subst, ◌∙◌, arith}
 use Rattle.std.specs.Prelude.{ℤ, ◌==◌, if◌then◌else◌, unsigned_abs}
 use Rattle.std.proofs.lemmas.Bool.{ltb-true}

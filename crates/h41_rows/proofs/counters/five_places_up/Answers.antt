@@ -1,4 +1,4 @@
--- The ones five places up.
+-- The integer part after the radix mark is moved five places to the right.
 use Rattle.std.proofs.Common.{◌+◌, ◌*◌, ◌^◌, ◌≤◌, arith}
 use Rattle.h41_rows.proofs.Decimals.{shifted_ones, not_many}
 use Rattle.h41_rows.proofs.counters.five_places_up.Goals as goal

@@ -1,4 +1,4 @@
--- By the parts of the counter.
+-- The parts of the counter decide whether the loop continues.
 use Rattle.std.proofs.Common.{arith, refl}
 use Rattle.h41_decimal.specs.Units.{units}
 use Rattle.h41_rows.proofs.Loops.{goes_on_down, goes_on_up}

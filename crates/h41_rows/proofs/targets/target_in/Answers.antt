@@ -1,4 +1,4 @@
--- A number names a label.
+-- The target of a number is a label.
 use Rattle.std.proofs.Common.{◌≡◌, ◌/◌, Some, Ok, Err, ap, sym, ◌∙◌, arith}
 use Rattle.std.specs.Prelude.{unsigned_abs}
 use Rattle.std.specs.Option.{option_map}

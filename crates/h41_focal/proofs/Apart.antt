@@ -1,4 +1,4 @@
--- Registers that operands name: none is of the program where memory is sound.
+-- If memory is sound, no register that an operand names contains programs.
 use Rattle.std.proofs.Common.{◌≡◌, ℕ, ◌+◌, ◌-◌, ◌<◌, Bool, true, false, [], ◌∷◌, Result, Ok, Err, refl, subst, arith}
 use Rattle.std.specs.Prelude.{nat_lt, if◌then◌else◌, IsTrue}
 use Rattle.std.proofs.lemmas.Bool.Decides.{nat_tests}
@@ -16,7 +16,7 @@ use Rattle.h41_rows.specs.RowMarks.{IsApart, LeavesMark}
 use Rattle.h41_rows.specs.declared.fault.LineFault.{LineFault}
 use Rattle.h41_rows.specs.declared.fault.LineFault.TheVariants.{Nonexistent}
 
--- what was found is an address
+-- An address was found.
 abbrev pub IsAt : Result ℕ LineFault → ℕ → Type 0
 IsAt found address = ◌≡◌ {A = Result ℕ LineFault} found (Ok address)
 
@@ -59,12 +59,12 @@ module _ (memory : RegisterMap) (sound : IsTrue (is_sound memory)) where
   meant_at (Ok at) address meant = cc
   meant_at (Err fault) address meant = absurd cc
 
-  -- the register of an operand
+  -- The register of an operand.
   pub register_found : (operand : Operand) (address : ℕ) → is_operand_left_out operand ≡ false
       → ◌≡◌ {A = Result Meant LineFault} (Ok (Address address)) (meant_as RegisterKind memory operand) → IsApart memory address
   register_found operand address held meant = operand_found operand address held (meant_at (address_of memory operand) address meant)
 
--- A flag is written in the memory of a machine that is held in its parts.
+-- A flag is written in the memory of a machine whose parts are stored separately.
 module _ (inside : RamState) (machine : LabelledMachine) (is : inside ≡ machine.ram) (new : RamState) where
   pub left_flag : new.touched ≡ marked_by (14 ∷ []) inside → LeavesMark machine.ram new
   left_flag written =

@@ -1,4 +1,4 @@
--- What a line that has begun leaves, against memory and the kept answers as they were.
+-- The machine after a line, compared with memory and cached answers before the line began.
 use Rattle.std.proofs.Common.{◌≡◌, false, Option, Ok, Err, Result, OnErr, ap, subst, sym, ◌∙◌}
 use Rattle.h41_codes.specs.declared.functions.Function.{Function}
 use Rattle.h41_codes.specs.declared.line.Line.{Line}
@@ -15,7 +15,7 @@ use Rattle.h41_ram.proofs.Marks.{stays}
 use Rattle.h41_ram.specs.RamState.{KeepsMark, RamState}
 use Rattle.h41_rows.specs.RowMarks.{LeavesMark}
 
--- where no line stands there
+-- No line can be read at the position.
 pub record Refuses (pages : PageMap) (function : Option Function) (old new : LabelledMachine) : Type 0 where
   pub unchanged : machine_of new ≡ machine_of old
   pub kept : StepKeeps pages function old new
@@ -38,7 +38,7 @@ refuses pages function old begun refusal is stands =
       clear = ap (λ (labelled : LabelledMachine). labelled.ram.touched) is;
     }
 
--- where one does
+-- A line can be read at the position.
 pub record Takes {A : Type 0} (pages : PageMap) (function : Option Function) (old new : LabelledMachine) (result : Result A FocalRefusal)
     : Type 0 where
   pub unchanged : OnErr result (machine_of new ≡ machine_of old)

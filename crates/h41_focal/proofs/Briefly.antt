@@ -1,4 +1,4 @@
--- Brief outcomes: what is called elsewhere, and the texts that are made afterwards.
+-- Brief outcomes: calls outside memory, and texts that are made afterwards.
 use Rattle.std.proofs.Common.{◌≡◌, ℕ, Bool, true, false, Ok, Err, Result, refl, sym, ap, subst, ◌∙◌, true≢false}
 use Rattle.std.specs.Prelude.{MatchBool}
 use Rattle.h41_codes.specs.declared.functions.Branch.{Branch}
@@ -28,7 +28,7 @@ use Rattle.h41_rows.specs.Profile.{is_left_out, is_parameter_left_out}
 use Rattle.h41_rows.specs.declared.fault.LineFault.{LineFault}
 use Rattle.h41_rows.specs.declared.operands.BranchTarget.{BranchTarget}
 
--- a line that fails calls nothing
+-- A line that fails calls nothing outside memory.
 pub failure_is_here :
     (origin : Origin) (fault : LineFault) (old new : Machine) (brief : BriefOutcome)
     → FailsAs origin fault old new brief
@@ -40,7 +40,7 @@ failure_is_here origin fault old new brief failing is =
     (sym (ap (λ (of : BriefOutcome). is_elsewhere (brief_answer nowhere new.memory of)) is)
     ∙ fails_here (manner_of origin) old fault (ending_of new brief) failing))
 
--- what a call would answer does not matter where nothing is called
+-- If nothing is called, the answer does not depend on what would be called.
 same_answer :
     (called other : Answer) (memory : RegisterMap) (brief : BriefOutcome)
     → (brief ≡ briefs.Elsewhere → called ≡ other)
@@ -65,7 +65,7 @@ failure_calling called origin fault old new brief failing =
     subst (λ (answer : Answer). FailsIn (manner_of origin) old fault (Ok (record { machine = new; answer = answer })))
     (same_answer nowhere called new.memory brief (λ is. absurd (failure_is_here origin fault old new brief failing is))) failing
 
--- what a line calls has to be looked up
+-- What a line calls is outside memory.
 pub calls_elsewhere : (memory : RegisterMap) (line : Line) → is_elsewhere (called_by memory line) ≡ true
 calls_elsewhere memory (lines.Module number entry) = refl
 calls_elsewhere memory lines.Null = refl
@@ -83,7 +83,7 @@ calls_elsewhere memory (lines.FinalEnd link marks) = refl
 calls_elsewhere memory (lines.BranchTo branch distance backwards label) = refl
 calls_elsewhere memory (lines.Text text) = refl
 
--- and then nothing is changed
+-- A line that calls something outside memory changes nothing.
 pub call_keeps :
     (pages : PageMap) (origin : Origin) (line : Line) (old new : Machine) (brief : BriefOutcome)
     → TakesBriefly pages origin line old new (Ok brief)
@@ -94,7 +94,7 @@ call_keeps pages origin line old new brief takes is =
     (ap (λ (of : BriefOutcome). is_elsewhere (brief_answer (called_by old.memory line) new.memory of)) is
     ∙ calls_elsewhere old.memory line)
 
--- a line is taken, by its brief outcome
+-- A line is executed, by its brief outcome.
 pub outcome_taken :
     (pages : PageMap) (origin : Origin) (line : Line) (old new : Machine) (brief : BriefOutcome) (outcome : LineOutcome)
     → TakesBriefly pages origin line old new (Ok brief)
@@ -107,14 +107,14 @@ outcome_taken pages origin line old new brief outcome takes answers =
     ∙ sym answers)
     takes
 
--- what a call leaves, by a brief outcome that calls nothing
+-- The machine after a call whose brief outcome calls nothing.
 pub same_left :
     (new : Machine) (brief : BriefOutcome) (outcome : LineOutcome)
     → ((called : Answer) → answer_of outcome ≡ brief_answer called new.memory brief)
     → left_of new outcome ≡ ending_of new brief
 same_left new brief outcome answers = ap (λ (answer : Answer). record { machine = new; answer = answer }) (answers nowhere)
 
--- the same of a result
+-- The same for a result.
 pub call_changes_nothing :
     (pages : PageMap) (origin : Origin) (line : Line) (old new : Machine) (result : Result BriefOutcome FocalRefusal)
     → TakesBriefly pages origin line old new result
@@ -125,7 +125,7 @@ call_changes_nothing pages origin line old new (Ok brief) takes is =
     call_keeps pages origin line old new brief takes elsewhere
 call_changes_nothing pages origin line old new (Err refusal) takes is = absurd (cc is)
 
--- a line that was taken is not left out
+-- A line that was executed is supported.
 held_by : (pages : PageMap) (out : Bool) (how : Manner) (line : Line) (old : Machine) (left : Left)
     → MatchBool out (◌≡◌ {A = Result Left FocalRefusal} (Ok left) (Err NotInProfile)) (CarriesOut pages how line old (Ok left))
     → out ≡ false
@@ -139,7 +139,7 @@ pub taken_is_held :
 taken_is_held pages origin line old new brief takes =
     held_by pages (is_left_out line) (manner_of origin) line old (briefly (called_by old.memory line) new brief) takes
 
--- GTO IND and XEQ IND, by where they go
+-- GTO IND and XEQ IND, by their targets.
 pub target_taken :
     (pages : PageMap) (origin : Origin) (branch : Branch) (register : ℕ) (target : BranchTarget) (old new : Machine) (brief : BriefOutcome)
     → is_parameter_left_out register ≡ false

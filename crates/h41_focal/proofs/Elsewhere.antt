@@ -1,4 +1,4 @@
--- A line that calls what has to be looked up changes nothing.
+-- A line that calls something outside memory changes nothing.
 use Rattle.std.proofs.Common.{◌≡◌, ℕ, Bool, true, false, List, Ok, Err, Result, refl, sym, ap, ◌∙◌, true≢false}
 use Rattle.std.specs.Prelude.{MatchBool, if◌then◌else◌}
 use Rattle.h41_codes.specs.declared.line.Line.{Line}
@@ -25,7 +25,7 @@ use Rattle.h41_rows.specs.Rows as rows
 use Rattle.h41_rows.specs.declared.fault.LineFault.{LineFault}
 use Rattle.h41_rows.specs.declared.fault.LineFault.TheVariants.{Nonexistent}
 
--- what a row answers is done here
+-- The answer of a row calls nothing outside memory.
 pub own_answer : (memory : RegisterMap) (named : ℕ) (shows : rows.Showing) (ends : rows.RowEnding)
     → is_elsewhere (answer_of_showing memory named shows ends) ≡ false
 own_answer memory named rows.AsBefore rows.GoesOn = refl
@@ -39,12 +39,12 @@ own_answer memory named rows.AlphaText rows.GoesOn = refl
 own_answer memory named rows.AlphaText rows.Stops = refl
 own_answer memory named rows.AlphaText rows.TurnsOff = refl
 
--- an answer that isn't looked up, but is
+-- An answer that calls nothing outside memory cannot be one that does.
 never : (left : Left) (answer : Answer) (old : Machine) → left.answer ≡ answer → is_elsewhere answer ≡ false
     → is_elsewhere left.answer ≡ true → left.machine ≡ old
 never left answer old is own elsewhere = absurd (true≢false (sym elsewhere ∙ (ap is_elsewhere is ∙ own)))
 
--- a line that fails
+-- A line that fails.
 own_fault : (flag : Bool) (caught stopped : Machine) (fault : LineFault)
     → is_elsewhere (if flag then left_done caught else left_failed stopped fault).answer ≡ false
 own_fault true caught stopped fault = refl
@@ -69,7 +69,7 @@ fails_in : (how : Manner) (machine old : Machine) (fault : LineFault) (left : Le
 fails_in how machine old fault left failing elsewhere =
     never left left.answer old refl (fails_here how machine fault left failing) elsewhere
 
--- a row
+-- A row.
 ends_keeps : (how : Manner) (old new : Machine) (answer : Answer) (to : Destination) (left : Left) → is_elsewhere answer ≡ false
     → Ends how old new answer to (Ok left) → is_elsewhere left.answer ≡ true → left.machine ≡ old
 ends_keeps how old new answer (Arrives position returns) left own is elsewhere =
@@ -101,7 +101,7 @@ applies_to pages how line machine (Err fault) left failing elsewhere = fails_in 
 applies_to pages how line machine (Ok meant) left (result, works, applies) elsewhere =
     applies_with pages how (row_of line meant) (named_by meant) machine result left applies elsewhere
 
--- a line
+-- A line.
 carries_out : (pages : PageMap) (how : Manner) (line : Line) (machine : Machine) (left : Left) → CarriesOut pages how line machine (Ok left)
     → is_elsewhere left.answer ≡ true → left.machine ≡ machine
 carries_out pages how (lines.Module number entry) machine left is elsewhere = ap (λ (of : Left). of.machine) (same_left left _ is)
@@ -145,7 +145,7 @@ pub elsewhere_keeps : (pages : PageMap) (how : Manner) (line : Line) (machine : 
     → is_elsewhere left.answer ≡ true → left.machine ≡ machine
 elsewhere_keeps pages how line machine left takes elsewhere = takes_by pages (is_left_out line) how line machine left takes elsewhere
 
--- what a call leaves where its answer has to be looked up
+-- The machine after a call whose answer calls something outside memory.
 pub kept_elsewhere : (pages : PageMap) (origin : Origin) (line : Line) (old new : Machine) (result : Result LineOutcome FocalRefusal)
     → TakesAs pages origin line old new result → KeepsElsewhere old new result
 kept_elsewhere pages origin line old new (Ok outcome) takes =

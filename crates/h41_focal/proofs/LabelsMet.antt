@@ -1,4 +1,4 @@
--- Lines that go to labels, or back, by what the searches answered.
+-- Branches to labels, and returns, by the answers of the searches.
 use Rattle.std.proofs.Common.{◌≡◌, ℕ, List, [], ◌∷◌, Some, None, Ok, refl, reverse}
 use Rattle.h41_codes.specs.declared.functions.Branch.{Branch}
 use Rattle.h41_codes.specs.declared.functions.Branch.TheVariants.{GoTo, Execute}
@@ -25,11 +25,11 @@ use Rattle.h41_positions.specs.declared.position.Position.{Position}
 use Rattle.h41_positions.specs.declared.position.Position.TheVariants.{Memory}
 use Rattle.h41_ram.specs.RegisterMap.{zeros}
 
--- at a label, by how the line came and whether it returns
+-- The machine at a label, by the origin of the line and the branch.
 abbrev pub at_label : Origin → Branch → Position → Machine → Machine
 at_label origin branch position machine = record machine { focal = focal_at origin branch position machine.focal }
 
--- the label stands there
+-- The label was found.
 pub label_found :
     (pages : PageMap) (origin : Origin) (branch : Branch) (label named : ℕ) (machine : Machine) (position : Position) (brief : BriefOutcome)
     → LocalFrom label pages machine.memory (from_of origin machine.focal.position) (Some position)
@@ -51,7 +51,7 @@ label_found pages Typed GoTo label named machine position brief found answer =
 label_found pages Typed Execute label named machine position brief found answer =
     (Ok zeros, refl, (destinations.Runs position, (Some position, found, refl), rw answer refl))
 
--- it stands nowhere
+-- The label was not found.
 pub label_lost :
     (pages : PageMap) (origin : Origin) (branch : Branch) (label named : ℕ) (old new : Machine) (brief : BriefOutcome)
     → LocalFrom label pages old.memory (from_of origin old.focal.position) None
@@ -62,7 +62,7 @@ label_lost pages (Program next) branch label named old new brief lost fails =
 label_lost pages Typed branch label named old new brief lost fails =
     (Ok zeros, refl, (destinations.HasNoLabel, (None, lost, refl), fails))
 
--- a name stands there
+-- A name was found.
 pub name_found :
     (pages : PageMap) (origin : Origin) (branch : Branch) (name : List ℕ) (named : ℕ) (machine : Machine) (byte : ℕ) (brief : BriefOutcome)
     → AnswersOf (λ lines. position_of (named_in name lines)) machine.memory 0 (Some byte)
@@ -85,7 +85,7 @@ name_found pages Typed GoTo name named machine byte brief found answer =
 name_found pages Typed Execute name named machine byte brief found answer =
     (Ok zeros, refl, (destinations.Runs (Memory byte), (Some byte, found, refl), rw answer refl))
 
--- it stands nowhere: GTO fails
+-- A name was not found: GTO is an error.
 pub name_lost :
     (pages : PageMap) (origin : Origin) (name : List ℕ) (named : ℕ) (old new : Machine) (brief : BriefOutcome)
     → AnswersOf (λ lines. position_of (named_in name lines)) old.memory 0 None
@@ -96,7 +96,7 @@ name_lost pages (Program next) name named old new brief lost fails =
 name_lost pages Typed name named old new brief lost fails =
     (Ok zeros, refl, (destinations.HasNoLabel, (None, lost, refl), fails))
 
--- and XEQ leaves the search to the calculator
+-- A name was not found: for XEQ the calculator searches elsewhere.
 pub name_sought :
     (pages : PageMap) (origin : Origin) (name : List ℕ) (named : ℕ) (machine : Machine)
     → AnswersOf (λ lines. position_of (named_in name lines)) machine.memory 0 None
@@ -105,7 +105,7 @@ name_sought pages (Program next) name named machine lost =
     (Ok zeros, refl, (destinations.Seeks name, (None, lost, refl), refl))
 name_sought pages Typed name named machine lost = (Ok zeros, refl, (destinations.Seeks name, (None, lost, refl), refl))
 
--- a line goes back
+-- A line returns.
 back_from : (pages : PageMap) (returns : List Position) (old new : Machine) (brief : BriefOutcome) (next : Position) (named : ℕ)
     → GoesBackFrom pages returns old new brief
     → returns ≡ reverse old.focal.returns

@@ -1,4 +1,4 @@
--- Kept answers that were right are right behind a line.
+-- Cached answers that were right are right after a line.
 use Rattle.std.proofs.Common.{Bool, true, false, rules, sym, subst}
 use Rattle.std.specs.Prelude.{IsFalse, IsTrue, List, Option}
 use Rattle.h41_positions.specs.LabelledMachine.{AreRight, Keeps, LabelledMachine}
@@ -8,7 +8,7 @@ use Rattle.h41_labels.specs.declared.search.KeptAnswer.{KeptAnswer}
 use Rattle.h41_labels.specs.declared.search.Search.{Search}
 use Rattle.h41_ram.specs.RamState.{KeepsMark}
 
--- a mark that is clear was so before
+-- If the dirty flag is clear after a step that does not clear it, it was clear before.
 was_clear : (old new : Bool) → (IsTrue old → IsTrue new) → IsFalse new → IsFalse old
 was_clear false new kept clear = search rules
 was_clear true new kept clear = search rules

@@ -1,4 +1,4 @@
--- Lines are taken, by what was found of their operands and by their rows.
+-- Lines are executed, given their operands and their rows.
 use Rattle.std.specs.Prelude.{IsTrue, List, if◌then◌else◌}
 use Rattle.std.proofs.Common.{◌≡◌, ℕ, Bool, true, false, IfNone, IfSome, Option, Some, None, Ok, Err, Result, refl}
 use Rattle.h41_codes.specs.declared.functions.Function.{Function}
@@ -42,7 +42,7 @@ use Rattle.h41_rows.specs.Profile.{is_use_left_out}
 use Rattle.h41_rows.specs.Rows.{silent_row}
 use Rattle.h41_rows.specs.declared.fault.LineFault.{LineFault}
 
--- a function, by its work
+-- A function without an operand, by its effect.
 pub plain_taken :
     (pages : PageMap) (origin : Origin) (function : Function) (work : FunctionWork) (old new : Machine)
     (result : Result BriefOutcome FocalRefusal)
@@ -51,21 +51,21 @@ pub plain_taken :
     → TakesBriefly pages origin (lines.Plain function) old new result
 plain_taken pages origin function work old new result row carries = rw (← row) carries
 
--- and one without
+-- A function without an effect is not supported.
 pub plain_left_out :
     (pages : PageMap) (origin : Origin) (function : Function) (machine : Machine)
     → None ≡ function_row function
     → TakesBriefly pages origin (lines.Plain function) machine machine (Err NotInProfile)
 plain_left_out pages origin function machine none = rw (← none) refl
 
--- a function with an operand that is left out
+-- A function with an operand that is not supported.
 pub operand_left_out :
     (pages : PageMap) (origin : Origin) (function : ParameterFunction) (operand : Operand) (machine : Machine)
     → is_use_left_out function operand ≡ true
     → TakesBriefly pages origin (lines.WithOperand function operand) machine machine (Err NotInProfile)
 operand_left_out pages origin function operand machine out = rw out refl
 
--- with a register
+-- A function with a register.
 pub register_taken : (pages : PageMap) (origin : Origin) (function : ParameterFunction) (operand : Operand)
     (taken : RegisterUse) (old new : Machine) (result : Result BriefOutcome FocalRefusal)
     → is_use_left_out function operand ≡ false → kind_of function ≡ RegisterKind → register_row function ≡ register_use_row taken
@@ -75,7 +75,7 @@ register_taken pages origin function operand taken old new result held kind row 
 register_taken pages origin function operand taken old new result held kind row (Err fault, meant, fails) =
     rw (held, kind, ← meant) fails
 
--- with a number of digits
+-- A function with a number of digits.
 pub digits_taken : (pages : PageMap) (origin : Origin) (function : ParameterFunction) (operand : Operand)
     (taken : DigitsUse) (old new : Machine) (result : Result BriefOutcome FocalRefusal)
     → is_use_left_out function operand ≡ false → kind_of function ≡ DigitKind → ((n : ℕ) → count_row function n ≡ digits_use_row taken n)
@@ -85,7 +85,7 @@ digits_taken pages origin function operand taken old new result held kind row (O
 digits_taken pages origin function operand taken old new result held kind row (Err fault, meant, fails) =
     rw (held, kind, ← meant) fails
 
--- with a flag
+-- A function with a flag.
 pub flag_taken : (pages : PageMap) (origin : Origin) (function : ParameterFunction) (operand : Operand)
     (taken : FlagUse) (old new : Machine) (result : Result BriefOutcome FocalRefusal)
     → is_use_left_out function operand ≡ false → kind_of function ≡ FlagKind (highest_of taken)
@@ -96,7 +96,7 @@ flag_taken pages origin function operand taken old new result held kind row (Ok 
 flag_taken pages origin function operand taken old new result held kind row (Err fault, meant, fails) =
     rw (held, kind, ← meant) fails
 
--- a label
+-- A label.
 pub label_taken :
     (pages : PageMap) (origin : Origin) (function : ParameterFunction) (operand : Operand) (old new : Machine)
     (result : Result BriefOutcome FocalRefusal)
@@ -107,7 +107,7 @@ pub label_taken :
     → TakesBriefly pages origin (lines.WithOperand function operand) old new result
 label_taken pages origin function operand old new result held kind row carries = rw (held, kind, row) carries
 
--- RCL and STO of the first registers
+-- RCL and STO of the registers 00 to 15.
 pub short_taken : (pages : PageMap) (origin : Origin) (function : RegisterFunction) (register : ℕ)
     (found : Result ℕ LineFault) (old new : Machine) (result : Result BriefOutcome FocalRefusal)
     → found ≡ data_register old.memory register
@@ -116,13 +116,13 @@ pub short_taken : (pages : PageMap) (origin : Origin) (function : RegisterFuncti
 short_taken pages origin function register (Ok address) old new result found carries = rw (← found) carries
 short_taken pages origin function register (Err fault) old new result found fails = rw (← found) fails
 
--- a line that makes no search keeps what is kept, also where it is left out
+-- A line without a search leaves the label cache unchanged, whether it is supported or not.
 pub unsearched : (memory : RegisterMap) (out : Bool) (old new : List KeptAnswer) → new ≡ old
     → KeepsSearch memory (if out then None else None) old new
 unsearched memory true old new same = same
 unsearched memory false old new same = same
 
--- behind a line that is no XROM line lift stays
+-- After a line that is no XROM line, stack lift is unchanged.
 pub lift_kept : (line : Line) (lift : Bool) → ((number entry : ℕ) → line ≡ lines.Module number entry → ⊥) → lift_behind line lift ≡ lift
 lift_kept (lines.Module number entry) lift other = absurd (other number entry refl)
 lift_kept lines.Null lift other = refl
@@ -140,7 +140,7 @@ lift_kept (lines.FinalEnd link marks) lift other = refl
 lift_kept (lines.BranchTo branch distance backwards label) lift other = refl
 lift_kept (lines.Text text) lift other = refl
 
--- a number line stands there, or a short one, by the answers of program memory
+-- The line at the position is a number line or a short line, by the answers of program memory.
 pub number_stands : (pages : PageMap) (machine : Machine) (at : ℕ) (number : Ten) (next : ℕ)
     → IsTrue (is_sound machine.memory) → machine.focal.position ≡ Memory at → HasNumber machine.memory at number next
     → StandsNumber pages machine number (Memory next)

@@ -1,4 +1,4 @@
--- Why a line has one outcome.
+-- A line has one outcome.
 use Rattle.std.proofs.Common.{◌≡◌, ℕ, Bool, true, false, List, [], ◌∷◌, reverse, Option, Some, None, Result, Ok, Err, sym, ap, ◌∙◌, subst}
 use Rattle.std.proofs.Common.{inl, inr}
 use Rattle.std.specs.Option.{option_map}
@@ -49,14 +49,14 @@ no_next once pages memory at a p q =
     once.next pages memory at (Ok a) (Err refusals.BrokenProgram) p q in
     cc
 
--- where both are refused, by whether memory is sound
+-- Two refusals are equal, because both depend on whether memory is sound.
 same_refusal : (pages : PageMap) (sound : Bool) (memory : RegisterMap) (at : Position) (a b : FocalRefusal)
     → MatchBool sound ((a ≡ BrokenProgram) × (why : ProgramRefusal) × LineAt pages memory at (Err why)) (a ≡ MemoryLost)
     → MatchBool sound ((b ≡ BrokenProgram) × (why : ProgramRefusal) × LineAt pages memory at (Err why)) (b ≡ MemoryLost) → a ≡ b
 same_refusal pages true memory at a b p q = p.0 ∙ sym q.0
 same_refusal pages false memory at a b p q = p ∙ sym q
 
--- what stands at a position, where each is read in one way
+-- The line at a position is determined, given that each position is read in one way.
 module _ (once : IsReadOnce) where
   pub same_line : (pages : PageMap) (memory : RegisterMap) (at : Position) (line other : Line)
       → (first : PlacedLine) × LineAt pages memory at (Ok first) × (first.line ≡ line)
@@ -86,7 +86,7 @@ module _ (once : IsReadOnce) where
   same_standing pages memory at (Err refusal) (Err other) p q =
       ap (λ (why : FocalRefusal). Err why) (same_refusal pages (is_sound memory) memory at refusal other p q)
 
-  -- so what is done with it is one, where that is
+  -- An effect of the line at a position is determined if it is for each line.
   by_standing : {A : Type 0} (pages : PageMap) (does : Machine → Result (Line × Position) FocalRefusal → A → Type 0)
       → ((machine : Machine) (standing : Result (Line × Position) FocalRefusal) (a b : A)
       → does machine standing a → does machine standing b → a ≡ b)
@@ -98,7 +98,7 @@ module _ (once : IsReadOnce) where
       (subst (λ (standing : Result (Line × Position) FocalRefusal). does machine standing a)
       (same_standing pages machine.memory machine.focal.position standing other stands stands_so) p) q
 
-  -- a line that fails from outside
+  -- A line that fails has one outcome.
   same_outside : (fault : LineFault) (machine : Machine) (standing : Result (Line × Position) FocalRefusal)
       (a b : Result Left FocalRefusal)
       → FailsWith fault machine standing a → FailsWith fault machine standing b → a ≡ b
@@ -108,7 +108,7 @@ module _ (once : IsReadOnce) where
   pub failure_determined : FailureIsDetermined
   failure_determined pages fault machine a b p q = by_standing pages (FailsWith fault) (same_outside fault) machine a b p q
 
-  -- a line that is passed
+  -- A line whose function is executed elsewhere has one outcome.
   same_beyond : (machine : Machine) (standing : Result (Line × Position) FocalRefusal) (a b : Result Machine FocalRefusal)
       → PassesWith machine standing a → PassesWith machine standing b → a ≡ b
   same_beyond machine (Ok standing) a b p q = p ∙ sym q
@@ -117,7 +117,7 @@ module _ (once : IsReadOnce) where
   pub passing_determined : PassingIsDetermined
   passing_determined pages machine a b p q = by_standing pages PassesWith same_beyond machine a b p q
 
-  -- a line that calls a program of a page
+  -- A line that calls a program of a page has one outcome.
   same_called : (address : ℕ) (machine : Machine) (standing : Result (Line × Position) FocalRefusal) (a b : Result Machine FocalRefusal)
       → EntersWith address machine standing a → EntersWith address machine standing b → a ≡ b
   same_called address machine (Ok standing) a b p q = p ∙ sym q
@@ -126,7 +126,7 @@ module _ (once : IsReadOnce) where
   pub entering_determined : EnteringIsDetermined
   entering_determined pages address machine a b p q = by_standing pages (EntersWith address) (same_called address) machine a b p q
 
--- a typed line that fails from outside
+-- A typed line that fails has one outcome.
 same_typed_failure : (sound : Bool) (fault : LineFault) (machine : Machine) (a b : Result Left FocalRefusal)
     → MatchBool sound (FailsIn Typed machine fault a) (a ≡ Err MemoryLost)
     → MatchBool sound (FailsIn Typed machine fault b) (b ≡ Err MemoryLost) → a ≡ b
@@ -136,7 +136,7 @@ same_typed_failure false fault machine a b p q = p ∙ sym q
 pub typed_failure_determined : TypedFailureIsDetermined
 typed_failure_determined fault machine a b p q = same_typed_failure (is_sound machine.memory) fault machine a b p q
 
--- what a row computes, where each value has one register or one fault
+-- The register that a row computes is determined, given that each value has one register or one error.
 module _ (same_value : ValuesAreDetermined) where
   same_computed : (memory : RegisterMap) (named : ℕ) (value : Option Value) (a b : Result (List ℕ) LineFault)
       → ComputesIn memory named value a → ComputesIn memory named value b → a ≡ b
@@ -153,7 +153,7 @@ module _ (same_value : ValuesAreDetermined) where
       → Works memory named row a → Works memory named row b → a ≡ b
   same_work memory named row a b p q = same_by_numbers (are_numbers memory named (rows.numbers_of row)) memory named row.value a b p q
 
--- where a line goes, where besides each search has one answer
+-- The place at which execution continues is determined, given also that each search has one answer.
 module _
     (once : IsReadOnce)
     (same_start : HasOneAnswer StartOf)
@@ -227,7 +227,7 @@ module _
       same_from_next pages going memory named at next returns a b p q
   same_destination pages Typed going memory named at returns a b p q = same_from_here pages going memory named at returns a b p q
 
--- what a destination leaves
+-- The outcome at such a place is determined.
 same_end : (how : Manner) (old new : Machine) (answer : Answer) (to : Destination) (a b : Result Left FocalRefusal)
     → Ends how old new answer to a → Ends how old new answer to b → a ≡ b
 same_end how old new answer (Arrives position returns) a b p q = p ∙ sym q
@@ -240,7 +240,7 @@ same_end how old new answer (Seeks name) a b p q = p ∙ sym q
 same_end how old new answer HasNoLabel a b p q = p ∙ sym q
 same_end how old new answer HasNoLine a b p q = p ∙ sym q
 
--- a line, where all of this is so
+-- The outcome of a line is determined, given all of this.
 module _
     (same_value : ValuesAreDetermined)
     (once : IsReadOnce)
@@ -287,7 +287,7 @@ module _
       → TakesLine pages how line machine a → TakesLine pages how line machine b → a ≡ b
   same_taken pages how line machine a b p q = same_in_profile pages (is_left_out line) how line machine a b p q
 
-  -- a typed line
+  -- A typed line has one outcome.
   same_typed : (pages : PageMap) (sound : Bool) (line : Line) (machine : Machine) (a b : Result Left FocalRefusal)
       → MatchBool sound (TakesLine pages Typed line machine a) (a ≡ Err MemoryLost)
       → MatchBool sound (TakesLine pages Typed line machine b) (b ≡ Err MemoryLost) → a ≡ b
@@ -297,7 +297,7 @@ module _
   pub typed_determined : TypedIsDetermined
   typed_determined pages line machine a b p q = same_typed pages (is_sound machine.memory) line machine a b p q
 
-  -- a stepped one
+  -- A stepped line has one outcome.
   same_stepped : (pages : PageMap) (function : Option Function) (machine : Machine) (standing : Result (Line × Position) FocalRefusal)
       (a b : Result Left FocalRefusal)
       → StepsAs pages function machine standing a → StepsAs pages function machine standing b → a ≡ b

@@ -1,4 +1,4 @@
--- A row whose line goes on to the next one is applied: by what it computes, what it makes of memory, and where the line then is.
+-- A row whose line continues at the next one is applied, by what it computes, by memory after it, and by the position.
 use Rattle.std.proofs.Common.{◌≡◌, ℕ, List, Ok, Err, Result, refl, subst}
 use Rattle.h41_focal.specs.private.Carrying.{FailsAs, Leaves, on_to_next, manner_of, nowhere}
 use Rattle.h41_focal.specs.BriefOutcomes.{brief_answer}
@@ -16,14 +16,14 @@ use Rattle.h41_focal.specs.declared.refusal.FocalRefusal.{FocalRefusal}
 use Rattle.h41_pages.specs.PageMap.{PageMap}
 use Rattle.h41_ram.specs.RegisterMap.{RegisterMap}
 
--- a machine with a row's changes, where its line goes on to the next one
+-- The machine after the changes of a row whose line continues at the next one.
 abbrev pub applied_to : Origin → LineRow → ℕ → List ℕ → Machine → Machine
 applied_to origin row named register machine = record {
   memory = memory_after row named register machine.focal.lift machine.memory;
   focal = on_to_next origin row.lift machine.focal;
 }
 
--- it is done
+-- The row is applied.
 pub row_applied :
     (origin : Origin) (row : LineRow) (named : ℕ) (machine : Machine) (register : List ℕ) (brief : BriefOutcome)
     → row.goes ≡ rows.Next
@@ -36,7 +36,7 @@ row_applied (Program next) row named machine register brief goes works answers =
 row_applied Typed row named machine register brief goes works answers = λ pages.
     (Ok register, works, (destinations.Stays, rw goes refl, rw answers refl))
 
--- it is applied to a machine whose memory and what else lines work on are looked at apart
+-- The row is applied to a machine whose memory and other state are given separately.
 pub opened_row :
     (pages : PageMap) (origin : Origin) (row : LineRow) (named : ℕ) (machine : Machine) (memory : RegisterMap) (focal : FocalState)
     (carried : Result Left FocalRefusal)
@@ -46,7 +46,7 @@ pub opened_row :
 opened_row pages origin row named machine memory focal carried opened applies =
     subst (λ (old : Machine). Applies pages (manner_of origin) row named old carried) opened applies
 
--- it has a fault: by memory and what else lines work on
+-- The row has an error, given memory and the other state.
 pub row_failed :
     (origin : Origin) (row : LineRow) (named : ℕ) (machine new : Machine) (memory : RegisterMap) (focal : FocalState) (fault : LineFault)
     (brief : BriefOutcome)

@@ -1,4 +1,4 @@
--- A row whose line asks is applied: by what it computes, what it makes of memory, whether its condition holds, and where the line then is.
+-- The row of a test is applied, by what it computes, by memory after it, by the truth of its condition, and by the position.
 use Rattle.std.proofs.Common.{◌≡◌, ℕ, Bool, true, false, ◌&&◌, is_some, MatchBool, List, Ok, Err, Result, refl, ap, sym, subst, ◌∙◌, inl}
 use Rattle.std.proofs.Common.{inr}
 use Rattle.h41_decimal.specs.Holding.{number_in}
@@ -30,7 +30,7 @@ use Rattle.h41_positions.specs.declared.position.Position.{Position}
 use Rattle.h41_program.specs.declared.refusal.ProgramRefusal.TheVariants as program
 use Rattle.h41_ram.specs.RegisterMap.{RegisterMap, zeros}
 
--- the course of a line that asks
+-- The place at which execution continues after a test.
 arrives :
     (pages : PageMap) (holds : Bool) (memory : RegisterMap) (next position : Position) (returns : List Position)
     → MatchBool holds (position ≡ next) (NextAt pages memory next (Ok position))
@@ -45,7 +45,7 @@ has_no_line :
     → Asks pages holds memory next returns HasNoLine
 has_no_line pages holds memory next returns fails broken = rw fails (inr (broken, refl))
 
--- the program goes on from a line that asks, where its row goes by a condition
+-- A program continues after a line whose row has a condition.
 program_leads : (pages : PageMap) (next : Position) (lead : Origin) (row : LineRow) (condition : Condition) (holds : Bool)
     (named : ℕ) (machine : Machine) (register : List ℕ) (brief : BriefOutcome)
     → ((to : Destination) → Asks pages (holds_in machine.memory named condition) machine.memory next machine.focal.returns to
@@ -64,7 +64,7 @@ program_leads pages next (Program position) row condition holds named machine re
 program_leads pages next Typed row condition holds named machine register brief goes shows ends works is leads answers =
     absurd (cc leads.1)
 
--- a test is done
+-- A test is executed.
 pub test_leads : (pages : PageMap) (origin lead : Origin) (row : LineRow) (condition : Condition) (holds : Bool)
     (named : ℕ) (machine : Machine) (register : List ℕ) (brief : BriefOutcome)
     → row.goes ≡ rows.Tests condition → row.shows ≡ rows.AsBefore → row.ends ≡ rows.GoesOn
@@ -79,7 +79,7 @@ test_leads pages Typed (Program position) row condition holds named machine regi
 test_leads pages Typed Typed row condition holds named machine register brief goes shows ends works is leads answers =
     (Ok register, works, (Tells holds, rw goes (ap (λ (b : Bool). Tells b) is), rw answers refl))
 
--- a loop counted
+-- A loop is counted.
 pub loop_leads : (pages : PageMap) (origin lead : Origin) (row : LineRow) (condition : Condition) (holds : Bool)
     (named : ℕ) (machine : Machine) (register : List ℕ) (brief : BriefOutcome)
     → row.goes ≡ rows.Counts condition → row.shows ≡ rows.AsBefore → row.ends ≡ rows.GoesOn
@@ -94,7 +94,7 @@ loop_leads pages Typed (Program position) row condition holds named machine regi
 loop_leads pages Typed Typed row condition holds named machine register brief goes shows ends works is leads answers =
     (Ok register, works, (Stays, rw goes refl, rw (answers, shows, ends) refl))
 
--- the line that would be passed over is none
+-- The line to be skipped cannot be read.
 program_refused : (pages : PageMap) (next : Position) (row : LineRow) (condition : Condition) (holds : Bool)
     (named : ℕ) (old : Machine) (register : List ℕ) (refusal : FocalRefusal)
     → ((to : Destination) → Asks pages (holds_in old.memory named condition) old.memory next old.focal.returns to
@@ -105,7 +105,7 @@ program_refused pages next row condition holds named old register refusal goes w
     let asks = has_no_line pages (holds_in old.memory named condition) old.memory next old.focal.returns (sym is ∙ leads.1) leads.2 in
     (Ok register, works, (HasNoLine, goes _ asks, rw leads.0 refl))
 
--- a test is refused
+-- A test is refused.
 pub test_refused : (pages : PageMap) (origin : Origin) (row : LineRow) (condition : Condition) (holds : Bool)
     (named : ℕ) (old : Machine) (register : List ℕ) (refusal : FocalRefusal)
     → row.goes ≡ rows.Tests condition → Works old.memory named row (Ok register)
@@ -115,7 +115,7 @@ test_refused pages (Program next) row condition holds named old register refusal
     program_refused pages next row condition holds named old register refusal (λ to asks. rw goes asks) works is leads
 test_refused pages Typed row condition holds named old register refusal goes works is leads = absurd (cc leads)
 
--- a loop is refused
+-- A loop is refused.
 pub loop_refused : (pages : PageMap) (origin : Origin) (row : LineRow) (condition : Condition) (holds : Bool)
     (named : ℕ) (old : Machine) (register : List ℕ) (refusal : FocalRefusal)
     → row.goes ≡ rows.Counts condition → Works old.memory named row (Ok register)
@@ -125,7 +125,7 @@ loop_refused pages (Program next) row condition holds named old register refusal
     program_refused pages next row condition holds named old register refusal (λ to asks. rw goes asks) works is leads
 loop_refused pages Typed row condition holds named old register refusal goes works is leads = absurd (cc leads)
 
--- a test computes nothing, and its condition is told where its places hold numbers
+-- A test computes nothing, and its condition has a result if its places contain numbers.
 asked : (numbers holds other : Bool)
     → MatchBool numbers (◌≡◌ {A = Result Bool LineFault} (Ok holds) (Ok other)) (◌≡◌ {A = Result Bool LineFault} (Ok holds) (Err AlphaData))
     → MatchBool numbers (◌≡◌ {A = Result (List ℕ) LineFault} (Ok zeros) (Ok zeros))
@@ -160,7 +160,7 @@ test_faulted memory named condition result fault tells is =
     faulted (are_numbers memory named (rows.places_in_condition condition))
     (holds_in memory named condition) fault (let test_answer = tells named in rw is at test_answer)
 
--- a loop's counter is asked for twice, once for the value and once for the condition
+-- The counter of a loop has to be a number twice, for the value and for the condition.
 twice : (number : Bool) (A B : Type 0) → MatchBool (number && true) A B → MatchBool (number && (number && true)) A B
 twice true A B works = works
 twice false A B works = works

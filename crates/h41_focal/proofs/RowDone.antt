@@ -1,4 +1,4 @@
--- A row whose line goes on to the next one is done, by equations for memory and for where the line then is.
+-- A row whose line continues at the next one is applied, by equations for memory and for the position.
 use Rattle.std.proofs.Common.{arith, ◌≡◌, ◌≢◌, ℕ, ◌≤◌, false, nat_eq, List, [], ◌∷◌, length, drop, slice_index, Some, Result, Ok, refl}
 use Rattle.std.proofs.lemmas.Bool.Decides.{nat_tests}
 use Rattle.h41_focal.proofs.RowApplied.{opened_row, row_applied}
@@ -22,7 +22,7 @@ use Rattle.h41_rows.specs.declared.values.ValueOfTwo.{ValueOfTwo}
 use Rattle.h41_rows.specs.declared.values.ValueOfTwo.TheVariants as twos
 use Rattle.h41_ram.specs.RegisterMap.{RegisterMap, zeros}
 
--- with what it computes: by memory and what else lines work on, before and afterwards
+-- A row with the register that it computes, given memory and the other state before and after.
 pub row_done :
     (origin : Origin) (row : LineRow) (named : ℕ) (machine : Machine) (memory : RegisterMap) (focal : FocalState) (register : List ℕ)
     (brief : BriefOutcome) (new : RegisterMap) (after : FocalState)
@@ -37,7 +37,7 @@ row_done origin row named machine memory focal register brief new after opened g
     opened_row pages origin row named machine memory focal (Ok (ending_of (machine_with new after) brief)) opened
     (rw (makes, ends) (row_applied origin row named (machine_with memory focal) register brief goes works (rw makes at answers) pages))
 
--- arithmetic in a register works on the numbers of its value alone
+-- Arithmetic in a register only needs the numbers of its value.
 pub works_in_register :
     (value : ValueOfTwo) (memory : RegisterMap) (named : ℕ) (result : Result (List ℕ) LineFault)
     → WorksOn memory named (value_of_two value Named X) result
@@ -49,7 +49,7 @@ works_in_register twos.Quotient memory named result works = works
 works_in_register twos.Remainder memory named result works = works
 works_in_register twos.Percentage memory named result works = works
 
--- a text came into ALPHA; a text of no character does nothing
+-- A text line changed ALPHA. A text without characters changes nothing.
 pub text_done :
     (characters : List ℕ) (origin : Origin) (named : ℕ) (machine : Machine) (memory : RegisterMap) (focal : FocalState)
     (new : RegisterMap) (after : FocalState)
@@ -63,7 +63,7 @@ text_done (character ∷ text) origin named machine memory focal new after opene
     row_done origin (text_row (character ∷ text)) named machine memory focal zeros briefs.Done new after opened refl refl refl
     makes ends
 
--- what a text does to ALPHA, by its first character
+-- The effect of a text on ALPHA, by its first character.
 pub text_appends :
     (characters : List ℕ) → 1 ≤ length characters → slice_index characters 0 ≡ 0x7F
     → (text_row characters).alpha ≡ Some (Appends (drop 1 characters))

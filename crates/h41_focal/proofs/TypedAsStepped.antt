@@ -1,4 +1,4 @@
--- Why lines that go on to the next one leave the same, stepped or typed.
+-- Lines that continue at the next one have the same effect whether they are stepped or typed.
 use Rattle.std.proofs.Common.{◌≡◌, ℕ, Bool, true, false, List, [], ◌∷◌, All, None, Option, Result, Ok, Err, refl, sym, ap, ◌∙◌, subst}
 use Rattle.std.proofs.lemmas.List.Elements.{All-head, All-tail}
 use Rattle.std.specs.Prelude.{IfOk, MatchBool, if◌then◌else◌}
@@ -31,7 +31,7 @@ use Rattle.h41_rows.specs.RowLaws.{ValuesAreDetermined}
 use Rattle.h41_rows.specs.Rows as rows
 use Rattle.h41_rows.specs.declared.fault.LineFault.{LineFault}
 
--- a machine's memory and lift, with what else there is of another
+-- The memory and stack lift of one machine, with the other state of another.
 abbrev beside : Machine → FocalState → Machine
 beside machine focal = record { memory = machine.memory; focal = record focal { lift = machine.focal.lift } }
 
@@ -46,18 +46,18 @@ same_left left other is = cc
 no_refusal : (left : Left) (refusal : FocalRefusal) → ◌≡◌ {A = Result Left FocalRefusal} (Ok left) (Err refusal) → ⊥
 no_refusal left refusal is = cc
 
--- what is the same is alike
+-- Equal machines are alike.
 as_same : (left other : Left) → left ≡ other → (machine : Machine) → AreAlike other.machine machine → AreAlike left.machine machine
 as_same left other is machine alike = subst (λ (of : Left). AreAlike of.machine machine) (sym is) alike
 
--- something is left that is like this, and nothing has to be looked up elsewhere
+-- A line leaves a machine like this one, and calls nothing outside memory.
 abbrev LeavesLike : (Result Left FocalRefusal → Type 0) → Left → Type 0
 LeavesLike carries left = (typed : Left) × carries (Ok typed) × AreAlike left.machine typed.machine × (is_elsewhere left.answer ≡ false)
 
 here : (left other : Left) → left ≡ other → is_elsewhere other.answer ≡ false → is_elsewhere left.answer ≡ false
 here left other is found = subst (λ (of : Left). is_elsewhere of.answer ≡ false) (sym is) found
 
--- a fault
+-- An error.
 caught_alike : (flag_25 : Bool) (next : Position) (machine : Machine) (focal : FocalState) (fault : LineFault)
     → AreAlike
     (if flag_25 then left_done (at_line next (with_fault_caught machine))
@@ -78,7 +78,7 @@ failure_alike next machine focal fault left failing =
       fails_here (Stepped next) machine fault left failing,
     )
 
--- a row that goes on to the next line
+-- A row that continues at the next line.
 with_alike : (pages : PageMap) (next : Position) (row : rows.LineRow) (named : ℕ) (machine : Machine) (focal : FocalState)
     (result : Result (List ℕ) LineFault) (left : Left)
     → row.goes ≡ rows.Next → AppliesWith pages (Stepped next) row named machine result (Ok left)
@@ -110,7 +110,7 @@ row_alike pages next row named machine focal left goes_on (result, works, applie
     let found = with_alike pages next row named machine focal result left goes_on applies in
     (found.0, (result, works, found.1), found.2, found.3)
 
--- a line that goes on to the next one
+-- A line that continues at the next one.
 meant_alike : (pages : PageMap) (next : Position) (line : Line) (machine : Machine) (focal : FocalState) (meant : Result Meant LineFault)
     (left : Left)
     → IfOk meant (λ meant. (row_of line meant).goes ≡ rows.Next) → AppliesTo pages (Stepped next) line machine meant (Ok left)
@@ -141,7 +141,7 @@ taken_alike : (pages : PageMap) (next : Position) (line : Line) (machine : Machi
 taken_alike pages next line machine focal left goes_on takes =
     profile_alike pages (is_left_out line) next line machine focal left goes_on takes
 
--- the line at the position, where no bytes have two first lines
+-- The line at the position, given that bytes have only one first line.
 module _ (once : IsReadOnce) where
   stands_alike : (pages : PageMap) (standing : Result (Line × Position) FocalRefusal) (line : Line) (machine : Machine) (focal : FocalState)
       (left : Left)
@@ -169,7 +169,7 @@ module _ (once : IsReadOnce) where
       line_alike pages line machine machine left goes_on (refl, refl) stands steps in
       found.3
 
-  -- lines in turn
+  -- Lines one after another.
   turn_alike : (pages : PageMap) (lines : List Line) (machine other left : Machine) → All GoesToNext lines → AreAlike machine other
       → StepsInTurn pages lines machine left → (typed : Machine) × TypesInTurn pages lines other typed × AreAlike left typed
   turn_alike pages [] machine other left go_on alike is = (other, refl, subst (λ (left : Machine). AreAlike left other) (sym is) alike)
@@ -183,7 +183,7 @@ module _ (once : IsReadOnce) where
       let found = turn_alike pages lines machine other left go_on alike steps in
       (found.0, found.1)
 
--- lines that are typed in turn have one outcome
+-- Lines that are typed one after another have one outcome.
 same_turn : TypedIsDetermined → (pages : PageMap) (lines : List Line) (machine left other : Machine)
     → TypesInTurn pages lines machine left → TypesInTurn pages lines machine other → left ≡ other
 same_turn determined pages [] machine left other p q = p ∙ sym q
@@ -192,7 +192,7 @@ same_turn determined pages (line ∷ lines) machine left other p q =
     same_turn determined pages lines q.0.machine left other (subst (λ (after : Left). TypesInTurn pages lines after.machine left) same p.2)
     q.2
 
--- so they leave what is like that which is left where they are stepped
+-- Typed lines therefore leave a machine like the one after the stepped lines.
 module _
     (same_value : ValuesAreDetermined)
     (once : IsReadOnce)

@@ -1,4 +1,4 @@
--- A row that computes a value works as its value does, where it goes on to the next line.
+-- A row that computes a value and continues at the next line has the value's result.
 use Rattle.std.proofs.Common.{◌≡◌, ℕ, List, Result, Some, append-nil}
 use Rattle.h41_rows.specs.Computing.{WorksOn}
 use Rattle.h41_focal.specs.LineStep.{Works}

@@ -1,5 +1,5 @@
--- What a line leaves for the calculator to do, without the texts that it shows: these are made from
--- memory as the line left it.
+-- The outcome of a line without the texts that it shows, which can be made from memory as the line
+-- left it.
 use Rattle.std.specs.Prelude.{Bool, true, false, IsTrue, None, Result, Ok, Err}
 use Rattle.h41_focal.specs.LineStep.{Left, StepsLine}
 use Rattle.h41_positions.specs.FocalState.{Machine}
@@ -13,8 +13,8 @@ use Rattle.h41_ram.specs.RegisterMap.{RegisterMap, register_at}
 use Rattle.h41_show.specs.DisplayFormat.{format_of}
 use Rattle.h41_show.specs.RegisterText.{alpha_text, register_text}
 
--- a brief outcome, as a clause sees it: with the texts that memory gives, and with what is called
--- where memory does not have it, of which the outcome tells nothing
+-- The answer of a brief outcome: texts are made from memory. What is called outside memory is
+-- given, because the brief outcome does not contain it.
 abbrev pub brief_answer : Answer → RegisterMap → BriefOutcome → Answer
 brief_answer called memory briefs.Done = answers.Done
 brief_answer called memory briefs.Stopped = answers.Stopped
@@ -29,24 +29,26 @@ brief_answer called memory briefs.Runs = answers.Runs
 brief_answer called memory briefs.Elsewhere = called
 brief_answer called memory (briefs.Failed fault) = answers.Failed fault
 
--- what a call leaves, and its answer
+-- The machine after a line, and its answer.
 abbrev pub briefly : Answer → Machine → BriefOutcome → Left
 briefly called machine brief =
     record { machine = machine; answer = brief_answer called machine.memory brief }
 
+-- The machine after a line and its answer, or its refusal.
 abbrev pub briefly_as : Answer → Machine → Result BriefOutcome FocalRefusal
     → Result Left FocalRefusal
 briefly_as called machine (Ok brief) = Ok (briefly called machine brief)
 briefly_as called machine (Err refusal) = Err refusal
 
--- how a line ended that may be done at once: then nothing is to be told of it, and else this is
+-- The outcome of a line that reports only whether it is Done: if it is not, the outcome is given
+-- separately.
 abbrev pub end_told : (at_once : Bool) → Result BriefOutcome FocalRefusal
     → Result BriefOutcome FocalRefusal
 end_told true told = Ok briefs.Done
 end_told false told = told
 
--- the line at the position is carried out, and what it calls where memory does not have it is left
--- to be asked for
+-- The line at the position is executed. What it calls outside memory is not part of the brief
+-- outcome.
 abbrev pub StepsBriefly : PageMap → (old new : Machine) → Result BriefOutcome FocalRefusal → Type 0
 StepsBriefly pages old new result =
     (called : Answer)

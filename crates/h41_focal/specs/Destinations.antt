@@ -1,4 +1,5 @@
--- Where a line goes, by its row: to the next line, past it, to a label, back, or to line 00.
+-- The place at which execution continues after a line, by its row: at the next line, after it, at a
+-- label, at a return address, or at line 00.
 use Rattle.std.specs.Prelude.{◌≡◌, ◌⊎◌, ℕ, ◌-◌, Bool, List, [], ◌∷◌, ◌++◌, length, drop, reverse}
 use Rattle.std.specs.Prelude.{MatchBool, Option, Some, None, Ok, Err}
 use Rattle.std.specs.Option.{option_map}
@@ -15,66 +16,69 @@ use Rattle.h41_positions.specs.declared.position.Position.TheVariants.{Memory}
 use Rattle.h41_program.specs.declared.refusal.ProgramRefusal.TheVariants.{BrokenProgram}
 use Rattle.h41_ram.specs.RegisterMap.{RegisterMap}
 
--- how a line comes: from the program, at the position, where the next line stands here; or typed
+-- The origin of a line: stepped, at the position, with the position of the next line; or typed.
 pub data Manner : Type 0 where
   Stepped : Position → Manner
   Typed : Manner
 
+-- The place at which execution continues after a line.
 pub data Destination : Type 0 where
-  -- to a position, with these positions to return to, the latest last
+  -- at a position, with these return addresses, the newest last
   Arrives : Position → List Position → Destination
-  -- to line 00 of the program that begins at a position, with nowhere to return to; a program stops
+  -- at line 00 of the program that begins at a position, without return addresses; a program stops
   -- there
   Halts : Position → Destination
-  -- a typed line stays where it is
+  -- a typed line leaves the position unchanged
   Stays : Destination
-  -- and answers a test
+  -- the same, and the line is a test with this result
   Tells : Bool → Destination
-  -- a typed line has the program run from a position on, with nowhere to return to
+  -- a typed line runs the program from a position on, without return addresses
   Runs : Position → Destination
-  -- a function of this name is called, which memory does not have
+  -- a function with this name is called, which is not in memory
   Seeks : List ℕ → Destination
   -- there is no such label
   HasNoLabel : Destination
-  -- the line that would be passed over is none
+  -- the line to be skipped cannot be read
   HasNoLine : Destination
 
--- six positions are kept, the latest; a seventh loses the oldest (this project's choice)
+-- The six newest return addresses are kept: a seventh replaces the oldest (this project's choice).
 abbrev pub with_return : List Position → Position → List Position
 with_return returns position = drop (length returns - 5) returns ++ position ∷ []
 
--- past the line at a position: memory's .END. is behind itself. Where no line stands there, that is
--- a refusal (this project's choice).
+-- The line at a position is skipped. The .END. of memory is followed by itself. If no line can be
+-- read there, the skipping line is refused (this project's choice).
 abbrev pub Passes : PageMap → RegisterMap → Position → List Position → Destination → Type 0
 Passes pages memory next returns to =
     ((position : Position) × NextAt pages memory next (Ok position)
     × (to ≡ Arrives position returns))
     ⊎ (NextAt pages memory next (Err BrokenProgram) × (to ≡ HasNoLine))
 
--- on to the next line, or past it where a condition does not hold
+-- Execution continues at the next line if a condition is true, otherwise after it.
 abbrev pub Asks : PageMap → Bool → RegisterMap → Position → List Position → Destination → Type 0
 Asks pages holds memory next returns to =
     MatchBool holds (to ≡ Arrives next returns) (Passes pages memory next returns to)
 
--- to a label that was found, or not; XEQ returns to the next line
+-- Execution continues at a label if it was found. For XEQ the next line becomes the newest return
+-- address.
 abbrev pub found_at : Branch → Position → List Position → Destination → Option Position
     → Destination
 found_at branch next returns lost None = lost
 found_at GoTo next returns lost (Some position) = Arrives position returns
 found_at Execute next returns lost (Some position) = Arrives position (with_return returns next)
 
--- where a name is not in memory: XEQ looks elsewhere, GTO does not (this project's choice)
+-- If a name is not in memory, XEQ searches elsewhere, and GTO is an error (this project's choice).
 abbrev pub lost_name : Branch → List ℕ → Destination
 lost_name GoTo name = HasNoLabel
 lost_name Execute name = Seeks name
 
--- back to the latest of the positions to return to, or to line 00 of the program of a position
+-- Execution continues at the newest return address, or stops at line 00 of the position's program
+-- if there is none.
 abbrev pub GoesBack : PageMap → RegisterMap → Position → List Position → Destination → Type 0
 GoesBack pages memory at [] to =
     (start : Position) × StartOf pages memory at start × (to ≡ Halts start)
 GoesBack pages memory at (latest ∷ others) to = to ≡ Arrives latest (reverse others)
 
--- where a stepped line goes, from the position of the next line on
+-- The place at which execution continues after a stepped line, given the position of the next line.
 abbrev pub StepsFrom : PageMap → rows.Going → RegisterMap → ℕ → (at next : Position) → List Position
     → Destination → Type 0
 StepsFrom pages rows.Next memory named at next returns to = to ≡ Arrives next returns
@@ -93,14 +97,14 @@ StepsFrom pages (rows.ToName branch name) memory named at next returns to =
 StepsFrom pages rows.Returns memory named at next returns to =
     GoesBack pages memory at (reverse returns) to
 
--- a typed line that goes to a label: GTO keeps the positions to return to, XEQ has the program run
+-- A typed line that branches to a label: GTO keeps the return addresses, XEQ runs the program.
 abbrev pub typed_at : Branch → List Position → Destination → Option Position → Destination
 typed_at branch returns lost None = lost
 typed_at GoTo returns lost (Some position) = Arrives position returns
 typed_at Execute returns lost (Some position) = Runs position
 
--- where a typed line goes: a test answers, a loop asks nothing, labels are looked for from the
--- position on
+-- The place at which execution continues after a typed line. A test has a result, a loop does not
+-- test, and local labels are searched from the position on.
 abbrev pub TypedFrom : PageMap → rows.Going → RegisterMap → ℕ → Position → List Position
     → Destination
     → Type 0
@@ -119,7 +123,7 @@ TypedFrom pages (rows.ToName branch name) memory named at returns to =
 TypedFrom pages rows.Returns memory named at returns to =
     (start : Position) × StartOf pages memory at start × (to ≡ Halts start)
 
--- where a line goes
+-- The place at which execution continues after a line.
 abbrev pub Goes : PageMap → Manner → rows.Going → RegisterMap → ℕ → Position → List Position
     → Destination
     → Type 0

@@ -1,15 +1,17 @@
--- Laws of kept answers, over a machine.
+-- Laws of cached answers, for a machine.
 use Rattle.std.specs.Prelude.{Option}
 use Rattle.h41_positions.specs.LabelledMachine.{AreRight, Keeps, LabelledMachine}
 use Rattle.h41_labels.specs.KeptAnswers.{IsRight, KeepsSearch}
 use Rattle.h41_labels.specs.declared.search.Search.{Search}
 use Rattle.h41_ram.specs.RamState.{KeepsMark}
 
--- behind what searches no label and keeps the mark the condition holds as before
+-- The condition for using cached answers remains true after a step that searches no label and does
+-- not clear the dirty flag.
 abbrev pub KeepingStaysRight : Type 0
 KeepingStaysRight = (old new : LabelledMachine) → Keeps old new → AreRight old → AreRight new
 
--- and behind a line that made a search, or none, from answers that were right as it began
+-- The condition is also true after a line that made at most one search, if the answers were right
+-- when it began.
 abbrev pub SearchingStaysRight : Type 0
 SearchingStaysRight =
     (old new : LabelledMachine) (search : Option Search)

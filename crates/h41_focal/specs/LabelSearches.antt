@@ -1,4 +1,4 @@
--- Which search for a label a line asks for, and what is kept behind it.
+-- The search for a label that a line makes, and the label cache after it.
 use Rattle.std.specs.Prelude.{◌≡◌, List, MatchBool, None, Option, Some, if◌then◌else◌}
 use Rattle.std.specs.Prelude.{Result, Ok, Err}
 use Rattle.h41_codes.specs.declared.functions.Function.{Function}
@@ -20,14 +20,15 @@ use Rattle.h41_rows.specs.Operands.{Count, Meant, Name, meant_of}
 use Rattle.h41_rows.specs.Profile.{is_left_out}
 use Rattle.h41_rows.specs.declared.fault.LineFault.{LineFault}
 
--- the search for what a register holds: a label's number, or a name; a fault has none
+-- The search for the content of a register: a label's number, or a name. After an error there is
+-- none.
 abbrev pub search_for : Position → Result Meant LineFault → Option Search
 search_for from (Ok (Count label)) = local_search from label
 search_for from (Ok (Name name)) = Some (Global name)
 search_for from other = None
 
--- the search that a line makes, by the position from which on a local label is looked for: GTO and
--- XEQ make one, and no other line
+-- The search that a line makes, given the position from which local labels are searched. Only GTO
+-- and XEQ make one.
 abbrev pub search_by : RegisterMap → Position → Line → Option Search
 search_by memory from (lines.ShortGoTo label distance) = local_search from label
 search_by memory from (lines.BranchTo branch distance far label) = local_search from label
@@ -36,34 +37,35 @@ search_by memory from (lines.BranchIndirect branch register) =
     search_for from (meant_of memory (lines.BranchIndirect branch register))
 search_by memory from line = None
 
--- a line that is left out makes none
+-- A line that is not supported makes no search.
 abbrev pub search_of : RegisterMap → Position → Line → Option Search
 search_of memory from line = if is_left_out line then None else search_by memory from line
 
--- the kept answers behind a line that is typed, and behind one of a program, from the next line on
+-- The label cache after a typed line.
 abbrev pub KeepsTyped : Line → Machine → (before after : List KeptAnswer) → Type 0
 KeepsTyped line machine before after =
     KeepsSearch machine.memory (search_of machine.memory machine.focal.position line) before after
 
+-- The label cache after a stepped line, whose search begins at the next line.
 abbrev pub KeepsStepped : Line → Position → Machine → (before after : List KeptAnswer) → Type 0
 KeepsStepped line next machine before after =
     KeepsSearch machine.memory (search_of machine.memory next line) before after
 
--- where none stands there, nothing is searched
+-- If no line can be read at the position, there is no search.
 abbrev pub KeepsPlaced : Option Function → Machine → Result (Line × Position) FocalRefusal
     → (before after : List KeptAnswer) → Type 0
 KeepsPlaced function machine (Ok standing) before after =
     KeepsStepped (line_as function standing.0) standing.1 machine before after
 KeepsPlaced function machine (Err refusal) before after = after ≡ before
 
--- the kept answers behind the line at the position, or behind a function in its place
+-- The label cache after the line at the position, or after a function that replaces it.
 abbrev pub StepKeeps : PageMap → Option Function → (old new : LabelledMachine) → Type 0
 StepKeeps pages function old new =
     (standing : Result (Line × Position) FocalRefusal)
     × Stands pages (machine_of old) standing
     × KeepsPlaced function (machine_of old) standing (begun_labels old) new.focal.labels
 
--- and behind a typed line
+-- The label cache after a typed line. If memory is not sound, there is no search.
 abbrev pub TypingKeeps : Line → (old new : LabelledMachine) → Type 0
 TypingKeeps line old new =
     MatchBool (is_sound old.ram.registers)

@@ -1,6 +1,6 @@
--- One line is carried out: one rule for all rows. The Owner's Handbook's are flag 25 and what
--- faults do; the refusals and their order, what becomes of line 00 and what a typed line does at a
--- fault are this project's choices.
+-- The execution of one line, with one rule for all rows. Flag 25 and the effect of errors are the
+-- Owner's Handbook's rules. The refusals and their order, line 00, and the effect of an error of a
+-- typed line are this project's choices.
 use Rattle.std.specs.Prelude.{◌≡◌, ℕ, Bool, true, false, IsTrue, List, [], MatchBool, Option}
 use Rattle.std.specs.Prelude.{if◌then◌else◌, Some, None, Result, Ok, Err}
 use Rattle.h41_codes.specs.declared.functions.Function.{Function}
@@ -35,32 +35,35 @@ use Rattle.h41_ram.specs.RegisterMap.{RegisterMap, flag_of, is_sound, register_a
 use Rattle.h41_show.specs.DisplayFormat.{format_of}
 use Rattle.h41_show.specs.RegisterText.{alpha_text, register_text}
 
--- what a line leaves, and its answer
+-- The machine after a line, and the line's answer.
 pub record Left : Type 0 where
   pub machine : Machine
   pub answer : Answer
 
--- the register that a row computes, or the fault; a row that computes nothing has no use for it
+-- The register that a row computes, or its error. A row that computes nothing does not use the
+-- register.
 abbrev pub ComputesIn : RegisterMap → ℕ → Option Value → Result (List ℕ) LineFault → Type 0
 ComputesIn memory named None result = result ≡ Ok zeros
 ComputesIn memory named (Some value) result = Computes value memory named result
 
--- numbers are asked for before anything is computed
+-- Whether the places contain numbers is tested before anything is computed.
 abbrev pub Works : RegisterMap → ℕ → rows.LineRow → Result (List ℕ) LineFault → Type 0
 Works memory named row result =
     MatchBool (are_numbers memory named (rows.numbers_of row))
     (ComputesIn memory named row.value result) (result ≡ Err AlphaData)
 
--- what stands in the display, and whether the program goes on
+-- The answer for a text that is shown, which depends on whether the program continues.
 abbrev pub shown_text : List ℕ → rows.RowEnding → Answer
 shown_text text rows.GoesOn = answers.Viewed text
 shown_text text ending = answers.Prompted text
 
+-- The answer of a line that shows nothing.
 abbrev pub answer_of_ending : rows.RowEnding → Answer
 answer_of_ending rows.GoesOn = answers.Done
 answer_of_ending rows.Stops = answers.Stopped
 answer_of_ending rows.TurnsOff = answers.TurnedOff
 
+-- The answer of a line, by what it shows and whether the program continues.
 abbrev pub answer_of_showing : RegisterMap → ℕ → rows.Showing → rows.RowEnding → Answer
 answer_of_showing memory named rows.AsBefore ending = answer_of_ending ending
 answer_of_showing memory named rows.NoText ending = answers.Cleared
@@ -68,21 +71,25 @@ answer_of_showing memory named rows.NamedText ending =
     shown_text (register_text (format_of memory) (register_at memory named)) ending
 answer_of_showing memory named rows.AlphaText ending = shown_text (alpha_text memory) ending
 
--- a fault is shown and the program stops there, at a line that is not line 00. With flag 25 that
--- flag is cleared, and the program goes on with the next line. Where the line was typed, the
--- position stays.
+-- The flag that makes a program ignore an error, flag 25.
 abbrev pub error_flag : ℕ
 error_flag = error_ignore
 
+-- An error is ignored: flag 25 is cleared.
 abbrev pub with_fault_caught : Machine → Machine
 with_fault_caught machine = record machine { memory = with_flag machine.memory error_flag false }
 
+-- An error is shown.
 abbrev pub left_failed : Machine → LineFault → Left
 left_failed machine fault = record { machine = machine; answer = answers.Failed fault }
 
+-- A line is done.
 abbrev pub left_done : Machine → Left
 left_done machine = record { machine = machine; answer = answers.Done }
 
+-- If flag 25 is set, it is cleared and the program continues at the next line. Otherwise the error
+-- is shown and the program stops at the line, which is then not line 00. After a typed line the
+-- position is unchanged.
 abbrev pub left_by_fault : Manner → Machine → LineFault → Left
 left_by_fault (Stepped next) machine fault =
     if flag_of machine.memory error_flag then left_done (at_line next (with_fault_caught machine))
@@ -91,11 +98,11 @@ left_by_fault Typed machine fault =
     if flag_of machine.memory error_flag then left_done (with_fault_caught machine)
     else left_failed machine fault
 
--- a line is carried out, or refused
+-- A line has an error.
 abbrev pub FailsIn : Manner → Machine → LineFault → Result Left FocalRefusal → Type 0
 FailsIn how machine fault carried = carried ≡ Ok (left_by_fault how machine fault)
 
--- what is left of a machine with a row's changes, by where the line goes
+-- The outcome of a line whose row is applied, by the place at which execution continues.
 abbrev pub Ends : Manner → Machine → Machine → Answer → Destination → Result Left FocalRefusal
     → Type 0
 Ends how old new answer (Arrives position returns) carried =
@@ -112,21 +119,21 @@ Ends how old new answer (Runs position) carried =
       answer =
           answers.Runs;
     })
--- nothing is changed where the calculator looks elsewhere, and where the line that is to be passed
--- over is none
+-- nothing changes if the calculator has to search elsewhere, or if the line to be skipped cannot be
+-- read
 Ends how old new answer (Seeks name) carried =
     carried ≡ Ok (record { machine = old; answer = answers.Seeks name })
 Ends how old new answer HasNoLabel carried = FailsIn how old Nonexistent carried
 Ends how old new answer HasNoLine carried = carried ≡ Err BrokenProgram
 
--- the machine with a row's changes
+-- The machine after the changes of a row.
 abbrev pub with_row : rows.LineRow → ℕ → List ℕ → Machine → Machine
 with_row row named result machine = record {
   memory = memory_after row named result machine.focal.lift machine.memory;
   focal = record machine.focal { lift = lift_after row.lift machine.focal.lift };
 }
 
--- a row is applied, where the register that its line names and what is computed are known
+-- A row is applied, given the register that its line names and the computed register, or an error.
 abbrev pub AppliesWith : PageMap → Manner → rows.LineRow → ℕ → Machine → Result (List ℕ) LineFault
     → Result Left FocalRefusal → Type 0
 AppliesWith pages how row named machine (Err fault) carried = FailsIn how machine fault carried
@@ -136,6 +143,7 @@ AppliesWith pages how row named machine (Ok result) carried =
     × Ends how machine (with_row row named result machine)
     (answer_of_showing machine.memory named row.shows row.ends) to carried
 
+-- A row is applied, given the register that its line names.
 abbrev pub Applies : PageMap → Manner → rows.LineRow → ℕ → Machine → Result Left FocalRefusal
     → Type 0
 Applies pages how row named machine carried =
@@ -143,12 +151,12 @@ Applies pages how row named machine carried =
     × Works machine.memory named row result
     × AppliesWith pages how row named machine result carried
 
--- the address of the register that a line names; a line that names none has no use for it
+-- The address of the register that a line names. A line that names none does not use it.
 abbrev pub named_by : Meant → ℕ
 named_by (Address address) = address
 named_by meant = 0
 
--- a line whose operand means this
+-- A line is applied, given the meaning of its operand, or an error.
 abbrev pub AppliesTo : PageMap → Manner → Line → Machine → Result Meant LineFault
     → Result Left FocalRefusal
     → Type 0
@@ -156,33 +164,33 @@ AppliesTo pages how line machine (Err fault) carried = FailsIn how machine fault
 AppliesTo pages how line machine (Ok meant) carried =
     Applies pages how (row_of line meant) (named_by meant) machine carried
 
--- a line that this bench carries out; for a function of a module nothing is changed, since the
--- calculator calls it
+-- A supported line is executed. A function of a module changes nothing, because the calculator
+-- calls it.
 abbrev pub CarriesOut : PageMap → Manner → Line → Machine → Result Left FocalRefusal → Type 0
 CarriesOut pages how (Module number entry) machine carried =
     carried ≡ Ok (record { machine = machine; answer = answers.Calls number entry })
 CarriesOut pages how line machine carried =
     AppliesTo pages how line machine (meant_of machine.memory line) carried
 
--- 13: a line that it does not carry out
+-- A line that is not supported is refused as NotInProfile (13).
 abbrev pub TakesLine : PageMap → Manner → Line → Machine → Result Left FocalRefusal → Type 0
 TakesLine pages how line machine carried =
     MatchBool (is_left_out line) (carried ≡ Err NotInProfile)
     (CarriesOut pages how line machine carried)
 
--- a line is typed; 15 where memory is not sound
+-- A typed line is executed. It is refused as MemoryLost (15) if memory is not sound.
 abbrev pub TypesLine : PageMap → Line → Machine → Result Left FocalRefusal → Type 0
 TypesLine pages line machine carried =
     MatchBool (is_sound machine.memory)
     (TakesLine pages Typed line machine carried) (carried ≡ Err MemoryLost)
 
--- the line that stands there, or in its place the function that XEQ names there
+-- The line at the position, or the function that replaces it because XEQ names it.
 abbrev pub line_as : Option Function → Line → Line
 line_as None line = line
 line_as (Some function) line = Plain function
 
--- the line that stands at a position, and where the next one stands; or why there is none: 15 where
--- memory is not sound, 14 where no line stands there
+-- The line at a position and the position of the next line, or a refusal: MemoryLost (15) if memory
+-- is not sound, BrokenProgram (14) if no line can be read there.
 abbrev pub StandsAt : PageMap → RegisterMap → Position → Result (Line × Position) FocalRefusal
     → Type 0
 StandsAt pages memory at (Ok standing) =
@@ -194,84 +202,92 @@ StandsAt pages memory at (Err refusal) =
     ((refusal ≡ BrokenProgram) × (why : ProgramRefusal) × LineAt pages memory at (Err why))
     (refusal ≡ MemoryLost)
 
+-- The line at the machine's position.
 abbrev pub Stands : PageMap → Machine → Result (Line × Position) FocalRefusal → Type 0
 Stands pages machine standing = StandsAt pages machine.memory machine.focal.position standing
 
--- the line at the position is carried out, or a function in its place
+-- A line, or a function that replaces it, is executed or refused.
 abbrev pub StepsAs : PageMap → Option Function → Machine → Result (Line × Position) FocalRefusal
     → Result Left FocalRefusal → Type 0
 StepsAs pages function machine (Ok standing) carried =
     TakesLine pages (Stepped standing.1) (line_as function standing.0) machine carried
 StepsAs pages function machine (Err refusal) carried = carried ≡ Err refusal
 
+-- The line at the position is executed, or a function that replaces it.
 abbrev pub StepsLine : PageMap → Option Function → Machine → Result Left FocalRefusal → Type 0
 StepsLine pages function machine carried =
     (standing : Result (Line × Position) FocalRefusal)
     × Stands pages machine standing
     × StepsAs pages function machine standing carried
 
--- the line at the position fails, as where what it calls is nowhere
+-- A line fails, for example because nothing has the name that it calls.
 abbrev pub FailsWith : LineFault → Machine → Result (Line × Position) FocalRefusal
     → Result Left FocalRefusal → Type 0
 FailsWith fault machine (Ok standing) carried = FailsIn (Stepped standing.1) machine fault carried
 FailsWith fault machine (Err refusal) carried = carried ≡ Err refusal
 
+-- The line at the position fails.
 abbrev pub FailsLine : PageMap → LineFault → Machine → Result Left FocalRefusal → Type 0
 FailsLine pages fault machine carried =
     (standing : Result (Line × Position) FocalRefusal)
     × Stands pages machine standing
     × FailsWith fault machine standing carried
 
--- a typed line fails, as where what it calls is nowhere: 15 as where one is typed
+-- A typed line fails, for example because nothing has the name that it calls. It is refused as
+-- MemoryLost (15) if memory is not sound.
 abbrev pub FailsTyped : LineFault → Machine → Result Left FocalRefusal → Type 0
 FailsTyped fault machine carried =
     MatchBool (is_sound machine.memory)
     (FailsIn Typed machine fault carried) (carried ≡ Err MemoryLost)
 
--- the line at the position calls a function of a module, which the calculator carries out: the
--- program goes on behind the line. An XROM line turns lift on, XEQ of a name leaves it (this
--- project's choice).
+-- Stack lift after a line whose function is executed elsewhere: an XROM line turns it on, XEQ with
+-- a name leaves it unchanged (this project's choice).
 abbrev pub lift_behind : Line → Bool → Bool
 lift_behind (Module number entry) lift = true
 lift_behind line lift = lift
 
+-- Execution continues after such a line.
 abbrev pub with_line_passed : Line → Position → Machine → Machine
 with_line_passed line next machine =
     at_line next
     (record machine { focal = record machine.focal { lift = lift_behind line machine.focal.lift } })
 
+-- Execution continues after such a line, or it is refused.
 abbrev pub PassesWith : Machine → Result (Line × Position) FocalRefusal
     → Result Machine FocalRefusal → Type 0
 PassesWith machine (Ok standing) after =
     after ≡ Ok (with_line_passed standing.0 standing.1 machine)
 PassesWith machine (Err refusal) after = after ≡ Err refusal
 
+-- The line at the position calls a function that the calculator executes elsewhere: the program
+-- continues after the line.
 abbrev pub PassesLine : PageMap → Machine → Result Machine FocalRefusal → Type 0
 PassesLine pages machine after =
     (standing : Result (Line × Position) FocalRefusal)
     × Stands pages machine standing
     × PassesWith machine standing after
 
--- the line at the position calls the program that begins at an address of a page, which is a
--- function of its module: the program goes on there, and returns behind the line. Lift as behind a
--- line that is passed.
+-- A line calls a program of a page, which is a function of a module: the program continues there,
+-- and returns to the next line. Stack lift is as after other functions of modules.
 abbrev pub with_program_called : Line → (next start : Position) → Machine → Machine
 with_program_called line next start machine =
     at_line start
     (with_returns (with_return machine.focal.returns next) (with_line_passed line next machine))
 
+-- A line calls the program at an address of a page, or is refused.
 abbrev pub EntersWith : ℕ → Machine → Result (Line × Position) FocalRefusal
     → Result Machine FocalRefusal → Type 0
 EntersWith address machine (Ok standing) after =
     after ≡ Ok (with_program_called standing.0 standing.1 (Page address) machine)
 EntersWith address machine (Err refusal) after = after ≡ Err refusal
 
+-- The line at the position calls the program at an address of a page.
 abbrev pub EntersLine : PageMap → ℕ → Machine → Result Machine FocalRefusal → Type 0
 EntersLine pages address machine after =
     (standing : Result (Line × Position) FocalRefusal)
     × Stands pages machine standing
     × EntersWith address machine standing after
 
--- a typed line calls a program: it runs from a position on, with nowhere to return to
+-- A typed line calls a program, which runs from a position on, without return addresses.
 abbrev pub with_program_run : Position → Machine → Machine
 with_program_run start machine = at_line start (with_returns [] machine)

@@ -1,5 +1,5 @@
--- How the clauses of a machine's calls see what they leave: the machine, and an answer whose texts
--- are their bytes.
+-- The contracts of a machine's functions, with the machine after the call and an answer in which
+-- texts are their bytes.
 use Rattle.std.specs.Prelude.{◌≡◌, ℕ, IfOk, IsTrue, Option, Result, Ok, Err}
 use Rattle.h41_codes.specs.declared.functions.Function.{Function}
 use Rattle.h41_codes.specs.declared.line.Line.{Line}
@@ -13,47 +13,49 @@ use Rattle.h41_focal.specs.declared.refusal.FocalRefusal.{FocalRefusal}
 use Rattle.h41_pages.specs.PageMap.{PageMap}
 use Rattle.h41_rows.specs.declared.fault.LineFault.{LineFault}
 
--- what a call leaves, and its answer
+-- The machine after a call, and its answer.
 abbrev pub left_of : Machine → LineOutcome → Left
 left_of machine outcome = record { machine = machine; answer = answer_of outcome }
 
+-- The machine after a call and its answer, or its refusal.
 abbrev pub carried_as : Machine → Result LineOutcome FocalRefusal → Result Left FocalRefusal
 carried_as machine (Ok outcome) = Ok (left_of machine outcome)
 carried_as machine (Err refusal) = Err refusal
 
--- what a call takes, then what it leaves, and its answer
+-- The contract of a call: the machine before and after, and the result.
 abbrev pub Call : Type 1
 Call = (old new : Machine) → Result LineOutcome FocalRefusal → Type 0
 
--- the line at the position is carried out, or a function in its place
+-- The line at the position is executed, or a function that replaces it.
 abbrev pub Steps : PageMap → Option Function → Call
 Steps pages function old new result = StepsLine pages function old (carried_as new result)
 
--- the line at the position fails
+-- The line at the position fails.
 abbrev pub Fails : PageMap → LineFault → Call
 Fails pages fault old new result = FailsLine pages fault old (carried_as new result)
 
--- a typed line fails
+-- A typed line fails.
 abbrev pub FailsTyped : LineFault → Call
 FailsTyped fault old new result = steps.FailsTyped fault old (carried_as new result)
 
--- the line at the position is passed, since what it calls is carried out elsewhere
+-- The machine after a call without an outcome, or its refusal.
 abbrev pub passed_as : Machine → Result (Unit {0}) FocalRefusal → Result Machine FocalRefusal
 passed_as machine (Ok done) = Ok machine
 passed_as machine (Err refusal) = Err refusal
 
+-- Execution continues after the line at the position, whose function is executed elsewhere.
 abbrev pub Passes : PageMap → (old new : Machine) → Result (Unit {0}) FocalRefusal → Type 0
 Passes pages old new result = PassesLine pages old (passed_as new result)
 
--- the line at the position calls the program that begins at an address of a page
+-- The line at the position calls the program that begins at an address of a page.
 abbrev pub Enters : PageMap → ℕ → (old new : Machine) → Result (Unit {0}) FocalRefusal → Type 0
 Enters pages address old new result = EntersLine pages address old (passed_as new result)
 
--- a line is typed
+-- A line is typed.
 abbrev pub Types : PageMap → Line → Call
 Types pages line old new result = TypesLine pages line old (carried_as new result)
 
--- what has to be looked up changes nothing
+-- A line that calls something outside memory changes nothing.
 abbrev pub KeepsElsewhere : Call
 KeepsElsewhere old new result =
     IfOk result (λ outcome. IsTrue (is_elsewhere (answer_of outcome)) → new ≡ old)

@@ -1,40 +1,41 @@
--- What a line leaves for the calculator to do, as a clause sees it: texts are their bytes.
+-- The outcome of a line as contracts describe it: texts are their bytes.
 use Rattle.std.specs.Prelude.{ℕ, Bool, true, false, List}
 use Rattle.h41_focal.specs.declared.outcome.LineOutcome.{LineOutcome}
 use Rattle.h41_focal.specs.declared.outcome.LineOutcome.TheVariants as outcomes
 use Rattle.h41_rows.specs.declared.fault.LineFault.{LineFault}
 
+-- The answer of a line, on which the calculator acts.
 pub data Answer : Type 0 where
-  -- the program goes on
+  -- the program continues
   Done : Answer
-  -- it stops
+  -- the program stops
   Stopped : Answer
-  -- it stops, and the display goes off
+  -- the program stops, and the calculator is turned off
   TurnedOff : Answer
-  -- the display shows a text, and the program goes on
+  -- the display shows a text, and the program continues
   Viewed : List ℕ → Answer
   -- the display shows a text, and the program stops
   Prompted : List ℕ → Answer
-  -- the display shows no text any more
+  -- the display no longer shows a text
   Cleared : Answer
-  -- a test that was typed answers
+  -- the result of a typed test
   Answered : Bool → Answer
-  -- a typed line went to a label: the program runs
+  -- a typed line moved to a label: the program runs
   Runs : Answer
   -- a function of a module is called
   Calls : ℕ → ℕ → Answer
-  -- a function of this name is called, which memory does not have
+  -- a function with this name is called, which is not in memory
   Seeks : List ℕ → Answer
-  -- the line was not done: the display shows why, and the program stops
+  -- the line has an error: the display shows it, and the program stops
   Failed : LineFault → Answer
 
--- what the calculator has to look up: a function of a module, or a name
+-- The calculator has to search for a function of a module or for a name.
 abbrev pub is_elsewhere : Answer → Bool
 is_elsewhere (Calls number entry) = true
 is_elsewhere (Seeks name) = true
 is_elsewhere answer = false
 
--- an outcome, as a clause sees it
+-- The answer of an outcome.
 abbrev pub answer_of : LineOutcome → Answer
 answer_of outcomes.Done = Done
 answer_of outcomes.Stopped = Stopped

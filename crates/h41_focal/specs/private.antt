@@ -1,5 +1,5 @@
--- What the functions of this crate promise one another. No public contract and no law needs these
--- files.
+-- Definitions for the contracts of this crate's private functions. No public contract and no law
+-- uses them.
 pub mod Arrivals
 pub mod BriefSteps
 pub mod Carrying

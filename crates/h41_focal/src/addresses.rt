@@ -1,4 +1,4 @@
-//! The addresses of the registers that lines name by themselves.
+//! The addresses of the registers that lines use without naming them.
 
 use h41_ram::StatusRegister;
 

@@ -1,4 +1,4 @@
-//! Lines that work on ALPHA.
+//! Lines that change ALPHA.
 
 ghost use Rattle.std.specs.Prelude.{◌≡◌, ◌≤◌, ℕ, IfNone, IfSome, length};
 ghost use Rattle.h41_codes.specs.declared.line.Line.TheVariants as lines;
@@ -19,10 +19,10 @@ use h41_ram::Ram;
 use h41_ram::flags::ALPHA_MODE;
 use h41_rows::{append_text, replace_text, shift_six};
 
-/// The first character of a text that comes behind what ALPHA holds.
+/// The append sign: a text line that begins with it is appended to ALPHA.
 const APPEND: u8 = 0x7F;
 
-/// ALPHA is cleared or shifted, or its mode is set.
+/// Executes a function that clears ALPHA, shifts it by six characters, or switches ALPHA mode.
 pub fn change_alpha<const REGS: usize>(
     machine: &mut Machine<REGS>,
     origin: Origin,
@@ -52,8 +52,8 @@ pub fn change_alpha<const REGS: usize>(
     }
 }
 
-/// ALPHA becomes a text, or, where its first character is the append sign, the rest comes behind what ALPHA holds. A text of
-/// no character leaves ALPHA as it was.
+/// Executes a text line: the text replaces ALPHA. If it begins with the append sign, the rest is appended to ALPHA instead. A text without
+/// characters leaves ALPHA unchanged.
 pub fn text_line<const REGS: usize>(
     machine: &mut Machine<REGS>,
     origin: Origin,
@@ -69,8 +69,7 @@ pub fn text_line<const REGS: usize>(
     BriefOutcome::Done
 }
 
-/// A text comes into ALPHA: behind what ALPHA holds where it begins with the append sign, else in its place. A text of no
-/// character changes nothing.
+/// Writes a text to ALPHA. It replaces ALPHA, or is appended if it begins with the append sign. A text without characters changes nothing.
 fn put_text<const REGS: usize>(ram: &mut Ram<REGS>, text: &[u8])
     ensures change { PutsText text.now ram.old.registers ram.new.registers }
     ensures mark { KeepsMark ram.old ram.new }
@@ -85,7 +84,7 @@ fn put_text<const REGS: usize>(ram: &mut Ram<REGS>, text: &[u8])
     }
 }
 
-/// What a text has behind the append sign; `None` where it does not begin with it.
+/// Returns the text after the append sign, or `None` if the text does not begin with it.
 fn appended(text: &[u8]) -> Option<&[u8]>
     ensures behind { IfSome result (λ rest. IsBehind text.now rest.now) }
     ensures whole { IfNone result (IsWhole text.now) }

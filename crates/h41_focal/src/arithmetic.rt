@@ -15,7 +15,7 @@ use crate::outcome::BriefOutcome;
 use h41_ram::StatusRegister;
 use h41_rows::{ValueOfOne, ValueOfTwo, compute_of_one, compute_of_two, drop_into, keep_last};
 
-/// X takes a value of Y and X, LAST X what X held, and the stack drops.
+/// Executes a function of Y and X: X receives the value, LAST X receives the old X, and the stack drops.
 #[inline(always)]
 pub fn of_y_and_x<const REGS: usize>(
     machine: &mut Machine<REGS>,
@@ -37,7 +37,7 @@ pub fn of_y_and_x<const REGS: usize>(
     }
 }
 
-/// X takes a value of X, and LAST X what X held.
+/// Executes a function of X: X receives the value, and LAST X receives the old X.
 #[inline(always)]
 pub fn of_x<const REGS: usize>(
     machine: &mut Machine<REGS>,
@@ -59,7 +59,7 @@ pub fn of_x<const REGS: usize>(
     }
 }
 
-/// X takes its square, and LAST X what X held.
+/// Executes `X^2`: X receives its square, and LAST X receives the old X.
 pub fn square<const REGS: usize>(machine: &mut Machine<REGS>, origin: Origin) -> BriefOutcome
     ensures done { DoesWork origin Square (machine_of machine.old) (machine_of machine.new) result }
     ensures keeps { Keeps machine.old machine.new }
@@ -75,7 +75,7 @@ pub fn square<const REGS: usize>(machine: &mut Machine<REGS>, origin: Origin) ->
     }
 }
 
-/// X takes so many hundredths of Y, and LAST X what X held; Y stays.
+/// Executes `%`: X receives X percent of Y, and LAST X receives the old X. Y is unchanged.
 pub fn percent<const REGS: usize>(machine: &mut Machine<REGS>, origin: Origin) -> BriefOutcome
     ensures done { DoesWork origin Percent (machine_of machine.old)
         (machine_of machine.new) result }
@@ -92,7 +92,7 @@ pub fn percent<const REGS: usize>(machine: &mut Machine<REGS>, origin: Origin) -
     }
 }
 
-/// X changes its sign; LAST X stays.
+/// Executes `CHS`: the sign of X changes. LAST X is unchanged.
 pub fn change_sign<const REGS: usize>(machine: &mut Machine<REGS>, origin: Origin) -> BriefOutcome
     ensures done { DoesWork origin ChangeSign (machine_of machine.old)
         (machine_of machine.new) result }

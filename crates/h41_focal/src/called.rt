@@ -1,4 +1,4 @@
-//! The outcome of a line, with what it calls that memory does not have.
+//! The outcome of a line, including what it calls outside program memory.
 
 ghost use Rattle.std.specs.Prelude.{◌≡◌, [], false};
 ghost use Rattle.h41_codes.specs.declared.line.Line.TheVariants.{BranchIndirect};
@@ -12,8 +12,8 @@ use h41_codes::{Branch, Line, Parameter, Text};
 use h41_ram::Ram;
 use h41_rows::{BranchTarget, branch_target};
 
-/// The outcome of a line that was carried out, by its brief one: with its texts, and with what it calls, a function of a module
-/// or a name. The other lines call nothing.
+/// Returns the outcome of an executed line from its brief outcome: with its texts, and with the function of a module or the name that it
+/// calls. Other lines call nothing. The line must be supported.
 #[inline(never)]
 pub fn outcome_of<const REGS: usize>(
     ram: &Ram<REGS>,
@@ -35,7 +35,7 @@ pub fn outcome_of<const REGS: usize>(
     }
 }
 
-/// What GTO IND and XEQ IND call: the name that the register holds.
+/// Returns what `GTO IND` and `XEQ IND` call, which is the name in the register.
 fn called_in<const REGS: usize>(ram: &Ram<REGS>, branch: Branch, register: Parameter) -> LineOutcome
     requires { is_parameter_left_out register ≡ false }
     ensures { answer_of result ≡ called_by ram.now.registers (BranchIndirect branch register) }
@@ -49,7 +49,7 @@ fn called_in<const REGS: usize>(ram: &Ram<REGS>, branch: Branch, register: Param
     }
 }
 
-/// A name of no character.
+/// Returns a name without characters.
 fn no_name() -> Text<15>
     ensures { result ≡ [] }
 {

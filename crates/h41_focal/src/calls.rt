@@ -1,4 +1,4 @@
-//! The three calls of lines for who holds memory apart from what else lines work on.
+//! Three functions for callers that store memory and the other state of programs separately.
 
 ghost use Rattle.std.specs.Prelude.{◌≡◌, false, None, Some, OnErr};
 ghost use Rattle.h41_focal.specs.LabelSearches.{StepKeeps, TypingKeeps};
@@ -16,8 +16,8 @@ use h41_positions::Focal;
 use h41_ram::Ram;
 use std::mem::replace;
 
-/// The line at the position is carried out, as by `Machine::step`. Memory is moved into a machine and back, as in the other two
-/// calls here: who carries out many lines keeps a machine.
+/// Executes the line at the position, as `Machine::step` does. Memory is moved into a machine and back, as in the other functions here, so
+/// that callers that execute many lines should keep a machine instead. Refusals are those of `Machine::step`.
 pub fn step_line<const REGS: usize>(
     ram: &mut Ram<REGS>,
     pages: &Pages,
@@ -46,7 +46,7 @@ pub fn step_line<const REGS: usize>(
     result
 }
 
-/// A function is carried out in place of the line at the position, as by `Machine::step_as`.
+/// Executes a function instead of the line at the position, as `Machine::step_as` does, with the same refusals.
 pub fn step_as<const REGS: usize>(
     ram: &mut Ram<REGS>,
     pages: &Pages,
@@ -73,7 +73,7 @@ pub fn step_as<const REGS: usize>(
     result
 }
 
-/// A typed line is carried out, as by `Machine::key`.
+/// Executes a typed line, as `Machine::key` does, with the same refusals.
 pub fn key_line<const REGS: usize>(
     ram: &mut Ram<REGS>,
     pages: &Pages,

@@ -1,4 +1,4 @@
-//! Where a line goes once its work is done, or where it cannot be done.
+//! The place at which execution continues after a line, or after its error.
 
 ghost use Rattle.std.specs.Prelude.{◌≡◌};
 ghost use Rattle.h41_positions.specs.LabelledMachine.{Keeps, machine_of};
@@ -16,7 +16,7 @@ use h41_positions::{Focal, Position};
 use h41_ram::flags::ERROR_IGNORE;
 use h41_rows::LineFault;
 
-/// On to the next line; a typed line stays. Lift stays.
+/// Moves to the next line. A typed line leaves the position unchanged. Stack lift is unchanged.
 #[inline(always)]
 pub fn go_on(focal: &mut Focal, origin: Origin)
     ensures state { focal.new.state ≡ on_to_next origin AsItWas focal.old.state }
@@ -27,7 +27,7 @@ pub fn go_on(focal: &mut Focal, origin: Origin)
     }
 }
 
-/// On to the next line, with lift.
+/// Moves to the next line, and turns stack lift on. A typed line leaves the position unchanged.
 #[inline(always)]
 pub fn go_on_lifting(focal: &mut Focal, origin: Origin)
     ensures state { focal.new.state ≡ on_to_next origin On focal.old.state }
@@ -37,7 +37,7 @@ pub fn go_on_lifting(focal: &mut Focal, origin: Origin)
     focal.lift = true;
 }
 
-/// On behind a line that is passed, with lift behind an XROM line.
+/// Moves to the line after a line that calls a function elsewhere. An XROM line turns stack lift on; other lines leave it unchanged.
 pub fn go_behind(focal: &mut Focal, line: &Line, next: Position)
     ensures state { focal.new.state ≡ behind_line line.now next focal.old.state }
     ensures labels { focal.new.labels ≡ focal.old.labels }
@@ -48,8 +48,8 @@ pub fn go_behind(focal: &mut Focal, line: &Line, next: Position)
     }
 }
 
-/// A line cannot be done: the display shows why, and the program stops there. Flag 25 is cleared where it is set, and the
-/// program goes on with the next line.
+/// Handles an error of a line. If flag 25 is set, the flag is cleared and the program continues at the next line. Otherwise the display
+/// shows the error, and the program stops at the line.
 #[inline(always)]
 pub fn fail<const REGS: usize>(
     machine: &mut Machine<REGS>,
@@ -67,7 +67,8 @@ pub fn fail<const REGS: usize>(
     }
 }
 
-/// Whether flag 25 has a line be passed that cannot be done. The flag is cleared then; else the line stays.
+/// Returns whether flag 25 is set, so that an error is ignored. In that case it clears the flag and moves to the next line; otherwise the
+/// position remains at the line.
 #[inline(never)]
 fn passes_fault<const REGS: usize>(machine: &mut Machine<REGS>, origin: Origin) -> bool
     ensures done { (fault : LineFault) → FailsAs origin fault (machine_of machine.old)

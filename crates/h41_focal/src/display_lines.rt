@@ -1,4 +1,4 @@
-//! Lines that work on the display, and those that stop the program.
+//! Lines that change the display or stop the program.
 
 ghost use Rattle.std.specs.Prelude.{ℕ};
 ghost use Rattle.h41_positions.specs.LabelledMachine.{Keeps, machine_of};
@@ -12,7 +12,7 @@ use crate::origin::Origin;
 use crate::outcome::BriefOutcome;
 use crate::works::DisplayWork;
 
-/// The display shows something, or the program stops. Only `STOP` leaves lift as it was.
+/// Executes a function that shows something or stops the program. All of them turn stack lift on, except `STOP`, which leaves it unchanged.
 pub fn show<const REGS: usize>(
     machine: &mut Machine<REGS>,
     origin: Origin,

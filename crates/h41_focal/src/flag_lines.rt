@@ -1,4 +1,4 @@
-//! Lines of a flag: it is set or cleared, or asked.
+//! Lines with a flag, which set, clear or test it.
 
 ghost use Rattle.std.specs.Prelude.{◌≡◌, ℕ, ◌<◌, OnErr, IsTrue};
 ghost use Rattle.h41_positions.specs.LabelledMachine.{Keeps, machine_of};
@@ -19,7 +19,7 @@ use crate::uses::FlagUse;
 use h41_pages::Pages;
 use h41_ram::Ram;
 
-/// Whether a flag, 0 to 55, is set, or clear.
+/// Returns whether a flag, 0 to 55, is set for `on`, or is clear otherwise.
 fn agrees_with<const REGS: usize>(ram: &Ram<REGS>, flag: u8, on: bool) -> bool
     requires { flag < 56 }
     ensures { result ≡ agrees on (flag_of ram.now.registers flag) }
@@ -28,9 +28,8 @@ fn agrees_with<const REGS: usize>(ram: &Ram<REGS>, flag: u8, on: bool) -> bool
     if on { is_set } else { !is_set }
 }
 
-/// `FS?` and `FC?`: the program goes on with the next line where a flag, 0 to 55, is set or clear as asked, else with the
-/// one behind it. A typed line is answered. `BrokenProgram`, with nothing changed, where the line that would be passed
-/// over is none.
+/// Executes `FS?` or `FC?`: if the flag, 0 to 55, has the required state, the program continues at the next line, otherwise after it. A
+/// typed line returns the result instead. BrokenProgram (14) if the line to be skipped cannot be read; nothing changes then.
 fn ask_flag<const REGS: usize>(
     machine: &mut Machine<REGS>,
     pages: &Pages,
@@ -52,7 +51,8 @@ fn ask_flag<const REGS: usize>(
     Ok(answer(origin, holds))
 }
 
-/// `FS?C` and `FC?C`: as `ask_flag`, and the flag is cleared then.
+/// Executes `FS?C` or `FC?C`: like `ask_flag`, and the flag is then cleared. BrokenProgram (14) if the line to be skipped cannot be read;
+/// nothing changes then.
 fn ask_and_clear_flag<const REGS: usize>(
     machine: &mut Machine<REGS>,
     pages: &Pages,
@@ -75,8 +75,8 @@ fn ask_and_clear_flag<const REGS: usize>(
     Ok(answer(origin, holds))
 }
 
-/// A line of a flag, 0 to 55: it is set, cleared or asked. `BrokenProgram`, with nothing changed, where the line that
-/// would be passed over is none.
+/// Executes a line with a flag, 0 to 55, which sets, clears or tests it. BrokenProgram (14) if the line to be skipped cannot be read;
+/// nothing changes then.
 pub fn use_flag<const REGS: usize>(
     machine: &mut Machine<REGS>,
     pages: &Pages,

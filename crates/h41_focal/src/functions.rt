@@ -23,7 +23,8 @@ use crate::works::{FunctionWork, work_of};
 use h41_codes::Function;
 use h41_pages::Pages;
 
-/// A function is carried out; 13 where it is left out.
+/// Executes a function without an operand. NotInProfile (13) if it is not supported; BrokenProgram (14) if a line to be skipped cannot be
+/// read. A refusal changes nothing.
 #[inline(never)]
 pub fn plain<const REGS: usize>(
     machine: &mut Machine<REGS>,
@@ -60,8 +61,8 @@ pub fn plain<const REGS: usize>(
     }
 }
 
-/// The same: what programs do most is done at once, and where it was done there is nothing to tell of it; else `told` tells how it
-/// ended.
+/// Executes a function without an operand, as `plain` does, and returns whether its outcome is `Done`. If not, `told` receives the outcome
+/// or the refusal. The most frequent functions are tested first, because most programs consist of them.
 #[inline(always)]
 pub fn plain_at_once<const REGS: usize>(
     machine: &mut Machine<REGS>,

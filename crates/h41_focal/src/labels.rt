@@ -1,4 +1,4 @@
-//! Labels, subroutines and returns.
+//! Labels, calls and returns.
 
 ghost use Rattle.std.specs.Prelude.{◌≡◌, ℕ, IsTrue, Some};
 ghost use Rattle.h41_positions.specs.LabelledMachine.{local_search};
@@ -23,8 +23,8 @@ use h41_pages::Pages;
 use h41_positions::{Focal, Position, start_of};
 use h41_rows::LineFault;
 
-/// A line goes to a local label, looked for behind a line of the program, and from the position on for a typed one; `NONEXISTENT`
-/// where it stands nowhere in the program.
+/// Executes a branch to a local label. The search begins after the line, or for a typed line at the position. NONEXISTENT if the program
+/// has no such label.
 #[inline(always)]
 pub fn to_label<const REGS: usize>(
     machine: &mut Machine<REGS>,
@@ -52,7 +52,8 @@ pub fn to_label<const REGS: usize>(
     }
 }
 
-/// A line goes to the last label of a name in memory. Where there is none, GTO fails, and XEQ leaves the search to the caller.
+/// Executes a branch to the last label with a name in memory. If there is none, `GTO` is an error (NONEXISTENT), and for `XEQ` the caller
+/// has to search elsewhere.
 pub fn to_name<const REGS: usize>(
     machine: &mut Machine<REGS>,
     origin: Origin,
@@ -77,8 +78,8 @@ pub fn to_name<const REGS: usize>(
     }
 }
 
-/// The label was found. XEQ returns to the next line, and a seventh position to return to loses the oldest; typed, it has the
-/// program run, with nowhere to return to.
+/// Moves to a label that was found. For `XEQ` in a program the next line becomes the newest return address, and a seventh one replaces the
+/// oldest. A typed `XEQ` clears all return addresses and runs the program.
 #[inline(always)]
 pub fn arrive(focal: &mut Focal, origin: Origin, branch: Branch, position: Position) -> BriefOutcome
     ensures state { focal.new.state ≡ focal_at origin branch position focal.old.state }
@@ -106,7 +107,8 @@ pub fn arrive(focal: &mut Focal, origin: Origin, branch: Branch, position: Posit
     }
 }
 
-/// Back to the latest position to return to. Where there is none, and where the line is typed, to line 00 of the program.
+/// Returns to the newest return address. If there is none, or if the line is typed, it moves to line 00 of the program and clears all
+/// return addresses.
 pub fn go_back<const REGS: usize>(
     machine: &mut Machine<REGS>,
     pages: &Pages,
@@ -128,7 +130,7 @@ pub fn go_back<const REGS: usize>(
     }
 }
 
-/// Back to the latest position to return to, or to line 00 of the program, where it stops.
+/// Returns to the newest return address. If there is none, it moves to line 00 of the program, and the program stops.
 fn return_from<const REGS: usize>(machine: &mut Machine<REGS>, pages: &Pages) -> BriefOutcome
     requires { IsTrue (is_sound machine.old.ram.registers) }
     ensures done { ReturnsFrom pages.now (machine_of machine.old) (machine_of machine.new) result }

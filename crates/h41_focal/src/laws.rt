@@ -1,4 +1,4 @@
-//! Laws of lines: each is the contract of a function with nothing to do but to call the laws it rests on.
+//! Laws of lines. Each law is the contract of a function that does little besides calling the laws on which it rests.
 
 ghost use Rattle.std.specs.Prelude.{◌≡◌, ◌≤◌, length};
 ghost use Rattle.h41_focal.specs.LabelLaws.{KeepingStaysRight, SearchingStaysRight};
@@ -13,7 +13,7 @@ use h41_positions::laws::positions_are_read;
 use h41_program::laws::searches_are_determined;
 use h41_rows::laws::values_are_determined;
 
-/// How many positions there are to return to: six at most.
+/// Returns the number of return addresses, which is at most six.
 pub fn six_returns_at_most(focal: &Focal) -> usize
     ensures count { result ≡ length focal.now.state.returns }
     ensures most { result ≤ 6 }
@@ -21,7 +21,8 @@ pub fn six_returns_at_most(focal: &Focal) -> usize
     focal.returns.len()
 }
 
-/// A line has one outcome: stepped, typed, failed from outside, stepped or typed, passed, or entered.
+/// A line has one outcome, whether it is stepped, typed, or fails, is skipped or calls a program because of what the calculator finds
+/// elsewhere.
 pub fn line_is_determined()
     ensures step { StepIsDetermined }
     ensures typed { TypedIsDetermined }
@@ -35,8 +36,8 @@ pub fn line_is_determined()
     searches_are_determined();
 }
 
-/// Lines that go on to the next leave the same memory and the same lift, typed in turn or stepped; where they can be stepped they
-/// can be typed; and the calculator has nothing to look up for them.
+/// Lines that continue at the next line leave the same memory and the same stack lift, whether they are typed or stepped. If they can be
+/// stepped, they can be typed. They call nothing outside program memory.
 pub fn typed_as_stepped()
     ensures same { TypedAsStepped }
     ensures typed { SteppedCanBeTyped }
@@ -47,8 +48,8 @@ pub fn typed_as_stepped()
     searches_are_determined();
 }
 
-/// Where the mark is clear kept answers are those of the searches: behind what searches no label and keeps the mark as before,
-/// and behind a line that began so and made one search, or none.
+/// If the dirty flag is clear, cached answers are right. This remains true after a step that searches no label and does not clear the dirty
+/// flag, and after a line that began like this and made at most one search.
 pub fn kept_answers_stay_right()
     ensures keeping { KeepingStaysRight }
     ensures searching { SearchingStaysRight }

@@ -1,4 +1,4 @@
-//! The lines of keystroke programs: what each works on, and what it answers.
+//! The lines of keystroke programs: their effects and their outcomes.
 #![tactic(auto)]
 
 mod addresses;

@@ -1,4 +1,4 @@
-//! A line is read where it stands, and carried out by what it is.
+//! Reading the line at the position, and executing it by its kind.
 
 ghost use Rattle.std.specs.Prelude.{◌≡◌, ℕ, Ok, OnErr, IsTrue};
 ghost use Rattle.h41_codes.specs.declared.line.Line.TheVariants.{BranchIndirect, Named};
@@ -34,7 +34,8 @@ use h41_positions::{Position, line_and_next};
 use h41_ram::Ram;
 use h41_rows::{BranchTarget, branch_target, data_address, written};
 
-/// The line at the position, and the position of the next: 15 where memory is not sound, 14 where no line stands there.
+/// Returns the line at the position, and the position of the next line. MemoryLost (15) if memory is not sound; BrokenProgram (14) if no
+/// line can be read there.
 #[inline(always)]
 pub fn standing<const REGS: usize>(
     machine: &Machine<REGS>,
@@ -52,7 +53,8 @@ pub fn standing<const REGS: usize>(
     }
 }
 
-/// A line is carried out; 13 where it is left out.
+/// Executes a line and returns its outcome. NotInProfile (13) if it is not supported; BrokenProgram (14) if a line to be skipped cannot be
+/// read. A refusal changes nothing.
 pub fn carry_out<const REGS: usize>(
     machine: &mut Machine<REGS>,
     pages: &Pages,
@@ -72,7 +74,7 @@ pub fn carry_out<const REGS: usize>(
     Ok(outcome_of(&machine.ram, line, brief))
 }
 
-/// The same, but for the texts of the outcome.
+/// Executes a line as `carry_out` does, but returns its outcome without texts. The refusals are the same.
 #[inline(never)]
 pub fn carry_briefly<const REGS: usize>(
     machine: &mut Machine<REGS>,
@@ -122,7 +124,7 @@ pub fn carry_briefly<const REGS: usize>(
     }
 }
 
-/// GTO and XEQ of a name; 13 for the code that has no function.
+/// Executes `GTO` or `XEQ` with a name. NotInProfile (13) for `W`, the code that has no function.
 fn named<const REGS: usize>(
     machine: &mut Machine<REGS>,
     origin: Origin,
@@ -145,7 +147,7 @@ fn named<const REGS: usize>(
     }
 }
 
-/// RCL and STO of the registers 00 to 15.
+/// Executes `RCL` or `STO` with one of the registers 00 to 15.
 #[inline(always)]
 pub fn short<const REGS: usize>(
     machine: &mut Machine<REGS>,
@@ -169,7 +171,7 @@ pub fn short<const REGS: usize>(
     }
 }
 
-/// GTO IND and XEQ IND; 13 for a register that is left out.
+/// Executes `GTO IND` or `XEQ IND`. NotInProfile (13) if the register is not supported.
 pub fn indirect<const REGS: usize>(
     machine: &mut Machine<REGS>,
     pages: &Pages,
@@ -195,7 +197,7 @@ pub fn indirect<const REGS: usize>(
     }
 }
 
-/// GTO and XEQ of the label or the name that a register holds.
+/// Executes `GTO` or `XEQ` with the label or name in a register.
 fn to_target<const REGS: usize>(
     machine: &mut Machine<REGS>,
     pages: &Pages,

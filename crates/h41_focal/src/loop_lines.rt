@@ -1,4 +1,4 @@
-//! Lines that count by a register, and go on past the next line once the loop is over.
+//! Lines that count in a register, and skip the next line when their loop ends.
 
 ghost use Rattle.std.specs.Prelude.{IsTrue, ◌≡◌, OnErr};
 ghost use Rattle.h41_positions.specs.LabelledMachine.{Keeps, machine_of};
@@ -16,8 +16,8 @@ use crate::refusal::FocalRefusal;
 use h41_pages::Pages;
 use h41_rows::{loop_down, loop_up};
 
-/// `ISG`: the register at an address counts up, and the program goes on with the next line while the loop goes on, else
-/// with the one behind it. `BrokenProgram`, with nothing changed, where the line that would be passed over is none.
+/// Executes `ISG`: the register at an address is counted up. While the loop continues, the program continues at the next line, otherwise
+/// after it. BrokenProgram (14) if the line to be skipped cannot be read; nothing changes then.
 pub fn count_up<const REGS: usize>(
     machine: &mut Machine<REGS>,
     pages: &Pages,
@@ -43,8 +43,8 @@ pub fn count_up<const REGS: usize>(
     }
 }
 
-/// `DSE`: the register at an address counts down, and the program goes on with the next line while the loop goes on, else
-/// with the one behind it. `BrokenProgram`, with nothing changed, where the line that would be passed over is none.
+/// Executes `DSE`: the register at an address is counted down. While the loop continues, the program continues at the next line, otherwise
+/// after it. BrokenProgram (14) if the line to be skipped cannot be read; nothing changes then.
 pub fn count_down<const REGS: usize>(
     machine: &mut Machine<REGS>,
     pages: &Pages,

@@ -1,4 +1,4 @@
-//! Memory and what lines work on beside it, as one value: what lines, edits and keys change.
+//! The machine: memory and the other state of programs as one value.
 
 ghost use Rattle.std.specs.Prelude.{◌≡◌, ◌≤◌, ℕ, false, true, [], None, Ok, Some, OnErr};
 ghost use Rattle.h41_focal.specs.BriefOutcomes.{StepsBriefly, end_told};
@@ -32,12 +32,12 @@ use h41_ram::Ram;
 use h41_rows::{LineFault, number_register};
 use std::marker::Model;
 
-/// Memory and what lines work on beside it.
+/// Memory and the other state of keystroke programs. Lines, edits and keys change it.
 #[derive(Drop)]
 pub struct Machine<const REGS: usize> {
     /// Memory: the stack, ALPHA, flags, data registers and programs.
     pub ram: Ram<REGS>,
-    /// What lines work on beside memory: the position, the positions to return to, and lift.
+    /// The state besides memory: the position, the return addresses, stack lift and the label cache.
     pub focal: Focal,
 }
 
@@ -50,7 +50,8 @@ impl<const REGS: usize> Model for Machine<REGS> {
 }
 
 impl<const REGS: usize> Machine<REGS> {
-    /// The start: memory as it is then, line 00 of its empty program, nowhere to return to, lift on, no search kept.
+    /// Returns the initial state: initial memory, line 00 of its empty program, no return addresses, stack lift on, and an empty label
+    /// cache. `REGS`, the number of registers of main memory, must be 64 to 320.
     pub fn new() -> Self
         requires at_least { 64 ≤ REGS }
         requires at_most { REGS ≤ 320 }
@@ -65,7 +66,7 @@ impl<const REGS: usize> Machine<REGS> {
         }
     }
 
-    /// A line begins: where the mark of memory is set it is cleared, and no search is kept any more.
+    /// Begins a line: if the dirty flag of memory is set, clears it and empties the label cache, because programs may have changed.
     #[inline(always)]
     fn begin(&mut self)
         requires { AreRight self.old }
@@ -78,8 +79,9 @@ impl<const REGS: usize> Machine<REGS> {
         }
     }
 
-    /// The line at the position is carried out: 15 where memory is not sound, 14 where no line stands there, 13 where it is left
-    /// out, in this order, and last 14 where a line that a test or a loop would pass over is none. Nothing is changed then.
+    /// Executes the line at the position and returns its outcome. Refusals, in this order: MemoryLost (15) if memory is not sound;
+    /// BrokenProgram (14) if no line can be read at the position; NotInProfile (13) if the line is not supported; BrokenProgram (14) if a
+    /// line that a test or loop skips cannot be read. A refusal changes nothing. The rules are in docs/LINES.md.
     #[inline(always)]
     pub fn step(&mut self, pages: &Pages) -> Result<LineOutcome, FocalRefusal>
         requires { AreRight self.old }
@@ -97,9 +99,9 @@ impl<const REGS: usize> Machine<REGS> {
         carry_out(self, pages, Origin::Program(next), &line)
     }
 
-    /// The line at the position is carried out as by `step`, and refused as there, but for the texts of its outcome. Where it was done
-    /// and there is nothing to tell of it, that is the answer; else `told` tells how it ended. A line that calls what memory does not
-    /// have changes nothing; `step` tells what it calls.
+    /// Executes the line at the position as `step` does, and returns whether its outcome is `Done`. If not, `told` receives the outcome
+    /// without texts, or the refusal, which is the same as in `step`. A line that calls something outside program memory changes nothing;
+    /// `step` then returns what it calls.
     #[inline(always)]
     pub fn step_briefly(
         &mut self,
@@ -125,7 +127,8 @@ impl<const REGS: usize> Machine<REGS> {
         }
     }
 
-    /// The same for any line, apart from the short ones' machine code.
+    /// Executes a line that is no short line, and returns its outcome without texts. It is a function of its own so that the machine code
+    /// for short lines remains small.
     #[inline(never)]
     fn step_long(&mut self, pages: &Pages) -> Result<BriefOutcome, FocalRefusal>
         requires { AreRight self.old }
@@ -142,7 +145,7 @@ impl<const REGS: usize> Machine<REGS> {
         }
     }
 
-    /// The same where the line is read whole.
+    /// Executes any line at the position, and returns its outcome without texts.
     #[inline(never)]
     fn step_whole(&mut self, pages: &Pages) -> Result<BriefOutcome, FocalRefusal>
         requires { AreRight self.old }
@@ -154,8 +157,8 @@ impl<const REGS: usize> Machine<REGS> {
         carry_briefly(self, pages, Origin::Program(next), &line)
     }
 
-    /// A function is carried out in place of the line at the position, whatever that is, as for an XEQ that names it: refused as
-    /// in `step`.
+    /// Executes a function instead of the line at the position, whatever that line is. This is used for an `XEQ` that names the function.
+    /// The refusals are those of `step`.
     pub fn step_as(
         &mut self,
         pages: &Pages,
@@ -176,8 +179,9 @@ impl<const REGS: usize> Machine<REGS> {
         carry_out(self, pages, Origin::Program(next), &Line::Plain(function))
     }
 
-    /// The line at the position fails, as where what it calls is nowhere: its fault is answered, or flag 25 has the program go
-    /// on. 15 and 14 as in `step`, nothing else.
+    /// Makes the line at the position fail, for example because nothing has the name that it calls. If flag 25 is set, it is cleared and
+    /// the program continues at the next line; otherwise the outcome is the error. MemoryLost (15) and BrokenProgram (14) as in `step`;
+    /// there are no other refusals.
     pub fn fail(&mut self, pages: &Pages, fault: LineFault) -> Result<LineOutcome, FocalRefusal>
         ensures line { Fails pages.now fault (machine_of self.old) (machine_of self.new) result }
         ensures unchanged { OnErr result (machine_of self.new ≡ machine_of self.old) }
@@ -188,7 +192,8 @@ impl<const REGS: usize> Machine<REGS> {
         Ok(fail(self, Origin::Program(next), fault).outcome(&self.ram))
     }
 
-    /// A typed line fails, as where what it calls is nowhere: its fault is answered, or flag 25 is cleared. 15 as in `step`.
+    /// Makes a typed line fail, for example because nothing has the name that it calls. If flag 25 is set, it is cleared; otherwise the
+    /// outcome is the error. MemoryLost (15) if memory is not sound.
     pub fn fail_typed(&mut self, fault: LineFault) -> Result<LineOutcome, FocalRefusal>
         ensures line { FailsTyped fault (machine_of self.old) (machine_of self.new) result }
         ensures unchanged { OnErr result (machine_of self.new ≡ machine_of self.old) }
@@ -201,8 +206,8 @@ impl<const REGS: usize> Machine<REGS> {
         Ok(fail(self, Origin::Typed, fault).outcome(&self.ram))
     }
 
-    /// The line at the position is passed, since what it calls is carried out elsewhere: on to the next line, with lift behind an
-    /// XROM line. 15 and 14 as in `step`; nothing is changed then.
+    /// Moves to the line after the line at the position, whose function is executed elsewhere. An XROM line turns stack lift on. MemoryLost
+    /// (15) and BrokenProgram (14) as in `step`; nothing changes then.
     pub fn pass(&mut self, pages: &Pages) -> Result<(), FocalRefusal>
         ensures line { Passes pages.now (machine_of self.old) (machine_of self.new) result }
         ensures unchanged { OnErr result (machine_of self.new ≡ machine_of self.old) }
@@ -214,8 +219,8 @@ impl<const REGS: usize> Machine<REGS> {
         Ok(())
     }
 
-    /// The line at the position calls the program that begins at an address of a page: on there, with the next line as the latest to
-    /// return to, of which there are six at most, and with lift as by `pass`. 15 and 14 as in `step`; nothing is changed then.
+    /// Calls the program that begins at an address of a page, from the line at the position. The next line becomes the newest of at most
+    /// six return addresses. An XROM line turns stack lift on. MemoryLost (15) and BrokenProgram (14) as in `step`; nothing changes then.
     pub fn enter(&mut self, pages: &Pages, address: u16) -> Result<(), FocalRefusal>
         ensures line { Enters pages.now address (machine_of self.old) (machine_of self.new) result }
         ensures unchanged { OnErr result (machine_of self.new ≡ machine_of self.old) }
@@ -230,8 +235,8 @@ impl<const REGS: usize> Machine<REGS> {
         Ok(())
     }
 
-    /// A typed line calls the program that begins at an address of a page: the position is there, with nowhere to return to. Lift
-    /// stays. The program runs then.
+    /// Calls the program that begins at an address of a page, from a typed line. The position moves there, and all return addresses are
+    /// cleared. Stack lift is unchanged. The caller then runs the program.
     pub fn enter_typed(&mut self, address: u16)
         ensures machine { machine_of self.new
             ≡ with_program_run (Page address) (machine_of self.old) }
@@ -242,7 +247,8 @@ impl<const REGS: usize> Machine<REGS> {
         arrive(&mut self.focal, Origin::Typed, Branch::Execute, start);
     }
 
-    /// A typed line is carried out: 15 where memory is not sound, 13 where the line is left out.
+    /// Executes a typed line and returns its outcome. MemoryLost (15) if memory is not sound; NotInProfile (13) if the line is not
+    /// supported. A refusal changes nothing.
     pub fn key(&mut self, pages: &Pages, line: &Line) -> Result<LineOutcome, FocalRefusal>
         requires { AreRight self.old }
         ensures line { Types pages.now line.now (machine_of self.old) (machine_of self.new) result }
@@ -261,7 +267,7 @@ impl<const REGS: usize> Machine<REGS> {
         carry_out(self, pages, Origin::Typed, line)
     }
 
-    /// Memory and what else lines work on, each where it is held apart.
+    /// Separates the machine into memory and the other state of programs.
     pub fn part(self, ram: &mut Ram<REGS>, focal: &mut Focal)
         ensures { labelled_with ram.new focal.new ≡ self.entry }
     {

@@ -1,4 +1,4 @@
-//! Lines that set the unit of angles and the display format.
+//! Lines that select the unit of angles and the display format.
 
 ghost use Rattle.std.specs.Prelude.{◌<◌, ℕ};
 ghost use Rattle.h41_positions.specs.LabelledMachine.{Keeps, machine_of};
@@ -13,7 +13,7 @@ use crate::outcome::BriefOutcome;
 use crate::uses::DigitsUse;
 use h41_rows::{set_angles, set_format};
 
-/// `DEG`, `RAD` and `GRAD`: the unit of angles, by whether flags 42 and 43 are set.
+/// Executes `DEG`, `RAD` or `GRAD`: sets or clears flag 42 (`grads`) and flag 43 (`radians`).
 pub fn set_angle_unit<const REGS: usize>(
     machine: &mut Machine<REGS>,
     origin: Origin,
@@ -30,7 +30,7 @@ pub fn set_angle_unit<const REGS: usize>(
     BriefOutcome::Done
 }
 
-/// What is done with a number of digits, 0 to 9: a tone sounds nowhere, and changes nothing here.
+/// Executes a function with a number of digits, 0 to 9. `TONE` only turns stack lift on, because the bench has no sound.
 pub fn use_digits<const REGS: usize>(
     machine: &mut Machine<REGS>,
     origin: Origin,

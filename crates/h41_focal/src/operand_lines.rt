@@ -24,7 +24,8 @@ use h41_codes::{Operand, Parameter, ParameterFunction};
 use h41_pages::Pages;
 use h41_rows::{digit_of, flag_of, register_of};
 
-/// A function with an operand is carried out; 13 where it is left out.
+/// Executes a function with an operand. NotInProfile (13) if it is not supported; BrokenProgram (14) if a line to be skipped cannot be
+/// read. A refusal changes nothing.
 #[inline(always)]
 pub fn with_operand<const REGS: usize>(
     machine: &mut Machine<REGS>,
@@ -51,7 +52,7 @@ pub fn with_operand<const REGS: usize>(
     }
 }
 
-/// Whether a function with an operand is left out.
+/// Returns whether a function with this operand is not supported.
 #[inline(always)]
 fn is_left_out(function: ParameterFunction, operand: &Operand) -> bool
     ensures { result ≡ is_use_left_out function operand.now }
@@ -66,7 +67,7 @@ fn is_left_out(function: ParameterFunction, operand: &Operand) -> bool
     }
 }
 
-/// Whether the register of a parameter is left out: registers 100 and above but for T Z Y X L.
+/// Returns whether the register of a parameter is not supported. These are the registers 100 and above, except T, Z, Y, X and L.
 pub fn is_parameter_out(parameter: Parameter) -> bool
     ensures { result ≡ is_parameter_left_out parameter }
 {
@@ -74,7 +75,7 @@ pub fn is_parameter_out(parameter: Parameter) -> bool
     (100 <= number && number <= 111) || 117 <= number
 }
 
-/// The register of an operand is used, or is NONEXISTENT.
+/// Executes a function with the register of an operand. NONEXISTENT if there is no such register.
 #[inline(always)]
 fn with_register<const REGS: usize>(
     machine: &mut Machine<REGS>,
@@ -97,7 +98,7 @@ fn with_register<const REGS: usize>(
     }
 }
 
-/// The digits of an operand are used, or are DATA ERROR.
+/// Executes a function with the number of digits of an operand. DATA ERROR if it is above 9.
 fn with_digits<const REGS: usize>(
     machine: &mut Machine<REGS>,
     origin: Origin,
@@ -117,7 +118,7 @@ fn with_digits<const REGS: usize>(
     }
 }
 
-/// The flag of an operand is used, or is NONEXISTENT.
+/// Executes a function with the flag of an operand. NONEXISTENT if there is no such flag.
 fn with_flag<const REGS: usize>(
     machine: &mut Machine<REGS>,
     pages: &Pages,

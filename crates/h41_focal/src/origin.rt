@@ -1,12 +1,12 @@
-//! How a line comes to be carried out.
+//! The origin of a line.
 
 use h41_positions::Position;
 
-/// How a line comes to be carried out.
+/// The origin of a line that is executed.
 #[derive(Clone, Copy)]
 pub enum Origin {
-    /// From the program, at the position: the next line stands here.
+    /// The line is at the program's position. The next line is at this position.
     Program(Position),
-    /// It was typed.
+    /// The line was typed.
     Typed,
 }

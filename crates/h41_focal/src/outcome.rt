@@ -1,4 +1,4 @@
-//! What a line leaves for the calculator to do.
+//! The outcome of a line, which the calculator acts on.
 
 ghost use Rattle.std.specs.Prelude.{◌≡◌, ◌≢◌};
 ghost use Rattle.h41_focal.specs.BriefOutcomes.{brief_answer, end_told};
@@ -15,61 +15,61 @@ use h41_show::{Format, alpha_text, register_text};
 /// A text for the display.
 pub type DisplayText = ArrayString<80>;
 
-/// What is to be done once a line was carried out.
+/// The outcome of an executed line.
 #[derive(Clone, Copy)]
 pub enum LineOutcome {
-    /// Nothing: the program goes on.
+    /// The program continues.
     Done,
     /// The program stops.
     Stopped,
-    /// The program stops, and the display goes off.
+    /// The program stops, and the calculator is turned off.
     TurnedOff,
-    /// The display shows a text, and the program goes on.
+    /// The display shows a text, and the program continues.
     Viewed(DisplayText),
     /// The display shows a text, and the program stops.
     Prompted(DisplayText),
-    /// The display shows no text any more.
+    /// The display no longer shows a text.
     Cleared,
-    /// The answer of a test that was typed.
+    /// The result of a typed test.
     Answered(bool),
-    /// A typed line went to a label: the program runs.
+    /// A typed line moved to a label: the program runs.
     Runs,
     /// A function of a module is called. Nothing was changed.
     Calls(ModuleNumber, EntryNumber),
-    /// A function of this name is called, which memory does not have. Nothing was changed.
+    /// A function with this name is called, which is not in memory. Nothing was changed.
     Seeks(Text<15>),
-    /// The line could not be done: the display shows why, and the program stops.
+    /// The line has an error: the display shows it, and the program stops.
     Failed(LineFault),
 }
 
-/// A `LineOutcome` without its texts: what each line of a program that runs is asked for.
+/// A `LineOutcome` without its texts, which is smaller. A running program needs no more for most lines.
 #[derive(Clone, Copy)]
 pub enum BriefOutcome {
-    /// Nothing: the program goes on.
+    /// The program continues.
     Done,
     /// The program stops.
     Stopped,
-    /// The program stops, and the display goes off.
+    /// The program stops, and the calculator is turned off.
     TurnedOff,
-    /// The display shows ALPHA, and the program goes on.
+    /// The display shows ALPHA, and the program continues.
     ViewedAlpha,
-    /// The display shows the register at an address, and the program goes on.
+    /// The display shows the register at this address, and the program continues.
     ViewedRegister(u16),
     /// The display shows ALPHA, and the program stops.
     Prompted,
-    /// The display shows no text any more.
+    /// The display no longer shows a text.
     Cleared,
-    /// The answer of a test that was typed.
+    /// The result of a typed test.
     Answered(bool),
-    /// A typed line went to a label: the program runs.
+    /// A typed line moved to a label: the program runs.
     Runs,
-    /// A function is called that memory does not have. Nothing was changed.
+    /// A function is called that is not in memory. Nothing was changed.
     Elsewhere,
-    /// The line could not be done: the display shows why, and the program stops.
+    /// The line has an error: the display shows it, and the program stops.
     Failed(LineFault),
 }
 
-/// Whether a line was done and nothing is to be told of it; else `told` tells how it ended.
+/// Returns whether an outcome is `Done`. If not, `told` receives the outcome or the refusal.
 #[inline(always)]
 pub fn is_done(
     end: Result<BriefOutcome, FocalRefusal>,
@@ -87,7 +87,8 @@ pub fn is_done(
 }
 
 impl BriefOutcome {
-    /// The outcome with its texts, by memory as the line left it. What is called elsewhere has to be asked for by the line.
+    /// Returns the outcome with its texts, from memory as the line left it. The outcome must not be `Elsewhere`, because only the line
+    /// itself says what it calls.
     #[inline(never)]
     pub fn outcome<const REGS: usize>(self, ram: &Ram<REGS>) -> LineOutcome
         requires { self ≢ Elsewhere }

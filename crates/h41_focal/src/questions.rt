@@ -1,4 +1,4 @@
-//! Lines that ask, and go on past the next line where the answer is no.
+//! Tests, which skip the next line if they are false.
 
 ghost use Rattle.std.specs.Prelude.{◌≡◌, ℕ, IsTrue, OnErr};
 ghost use Rattle.h41_positions.specs.LabelledMachine.{Keeps, machine_of};
@@ -17,8 +17,8 @@ use h41_positions::next;
 use h41_ram::Ram;
 use h41_rows::{Test, asks};
 
-/// Where a line that asks goes on: at the next line where the answer is yes, else behind that one. A typed line stays.
-/// `BrokenProgram` where the line that would be passed over is none.
+/// Returns the origin at which execution continues after a test: at the next line if the test is true, otherwise after it. A typed line
+/// does not move. BrokenProgram (14) if the line to be skipped cannot be read.
 pub fn lead<const REGS: usize>(
     ram: &Ram<REGS>,
     pages: &Pages,
@@ -38,7 +38,7 @@ pub fn lead<const REGS: usize>(
     }
 }
 
-/// What a test answers: where it was typed, whether it holds.
+/// Returns the outcome of a test: its result if the line was typed, otherwise `Done`.
 pub fn answer(origin: Origin, holds: bool) -> BriefOutcome
     ensures { result ≡ test_answer origin holds }
 {
@@ -48,8 +48,8 @@ pub fn answer(origin: Origin, holds: bool) -> BriefOutcome
     }
 }
 
-/// A test of X: the program goes on with the next line where it holds, else with the one behind it. A typed test is
-/// answered. `BrokenProgram`, with nothing changed, where the line that would be passed over is none.
+/// Executes a test of X: if it is true, the program continues at the next line, otherwise after it. A typed test returns its result
+/// instead. BrokenProgram (14) if the line to be skipped cannot be read; nothing changes then.
 pub fn ask<const REGS: usize>(
     machine: &mut Machine<REGS>,
     pages: &Pages,

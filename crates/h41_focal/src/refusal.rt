@@ -1,16 +1,16 @@
-//! Why a line is refused. The numbers are those by which decks print refusals; nothing is changed then.
+//! The refusals of lines. Decks print them with these numbers. A refusal changes nothing.
 use thiserror::Error;
 
-/// Why a line was refused.
+/// The reason why a line was refused.
 #[derive(Clone, Copy, Debug, PartialEq, Eq, Error)]
 pub enum FocalRefusal {
-    /// 15: memory is not sound.
+    /// MemoryLost (15): memory is not sound.
     #[error("memory is lost")]
     MemoryLost,
-    /// 14: bytes are no line, at the position or where a line would be skipped.
+    /// BrokenProgram (14): the bytes at the position, or those of a line to be skipped, are no line.
     #[error("these bytes are no line")]
     BrokenProgram,
-    /// 13: a line that this bench does not carry out.
+    /// NotInProfile (13): the bench does not support this line.
     #[error("this line is not carried out")]
     NotInProfile,
 }

@@ -1,4 +1,4 @@
-//! Lines that work on a register.
+//! Lines with a register.
 
 ghost use Rattle.h41_positions.specs.LabelledMachine.{Keeps, machine_of};
 ghost use Rattle.h41_focal.specs.private.Carrying.{UsesAt};
@@ -16,7 +16,7 @@ use h41_rows::{
     ValueOfTwo, append_register, bring_in_from, compute_of_two, exchange, first_six, store_x,
 };
 
-/// X takes the register; the stack is lifted first where lift is on.
+/// Executes `RCL`: writes the register to X. If stack lift is on, the stack is lifted first.
 #[inline(always)]
 pub fn recall<const REGS: usize>(
     machine: &mut Machine<REGS>,
@@ -33,7 +33,7 @@ pub fn recall<const REGS: usize>(
     BriefOutcome::Done
 }
 
-/// The register takes X.
+/// Executes `STO`: writes X to the register.
 #[inline(always)]
 pub fn store<const REGS: usize>(
     machine: &mut Machine<REGS>,
@@ -51,7 +51,7 @@ pub fn store<const REGS: usize>(
     BriefOutcome::Done
 }
 
-/// The register takes a value of itself and X; X and LAST X stay.
+/// Executes `ST+`, `ST-`, `ST*` or `ST/`: the register receives a value of itself and X. X and LAST X are unchanged.
 #[inline(always)]
 pub fn combine<const REGS: usize>(
     machine: &mut Machine<REGS>,
@@ -75,7 +75,7 @@ pub fn combine<const REGS: usize>(
     }
 }
 
-/// The display shows the register, and the program goes on.
+/// Executes `VIEW`: the display shows the register, and the program continues.
 pub fn view<const REGS: usize>(
     machine: &mut Machine<REGS>,
     origin: Origin,
@@ -90,7 +90,7 @@ pub fn view<const REGS: usize>(
     BriefOutcome::ViewedRegister(address)
 }
 
-/// The register takes ALPHA's first six characters; ALPHA stays.
+/// Executes `ASTO`: writes the first six characters of ALPHA to the register. ALPHA is unchanged.
 pub fn store_alpha<const REGS: usize>(
     machine: &mut Machine<REGS>,
     origin: Origin,
@@ -108,7 +108,7 @@ pub fn store_alpha<const REGS: usize>(
     BriefOutcome::Done
 }
 
-/// The text of the register comes behind what ALPHA holds.
+/// Executes `ARCL`: appends the text of the register to ALPHA.
 pub fn recall_alpha<const REGS: usize>(
     machine: &mut Machine<REGS>,
     origin: Origin,
@@ -124,7 +124,7 @@ pub fn recall_alpha<const REGS: usize>(
     BriefOutcome::Done
 }
 
-/// X and the register change places.
+/// Executes `X<>`: exchanges X and the register.
 pub fn exchange_x<const REGS: usize>(
     machine: &mut Machine<REGS>,
     origin: Origin,

@@ -1,4 +1,4 @@
-//! What is done with a register.
+//! Executing a function with a register.
 
 ghost use Rattle.std.specs.Prelude.{IsTrue, ◌≡◌, OnErr};
 ghost use Rattle.h41_positions.specs.LabelledMachine.{Keeps, machine_of};
@@ -15,7 +15,8 @@ use crate::register_lines::{combine, exchange_x, recall, recall_alpha, store, st
 use crate::uses::RegisterUse;
 use h41_pages::Pages;
 
-/// The register at an address is used; a loop's line is refused where the line that it would skip cannot be read.
+/// Executes a function with the register at an address. BrokenProgram (14) if the line that a loop skips cannot be read; nothing changes
+/// then.
 #[inline(always)]
 pub fn use_register<const REGS: usize>(
     machine: &mut Machine<REGS>,

@@ -1,4 +1,4 @@
-//! Short lines are carried out without room for a text.
+//! Executing short lines, which need no room for a text.
 
 ghost use Rattle.std.specs.Prelude.{◌≡◌, false, IfNone, IfSome, Ok, OnErr, IsTrue};
 ghost use Rattle.h41_codes.specs.ShortLines.{line_of};
@@ -30,8 +30,8 @@ use h41_plain_numbers::plain_number;
 use h41_positions::{Position, short_line};
 use h41_ram::Ram;
 
-/// The short line that stands at the position itself, and the position of the next, as `standing` answers them; `None` also where
-/// `standing` has to tell more, and where the mark of memory is set.
+/// Returns the short line whose first byte is at the position, and the position of the next line, as `standing` returns them. `None` for
+/// all other lines, if `standing` refuses, and if the dirty flag of memory is set.
 #[inline(always)]
 pub fn short_standing<const REGS: usize>(
     machine: &Machine<REGS>,
@@ -50,8 +50,8 @@ pub fn short_standing<const REGS: usize>(
     short_line(ram, pages, focal.position)
 }
 
-/// The number of the number line that stands at the position, and the position of the next, where it is read in one pass; `None` also
-/// in pages.
+/// Returns the number of the number line at the position, and the position of the next line, if it can be read in one pass. `None`
+/// otherwise, and always in pages.
 #[inline(always)]
 pub fn number_standing<const REGS: usize>(machine: &Machine<REGS>) -> Option<(Ten, Position)>
     ensures some { IfSome result (λ found. (pages : PageMap)
@@ -71,8 +71,8 @@ pub fn number_standing<const REGS: usize>(machine: &Machine<REGS>) -> Option<(Te
     }
 }
 
-/// A short line is carried out. Where it was done and there is nothing to tell of it, that is the answer; else `told` tells how it
-/// ended, but for the texts of an outcome: 13 where it is left out.
+/// Executes a short line, and returns whether its outcome is `Done`. If not, `told` receives the outcome without texts, or the refusal:
+/// NotInProfile (13) if the line is not supported, or BrokenProgram (14) if a line to be skipped cannot be read.
 #[inline(always)]
 pub fn carry_short<const REGS: usize>(
     machine: &mut Machine<REGS>,

@@ -1,4 +1,4 @@
-//! Lines that move the stack, and lines that do little else.
+//! Lines that change the stack, and lines that do little else.
 
 ghost use Rattle.std.specs.Prelude.{◌≡◌, ℕ, List};
 ghost use Rattle.h41_codes.specs.declared.characters.Character.{Character};
@@ -28,7 +28,8 @@ use h41_rows::{
     bring_in, bring_in_from, clear_data, clear_stack, enter, exchange, pi, roll_down, roll_up, zero,
 };
 
-/// The stack moves. What comes in lifts it where lift is on. Lift is off behind `ENTER^` and `CLX`, and on behind the others.
+/// Executes a function that changes the stack. If it brings a register into X and stack lift is on, the stack is lifted first. Stack lift
+/// is off after `ENTER^` and `CLX`, and on after the others.
 #[inline(always)]
 pub fn move_stack<const REGS: usize>(
     machine: &mut Machine<REGS>,
@@ -45,7 +46,7 @@ pub fn move_stack<const REGS: usize>(
     BriefOutcome::Done
 }
 
-/// The registers of the stack move; what comes in lifts them where lift is on.
+/// Changes the registers of the stack. If a register is brought into X and stack lift is on, the stack is lifted first.
 #[inline(always)]
 fn move_registers<const REGS: usize>(ram: &mut Ram<REGS>, movement: Movement, lift: bool)
     ensures change { Moves movement ram.old.registers ram.new.registers lift }
@@ -64,7 +65,7 @@ fn move_registers<const REGS: usize>(ram: &mut Ram<REGS>, movement: Movement, li
     }
 }
 
-/// On to the next line: the next number takes the place of X behind `ENTER^` and `CLX`.
+/// Moves to the next line. Stack lift is off after `ENTER^` and `CLX`, so that the next number replaces X, and on after the others.
 #[inline(always)]
 fn go_on_behind(focal: &mut Focal, origin: Origin, movement: Movement)
     ensures state { focal.new.state
@@ -85,7 +86,7 @@ fn go_on_behind(focal: &mut Focal, origin: Origin, movement: Movement)
     }
 }
 
-/// The number of a number line comes into X; the stack is lifted first where lift is on.
+/// Executes a number line: writes the number to X. If stack lift is on, the stack is lifted first.
 pub fn number_line<const REGS: usize>(
     machine: &mut Machine<REGS>,
     origin: Origin,
@@ -102,7 +103,7 @@ pub fn number_line<const REGS: usize>(
     BriefOutcome::Done
 }
 
-/// All data registers become zero.
+/// Executes `CLRG`: all data registers become zero.
 pub fn clear_registers<const REGS: usize>(
     machine: &mut Machine<REGS>,
     origin: Origin,
@@ -117,7 +118,7 @@ pub fn clear_registers<const REGS: usize>(
     BriefOutcome::Done
 }
 
-/// A line that does nothing but turn lift on.
+/// Executes a line that only turns stack lift on.
 pub fn do_nothing<const REGS: usize>(machine: &mut Machine<REGS>, origin: Origin) -> BriefOutcome
     ensures done { LeavesRow origin lifting_row (machine_of machine.old)
         (machine_of machine.new) result }
@@ -128,7 +129,7 @@ pub fn do_nothing<const REGS: usize>(machine: &mut Machine<REGS>, origin: Origin
     BriefOutcome::Done
 }
 
-/// A line that does nothing, and leaves lift.
+/// Executes a line that changes nothing, stack lift included.
 #[inline(always)]
 pub fn be_silent<const REGS: usize>(machine: &mut Machine<REGS>, origin: Origin) -> BriefOutcome
     ensures done { LeavesRow origin silent_row (machine_of machine.old)

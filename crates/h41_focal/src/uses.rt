@@ -1,4 +1,4 @@
-//! What is done for the functions with an operand.
+//! The effects of functions with an operand.
 
 ghost use Rattle.std.specs.Prelude.{◌≡◌, ◌≢◌};
 ghost use Rattle.h41_focal.specs.private.Works.{IsUse, highest_of};
@@ -7,51 +7,51 @@ ghost use Rattle.h41_codes.specs.declared.functions.ParameterFunction.TheVariant
 use h41_codes::ParameterFunction;
 use h41_rows::ValueOfTwo;
 
-/// What is done with a register.
+/// The effect of a function with a register.
 #[derive(Clone, Copy)]
 pub enum RegisterUse {
-    /// `RCL`.
+    /// `RCL`: recalls the register.
     Recall,
-    /// `STO`.
+    /// `STO`: stores X in the register.
     Store,
-    /// `ST+` and its kin: a value of the register and X.
+    /// `ST+`, `ST-`, `ST*` and `ST/`: the register receives a value of itself and X.
     Combine(ValueOfTwo),
-    /// `ISG`.
+    /// `ISG`: counts the register up.
     CountUp,
-    /// `DSE`.
+    /// `DSE`: counts the register down.
     CountDown,
-    /// `VIEW`.
+    /// `VIEW`: shows the register.
     View,
-    /// `ASTO`.
+    /// `ASTO`: stores characters of ALPHA in the register.
     StoreAlpha,
-    /// `ARCL`.
+    /// `ARCL`: appends the register to ALPHA.
     RecallAlpha,
-    /// `X<>`.
+    /// `X<>`: exchanges X and the register.
     Exchange,
 }
 
-/// What is done with a number of digits.
+/// The effect of a function with a number of digits.
 #[derive(Clone, Copy)]
 pub enum DigitsUse {
     /// `FIX`, `SCI` and `ENG`: whether flags 40 and 41 are set.
     Format(bool, bool),
-    /// `TONE`.
+    /// `TONE`: has no effect, because the bench has no sound.
     Tone,
 }
 
-/// What is done with a flag.
+/// The effect of a function with a flag.
 #[derive(Clone, Copy)]
 pub enum FlagUse {
-    /// `SF` and `CF`.
+    /// `SF` (true) and `CF` (false): sets or clears the flag.
     Change(bool),
-    /// `FS?` and `FC?`.
+    /// `FS?` (true) and `FC?` (false): tests whether the flag is set or clear.
     Ask(bool),
-    /// `FS?C` and `FC?C`.
+    /// `FS?C` (true) and `FC?C` (false): tests whether the flag is set or clear, and clears it.
     AskAndClear(bool),
 }
 
 impl FlagUse {
-    /// The highest flag that it takes.
+    /// Returns the highest flag that the function accepts: 55 for `FS?` and `FC?`, otherwise 29.
     pub fn highest(self) -> u8
         ensures { result ≡ highest_of self }
     {
@@ -63,20 +63,20 @@ impl FlagUse {
     }
 }
 
-/// What is done for a function with an operand.
+/// The effect of a function with an operand.
 #[derive(Clone, Copy)]
 pub enum OperandUse {
-    /// With a register.
+    /// It works on a register.
     Register(RegisterUse),
-    /// With a number of digits.
+    /// It works on a number of digits.
     Digits(DigitsUse),
-    /// With a flag.
+    /// It works on a flag.
     Flag(FlagUse),
-    /// `LBL`: nothing.
+    /// `LBL`: has no effect.
     Label,
 }
 
-/// What is done for a function with an operand that is carried out.
+/// Returns the effect of a function with an operand, which must not be `SREG`.
 #[inline(always)]
 pub fn use_of(function: ParameterFunction) -> OperandUse
     requires { function ≢ functions.StatisticsRegisters }

@@ -1,4 +1,4 @@
-//! What is done for the functions without an operand.
+//! The effects of functions without an operand.
 
 ghost use Rattle.std.specs.Prelude.{◌≡◌};
 ghost use Rattle.std.specs.Option.{option_map};
@@ -8,85 +8,85 @@ ghost use Rattle.h41_focal.specs.private.Works.{row_of_work};
 use h41_codes::Function;
 use h41_rows::{Test, ValueOfOne, ValueOfTwo};
 
-/// What moves in the stack.
+/// A change of the stack.
 #[derive(Clone, Copy)]
 pub enum Movement {
-    /// `X<>Y`.
+    /// `X<>Y`: exchanges X and Y.
     Exchange,
-    /// `R^`.
+    /// `R^`: rolls the stack up.
     RollUp,
-    /// `RDN`.
+    /// `RDN`: rolls the stack down.
     RollDown,
-    /// `LASTX`.
+    /// `LASTX`: recalls LAST X.
     LastX,
-    /// `ENTER^`.
+    /// `ENTER^`: lifts the stack and leaves X unchanged.
     Enter,
-    /// `PI`.
+    /// `PI`: brings the number pi into X.
     Pi,
-    /// `CLST`.
+    /// `CLST`: clears the stack.
     ClearStack,
-    /// `CLX`.
+    /// `CLX`: clears X.
     ClearX,
 }
 
-/// What becomes of ALPHA.
+/// A change of ALPHA.
 #[derive(Clone, Copy)]
 pub enum AlphaWork {
-    /// `CLA`.
+    /// `CLA`: clears ALPHA.
     Clear,
-    /// `ASHF`.
+    /// `ASHF`: removes the first six characters of ALPHA.
     Shift,
-    /// `AON` and `AOFF`.
+    /// `AON` (true) and `AOFF` (false): switches ALPHA mode on or off.
     Mode(bool),
 }
 
-/// What the display shows, and whether the program goes on.
+/// A change of the display, or a stop.
 #[derive(Clone, Copy)]
 pub enum DisplayWork {
-    /// `AVIEW`.
+    /// `AVIEW`: shows ALPHA.
     ViewAlpha,
-    /// `CLD`.
+    /// `CLD`: clears the display.
     Clear,
-    /// `PROMPT`.
+    /// `PROMPT`: shows ALPHA and stops the program.
     Prompt,
-    /// `STOP`.
+    /// `STOP`: stops the program.
     Stop,
-    /// `OFF`.
+    /// `OFF`: turns the calculator off.
     TurnOff,
 }
 
-/// What is done for a function without an operand.
+/// The effect of a function without an operand.
 #[derive(Clone, Copy)]
 pub enum FunctionWork {
-    /// A value of Y and X; the stack drops.
+    /// A value of Y and X is written to X, and the stack drops.
     OfYAndX(ValueOfTwo),
-    /// A value of X.
+    /// A value of X is written to X.
     OfX(ValueOfOne),
-    /// `X^2`.
+    /// `X^2`: X receives its square.
     Square,
-    /// `%`: Y stays.
+    /// `%`: X receives X percent of Y. Y is unchanged.
     Percent,
-    /// `CHS`: LAST X stays.
+    /// `CHS`: the sign of X changes. LAST X is unchanged.
     ChangeSign,
     /// A test of X.
     Ask(Test),
-    /// The stack moves.
+    /// The stack changes.
     Move(Movement),
     /// ALPHA changes.
     Alpha(AlphaWork),
     /// The display shows something, or the program stops.
     Display(DisplayWork),
-    /// The unit of angles: whether flags 42 and 43 are set.
+    /// `DEG`, `RAD` and `GRAD`: whether flags 42 and 43 are set.
     Angles(bool, bool),
-    /// `CLRG`.
+    /// `CLRG`: clears the data registers.
     ClearRegisters,
-    /// `RTN`.
+    /// `RTN`: returns.
     Return,
-    /// A sound, a pause or paper: nothing here.
+    /// `BEEP`, `PSE` and `ADV`: no effect, because the bench has no sound, pause or printer.
     Nothing,
 }
 
-/// What is done for a function; `None` where it is not carried out.
+/// Returns the effect of a function without an operand, or `None` if it is not supported.
 #[inline(always)]
 pub fn work_of(function: Function) -> Option<FunctionWork>
     ensures { option_map row_of_work result ≡ function_row function }

@@ -1,5 +1,5 @@
 -- The state of keystroke programs besides memory: the position, the return addresses and stack
--- lift; and how the position changes.
+-- lift, and how the position changes.
 use Rattle.std.specs.Prelude.{Bool, true, false, List, []}
 use Rattle.h41_positions.specs.declared.position.Position.{Position}
 use Rattle.h41_positions.specs.declared.position.Position.TheVariants.{Memory}

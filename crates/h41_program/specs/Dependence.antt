@@ -1,5 +1,5 @@
--- What lists of lines and searches depend on: register c and the registers from .END. to below the
--- curtain, and no others.
+-- Lists of lines and searches depend only on register c and the registers from .END. to below the
+-- curtain.
 use Rattle.std.specs.Prelude.{◌≡◌, ℕ, List, Option, Result}
 use Rattle.h41_ram.specs.RamState.{SameProgram}
 use Rattle.h41_ram.specs.RegisterMap.{RegisterMap, is_sound}
@@ -10,57 +10,60 @@ use Rattle.h41_program.specs.ProgramLines.{AnswersFirst, AnswersNext, AnswersOf,
 use Rattle.h41_program.specs.ProgramLines.{HasNoLine, LinesFrom}
 use Rattle.h41_program.specs.Searches.{AnswersLocal, AnswersProgram}
 
--- memories with the same program are both sound, or neither is
+-- Of two memories with the same program, both are sound or neither is.
 abbrev pub SoundnessDepends : Type 0
 SoundnessDepends =
     (memory other : RegisterMap) → SameProgram memory other → is_sound memory ≡ is_sound other
 
--- they have the same lists
+-- They have the same lists of lines.
 abbrev pub ListsDepend : Type 0
 ListsDepend =
     (memory other : RegisterMap) (at : ℕ) (lines : List ListedLine) → SameProgram memory other
     → LinesFrom memory at lines → LinesFrom other at lines
 
--- the same first lines, and none in the same places
+-- They have the same first lines.
 abbrev pub FirstsDepend : Type 0
 FirstsDepend =
     (memory other : RegisterMap) (at : ℕ) (found : Found) → SameProgram memory other
     → HasFirst memory at found → HasFirst other at found
 
+-- They have no line from the same positions on.
 abbrev pub NonesDepend : Type 0
 NonesDepend =
     (memory other : RegisterMap) (at : ℕ) → SameProgram memory other → HasNoLine memory at
     → HasNoLine other at
 
--- the same answers of the line at a position, and of the next
+-- They have the same line at a position.
 abbrev pub LineDepends : Type 0
 LineDepends =
     (memory other : RegisterMap) (at : ℕ) (result : Result ListedLine ProgramRefusal)
     → SameProgram memory other
     → AnswersFirst memory at result → AnswersFirst other at result
 
+-- They have the same next position.
 abbrev pub NextDepends : Type 0
 NextDepends =
     (memory other : RegisterMap) (at : ℕ) (result : Result ℕ ProgramRefusal)
     → SameProgram memory other
     → AnswersNext memory at result → AnswersNext other at result
 
--- the same answers by the list, of any type: where programs begin and names stand, whether the last
--- program is open
+-- They have the same answer of any type that depends on the list: the starts of programs, the
+-- positions of names, and whether the last program is open.
 abbrev pub AnswersDepend : Type 0 → Type 0
 AnswersDepend A =
     (memory other : RegisterMap) (answer : List ListedLine → A) (at : ℕ) (result : A)
     → SameProgram memory other
     → AnswersOf answer memory at result → AnswersOf answer other at result
 
--- by the program of a position: the numbers of its lines
+-- They have the same answer that depends on the program of a position, such as the numbers of its
+-- lines.
 abbrev pub ProgramDepends : Type 0 → Type 0
 ProgramDepends A =
     (memory other : RegisterMap) (answer : List ListedLine → A) (at : ℕ) (result : A)
     → SameProgram memory other
     → AnswersProgram answer memory at result → AnswersProgram answer other at result
 
--- and of searches for local labels
+-- They have the same answers of searches for local labels.
 abbrev pub LocalDepends : Type 0
 LocalDepends =
     (memory other : RegisterMap) (at n : ℕ) (result : Option ℕ) → SameProgram memory other

@@ -15,25 +15,27 @@ use Rattle.h41_program.specs.ProgramLines.{FirstFrom, LinesFrom, NoneFrom, Reads
 use Rattle.h41_program.specs.Rewriting.{with_program_lines}
 use Rattle.h41_program.specs.Size.{size_outcome}
 
--- a line that has bytes, and is one that programs can have
+-- A line that has bytes and that programs can contain.
 pub record IsInner (line : Line) : Type 0 where
   pub valid : IsLine line
   pub inner : IsTrue (is_inner line)
 
--- the bytes of packed lines are read as these lines and .END.
+-- The bytes of packed lines are read as these lines and .END.
 abbrev pub ReadsAgain : List Line → List ListedLine → Type 0
 ReadsAgain lines listed =
     Reads (packing lines) (length (packing lines) - 3) 0 listed
     × (lines_of listed ≡ lines ++ FinalEnd 0 0 ∷ [])
 
+-- The packing round trip: the bytes of inner lines are read as these lines and .END.
 abbrev pub PackingRoundTrip : Type 0
 PackingRoundTrip =
     (lines : List Line) → All IsInner lines → (listed : List ListedLine) × ReadsAgain lines listed
 
--- a packing fills whole registers, with at most six nulls between its lines and .END.
+-- Packed lines fill whole registers.
 abbrev pub PackingFills : Type 0
 PackingFills = (lines : List Line) → (registers : ℕ) × (length (packing lines) ≡ 7 * registers)
 
+-- Packed lines have at most six nulls before .END.
 abbrev pub PackingHasFewNulls : Type 0
 PackingHasFewNulls =
     (lines : List Line)
@@ -41,22 +43,22 @@ PackingHasFewNulls =
     × (nulls ≤ 6)
     × (packing lines ≡ packed_lines lines ++ replicate nulls 0x00 ++ written_end)
 
--- memory has these lines from a position on, and .END. behind them
+-- Memory has these lines from a position on, followed by .END.
 abbrev pub HasLines : RegisterMap → ℕ → List Line → Type 0
 HasLines memory at lines =
     (listed : List ListedLine)
     × LinesFrom memory at listed
     × (lines_of listed ≡ lines ++ FinalEnd 0 0 ∷ [])
 
--- lines that were written are read again
+-- Lines that were written are read again.
 abbrev pub WrittenIsRead : Type 0
 WrittenIsRead =
     (memory new : RegisterMap) (lines : List Line) → IsTrue (is_sound memory) → All IsInner lines
     → with_program_lines memory lines ≡ Ok new
     → HasLines new 0 lines
 
--- bytes that were loaded are read again: memory's lines, closed, and behind them those of the
--- bytes, from the position on that is answered
+-- Bytes that were loaded are read again: the lines of memory, closed, and after them those of the
+-- bytes, which begin at the returned position.
 pub record LeavesLoaded (memory : RegisterMap) (bytes : List ℕ)
     (new : RegisterMap) (start : ℕ) : Type 0 where
   pub lines : List ListedLine
@@ -70,77 +72,80 @@ pub record LeavesLoaded (memory : RegisterMap) (bytes : List ℕ)
   pub all : HasLines new 0 (with_last_end (lines_of before) ++ loaded)
   pub last : HasLines new start loaded
 
+-- Each memory after a load is read in this way.
 abbrev pub LoadIsRead : Type 0
 LoadIsRead =
     (memory new : RegisterMap) (bytes : List ℕ) (start : ℕ)
     → LoadGives memory bytes (Ok (new, start)) → LeavesLoaded memory bytes new start
 
--- with another number of data registers memory has the same lines
+-- Memory with another number of data registers has the same lines.
 abbrev pub SizeKeepsLines : Type 0
 SizeKeepsLines =
     (memory new : RegisterMap) (size at : ℕ) (lines : List ListedLine) → IsTrue (is_sound memory)
     → size_outcome memory size ≡ Ok (new, tt)
     → LinesFrom memory at lines → LinesFrom new at lines
 
--- memory has one list of lines from each position on
+-- Memory has exactly one list of lines from a position on.
 pub record HasOneList (memory : RegisterMap) (at : ℕ) : Type 0 where
   pub lines : List ListedLine
   pub from : LinesFrom memory at lines
   pub one : (others : List ListedLine) → LinesFrom memory at others → others ≡ lines
 
+-- Any memory has exactly one list of lines from each position on.
 abbrev pub OneList : Type 0
 OneList = (memory : RegisterMap) (at : ℕ) → HasOneList memory at
 
--- no bytes have two first lines from a position on
+-- No bytes have two first lines from a position on.
 abbrev pub FirstIsDetermined : Type 0
 FirstIsDetermined =
     (bytes : List ℕ) (final at : ℕ) (first other : ListedLine)
     → FirstFrom bytes final at first → FirstFrom bytes final at other → first ≡ other
 
--- no bytes are read as two lists of lines, whichever lines end a list, and no memory has two from a
--- position on
+-- No bytes are read as two lists of lines, whichever lines end a list.
 abbrev pub ReadIsDetermined : Type 0
 ReadIsDetermined =
     (ends : Line → Bool) (bytes : List ℕ) (final at : ℕ) (lines others : List ListedLine)
     → ReadsTo ends bytes final at lines → ReadsTo ends bytes final at others → lines ≡ others
 
--- bytes have a first line from each position on or none, and a list of lines, whatever ends it
+-- Bytes have a first line from each position on, or none.
 abbrev pub EachHasFirst : Type 0
 EachHasFirst =
     (bytes : List ℕ) (final at : ℕ)
     → ((first : ListedLine) × FirstFrom bytes final at first) ⊎ NoneFrom bytes final at
 
+-- Bytes have a list of lines from each position on, whichever lines end it.
 abbrev pub EachIsListed : Type 0
 EachIsListed =
     (ends : Line → Bool) (bytes : List ℕ) (final at : ℕ)
     → (lines : List ListedLine) × ReadsTo ends bytes final at lines
 
+-- No memory has two lists of lines from a position on.
 abbrev pub ListsAreDetermined : Type 0
 ListsAreDetermined =
     (memory : RegisterMap) (at : ℕ) (lines others : List ListedLine)
     → LinesFrom memory at lines → LinesFrom memory at others → lines ≡ others
 
--- no load gives two outcomes
+-- A load has one outcome.
 abbrev pub LoadsAreDetermined : Type 0
 LoadsAreDetermined =
     (memory : RegisterMap) (bytes : List ℕ)
     (outcome other : Result (RegisterMap × ℕ) ProgramRefusal)
     → LoadGives memory bytes outcome → LoadGives memory bytes other → outcome ≡ other
 
--- no change of the list gives two outcomes
+-- A change of the list has one outcome.
 abbrev pub EditsAreDetermined : Type 0
 EditsAreDetermined =
     (memory : RegisterMap) (change : ℕ → ListedLine → List Line) (at : ℕ)
     (outcome other : Result (RegisterMap × Unit {0}) ProgramRefusal)
     → EditGives memory change at outcome → EditGives memory change at other → outcome ≡ other
 
--- a position stands for its line: the list from the line's own position on is the same
+-- A position has the same line as that line's own position: the lists from both are the same.
 abbrev pub StandsForItsLine : Type 0
 StandsForItsLine =
     (memory : RegisterMap) (at : ℕ) (first : ListedLine) (rest : List ListedLine)
     → LinesFrom memory at (first ∷ rest) → LinesFrom memory first.position (first ∷ rest)
 
--- the list from the next line's position on is the rest of the list
+-- The list from the next line's position on is the rest of the list.
 abbrev pub GoesOnFromNext : Type 0
 GoesOnFromNext =
     (memory : RegisterMap) (at : ℕ) (first second : ListedLine) (rest : List ListedLine)

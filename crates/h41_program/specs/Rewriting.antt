@@ -1,6 +1,6 @@
--- Memory with another program in it: the registers below the curtain hold the new bytes, and c the
--- new end. Registers that leave the program become zero (this project's choice), all others are as
--- they were.
+-- Memory with other programs: the registers below the curtain contain the new bytes, and register c
+-- the new end. Registers that no longer belong to programs become zero (this project's choice); all
+-- others are unchanged.
 use Rattle.std.specs.Prelude.{◌≡◌, ℕ, ◌+◌, ◌-◌, ◌*◌, ◌/◌, List, map, length, slice_set, nat_lt}
 use Rattle.std.specs.Prelude.{if◌then◌else◌, Result, Ok, Err}
 use Rattle.std.specs.List.{range_with_len}
@@ -12,24 +12,25 @@ use Rattle.h41_program.specs.declared.refusal.ProgramRefusal.{ProgramRefusal}
 use Rattle.h41_program.specs.declared.refusal.ProgramRefusal.TheVariants.{NoRoom}
 use Rattle.h41_program.specs.Packing.{packing}
 
--- the addresses of main memory
+-- The addresses of main memory.
 abbrev pub addresses : RegisterMap → List ℕ
 addresses memory = range_with_len main_start (length memory.main)
 
--- a register below the new end: it was below the old one, or the program leaves it
+-- A register below the new end: it is unchanged if it was below the old end, otherwise it becomes
+-- zero.
 abbrev pub free_register : RegisterMap → ℕ → List ℕ
 free_register memory address =
     if nat_lt address (end_of memory) then register_at memory address else zeros
 
--- where the program ends that has these bytes
+-- The end of program memory with these bytes.
 abbrev pub end_after : RegisterMap → List ℕ → ℕ
 end_after memory bytes = curtain_of memory - length bytes / 7
 
--- the register of these bytes that stands so far below the curtain
+-- The register with seven of these bytes, so many registers below the first one.
 abbrev pub program_register : List ℕ → ℕ → List ℕ
 program_register bytes below = digits_from bytes (seven_from (7 * below))
 
--- the register at an address: below the new end, of the program, of the data
+-- The register at an address: below the new end, in programs, or in the data registers.
 abbrev pub rewritten_register : RegisterMap → List ℕ → ℕ → List ℕ
 rewritten_register memory bytes address =
     if nat_lt address (end_after memory bytes) then free_register memory address
@@ -37,7 +38,7 @@ rewritten_register memory bytes address =
     then program_register bytes (curtain_of memory - 1 - address)
     else register_at memory address
 
--- the memory with these bytes for its program
+-- Memory with these bytes as its programs.
 abbrev pub with_program_bytes : RegisterMap → List ℕ → RegisterMap
 with_program_bytes memory bytes = record {
   status =
@@ -46,13 +47,13 @@ with_program_bytes memory bytes = record {
   main = map (rewritten_register memory bytes) (addresses memory);
 }
 
--- the memory with these lines for its program, where they do not pass below main memory
+-- Memory with these lines as its programs, or NoRoom (16) if they do not fit into main memory.
 abbrev pub with_program_lines : RegisterMap → List Line → Result RegisterMap ProgramRefusal
 with_program_lines memory lines =
     if nat_lt (curtain_of memory) (main_start + length (packing lines) / 7) then Err NoRoom
     else Ok (with_program_bytes memory (packing lines))
 
--- a call gives the memory and the answer of an outcome; a refusal leaves memory as it was
+-- A call has the memory and the answer of an outcome. A refusal leaves memory unchanged.
 abbrev pub HasOutcome : {A : Type 0} → RegisterMap → RegisterMap → Result A ProgramRefusal
     → Result (RegisterMap × A) ProgramRefusal → Type 0
 HasOutcome old new result (Ok outcome) = (result ≡ Ok outcome.1) × (new ≡ outcome.0)

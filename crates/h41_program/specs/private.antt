@@ -1,5 +1,5 @@
--- What the functions of this crate promise one another, and `ByteReader` its callers. No other
--- public contract and no law needs these files.
+-- Definitions for the contracts of this crate's private functions and of `ByteReader`. No other
+-- public contract and no law uses them.
 pub mod ByteReading
 pub mod EditSteps
 pub mod LoadSteps

@@ -1,4 +1,4 @@
-//! Lines inserted, replaced and deleted.
+//! Inserting, replacing and deleting lines.
 ghost use Rattle.std.specs.Prelude.{◌≡◌, slice_get, is_ok, IsTrue, IfOk, IfSome, OnOk, OnErr};
 ghost use Rattle.h41_codes.specs.ByteGrammar.{IsLine};
 ghost use Rattle.h41_ram.specs.RegisterMap.{is_sound};
@@ -26,36 +26,38 @@ use h41_codes::Line;
 use h41_codes::laws::byte_round_trip;
 use h41_ram::Ram;
 
-/// A change of the list at one line.
+/// A change of the list of lines at one line.
 #[derive(Clone, Copy)]
 enum Change {
-    /// A line is put there.
+    /// A line is written there.
     Put(Line, Placement),
-    /// It is dropped.
+    /// The line there is deleted.
     Delete,
 }
 
-/// How a line is put at another one.
+/// Where a new line is written, relative to an existing one.
 #[derive(Clone, Copy)]
 enum Placement {
-    /// Before it.
+    /// Before the existing line.
     Before,
-    /// In its place.
+    /// Instead of the existing line.
     Instead,
 }
 
-/// What stands in front of the place of a deleted line.
+/// What precedes the place of a deleted line.
 #[derive(Clone, Copy, Debug, PartialEq, Eq)]
 pub enum InFront {
-    /// The line before it in its program stands here.
+    /// The line before it in its program is at this position.
     Line(u16),
-    /// It was the first of its program, and what is then its program begins at this byte.
+    /// It was the first line of its program, which now begins at this byte.
     Start(u16),
 }
 
-/// Inserts a line, which is neither a null nor `.END.`, before the one that a position stands for; at `.END.` it becomes the
-/// last. Answers where the new line stands, since packing may move it. 14 where the list has no such line or does not reach
-/// `.END.`, 16 where the program would pass below main memory.
+/// Inserts a line before the line at a position, or as the last line if `.END.` is there, and returns the position of the new line, which
+/// may differ from `before` because the programs are packed. The line must not be a null or `.END.`. Memory must be sound.
+///
+/// BrokenProgram (14) if the list has no such line or does not reach `.END.`; NoRoom (16) if the programs do not fit into main memory. A
+/// refusal changes nothing.
 pub fn insert<const REGS: usize>(
     ram: &mut Ram<REGS>,
     before: u16,
@@ -77,9 +79,11 @@ pub fn insert<const REGS: usize>(
     place_line(ram, before, line, Placement::Before)
 }
 
-/// Deletes the line that a position stands for; `.END.` stays. Answers where the line stands that is then before, or, where the
-/// deleted line was the first of its program, where that program then begins. 14 where the list has no such line or does not
-/// reach `.END.`, 16 where the program would pass below main memory.
+/// Deletes the line at a position; `.END.` remains. Returns the position of the line before it or, if the deleted line was the first of its
+/// program, the start of that program. Memory must be sound.
+///
+/// BrokenProgram (14) if the list has no such line or does not reach `.END.`; NoRoom (16) if the programs do not fit into main memory. A
+/// refusal changes nothing.
 pub fn delete<const REGS: usize>(ram: &mut Ram<REGS>, at: u16) -> Result<InFront, ProgramRefusal>
     requires { IsTrue (is_sound ram.old.registers) }
     ensures lines { Edits ram.old.registers ram.new.registers without_deleted at
@@ -97,9 +101,11 @@ pub fn delete<const REGS: usize>(ram: &mut Ram<REGS>, at: u16) -> Result<InFront
     Ok(in_front(ram, count))
 }
 
-/// Puts a line, which is neither a null nor `.END.`, in the place of the one that a position stands for; at `.END.` it becomes
-/// the last. This is one change: 16 is judged on the new lines alone. Answers where the new line stands. 14 where the list has
-/// no such line or does not reach `.END.`, 16 where the program would pass below main memory.
+/// Replaces the line at a position, or inserts the last line if `.END.` is there, and returns the position of the new line. The line must
+/// not be a null or `.END.`. Because this is one change, only the new lines have to fit. Memory must be sound.
+///
+/// BrokenProgram (14) if the list has no such line or does not reach `.END.`; NoRoom (16) if the programs do not fit into main memory. A
+/// refusal changes nothing.
 pub fn replace<const REGS: usize>(
     ram: &mut Ram<REGS>,
     at: u16,
@@ -121,7 +127,7 @@ pub fn replace<const REGS: usize>(
     place_line(ram, at, line, Placement::Instead)
 }
 
-/// Puts a line at the one that a position stands for, and answers where it then stands.
+/// Inserts a line before the line at a position, or replaces that line, and returns the position of the new line.
 fn place_line<const REGS: usize>(
     ram: &mut Ram<REGS>,
     at: u16,
@@ -150,7 +156,7 @@ fn place_line<const REGS: usize>(
     Ok(new.position)
 }
 
-/// Changes the list at the line that a position stands for, and answers how many lines stood before it.
+/// Changes the list at the line at a position, and returns how many lines precede it.
 fn change_at<const REGS: usize>(
     ram: &mut Ram<REGS>,
     at: u16,
@@ -172,7 +178,7 @@ fn change_at<const REGS: usize>(
     Ok(count)
 }
 
-/// How many lines of the list from 0 stand before a position.
+/// Returns how many lines of the list from 0 precede a position.
 fn lines_before<const REGS: usize>(ram: &Ram<REGS>, place: u16) -> u16
     requires { IsTrue (is_sound ram.now.registers) }
     ensures { AnswersFrom (count_before place) ram.now.registers 0 result }
@@ -193,7 +199,7 @@ fn lines_before<const REGS: usize>(ram: &Ram<REGS>, place: u16) -> u16
     count
 }
 
-/// The line of the list from 0 that has so many lines before it, and the byte behind it.
+/// Returns the line of the list from 0 that so many lines precede, and the position of the byte after it.
 fn line_behind<const REGS: usize>(ram: &Ram<REGS>, count: u16) -> Option<Found>
     requires { IsTrue (is_sound ram.now.registers) }
     ensures line { AnswersFrom (λ lines. slice_get lines count) ram.now.registers 0
@@ -216,7 +222,7 @@ fn line_behind<const REGS: usize>(ram: &Ram<REGS>, count: u16) -> Option<Found>
     None
 }
 
-/// What stands in front of the line that has so many before it.
+/// Returns what precedes the line that so many lines precede.
 fn in_front<const REGS: usize>(ram: &Ram<REGS>, count: u16) -> InFront
     requires { IsTrue (is_sound ram.now.registers) }
     ensures { AnswersFrom (position_in_front count) ram.now.registers 0 result }
@@ -231,7 +237,8 @@ fn in_front<const REGS: usize>(ram: &Ram<REGS>, count: u16) -> InFront
     }
 }
 
-/// The lines of memory before `.END.`, changed at the line at its own position.
+/// Returns the lines of memory before `.END.`, changed at the line whose own position is `place`. BrokenProgram (14) if there is no such
+/// line or if the list does not reach `.END.`.
 fn packed_changed<const REGS: usize>(
     ram: &Ram<REGS>,
     place: u16,
@@ -262,7 +269,7 @@ fn packed_changed<const REGS: usize>(
     Err(ProgramRefusal::BrokenProgram)
 }
 
-/// Puts a line behind others where it is wanted.
+/// Appends a line if it is wanted.
 fn put_if(packer: &mut Packer, line: &Line, wanted: bool)
     requires { IsLine line.now }
     ensures { Puts packer.old packer.new (line_if wanted line.now) }
@@ -272,7 +279,7 @@ fn put_if(packer: &mut Packer, line: &Line, wanted: bool)
     }
 }
 
-/// Puts the new line of a change behind others, at the line that is changed.
+/// Appends the new line of a change at the line that is changed.
 fn put_new(packer: &mut Packer, change: &Change, here: bool)
     requires { IsChange change.now }
     ensures { Puts packer.old packer.new (new_part here change.now) }
@@ -283,7 +290,7 @@ fn put_new(packer: &mut Packer, change: &Change, here: bool)
     }
 }
 
-/// Whether a line is kept: the one that is changed only where another is inserted before it.
+/// Returns whether a line remains. The line that is changed only remains if another one is inserted before it.
 fn is_kept(change: &Change, here: bool) -> bool
     ensures { result ≡ spec.is_kept here change.now }
 {

@@ -1,4 +1,4 @@
-//! The lines of bytes that are given.
+//! The lines of given bytes.
 ghost use Rattle.std.specs.Prelude.{◌≡◌, ◌≢◌, ℕ, ◌<◌, ◌≤◌, length, slice_index, IfSome, IfNone};
 ghost use Rattle.std.specs.Prelude.{◌==◌};
 ghost use Rattle.std.specs.List.{list_all};
@@ -7,18 +7,18 @@ ghost use Rattle.h41_program.specs.GivenLines.{BytesHaveFirst, BytesHaveNone};
 use h41_codes::laws::byte_round_trip;
 use h41_codes::{Line, decode};
 
-/// A line that was taken of bytes.
+/// A line that was read from given bytes.
 #[derive(Clone, Copy, Debug, PartialEq, Eq)]
 pub struct Taken {
-    /// Where it begins.
+    /// The position of the line's first byte.
     pub position: usize,
     /// The line.
     pub line: Line,
-    /// The byte behind it.
+    /// The position of the byte after the line.
     pub behind: usize,
 }
 
-/// The first position from one on whose byte is no null, else where the bytes end.
+/// Returns the first position, from `at` on, of a byte that is not null, or the end of the bytes.
 fn nulls_end(bytes: &[u8], at: usize) -> usize
     requires { at ≤ length bytes.now }
     ensures from { at ≤ result }
@@ -34,7 +34,7 @@ fn nulls_end(bytes: &[u8], at: usize) -> usize
     bytes.len()
 }
 
-/// The first line of bytes from a position on, nulls passed over. `None` where no line begins there.
+/// Returns the first line of bytes from a position on, after any nulls. `None` if no line begins there.
 pub fn line_in(bytes: &[u8], at: usize) -> Option<Taken>
     ensures first { IfSome result (λ taken. BytesHaveFirst bytes.now at taken) }
     ensures none { IfNone result (BytesHaveNone bytes.now at) }
@@ -54,7 +54,7 @@ pub fn line_in(bytes: &[u8], at: usize) -> Option<Taken>
     }
 }
 
-/// Whether all bytes are nulls.
+/// Returns whether all bytes are nulls.
 pub fn are_nulls(bytes: &[u8]) -> bool
     ensures { result ≡ list_all (λ byte. byte == 0) bytes.now }
 {

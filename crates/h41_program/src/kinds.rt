@@ -1,39 +1,39 @@
-//! Kinds of lines that program memory treats each in its own way.
+//! The kinds of lines that program memory treats differently.
 ghost use Rattle.std.specs.Prelude.{◌≡◌};
 ghost use Rattle.h41_codes.specs.declared.line.Line.TheVariants.{WithOperand};
 ghost use Rattle.h41_program.specs.Lines as spec;
 
 use h41_codes::{Line, Operand, Parameter, ParameterFunction};
 
-/// Whether a line is `.END.`.
+/// Returns whether a line is `.END.`.
 pub fn is_final_end(line: Line) -> bool
     ensures { result ≡ spec.is_final_end line }
 {
     matches!(line, Line::FinalEnd(_, _))
 }
 
-/// Whether a line is one that programs can have: neither a null nor `.END.`.
+/// Returns whether a line is an inner line, which programs can contain: neither a null nor `.END.`.
 pub fn is_inner(line: Line) -> bool
     ensures { result ≡ spec.is_inner line }
 {
     !matches!(line, Line::Null | Line::FinalEnd(_, _))
 }
 
-/// Whether a line is `END`; `.END.` is none.
+/// Returns whether a line is `END`. `.END.` is not.
 pub fn is_end(line: &Line) -> bool
     ensures { result ≡ spec.is_end line.now }
 {
     matches!(line, Line::End(_, _))
 }
 
-/// Whether a line is a number.
+/// Returns whether a line is a number.
 pub fn is_number(line: Line) -> bool
     ensures { result ≡ spec.is_number line }
 {
     matches!(line, Line::Number(_))
 }
 
-/// Whether a line is `LBL n`, in one byte or in two.
+/// Returns whether a line is `LBL n`, in one byte or in two.
 pub fn is_label(line: Line, label: Parameter) -> bool
     ensures { result ≡ spec.is_label label line }
 {
@@ -44,7 +44,7 @@ pub fn is_label(line: Line, label: Parameter) -> bool
     }
 }
 
-/// Whether a function and its operand are `LBL n`.
+/// Returns whether a function and its operand are `LBL n`.
 fn is_long_label(function: ParameterFunction, operand: Operand, label: Parameter) -> bool
     ensures { result ≡ spec.is_label label (WithOperand function operand) }
 {
@@ -56,7 +56,7 @@ fn is_long_label(function: ParameterFunction, operand: Operand, label: Parameter
     }
 }
 
-/// Whether a line is `LBL` of a name.
+/// Returns whether a line is the `LBL` with this name.
 pub fn is_named(line: Line, name: &[u8]) -> bool
     ensures { result ≡ spec.is_named name.now line }
 {

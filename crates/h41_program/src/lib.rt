@@ -1,5 +1,5 @@
-//! Program memory of the HP-41: the lines of the programs in memory, found, inserted, deleted and loaded, and the number of
-//! data registers above them.
+//! The program memory of the HP-41: the lines of the programs in memory, which can be searched, inserted, deleted and loaded, and the
+//! number of data registers above them.
 #![tactic(auto)]
 
 mod editing;

@@ -1,11 +1,11 @@
 //! A line in the list of lines.
 use h41_codes::Line;
 
-/// A line and where it stands.
+/// A line with its position.
 #[derive(Clone, Copy, Debug, PartialEq, Eq)]
 pub struct ListedLine {
-    /// The position of its first byte: bytes of program memory are counted from 0.
+    /// The position of the line's first byte. The bytes of program memory are counted from 0.
     pub position: u16,
-    /// The line, neither a null nor, but for the list's last, `.END.`.
+    /// The line. It is no null, and only the last line of a list can be `.END.`.
     pub line: Line,
 }

@@ -1,4 +1,4 @@
-//! Programs loaded behind those in memory.
+//! Loading programs after those in memory.
 ghost use Rattle.std.specs.Prelude.{◌≡◌, ◌≤◌, is_ok, IsTrue, IfOk, OnOk, OnErr};
 ghost use Rattle.std.specs.Option.{ForSome};
 ghost use Rattle.h41_codes.specs.ByteGrammar.{IsLine};
@@ -20,10 +20,12 @@ use crate::refusal::ProgramRefusal;
 use h41_codes::Line;
 use h41_ram::Ram;
 
-/// Loads the lines of bytes behind those in memory, and answers the position where the first of them begins. An END is put
-/// behind the last program in memory where it has lines and no END; a final END or `.END.` of the bytes is dropped, nulls are
-/// passed over (this project's choice). 14 where bytes of memory or given bytes are no line, or an `.END.` stands elsewhere
-/// than at the end of those given; 16 where the program would pass below main memory.
+/// Loads the lines of bytes after the programs in memory, and returns the position of the first of them, at most 2237. If the last program
+/// in memory has lines but no END, an END is appended to it first. A final END or `.END.` of the bytes is dropped, and nulls are skipped
+/// (this project's choice). Memory must be sound.
+///
+/// BrokenProgram (14) if bytes of memory or given bytes are no line, or if an `.END.` is not at the end of the given bytes; NoRoom (16) if
+/// the programs do not fit into main memory. A refusal changes nothing.
 pub fn load<const REGS: usize>(ram: &mut Ram<REGS>, bytes: &[u8]) -> Result<u16, ProgramRefusal>
     requires { IsTrue (is_sound ram.old.registers) }
     ensures lines { Loads ram.old.registers ram.new.registers bytes.now result }
@@ -41,7 +43,8 @@ pub fn load<const REGS: usize>(ram: &mut Ram<REGS>, bytes: &[u8]) -> Result<u16,
     Ok(start)
 }
 
-/// Whether the last program in memory has lines and no END of its own. 14 where the list does not reach `.END.`.
+/// Returns whether the last program in memory has lines but no END. BrokenProgram (14) if the list of lines does not reach `.END.`. Memory
+/// must be sound.
 pub fn is_last_open<const REGS: usize>(ram: &Ram<REGS>) -> Result<bool, ProgramRefusal>
     requires { IsTrue (is_sound ram.now.registers) }
     ensures { AnswersOf open_in ram.now.registers 0 result }
@@ -52,8 +55,9 @@ pub fn is_last_open<const REGS: usize>(ram: &Ram<REGS>) -> Result<bool, ProgramR
     }
 }
 
-/// Puts an END behind the last program in memory where it has lines and no END; else nothing changes, nor is anything packed
-/// anew. 14 where the list does not reach `.END.`, 16 where the program would pass below main memory.
+/// Appends an END to the last program in memory if it has lines but no END. Otherwise nothing changes, and the programs are not packed.
+/// BrokenProgram (14) if the list of lines does not reach `.END.`; NoRoom (16) if the programs do not fit into main memory. A refusal
+/// changes nothing.
 pub fn close_last<const REGS: usize>(ram: &mut Ram<REGS>) -> Result<(), ProgramRefusal>
     requires { IsTrue (is_sound ram.old.registers) }
     ensures lines { Closes ram.old.registers ram.new.registers result }
@@ -72,7 +76,7 @@ pub fn close_last<const REGS: usize>(ram: &mut Ram<REGS>) -> Result<(), ProgramR
     packer.write(ram)
 }
 
-/// The lines of memory before `.END.`.
+/// Returns the lines of memory before `.END.`, packed. BrokenProgram (14) if the list of lines does not reach `.END.`.
 pub fn packed_program<const REGS: usize>(ram: &Ram<REGS>) -> Result<Packer, ProgramRefusal>
     requires { IsTrue (is_sound ram.now.registers) }
     ensures { PacksProgram ram.now.registers result }
@@ -90,7 +94,7 @@ pub fn packed_program<const REGS: usize>(ram: &Ram<REGS>) -> Result<Packer, Prog
     Err(ProgramRefusal::BrokenProgram)
 }
 
-/// Puts the lines of bytes behind others, but for a final END or `.END.`.
+/// Appends the lines of bytes, without a final END or `.END.`. BrokenProgram (14) if bytes are no line, or if an `.END.` is not at the end.
 fn put_loaded(packer: &mut Packer, bytes: &[u8]) -> Result<(), ProgramRefusal>
     ensures { PutsLoaded packer.old packer.new bytes.now result }
 {
@@ -115,7 +119,7 @@ fn put_loaded(packer: &mut Packer, bytes: &[u8]) -> Result<(), ProgramRefusal>
     Ok(())
 }
 
-/// Puts the line that is pending, where one is.
+/// Appends the pending line, if there is one.
 fn put_pending(packer: &mut Packer, pending: Option<Line>)
     requires { ForSome pending IsLine }
     ensures { Puts packer.old packer.new (listed_option pending) }
@@ -125,7 +129,7 @@ fn put_pending(packer: &mut Packer, pending: Option<Line>)
     }
 }
 
-/// Puts the line that is pending last, where it is no END.
+/// Appends the pending line as the last one, unless it is an END.
 fn put_last(packer: &mut Packer, pending: Option<Line>)
     requires { ForSome pending IsLine }
     ensures { Puts packer.old packer.new (kept_option pending) }

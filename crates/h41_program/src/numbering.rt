@@ -1,4 +1,4 @@
-//! The lines of a program by their numbers.
+//! The numbers of a program's lines.
 ghost use Rattle.std.specs.Prelude.{IsTrue, IfSome, ◌≤◌};
 ghost use Rattle.h41_ram.specs.RegisterMap.{is_sound};
 ghost use Rattle.h41_program.specs.Numbering.{before_in, number_in, numbered_in};
@@ -12,8 +12,8 @@ use crate::searches::start_of;
 use h41_codes::laws::byte_round_trip;
 use h41_ram::Ram;
 
-/// Where the line before the one at a position stands in its program. `None` where the list has no line at the position, or it
-/// is the first.
+/// Returns the position of the line before the line at exactly this position in its program. `None` if the list has no line at the
+/// position, or if it is the first.
 pub fn line_before<const REGS: usize>(ram: &Ram<REGS>, position: u16) -> Option<u16>
     requires { IsTrue (is_sound ram.now.registers) }
     ensures { AnswersProgram (before_in position) ram.now.registers position result }
@@ -27,7 +27,8 @@ pub fn line_before<const REGS: usize>(ram: &Ram<REGS>, position: u16) -> Option<
     }
 }
 
-/// The number of the line at a position, counted from another position to the END.
+/// Returns the number of the line at exactly this position, counted from the position `from` up to the END; the first line has number 1.
+/// `None` if there is none.
 pub fn number_from<const REGS: usize>(ram: &Ram<REGS>, from: u16, position: u16) -> Option<u16>
     requires { IsTrue (is_sound ram.now.registers) }
     ensures is { AnswersFrom (λ lines. number_in position (up_to_end lines)) ram.now.registers from
@@ -53,7 +54,7 @@ pub fn number_from<const REGS: usize>(ram: &Ram<REGS>, from: u16, position: u16)
     None
 }
 
-/// Where the line of a number stands, counted from a position to the END.
+/// Returns the position of the line with this number, counted from the position `from` up to the END. `None` if there is none.
 fn numbered_from<const REGS: usize>(ram: &Ram<REGS>, from: u16, number: u16) -> Option<u16>
     requires { IsTrue (is_sound ram.now.registers) }
     ensures { AnswersFrom (λ lines. numbered_in number (up_to_end lines)) ram.now.registers from

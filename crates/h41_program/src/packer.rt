@@ -1,4 +1,4 @@
-//! Lines packed one behind the other.
+//! Packing lines one after another.
 ghost use Rattle.std.specs.Prelude.{◌≡◌, ◌+◌, ◌∷◌, [], ◌≤◌, List, length, IsTrue, not, false};
 ghost use Rattle.std.specs.Prelude.{is_ok, OnErr};
 ghost use Rattle.std.specs.Option.{option_map_or};
@@ -19,25 +19,25 @@ use arrayvec::ArrayVec;
 use h41_codes::{EndMarks, Line, Link, encode};
 use h41_ram::{MAIN_START, Ram};
 
-/// The most bytes of lines: with `.END.` they fill the largest memory.
+/// The most bytes of lines. Together with the three bytes of `.END.` they fill the largest memory, which has 320 registers.
 const MOST: usize = 2237;
 
-/// The bytes of lines with which memory can be filled, and of `.END.`.
+/// The bytes of lines that fit into memory, and of `.END.`.
 pub type Bytes = ArrayVec<u8, 2240>;
 
-/// Lines put one behind the other, as program memory holds them.
+/// Lines one after another, as program memory stores them.
 #[derive(Drop)]
 pub struct Packer {
-    /// Their bytes, where they are not too many.
+    /// The bytes of the lines, if they are not too many.
     pub bytes: Bytes,
-    /// Whether they are too many.
+    /// Whether the lines have too many bytes.
     pub full: bool,
-    /// The last of them.
+    /// The last line, or `None` if there are none.
     pub last: Option<Line>,
 }
 
 impl Packer {
-    /// No lines.
+    /// Returns a packer without lines.
     pub fn new() -> Self
         ensures { Packs result [] }
     {
@@ -48,7 +48,7 @@ impl Packer {
         }
     }
 
-    /// Puts a line behind the others.
+    /// Appends a line. If it is a number after a number, a null separates them.
     pub fn put(&mut self, line: Line)
         requires { IsLine line }
         ensures { Puts self.old self.new (line ∷ []) }
@@ -58,7 +58,7 @@ impl Packer {
         self.last = Some(line);
     }
 
-    /// Pushes a null where the last line is a number and another number follows.
+    /// Appends a null if the last line is a number and another number follows.
     fn part(&mut self, number: bool)
         ensures { Pushes self.old self.new (null_between number self.old.last) }
     {
@@ -67,7 +67,7 @@ impl Packer {
         }
     }
 
-    /// Puts an END behind the lines where the last of them is none.
+    /// Appends an END if there are lines and the last is none.
     pub fn close(&mut self)
         ensures { (lines : List Spoken) → Packs self.old lines
             → Packs self.new (with_last_end lines) }
@@ -77,7 +77,7 @@ impl Packer {
         }
     }
 
-    /// Writes the lines into program memory. 16 where they would pass below main memory.
+    /// Writes the lines into program memory. NoRoom (16) if they do not fit into main memory; nothing changes then.
     pub fn write<const REGS: usize>(self, ram: &mut Ram<REGS>) -> Result<(), ProgramRefusal>
         requires { IsTrue (is_sound ram.old.registers) }
         ensures lines { Writes self ram.old.registers ram.new.registers result }
@@ -98,7 +98,7 @@ impl Packer {
         Ok(())
     }
 
-    /// Whether there are lines and the last is a number.
+    /// Returns whether there are lines and the last is a number.
     fn ends_with_number(&self) -> bool
         ensures { result ≡ option_map_or is_number self.now.last false }
     {
@@ -108,7 +108,7 @@ impl Packer {
         }
     }
 
-    /// Whether there are lines and the last is no END.
+    /// Returns whether there are lines and the last is no END.
     pub fn is_open(&self) -> bool
         ensures { result ≡ option_map_or (λ line. not (is_end line)) self.now.last false }
     {
@@ -118,7 +118,7 @@ impl Packer {
         }
     }
 
-    /// Pushes a line's bytes.
+    /// Appends the bytes of a line.
     fn push_line(&mut self, line: &Line)
         requires { IsLine line.now }
         ensures { Pushes self.old self.new (spelling line.now) }
@@ -128,7 +128,7 @@ impl Packer {
         self.push(&out[..count]);
     }
 
-    /// Pushes bytes, or marks that there are too many.
+    /// Appends bytes, or records that there are too many.
     fn push(&mut self, more: &[u8])
         ensures { Pushes self.old self.new more.now }
     {
@@ -142,7 +142,7 @@ impl Packer {
     }
 }
 
-/// Bytes of lines with the nulls behind them that fill the registers, and `.END.` as it is written.
+/// Returns the bytes of lines, followed by the nulls that fill the registers and by `.END.`.
 fn filled(lines: Bytes) -> Bytes
     requires { length lines.items ≤ 2237 }
     ensures { result.items ≡ filled_up lines.items }

@@ -1,10 +1,10 @@
-//! The ranges of a line's parts.
+//! The ranges of the parts of lines.
 ghost use Rattle.h41_codes.specs.ByteGrammar.{IsLine};
 
 use h41_codes::{Line, Operand};
 
-/// The parts of each line are in their ranges, as their types say: this makes it known, and does nothing else. No tactic finds it
-/// without these calls, because a type with a model tells of its values only to what calls one of its methods.
+/// Makes it known to the prover that the parts of a line are in their ranges, and does nothing else. The calls are necessary because the
+/// ranges of a type with a model are known only after one of its methods is called.
 pub fn know_ranges(line: &Line)
     ensures { IsLine line.now }
 {

@@ -1,4 +1,4 @@
-//! The line that stands at a position.
+//! Reading the line at a position.
 ghost use Rattle.std.specs.Prelude.{◌≡◌, ◌≢◌, ℕ, ◌+◌, ◌-◌, ◌/◌, ◌%◌, ◌<◌, ◌≤◌, map, slice_index};
 ghost use Rattle.std.specs.Prelude.{min, IsSome};
 ghost use Rattle.std.specs.Prelude.{IsTrue, IfSome, IfNone};
@@ -28,55 +28,55 @@ use h41_codes::{
 use h41_digits::{Reg, eight_bytes, number_byte};
 use h41_ram::{MAIN_START, Ram};
 
-/// How many bytes a register has.
+/// The number of bytes in a register.
 pub const REGISTER_BYTES: u16 = 7;
 
-/// How many bytes `.END.` has, which stands in the last ones.
+/// The number of bytes of `.END.`, which is in the last ones of program memory.
 const END_BYTES: u16 = 3;
 
 /// The most bytes of a number.
 const NUMBER_MOST: u16 = 16;
 
-/// The most bytes of a line: a label with a name of 14 characters.
+/// The most bytes of a line. A label with a name of 14 characters has as many.
 const LINE_MOST: u16 = 18;
 
-/// The bytes of program memory of which a line is read.
+/// The bytes of program memory from which a line is read.
 type Window = ArrayVec<u8, 18>;
 
-/// A line that was found, and the byte behind it. A walk along the list of lines goes on from there, so that each line is
-/// decoded once.
+/// A line that was found, and the position of the byte after it. A walk along the list of lines continues there, so that each line is
+/// decoded only once.
 #[derive(Clone, Copy, Debug, PartialEq, Eq)]
 pub struct Found {
     /// The line, with its own position.
     pub listed: ListedLine,
-    /// The position of the byte behind the line's last: at most the number of bytes of program memory.
+    /// The position of the byte after the line, at most the number of bytes of program memory.
     pub behind: u16,
 }
 
-/// Where a line stands, and what it ends: what a walk needs that looks at no line itself.
+/// The position of a line, and whether it ends a program or memory. A walk that does not use the line itself needs no more.
 #[derive(Clone, Copy)]
 pub struct LinePlace {
     /// The line's own position.
     pub position: u16,
-    /// The position of the byte behind the line's last.
+    /// The position of the byte after the line.
     pub behind: u16,
-    /// Whether it is an `END`; `.END.` is none.
+    /// Whether the line is `END`. `.END.` is not.
     pub ends_program: bool,
-    /// Whether it is `.END.`.
+    /// Whether the line is `.END.`.
     pub ends_memory: bool,
 }
 
-/// Reads the bytes of program memory one behind the other, each register once.
+/// A reader of successive bytes of program memory, which reads each register only once.
 #[derive(Clone, Copy, Debug, PartialEq, Eq)]
 pub struct ByteReader {
-    /// The register of the next byte, unless that is its first.
+    /// The register that contains the next byte. It is not used if that byte is the first of its register.
     pub register: Reg,
-    /// How many bytes of the register follow.
+    /// How many bytes of the register are still to be read, 0 to 7.
     pub left: u16,
 }
 
-/// Where `.END.` begins, in the last three bytes of program memory: so many bytes stand before it. The list of lines ends there,
-/// if not before, at another `.END.` or at bytes that are no line.
+/// Returns the position of `.END.`, which is in the last three bytes of program memory: the number of bytes before it, at most 2237. The
+/// list of lines ends there, or earlier at another `.END.` or at bytes that are no line. Memory must be sound.
 #[inline(always)]
 pub fn final_position<const REGS: usize>(ram: &Ram<REGS>) -> u16
     requires { IsTrue (is_sound ram.now.registers) }
@@ -87,7 +87,8 @@ pub fn final_position<const REGS: usize>(ram: &Ram<REGS>) -> u16
     (ram.curtain() - ram.end_register()) * REGISTER_BYTES - END_BYTES
 }
 
-/// How many registers of program memory end in front of a position: its seventh, told by a product, in fewer steps than a division.
+/// Returns how many registers of program memory end before a position, which is a seventh of it. A multiplication takes fewer steps than a
+/// division.
 #[inline(always)]
 fn registers_before(position: u16) -> u16
     ensures { result ≡ position / 7 }
@@ -95,7 +96,7 @@ fn registers_before(position: u16) -> u16
     (u64::from(position) * 74_899 / 0x8_0000) as u16
 }
 
-/// How many bytes of a position's register stand in front of it.
+/// Returns how many bytes of the position's register precede it.
 #[inline(always)]
 fn bytes_before(position: u16) -> u16
     ensures { result ≡ position % 7 }
@@ -103,7 +104,8 @@ fn bytes_before(position: u16) -> u16
     position - REGISTER_BYTES * registers_before(position)
 }
 
-/// The register that has the byte at a position of program memory; at its end the one below it.
+/// Returns the register that contains the byte at a position of program memory. At the end of program memory this is the register below the
+/// last one.
 #[inline(always)]
 fn register_holding<const REGS: usize>(ram: &Ram<REGS>, position: u16) -> Reg
     requires count { position ≤ byte_count ram.now.registers }
@@ -114,7 +116,7 @@ fn register_holding<const REGS: usize>(ram: &Ram<REGS>, position: u16) -> Reg
 }
 
 impl ByteReader {
-    /// Before the byte at a position, which is at most the end of program memory.
+    /// Returns a reader whose next byte is the one at a position, which is at most the end of program memory. Memory must be sound.
     #[inline(always)]
     pub fn at<const REGS: usize>(ram: &Ram<REGS>, position: u16) -> Self
         requires count { position ≤ byte_count ram.now.registers }
@@ -127,7 +129,8 @@ impl ByteReader {
         }
     }
 
-    /// The byte at the position before which it stands; then it stands behind it.
+    /// Returns the byte at a position, which must be the reader's next byte, and moves the reader to the byte after it. Memory must be
+    /// sound.
     #[inline(always)]
     pub fn read<const REGS: usize>(&mut self, ram: &Ram<REGS>, position: u16) -> u8
         requires count { position < byte_count ram.now.registers }
@@ -145,7 +148,7 @@ impl ByteReader {
     }
 }
 
-/// The byte at a position of program memory.
+/// Returns the byte at a position of program memory, which must be before its end.
 #[inline(always)]
 pub fn byte_at<const REGS: usize>(ram: &Ram<REGS>, position: u16) -> u8
     requires { position < byte_count ram.now.registers }
@@ -155,7 +158,8 @@ pub fn byte_at<const REGS: usize>(ram: &Ram<REGS>, position: u16) -> u8
     register.byte(usize::from(6 - bytes_before(position)))
 }
 
-/// The eight bytes from a position on, the first of them leftmost; those behind the last of program memory are any.
+/// Returns the eight bytes from a position on, with the first one as the highest byte. Bytes after the end of program memory can have any
+/// value.
 #[inline(always)]
 fn bytes_from<const REGS: usize>(ram: &Ram<REGS>, at: u16) -> u64
     requires inside { at < byte_count ram.now.registers }
@@ -168,7 +172,7 @@ fn bytes_from<const REGS: usize>(ram: &Ram<REGS>, at: u16) -> u64
     eight_bytes(ram.read_main(address), ram.read_main(below), skipped)
 }
 
-/// How many of the eight bytes of a number are nulls, from the leftmost on to the first that is none.
+/// Returns how many of the eight bytes of a number are nulls, from the highest byte to the first one that is none.
 #[inline(always)]
 fn leading_nulls(bytes: u64) -> u16
     requires { 0 < bytes }
@@ -179,7 +183,8 @@ fn leading_nulls(bytes: u64) -> u16
     (bytes.leading_zeros() / 8) as u16
 }
 
-/// The first position from one on whose byte is no null, at most that of the last three bytes; and its byte.
+/// Returns the first position, from `at` on, of a byte that is not null, and this byte. The position is at most that of the last three
+/// bytes.
 #[inline(always)]
 fn past_nulls<const REGS: usize>(ram: &Ram<REGS>, at: u16, last: u16) -> (u16, u8)
     requires from { at ≤ last }
@@ -203,7 +208,7 @@ fn past_nulls<const REGS: usize>(ram: &Ram<REGS>, at: u16, last: u16) -> (u16, u
     }
 }
 
-/// The bytes from a position to another, or the first 18 of them.
+/// Returns the bytes from one position to another, at most the first 18 of them.
 #[inline(always)]
 fn window<const REGS: usize>(ram: &Ram<REGS>, at: u16, limit: u16) -> Window
     requires from { at ≤ limit }
@@ -220,7 +225,8 @@ fn window<const REGS: usize>(ram: &Ram<REGS>, at: u16, limit: u16) -> Window
     window
 }
 
-/// The place of a line of so many bytes that ends nothing, where these stand from a position to another.
+/// Returns the place of a line of so many bytes that ends neither a program nor memory, or `None` if there are not as many bytes before
+/// `limit`.
 #[inline(always)]
 fn fitting<const REGS: usize>(ram: &Ram<REGS>, at: u16, limit: u16, size: u16) -> Option<LinePlace>
     requires from { at < limit }
@@ -232,8 +238,8 @@ fn fitting<const REGS: usize>(ram: &Ram<REGS>, at: u16, limit: u16, size: u16) -
     if size > limit - at {
         return None;
     }
-    // They are read for the proof alone, which needs that each is below 256. No tactic finds that: the value of a memory is lists of
-    // numbers, and only a register that is read is known to have digits.
+    // These reads are only for the proof, which needs the fact that each byte is below 256. No tactic finds it, because the value of a
+    // memory is lists of numbers, and only a register that is read is known to have digits.
     for position in at..at + size {
         let _byte = byte_at(ram, position);
     }
@@ -245,8 +251,8 @@ fn fitting<const REGS: usize>(ram: &Ram<REGS>, at: u16, limit: u16, size: u16) -
     })
 }
 
-/// The place of the line that stands at a position, whose first byte is given, and may take the bytes before another: its first
-/// bytes tell how many it takes. `None` where bytes that are no line stand there.
+/// Returns the place of the line at a position, whose first byte is `byte` and whose bytes are before `limit`. The first bytes determine
+/// how many the line has. `None` if the bytes are no line.
 #[inline(always)]
 fn place_at<const REGS: usize>(ram: &Ram<REGS>, at: u16, byte: u8, limit: u16) -> Option<LinePlace>
     requires from { at < limit }
@@ -276,7 +282,7 @@ fn place_at<const REGS: usize>(ram: &Ram<REGS>, at: u16, byte: u8, limit: u16) -
     }
 }
 
-/// The place of `.END.`, which sound memory has in its last three bytes.
+/// Returns the place of `.END.`, which sound memory has in its last three bytes.
 #[inline(always)]
 fn final_place<const REGS: usize>(ram: &Ram<REGS>, last: u16) -> LinePlace
     requires last { last ≡ spec.final_position ram.now.registers }
@@ -284,7 +290,7 @@ fn final_place<const REGS: usize>(ram: &Ram<REGS>, last: u16) -> LinePlace
     requires sound { IsTrue (is_sound ram.now.registers) }
     ensures { BeginsAt ram.now.registers last (last + 3) result }
 {
-    // For the proof alone, as in `fitting`: the register's digits are below 16.
+    // This read is only for the proof, as in `fitting`: the digits of the register are below 16.
     let _digits = ram.read(ram.end_register()).to_u64();
     LinePlace {
         position: last,
@@ -294,7 +300,7 @@ fn final_place<const REGS: usize>(ram: &Ram<REGS>, last: u16) -> LinePlace
     }
 }
 
-/// How many bytes the number takes that stands at a position: all that can go on in it, 16 at most.
+/// Returns the number of bytes of the number at a position: all that can belong to it, at most 16.
 fn number_size<const REGS: usize>(ram: &Ram<REGS>, at: u16, limit: u16) -> u16
     requires from { at < limit }
     requires limit { limit ≤ byte_count ram.now.registers }
@@ -313,7 +319,7 @@ fn number_size<const REGS: usize>(ram: &Ram<REGS>, at: u16, limit: u16) -> u16
     most - at
 }
 
-/// The place of the GTO, XEQ or W of a name that stands at a position.
+/// Returns the place of the `GTO`, `XEQ` or `W` with a name at a position, or `None` if it is not complete.
 fn named_at<const REGS: usize>(ram: &Ram<REGS>, at: u16, limit: u16) -> Option<LinePlace>
     requires from { at < limit }
     requires limit { limit ≤ byte_count ram.now.registers }
@@ -332,7 +338,7 @@ fn named_at<const REGS: usize>(ram: &Ram<REGS>, at: u16, limit: u16) -> Option<L
     fitting(ram, at, limit, u16::from(text - 0xF0) + 2)
 }
 
-/// The place of the global label, END or `.END.` that stands at a position, told by the third byte.
+/// Returns the place of the global label, `END` or `.END.` at a position, which the third byte distinguishes. `None` if it is not complete.
 fn linked_at<const REGS: usize>(ram: &Ram<REGS>, at: u16, limit: u16) -> Option<LinePlace>
     requires from { at < limit }
     requires limit { limit ≤ byte_count ram.now.registers }
@@ -344,7 +350,7 @@ fn linked_at<const REGS: usize>(ram: &Ram<REGS>, at: u16, limit: u16) -> Option<
     if limit - at < END_BYTES {
         return None;
     }
-    // For the proof alone, as in `fitting`: both are below 256.
+    // These reads are only for the proof, as in `fitting`: both bytes are below 256.
     let _first = byte_at(ram, at);
     let _second = byte_at(ram, at + 1);
     let third = byte_at(ram, at + 2);
@@ -370,8 +376,8 @@ fn linked_at<const REGS: usize>(ram: &Ram<REGS>, at: u16, limit: u16) -> Option<
     })
 }
 
-/// Where the first line from a position on stands and what it ends, nulls passed over: told by its first bytes, without reading it.
-/// The last three bytes are taken from their first on alone.
+/// Returns the place of the first line from a position on, after any nulls, without decoding the line. `None` if there is none. `.END.` is
+/// only found from its first byte or before. Memory must be sound.
 #[inline(always)]
 pub fn place_from<const REGS: usize>(ram: &Ram<REGS>, at: u16) -> Option<LinePlace>
     requires { IsTrue (is_sound ram.now.registers) }
@@ -392,8 +398,9 @@ pub fn place_from<const REGS: usize>(ram: &Ram<REGS>, at: u16) -> Option<LinePla
     place_at(ram, position, byte, last)
 }
 
-/// The first line from a position on, nulls passed over, and the byte behind it; `None` where no line follows. The list goes on
-/// from that byte, except behind `.END.`, its last line. A line of one byte or two that stands there is read without a window.
+/// Returns the first line from a position on, after any nulls, and the position of the byte after it. `None` if no line follows. The list
+/// continues at that byte, except after `.END.`, its last line. A line of one or two bytes at the position itself is decoded without a copy
+/// of its bytes. Memory must be sound.
 #[inline(always)]
 pub fn first_from<const REGS: usize>(ram: &Ram<REGS>, at: u16) -> Option<Found>
     requires { IsTrue (is_sound ram.now.registers) }
@@ -427,7 +434,7 @@ pub fn first_from<const REGS: usize>(ram: &Ram<REGS>, at: u16) -> Option<Found>
     first_decoded(ram, at)
 }
 
-/// The first line from a position on, nulls passed over, read of the bytes that it takes.
+/// Returns the first line from a position on, after any nulls, decoded from a copy of its bytes.
 #[inline(never)]
 fn first_decoded<const REGS: usize>(ram: &Ram<REGS>, at: u16) -> Option<Found>
     requires { IsTrue (is_sound ram.now.registers) }
@@ -455,7 +462,8 @@ fn first_decoded<const REGS: usize>(ram: &Ram<REGS>, at: u16) -> Option<Found>
     }
 }
 
-/// The line that a position stands for: the first from there on, nulls passed over. 14 where there is none.
+/// Returns the line at a position, which is the first line from there on after any nulls, with its own position. BrokenProgram (14) if
+/// there is none. Memory must be sound.
 pub fn line_at<const REGS: usize>(ram: &Ram<REGS>, at: u16) -> Result<ListedLine, ProgramRefusal>
     requires { IsTrue (is_sound ram.now.registers) }
     ensures { AnswersFirst ram.now.registers at result }
@@ -466,7 +474,8 @@ pub fn line_at<const REGS: usize>(ram: &Ram<REGS>, at: u16) -> Result<ListedLine
     }
 }
 
-/// The position of the line behind one, or the byte behind it where no line follows; of `.END.` its own.
+/// Returns the position of the line after a line. If no line follows, it is the position of the byte just after the line; for `.END.` it is
+/// its own position.
 pub fn position_behind<const REGS: usize>(ram: &Ram<REGS>, first: Found) -> u16
     requires { IsTrue (is_sound ram.now.registers) }
     ensures { FoundBehind ram.now.registers first result }
@@ -478,7 +487,7 @@ pub fn position_behind<const REGS: usize>(ram: &Ram<REGS>, first: Found) -> u16
     position_from(ram, behind)
 }
 
-/// The position of the first line from a position on, or that position where no line follows.
+/// Returns the position of the first line from a position on, or that position if no line follows.
 #[inline(always)]
 fn position_from<const REGS: usize>(ram: &Ram<REGS>, at: u16) -> u16
     requires { IsTrue (is_sound ram.now.registers) }
@@ -492,8 +501,8 @@ fn position_from<const REGS: usize>(ram: &Ram<REGS>, at: u16) -> u16
     position_by(ram, at, byte_at(ram, at))
 }
 
-/// The position of the first line from a position on, or that position where no line follows, by the byte there: nulls alone stand
-/// before a line, so where it is none the line need not be looked for.
+/// Returns the position of the first line from a position on, or that position if no line follows. `byte` is the byte there. If it is not
+/// null, the result is the position itself, because only nulls can precede the first line. Memory must be sound.
 #[inline(always)]
 pub fn position_by<const REGS: usize>(ram: &Ram<REGS>, at: u16, byte: u8) -> u16
     requires sound { IsTrue (is_sound ram.now.registers) }
@@ -509,7 +518,7 @@ pub fn position_by<const REGS: usize>(ram: &Ram<REGS>, at: u16, byte: u8) -> u16
     position_past_nulls(ram, at)
 }
 
-/// The same where nulls are passed over.
+/// Returns the same for a position with a null, after the nulls are skipped.
 #[inline(never)]
 fn position_past_nulls<const REGS: usize>(ram: &Ram<REGS>, at: u16) -> u16
     requires { IsTrue (is_sound ram.now.registers) }
@@ -535,8 +544,8 @@ fn position_past_nulls<const REGS: usize>(ram: &Ram<REGS>, at: u16) -> u16
     }
 }
 
-/// The short line that stands at a position itself, in front of `.END.`, and the position of the line behind it, or the byte behind
-/// it where no line follows. `None` where other lines stand there, nulls, or bytes that are no line.
+/// Returns the short line whose first byte is at this position, before `.END.`, and the position of the line after it, or of the byte just
+/// after it if no line follows. `None` for other lines, nulls and bytes that are no line. Memory must be sound.
 #[inline(always)]
 pub fn short_line<const REGS: usize>(ram: &Ram<REGS>, at: u16) -> Option<(ShortLine, u16)>
     requires { IsTrue (is_sound ram.now.registers) }
@@ -564,8 +573,8 @@ pub fn short_line<const REGS: usize>(ram: &Ram<REGS>, at: u16) -> Option<(ShortL
     }
 }
 
-/// The position of the line behind a short one, of so many bytes, or the byte behind it where no line follows; `None` where the last
-/// bytes begin within it. Each size has machine code of its own, in which it is a constant.
+/// Returns the position of the line after a short line of so many bytes, or of the byte just after it if no line follows. `None` if the
+/// last three bytes begin inside the line. Each size is a constant in its own call, which makes the machine code faster.
 #[inline(always)]
 fn behind_short<const REGS: usize>(
     ram: &Ram<REGS>,
@@ -591,7 +600,7 @@ fn behind_short<const REGS: usize>(
     }
 }
 
-/// The same of so many bytes.
+/// Returns the same for a line of `size` bytes.
 #[inline(always)]
 fn behind_bytes<const REGS: usize>(
     ram: &Ram<REGS>,

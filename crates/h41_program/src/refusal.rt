@@ -1,16 +1,16 @@
-//! Why calls on program memory are refused. Each changes nothing then. The numbers are those by which decks print refusals.
+//! The refusals of calls that work on program memory. Decks print them with these numbers. A refusal changes nothing.
 use thiserror::Error;
 
-/// Why a call was refused.
+/// The reason why a call was refused.
 #[derive(Clone, Copy, Debug, PartialEq, Eq, Error)]
 pub enum ProgramRefusal {
-    /// 14: bytes are no line, or no line of the list stands there.
+    /// BrokenProgram (14): bytes are no line, or the list has no line at the position.
     #[error("these bytes are no line")]
     BrokenProgram,
-    /// 16: program memory would pass below main memory.
+    /// NoRoom (16): the programs do not fit into main memory.
     #[error("there is no room")]
     NoRoom,
-    /// 17: there are not more registers than that.
+    /// SizeTooLarge (17): main memory has too few registers for this number of data registers.
     #[error("the size is too large")]
     SizeTooLarge,
 }

@@ -1,4 +1,4 @@
-//! Registers and the addresses that they hold.
+//! Registers and the addresses in them.
 ghost use Rattle.std.specs.Prelude.{◌≡◌, ◌+◌, ◌*◌, ◌<◌, ◌≤◌, length};
 ghost use Rattle.h41_ram.specs.RegisterMap as spec;
 ghost use Rattle.h41_program.specs.Rewriting.{program_register};
@@ -6,22 +6,22 @@ ghost use Rattle.h41_program.specs.Rewriting.{program_register};
 use h41_digits::Reg;
 use h41_ram::StatusRegister;
 
-/// The address of register c, which holds the curtain and the end of program memory.
+/// The address of register c, which contains the curtain and the end of program memory.
 pub const C: u16 = StatusRegister::C as u16;
 
-/// Where the address of the register with `.END.` stands in register c.
+/// The lowest digit, in register c, of the address of the register with `.END.`.
 pub const END_PLACE: usize = 0;
 
-/// Where the curtain stands in it.
+/// The lowest digit, in register c, of the curtain.
 pub const CURTAIN_PLACE: usize = 3;
 
-/// Where the address of the first statistics register stands in it.
+/// The lowest digit, in register c, of the address of the first statistics register.
 pub const STATISTICS_PLACE: usize = 11;
 
-/// How many addresses three digits can hold.
+/// The number of addresses with three digits.
 pub const ADDRESSES: u16 = 4096;
 
-/// The address of three digits, from a place up.
+/// Returns the address in three digits of a register, from the digit `place` up.
 pub fn address_at(register: Reg, place: usize) -> u16
     requires { place < 12 }
     ensures value { result ≡ spec.three_digits register place }
@@ -30,7 +30,7 @@ pub fn address_at(register: Reg, place: usize) -> u16
     register.number(place, place + 2) as u16
 }
 
-/// The register with the three digits of an address, from a place up.
+/// Returns the register with an address written to three of its digits, from the digit `place` up.
 pub fn with_address(register: Reg, place: usize, address: u16) -> Reg
     requires place { place < 12 }
     requires address { address < 4096 }
@@ -39,7 +39,7 @@ pub fn with_address(register: Reg, place: usize, address: u16) -> Reg
     register.with_number(place, place + 2, u64::from(address))
 }
 
-/// The register of seven bytes, the leftmost first, that stand so many registers behind the first byte.
+/// Returns the register with seven of these bytes, the first one leftmost, after `below` registers of bytes are skipped.
 pub fn register_of(bytes: &[u8], below: usize) -> Reg
     requires { 7 * below + 7 ≤ length bytes.now }
     ensures { result ≡ program_register bytes.now below }

@@ -1,4 +1,4 @@
-//! Program memory written anew.
+//! Writing all of program memory.
 ghost use Rattle.std.specs.Prelude.{◌≡◌, ◌<◌, length, true};
 ghost use Rattle.h41_ram.specs.RegisterMap.{IsMemory, top_of};
 ghost use Rattle.h41_program.specs.private.ProgramPlaces.{IsPlace};
@@ -11,8 +11,8 @@ use h41_digits::Reg;
 use h41_ram::laws::mark_is_kept;
 use h41_ram::{MAIN_START, Ram};
 
-/// Makes bytes that fill registers the program's, and writes where it ends. Registers that the program leaves become zero (this
-/// project's choice).
+/// Makes these bytes, which fill whole registers, the programs, and writes the address of their end to register c. Registers that no longer
+/// belong to programs become zero (this project's choice).
 pub fn rewrite<const REGS: usize>(ram: &mut Ram<REGS>, bytes: &[u8], end: u16)
     requires place { IsPlace ram.old.registers (length bytes.now) end }
     requires memory { IsMemory REGS ram.old.registers }
@@ -30,7 +30,7 @@ pub fn rewrite<const REGS: usize>(ram: &mut Ram<REGS>, bytes: &[u8], end: u16)
     ram.set_main_memory(main);
 }
 
-/// The register that stands at an address once a program's bytes were written.
+/// Returns the register at an address after these bytes are written.
 fn new_register<const REGS: usize>(ram: &Ram<REGS>, bytes: &[u8], end: u16, address: u16) -> Reg
     requires place { IsPlace ram.now.registers (length bytes.now) end }
     requires address { address < top_of ram.now.registers }
@@ -46,7 +46,7 @@ fn new_register<const REGS: usize>(ram: &Ram<REGS>, bytes: &[u8], end: u16, addr
     }
 }
 
-/// A register below the end: what stood there below the former end, else zero.
+/// Returns the register at an address below the new end: unchanged if it was below the old end, otherwise zero.
 pub fn free_register<const REGS: usize>(ram: &Ram<REGS>, address: u16) -> Reg
     ensures { result ≡ spec.free_register ram.now.registers address }
 {

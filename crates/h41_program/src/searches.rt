@@ -1,4 +1,4 @@
-//! Where programs begin and end, and labels stand.
+//! Searches for the starts and ends of programs, and for labels.
 ghost use Rattle.std.specs.Prelude.{◌≡◌, IsTrue};
 ghost use Rattle.h41_ram.specs.RegisterMap.{is_sound};
 ghost use Rattle.h41_program.specs.Lines as spec;
@@ -14,8 +14,8 @@ use h41_codes::Parameter;
 use h41_codes::laws::byte_round_trip;
 use h41_ram::Ram;
 
-/// Where the program of a position begins: behind the last END whose first byte is before the position, or at 0. `.END.` is
-/// no END here.
+/// Returns the start of the program of a position: the byte after the last END whose first byte is before the position, or 0 if there is
+/// none. `.END.` does not count. Memory must be sound.
 pub fn start_of<const REGS: usize>(ram: &Ram<REGS>, at: u16) -> u16
     requires { IsTrue (is_sound ram.now.registers) }
     ensures { AnswersOf (start_in at) ram.now.registers 0 result }
@@ -39,7 +39,7 @@ pub fn start_of<const REGS: usize>(ram: &Ram<REGS>, at: u16) -> u16
     start
 }
 
-/// Where the first END or `.END.` stands from a position on.
+/// Returns the position of the first END or `.END.` from a position on, or `None` if there is none.
 fn end_from<const REGS: usize>(ram: &Ram<REGS>, from: u16) -> Option<u16>
     requires { IsTrue (is_sound ram.now.registers) }
     ensures { AnswersFrom (λ lines. end_in (up_to_end lines)) ram.now.registers from result }
@@ -57,8 +57,8 @@ fn end_from<const REGS: usize>(ram: &Ram<REGS>, from: u16) -> Option<u16>
     None
 }
 
-/// Where the program of a position ends: where its END stands, or `.END.` where that comes first. `None` where its list has
-/// neither: bytes that are no line come first.
+/// Returns the position of the end of a position's program: its END, or `.END.` if that is before any END. `None` if bytes that are no line
+/// precede both. Memory must be sound.
 pub fn end_of<const REGS: usize>(ram: &Ram<REGS>, at: u16) -> Option<u16>
     requires { IsTrue (is_sound ram.now.registers) }
     ensures { AnswersProgram end_in ram.now.registers at result }
@@ -68,7 +68,8 @@ pub fn end_of<const REGS: usize>(ram: &Ram<REGS>, at: u16) -> Option<u16>
     end_from(ram, start_of(ram, at))
 }
 
-/// Where the `LBL n` stands that a position finds: the first from there to the END, else the first of its program.
+/// Returns the position of the first `LBL n` from a position to the END, otherwise that of the first one in the program. `None` if there is
+/// none. Memory must be sound.
 pub fn local<const REGS: usize>(ram: &Ram<REGS>, at: u16, label: Parameter) -> Option<u16>
     requires { IsTrue (is_sound ram.now.registers) }
     ensures { AnswersLocal ram.now.registers at label result }
@@ -81,7 +82,7 @@ pub fn local<const REGS: usize>(ram: &Ram<REGS>, at: u16, label: Parameter) -> O
     }
 }
 
-/// Where the first `LBL n` stands from a position to the END.
+/// Returns the position of the first `LBL n` from a position to the END, or `None` if there is none.
 fn label_from<const REGS: usize>(ram: &Ram<REGS>, at: u16, label: Parameter) -> Option<u16>
     requires { IsTrue (is_sound ram.now.registers) }
     ensures { AnswersFrom (λ lines. position_of (label_in label lines))
@@ -103,8 +104,8 @@ fn label_from<const REGS: usize>(ram: &Ram<REGS>, at: u16, label: Parameter) -> 
     None
 }
 
-/// Whether the line of a place, the first from a position on, is `LBL n`. It is read only where its first byte is that of a local
-/// label.
+/// Returns whether the line of a place, the first from a position on, is `LBL n`. The line is only decoded if its first byte is that of a
+/// local label.
 #[inline(always)]
 fn is_label_at<const REGS: usize>(
     ram: &Ram<REGS>,
@@ -126,7 +127,7 @@ fn is_label_at<const REGS: usize>(
     }
 }
 
-/// Where the last `LBL` of a name stands in memory.
+/// Returns the position of the last `LBL` with this name in memory, or `None` if there is none. Memory must be sound.
 pub fn global<const REGS: usize>(ram: &Ram<REGS>, name: &[u8]) -> Option<u16>
     requires { IsTrue (is_sound ram.now.registers) }
     ensures { AnswersOf (λ lines. position_of (named_in name.now lines))
@@ -146,8 +147,8 @@ pub fn global<const REGS: usize>(ram: &Ram<REGS>, name: &[u8]) -> Option<u16>
     last
 }
 
-/// Whether the line of a place, the first from a position on, is `LBL` of a name. It is read only where it has as many bytes as
-/// that label, and the last one is that of the name.
+/// Returns whether the line of a place, the first from a position on, is the `LBL` with this name. The line is only decoded if it has as
+/// many bytes as that label and if its last byte is that of the name.
 #[inline(always)]
 fn is_named_at<const REGS: usize>(ram: &Ram<REGS>, at: u16, place: &LinePlace, name: &[u8]) -> bool
     requires sound { IsTrue (is_sound ram.now.registers) }

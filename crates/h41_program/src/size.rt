@@ -15,9 +15,9 @@ use h41_digits::Reg;
 use h41_ram::laws::mark_is_kept;
 use h41_ram::{MAIN_START, Ram};
 
-/// Makes memory have so many data registers. The program and the statistics registers move with the curtain, the data registers
-/// that there were and are keep their values, new ones are zero, and so are registers that the program leaves (this project's
-/// choice). 17 where there are not more registers than that, 16 where the program would pass below main memory.
+/// Sets the number of data registers. The programs and the statistics registers move with the curtain. Data registers that remain keep
+/// their values; new ones become zero, and so do registers that no longer belong to programs (this project's choice). SizeTooLarge (17) if
+/// main memory has no more registers than `size`; NoRoom (16) if the programs do not fit into main memory. A refusal changes nothing.
 pub fn set_size<const REGS: usize>(ram: &mut Ram<REGS>, size: u16) -> Result<(), ProgramRefusal>
     requires { IsTrue (is_sound ram.old.registers) }
     ensures size { HasOutcome ram.old.registers ram.new.registers result
@@ -40,7 +40,7 @@ pub fn set_size<const REGS: usize>(ram: &mut Ram<REGS>, size: u16) -> Result<(),
     Ok(())
 }
 
-/// Moves the curtain and the end.
+/// Moves the curtain and the end of program memory.
 fn resize<const REGS: usize>(ram: &mut Ram<REGS>, curtain: u16, end: u16)
     requires place { IsMove ram.old.registers curtain end }
     requires memory { IsMemory REGS ram.old.registers }
@@ -59,7 +59,7 @@ fn resize<const REGS: usize>(ram: &mut Ram<REGS>, curtain: u16, end: u16)
     ram.set_main_memory(main);
 }
 
-/// Register c with the addresses of a curtain and an end: the statistics registers move with the curtain.
+/// Returns register c with the addresses for a curtain and an end. The statistics registers move with the curtain.
 fn moved_addresses<const REGS: usize>(ram: &Ram<REGS>, curtain: u16, end: u16) -> Reg
     requires { IsMove ram.now.registers curtain end }
     ensures { result ≡ resized_c ram.now.registers (top_of ram.now.registers - curtain) }
@@ -72,7 +72,7 @@ fn moved_addresses<const REGS: usize>(ram: &Ram<REGS>, curtain: u16, end: u16) -
     with_address(c, STATISTICS_PLACE, statistics)
 }
 
-/// The register that stands at an address once the curtain and the end moved.
+/// Returns the register at an address after the curtain and the end are moved.
 fn moved_register<const REGS: usize>(ram: &Ram<REGS>, curtain: u16, end: u16, address: u16) -> Reg
     requires place { IsMove ram.now.registers curtain end }
     requires address { address < top_of ram.now.registers }

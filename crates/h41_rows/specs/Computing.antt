@@ -110,7 +110,7 @@ abbrev pub meant_by : BranchTarget → Meant
 meant_by (targets.Label label) = Count label
 meant_by (targets.Name name) = Name name
 
--- X receives the register at this address, after a stack lift if lift is on.
+-- X receives the register at this address. If stack lift is on, the stack is lifted first.
 abbrev pub BringsIn : (old new : RegisterMap) → ℕ → Bool → Type 0
 BringsIn old new address lift =
     (named : ℕ) (place : RowPlace) (register : List ℕ) → place_address named place ≡ address

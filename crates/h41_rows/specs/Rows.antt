@@ -56,7 +56,7 @@ pub data Condition : Type 0 where
   -- a loop continues, by its counter in a place
   Loops : Way → RowPlace → Condition
 
--- Where execution continues after a line.
+-- The place at which execution continues after a line.
 pub data Going : Type 0 where
   -- at the next line
   Next : Going
@@ -192,7 +192,7 @@ places_in_condition (AtMost a b) = places_in_term a ++ places_in_term b
 places_in_condition (Flag flag on) = []
 places_in_condition (Loops way place) = place ∷ []
 
--- The places that must contain numbers to decide where execution continues.
+-- The places that must contain numbers so that execution can continue.
 abbrev pub places_in_going : Going → List RowPlace
 places_in_going (Tests condition) = places_in_condition condition
 places_in_going (Counts condition) = places_in_condition condition

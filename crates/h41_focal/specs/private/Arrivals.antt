@@ -1,4 +1,4 @@
--- What private functions promise one another of labels and returns.
+-- Definitions for the private functions that move to labels and return addresses.
 use Rattle.std.specs.Prelude.{◌≡◌, List, [], ◌∷◌, reverse}
 use Rattle.h41_codes.specs.declared.functions.Branch.{Branch}
 use Rattle.h41_codes.specs.declared.functions.Branch.TheVariants.{GoTo, Execute}
@@ -13,24 +13,26 @@ use Rattle.h41_pages.specs.PageMap.{PageMap}
 use Rattle.h41_positions.specs.Positions.{StartOf}
 use Rattle.h41_positions.specs.declared.position.Position.{Position}
 
--- where the search for a local label begins
+-- The position from which a local label is searched.
 abbrev pub from_of : Origin → Position → Position
 from_of (Program next) position = next
 from_of Typed position = position
 
--- at a label, by how the line came and whether it returns
+-- The state at a label that was found, which depends on the origin of the line and on the branch.
 abbrev pub focal_at : Origin → Branch → Position → FocalState → FocalState
 focal_at origin GoTo position focal = at_position position focal
 focal_at (Program next) Execute position focal =
     record (at_position position focal) { returns = with_return focal.returns next }
 focal_at Typed Execute position focal = record (at_position position focal) { returns = [] }
 
+-- The outcome of a branch to a label that was found.
 abbrev pub answer_at : Origin → Branch → BriefOutcome
 answer_at origin GoTo = briefs.Done
 answer_at (Program next) Execute = briefs.Done
 answer_at Typed Execute = briefs.Runs
 
--- back to the latest position to return to, or to line 00
+-- The machine at the newest return address, or at line 00 if there is none. The return addresses
+-- are given with the newest first.
 abbrev pub GoesBackFrom : PageMap → List Position → (old new : Machine) → BriefOutcome → Type 0
 GoesBackFrom pages [] old new brief =
     (start : Position) × StartOf pages old.memory old.focal.position start
@@ -38,5 +40,6 @@ GoesBackFrom pages [] old new brief =
 GoesBackFrom pages (latest ∷ others) old new brief =
     (new ≡ at_line latest (with_returns (reverse others) old)) × (brief ≡ briefs.Done)
 
+-- The machine at the newest return address, or at line 00 if there is none.
 abbrev pub ReturnsFrom : PageMap → (old new : Machine) → BriefOutcome → Type 0
 ReturnsFrom pages old new brief = GoesBackFrom pages (reverse old.focal.returns) old new brief

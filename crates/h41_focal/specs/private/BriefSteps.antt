@@ -1,4 +1,4 @@
--- What the calls of a machine that carry a line out but for its texts promise one another.
+-- Definitions for the functions of a machine that execute a line without making its texts.
 use Rattle.std.specs.Prelude.{◌≡◌, false, None, Result, Ok, OnErr}
 use Rattle.h41_focal.specs.BriefOutcomes.{StepsBriefly}
 use Rattle.h41_focal.specs.LabelSearches.{StepKeeps}
@@ -9,7 +9,7 @@ use Rattle.h41_focal.specs.declared.refusal.FocalRefusal.{FocalRefusal}
 use Rattle.h41_pages.specs.PageMap.{PageMap}
 use Rattle.h41_ram.specs.RamState.{KeepsMark}
 
--- the line at the position is carried out, but for the texts of its outcome
+-- The line at the position is executed, without the texts of its outcome.
 pub record StepsMachine (pages : PageMap) (old new : LabelledMachine)
     (result : Result BriefOutcome FocalRefusal)
     : Type 0 where

@@ -1,4 +1,4 @@
--- What private functions promise one another.
+-- Definitions for the private functions that execute lines.
 use Rattle.std.specs.Prelude.{◌≡◌, ◌≤◌, ℕ, length, Some, Bool, true, false, List, [], MatchBool}
 use Rattle.std.specs.Prelude.{IsTrue, None, Result, Ok, Err}
 use Rattle.h41_codes.specs.declared.characters.Character.{Character}
@@ -54,31 +54,32 @@ use Rattle.h41_positions.specs.declared.position.Position.{Position}
 use Rattle.h41_program.specs.declared.refusal.ProgramRefusal.TheVariants as program
 use Rattle.h41_ram.specs.RegisterMap.{RegisterMap, is_sound}
 
--- how a line comes
+-- The origin of a line in the code is its origin in the definitions.
 abbrev pub manner_of : Origin → Manner
 manner_of (Program next) = destinations.Stepped next
 manner_of Typed = destinations.Typed
 
--- on to the next line; a typed line stays
+-- The state at the next line. A typed line leaves the position unchanged.
 abbrev pub on_to_next : Origin → Lift → FocalState → FocalState
 on_to_next (Program next) lift focal =
     record (at_position next focal) { lift = lift_after lift focal.lift }
 on_to_next Typed lift focal = record focal { lift = lift_after lift focal.lift }
 
--- on behind a line that is passed
+-- The state after a line whose function is executed elsewhere.
 abbrev pub behind_line : Line → Position → FocalState → FocalState
 behind_line line next focal =
     record (at_position next focal) { lift = lift_behind line focal.lift }
 
--- what a line calls that memory does not have: a function of a module, or a name. Lines that call
--- nothing have no use for it.
+-- An answer for lines that call nothing outside memory. They do not use it.
 abbrev pub nowhere : Answer
 nowhere = answers.Seeks []
 
+-- The name that an operand means. Other meanings have none.
 abbrev pub name_meant : Result Meant LineFault → List ℕ
 name_meant (Ok (Name name)) = name
 name_meant meant = []
 
+-- What a line calls outside memory: a function of a module, or a name.
 abbrev pub called_by : RegisterMap → Line → Answer
 called_by memory (lines.Module number entry) = answers.Calls number entry
 called_by memory (lines.Named function name) = answers.Seeks name
@@ -86,34 +87,35 @@ called_by memory (lines.BranchIndirect branch register) =
     answers.Seeks (name_meant (meant_of memory (lines.BranchIndirect branch register)))
 called_by memory line = nowhere
 
--- what a line leaves that calls nothing so
+-- The machine after a line that calls nothing outside memory, and its answer.
 abbrev pub ending_of : Machine → BriefOutcome → Left
 ending_of new brief = briefly nowhere new brief
 
+-- The same, or the refusal.
 abbrev pub ended_as : Machine → Result BriefOutcome FocalRefusal → Result Left FocalRefusal
 ended_as new result = briefly_as nowhere new result
 
--- a row was applied to a machine, by a line that looks for no position, whatever pages have
+-- A row was applied to a machine by a line that searches no position, whatever the pages contain.
 abbrev pub Leaves : Origin → LineRow → ℕ → (old new : Machine) → BriefOutcome → Type 0
 Leaves origin row named old new brief =
     (pages : PageMap) → Applies pages (manner_of origin) row named old (Ok (ending_of new brief))
 
--- the same of a line that may call what memory does not have
+-- A row was applied by a line that may call something outside memory.
 abbrev pub LeavesCalling : PageMap → Answer → Origin → LineRow → ℕ → (old new : Machine)
     → BriefOutcome
     → Type 0
 LeavesCalling pages called origin row named old new brief =
     Applies pages (manner_of origin) row named old (Ok (briefly called new brief))
 
--- a row was applied to a machine, or the line refused
+-- A row was applied to a machine, or the line was refused.
 abbrev pub CarriesRow : PageMap → Origin → LineRow → ℕ → (old new : Machine)
     → Result BriefOutcome FocalRefusal
     → Type 0
 CarriesRow pages origin row named old new result =
     Applies pages (manner_of origin) row named old (ended_as new result)
 
--- where a line that asks goes on: the next line where the answer is yes, else the one behind it; a
--- typed line stays
+-- The place at which execution continues after a test: at the next line if it is true, otherwise
+-- after it. A typed line does not move.
 abbrev pub Leads : PageMap → Origin → RegisterMap → Bool → Result Origin FocalRefusal → Type 0
 Leads pages (Program next) memory holds (Ok lead) =
     (position : Position)
@@ -125,26 +127,27 @@ Leads pages (Program next) memory holds (Err refusal) =
     × NextAt pages memory next (Err program.BrokenProgram)
 Leads pages Typed memory holds lead = lead ≡ Ok Typed
 
--- what a test answers: where it was typed, whether it holds
+-- The outcome of a test: its result if it was typed.
 abbrev pub test_answer : Origin → Bool → BriefOutcome
 test_answer (Program next) holds = briefs.Done
 test_answer Typed holds = briefs.Answered holds
 
--- a line was taken, or refused
+-- A line was executed, or refused.
 abbrev pub TakesAs : PageMap → Origin → Line → (old new : Machine) → Result LineOutcome FocalRefusal
     → Type 0
 TakesAs pages origin line old new result =
     TakesLine pages (manner_of origin) line old (carried_as new result)
 
--- what a call takes, then what it leaves, and its brief outcome
+-- The contract of a call with a brief outcome: the machine before and after, and the result.
 abbrev pub BriefCall : Type 1
 BriefCall = (old new : Machine) → Result BriefOutcome FocalRefusal → Type 0
 
+-- A line was executed, or refused, with a brief outcome.
 abbrev pub TakesBriefly : PageMap → Origin → Line → BriefCall
 TakesBriefly pages origin line old new result =
     TakesLine pages (manner_of origin) line old (briefly_as (called_by old.memory line) new result)
 
--- a row was applied to what an operand means, of which this was found, or its fault
+-- A row was applied for the value of an operand that was found, or the line had its error.
 abbrev pub CarriesFound : {A : Type 0} → PageMap → Origin → (A → LineRow) → (A → ℕ)
     → Result A LineFault
     → (old new : Machine) → Result BriefOutcome FocalRefusal → Type 0
@@ -153,7 +156,7 @@ CarriesFound pages origin row named (Ok found) old new result =
 CarriesFound pages origin row named (Err fault) old new result =
     FailsIn (manner_of origin) old fault (ended_as new result)
 
--- with a register, a number of digits, a flag
+-- A function with the register of an operand was executed.
 abbrev pub UsesAddress : PageMap → Origin → RegisterUse → Operand → (old new : Machine)
     → Result BriefOutcome FocalRefusal → Type 0
 UsesAddress pages origin taken operand old new result =
@@ -162,12 +165,14 @@ UsesAddress pages origin taken operand old new result =
     × CarriesFound pages origin (λ address. register_use_row taken)
     (λ address. address) found old new result
 
+-- A function with the number of digits of an operand was executed.
 abbrev pub UsesDigits : PageMap → Origin → DigitsUse → Operand → (old new : Machine)
     → Result BriefOutcome FocalRefusal → Type 0
 UsesDigits pages origin taken operand old new result =
     (found : Result ℕ LineFault) × (result_map Count found ≡ meant_as DigitKind old.memory operand)
     × CarriesFound pages origin (digits_use_row taken) (λ digits. 0) found old new result
 
+-- A function with the flag of an operand was executed.
 abbrev pub UsesFlag : PageMap → Origin → FlagUse → Operand → (old new : Machine)
     → Result BriefOutcome FocalRefusal → Type 0
 UsesFlag pages origin taken operand old new result =
@@ -175,105 +180,117 @@ UsesFlag pages origin taken operand old new result =
     × (result_map Count found ≡ meant_as (FlagKind (highest_of taken)) old.memory operand)
     × CarriesFound pages origin (flag_use_row taken) (λ flag. 0) found old new result
 
--- the line that stands there is a number line, of this number
+-- The line at the position is a number line with this number.
 abbrev pub StandsNumber : PageMap → Machine → Ten → Position → Type 0
 StandsNumber pages machine number next =
     (text : List Character)
     × Stands pages machine (Ok (lines.Number text, next))
     × IsNumberOf text number
 
--- in sound memory no short line stands at the position itself, or no such number line
+-- If memory is sound, the line at the position is no short line.
 abbrev pub StandsNoShort : PageMap → Machine → Type 0
 StandsNoShort pages machine =
     IsTrue (is_sound machine.memory)
     → ShortLineAt pages machine.memory machine.focal.position None
 
+-- If memory is sound, the line at the position is no number line that can be read in one pass.
 abbrev pub StandsNoNumber : Machine → Type 0
 StandsNoNumber machine =
     IsTrue (is_sound machine.memory)
     → (at : ℕ) → machine.focal.position ≡ Memory at → HasNoNumber machine.memory at
 
--- the same of a row that names no register, of a line without an operand, of the work of a
--- function, of the use of a register or a flag
+-- A row that names no register was applied.
 abbrev pub LeavesRow : Origin → LineRow → (old new : Machine) → BriefOutcome → Type 0
 LeavesRow origin row old new brief = (named : ℕ) → Leaves origin row named old new brief
 
+-- A line without an operand was executed.
 abbrev pub DoesLine : Origin → Line → (old new : Machine) → BriefOutcome → Type 0
 DoesLine origin line old new brief = LeavesRow origin (row_of line NoOperand) old new brief
 
+-- A function without an operand had its effect.
 abbrev pub DoesWork : Origin → FunctionWork → (old new : Machine) → BriefOutcome → Type 0
 DoesWork origin work old new brief = LeavesRow origin (row_of_work work) old new brief
 
+-- A function without an operand had its effect, or was refused.
 abbrev pub CarriesWork : PageMap → Origin → FunctionWork → (old new : Machine)
     → Result BriefOutcome FocalRefusal → Type 0
 CarriesWork pages origin work old new result =
     (named : ℕ) → CarriesRow pages origin (row_of_work work) named old new result
 
+-- A function with a register had its effect.
 abbrev pub UsesAt : Origin → RegisterUse → ℕ → (old new : Machine) → BriefOutcome → Type 0
 UsesAt origin taken address old new brief =
     Leaves origin (register_use_row taken) address old new brief
 
+-- A function with a register had its effect, or was refused.
 abbrev pub DoesUse : PageMap → Origin → RegisterUse → ℕ → (old new : Machine)
     → Result BriefOutcome FocalRefusal → Type 0
 DoesUse pages origin taken address old new result =
     CarriesRow pages origin (register_use_row taken) address old new result
 
+-- A function with a flag had its effect, or was refused.
 abbrev pub CarriesFlag : PageMap → Origin → FlagUse → ℕ → (old new : Machine)
     → Result BriefOutcome FocalRefusal → Type 0
 CarriesFlag pages origin taken flag old new result =
     (named : ℕ) → CarriesRow pages origin (flag_use_row taken flag) named old new result
 
+-- A function with a number of digits had its effect.
 abbrev pub LeavesDigits : Origin → DigitsUse → ℕ → (old new : Machine) → BriefOutcome → Type 0
 LeavesDigits origin taken digits old new brief =
     LeavesRow origin (digits_use_row taken digits) old new brief
 
--- of a branch to a label, or to a name
+-- A branch to a local label was executed.
 abbrev pub GoesToLabel : PageMap → Origin → Branch → ℕ → (old new : Machine) → BriefOutcome → Type 0
 GoesToLabel pages origin branch label old new brief =
     (named : ℕ) → CarriesRow pages origin (to_label branch label) named old new (Ok brief)
 
+-- A branch to a name was executed.
 abbrev pub GoesToName : PageMap → Origin → Branch → List ℕ → (old new : Machine) → BriefOutcome
     → Type 0
 GoesToName pages origin branch name old new brief =
     (named : ℕ)
     → LeavesCalling pages (answers.Seeks name) origin (to_name branch name) named old new brief
 
--- back, or to line 00
+-- A return was executed.
 abbrev pub GoesBack : PageMap → Origin → (old new : Machine) → BriefOutcome → Type 0
 GoesBack pages origin old new brief = CarriesWork pages origin Return old new (Ok brief)
 
--- of a fault, by whether the line is passed
+-- The outcome of an error, which depends on whether flag 25 makes the program ignore it.
 abbrev pub fault_outcome : (passed : Bool) → LineFault → BriefOutcome
 fault_outcome true fault = briefs.Done
 fault_outcome false fault = briefs.Failed fault
 
+-- A line had an error.
 abbrev pub FailsAs : Origin → LineFault → (old new : Machine) → BriefOutcome → Type 0
 FailsAs origin fault old new brief =
     FailsIn (manner_of origin) old fault (Ok (ending_of new brief))
 
--- lines of each kind are taken
+-- A line with a name was executed, or refused.
 abbrev pub TakesNamed : PageMap → Origin → NameFunction → List ℕ → BriefCall
 TakesNamed pages origin function name old new result =
     TakesBriefly pages origin (lines.Named function name) old new result
 
+-- RCL or STO in one byte was executed, or refused.
 abbrev pub TakesShort : PageMap → Origin → RegisterFunction → ℕ → BriefCall
 TakesShort pages origin function register old new result =
     TakesBriefly pages origin (lines.Register function register) old new result
 
+-- A function with an operand was executed, or refused.
 abbrev pub TakenBy : PageMap → Origin → ParameterFunction → Operand → BriefCall
 TakenBy pages origin function operand old new result =
     TakesBriefly pages origin (lines.WithOperand function operand) old new result
 
+-- GTO IND or XEQ IND was executed, or refused.
 abbrev pub TakesBranch : PageMap → Origin → Branch → ℕ → BriefCall
 TakesBranch pages origin branch register old new result =
     TakesBriefly pages origin (lines.BranchIndirect branch register) old new result
 
--- a flag is asked, and cleared
+-- A flag was tested and cleared, or the line was refused.
 abbrev pub ClearsFlag : PageMap → Origin → Bool → ℕ → BriefCall
 ClearsFlag pages origin on flag old new result =
     CarriesFlag pages origin (AskAndClear on) flag old new result
 
--- of a branch to what a register holds
+-- A branch to the content of a register was executed.
 abbrev pub GoesToTarget : PageMap → Origin → Branch → BranchTarget → (old new : Machine)
     → BriefOutcome
     → Type 0
@@ -282,13 +299,14 @@ GoesToTarget pages origin branch target old new brief =
     → LeavesCalling pages (answers.Seeks (name_meant (Ok (meant_by target)))) origin
     (to_meant branch (meant_by target)) named old new brief
 
--- a text comes into ALPHA
+-- A text line changed ALPHA.
 abbrev pub PutsText : List ℕ → RegisterMap → RegisterMap → Type 0
 PutsText text old new = (named : ℕ) → new ≡ with_alpha_change old named (text_row text).alpha old
 
--- what a text has behind the append sign
+-- The text after the append sign.
 abbrev pub IsBehind : List ℕ → List ℕ → Type 0
 IsBehind text rest = (text_row text).alpha ≡ Some (Appends rest)
 
+-- A text that does not begin with the append sign.
 abbrev pub IsWhole : List ℕ → Type 0
 IsWhole text = 1 ≤ length text → (text_row text).alpha ≡ Some (Becomes text)

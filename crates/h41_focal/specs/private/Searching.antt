@@ -1,4 +1,4 @@
--- What private functions promise one another of the searches for labels that lines make.
+-- Definitions for the private functions that search labels.
 use Rattle.std.specs.Prelude.{Option}
 use Rattle.h41_codes.specs.declared.line.Line.{Line}
 use Rattle.h41_positions.specs.LabelledMachine.{LabelledMachine}
@@ -9,13 +9,14 @@ use Rattle.h41_labels.specs.KeptAnswers.{KeepsSearch}
 use Rattle.h41_labels.specs.declared.search.Search.{Search}
 use Rattle.h41_positions.specs.declared.position.Position.{Position}
 
--- a search was made from where the line has local labels looked for, or none
+-- A search was made from the position from which the line searches local labels, or no search was
+-- made.
 abbrev pub AsksFrom : Origin → (Position → Option Search) → (old new : LabelledMachine) → Type 0
 AsksFrom origin search old new =
     KeepsSearch old.ram.registers (search (from_of origin old.focal.state.position))
     old.focal.labels new.focal.labels
 
--- the search of a line
+-- The search of a line was made, if it has one.
 abbrev pub AsksOf : Origin → Line → (old new : LabelledMachine) → Type 0
 AsksOf origin line old new =
     AsksFrom origin (λ from. search_of old.ram.registers from line) old new

@@ -1,5 +1,5 @@
--- What private functions promise one another of the tables: functions, and functions with an
--- operand, by what is done for them.
+-- Tables for the private functions that execute functions without and with an operand: each effect
+-- has its row.
 use Rattle.std.specs.Prelude.{◌≡◌, ℕ, true, false, [], ◌∷◌, Some, pos}
 use Rattle.h41_codes.specs.declared.functions.ParameterFunction.{ParameterFunction}
 use Rattle.h41_ram.specs.NamedFlags as flags_named
@@ -32,7 +32,7 @@ use Rattle.h41_focal.specs.declared.uses.RegisterUse.TheVariants as registers
 use Rattle.h41_focal.specs.declared.uses.OperandUse.{OperandUse}
 use Rattle.h41_focal.specs.declared.uses.OperandUse.TheVariants as uses
 
--- what moves in the stack
+-- The row of a change of the stack.
 abbrev pub move_row : Movement → LineRow
 move_row moves.Exchange = record lifting_row { takes = copy X Y ∷ copy Y X ∷ [] }
 move_row moves.RollUp = record lifting_row
@@ -51,14 +51,14 @@ move_row moves.ClearStack =
 move_row moves.ClearX =
     record lifting_row { value = Some (values.Given (pos 0)); takes = compute X ∷ []; lift = Off }
 
--- what becomes of ALPHA, and of its mode
+-- The row of a change of ALPHA or of ALPHA mode.
 abbrev pub alpha_row : AlphaWork → LineRow
 alpha_row alphas.Clear = record lifting_row { alpha = Some (Becomes []) }
 alpha_row alphas.Shift = record lifting_row { alpha = Some LosesSix }
 alpha_row (alphas.Mode on) =
     record lifting_row { flags = record { flag = flags_named.alpha_mode; on = on } ∷ [] }
 
--- what the display shows, and whether the program goes on
+-- The row of a change of the display, or of a stop.
 abbrev pub display_row : DisplayWork → LineRow
 display_row displays.ViewAlpha = record lifting_row { shows = AlphaText }
 display_row displays.Clear = record lifting_row { shows = NoText }
@@ -66,7 +66,7 @@ display_row displays.Prompt = record lifting_row { shows = AlphaText; ends = Sto
 display_row displays.Stop = record silent_row { ends = Stops }
 display_row displays.TurnOff = record lifting_row { ends = TurnsOff }
 
--- the row of each work
+-- The row of each effect.
 abbrev pub row_of_work : FunctionWork → LineRow
 row_of_work (works.OfYAndX value) = of_y_and_x (value_of_two value Y X)
 row_of_work (works.OfX value) = of_x (value_of_one value X)
@@ -91,7 +91,7 @@ row_of_work works.ClearRegisters = record lifting_row { clears_data = true }
 row_of_work works.Return = record silent_row { goes = Returns }
 row_of_work works.Nothing = lifting_row
 
--- functions of a register
+-- The row of a function with a register.
 abbrev pub register_use_row : RegisterUse → LineRow
 register_use_row registers.Recall = recall
 register_use_row registers.Store = store
@@ -105,23 +105,24 @@ register_use_row registers.RecallAlpha = record lifting_row { alpha = Some Appen
 register_use_row registers.Exchange = record lifting_row
     { takes = copy X Named ∷ copy Named X ∷ [] }
 
--- functions of a number of digits
+-- The row of a function with a number of digits.
 abbrev pub digits_use_row : DigitsUse → ℕ → LineRow
 digits_use_row (digits.Format fixed engineering) n = format n fixed engineering
 digits_use_row digits.Tone n = lifting_row
 
--- functions of a flag, and the highest that they take
+-- The row of a function with a flag.
 abbrev pub flag_use_row : FlagUse → ℕ → LineRow
 flag_use_row (flags.Change on) n = record lifting_row { flags = change n on ∷ [] }
 flag_use_row (flags.Ask on) n = test (Flag n on)
 flag_use_row (flags.AskAndClear on) n = record (test (Flag n on)) { flags = change n false ∷ [] }
 
+-- The highest flag that a function accepts.
 abbrev pub highest_of : FlagUse → ℕ
 highest_of (flags.Change on) = 29
 highest_of (flags.Ask on) = 55
 highest_of (flags.AskAndClear on) = 29
 
--- what a function with an operand does
+-- The effect of a function with an operand has the function's kind of operand and its row.
 abbrev pub IsUse : ParameterFunction → OperandUse → Type 0
 IsUse function (uses.Register taken) =
     (kind_of function ≡ RegisterKind) × (register_row function ≡ register_use_row taken)

@@ -1,4 +1,4 @@
--- What the functions that change the list promise one another.
+-- Definitions for the private functions that change the list of lines.
 use Rattle.std.specs.Prelude.{◌≡◌, ℕ, is_some, Bool, true, not, MatchBool, IsOkAnd, ◌&&◌, List, []}
 use Rattle.std.specs.Prelude.{Option, Result, Err}
 use Rattle.std.specs.List.{flat_map}
@@ -22,35 +22,35 @@ use Rattle.h41_program.specs.ProgramBytes.{final_position, program_bytes}
 use Rattle.h41_program.specs.ProgramLines.{FirstFrom, LinesFrom}
 use Rattle.h41_program.specs.Rewriting.{with_program_lines, HasOutcome}
 
--- the lines of a packer are written into memory
+-- The lines of a packer are written into memory.
 abbrev pub Writes : Packer → RegisterMap → RegisterMap → Result (Unit {0}) ProgramRefusal → Type 0
 Writes packer old new result =
     (lines : List Line) → Packs packer lines
     → HasOutcome old new result (memory_with_answer tt (with_program_lines old lines))
 
--- what a change makes of each line of the list
+-- The lines at a line of the list after a change.
 abbrev pub lines_of_change : Change → ℕ → ListedLine → List Line
 lines_of_change (Put line Before) = with_inserted line
 lines_of_change (Put line Instead) = with_replaced line
 lines_of_change Delete = without_deleted
 
--- its new line is a line
+-- The new line of a change has its parts in their ranges.
 abbrev pub IsChange : Change → Type 0
 IsChange (Put line placement) = IsLine line
 IsChange Delete = Unit {0}
 
--- the new line, where the line that is changed stands
+-- The new line, at the line that is changed.
 abbrev pub new_part : Bool → Change → List Line
 new_part here (Put line placement) = line_if here line
 new_part here Delete = []
 
--- whether a line is kept
+-- Whether a line remains.
 abbrev pub is_kept : Bool → Change → Bool
 is_kept here (Put line Before) = true
 is_kept here (Put line Instead) = not here
 is_kept here Delete = not here
 
--- so many lines stand before the one that a position stands for
+-- So many lines precede the line at a position.
 pub record Counts (memory : RegisterMap) (at count : ℕ) : Type 0 where
   pub first : ListedLine
   pub lines : List ListedLine
@@ -58,11 +58,12 @@ pub record Counts (memory : RegisterMap) (at count : ℕ) : Type 0 where
   pub from : LinesFrom memory 0 lines
   pub is : count ≡ count_before first.position lines
 
--- the line that was found, without the byte behind it
+-- The line that was found, without the position after it.
 abbrev pub listed_of : Option Found → Option ListedLine
 listed_of found = option_map (λ each. each.listed) found
 
--- a packer has the changed lines, where the list reaches .END. and has a line at the position
+-- A packer has the changed lines. It is refused if the list does not reach .END. or has no line at
+-- the position.
 abbrev pub PacksChanged : RegisterMap → (ListedLine → List Line) → ℕ → Result Packer ProgramRefusal
     → Type 0
 PacksChanged memory change position result =

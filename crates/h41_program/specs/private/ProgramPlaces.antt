@@ -1,8 +1,8 @@
--- Where a program can stand, as the functions that write memory promise it one another.
+-- The place of programs in memory, for the private functions that write it.
 use Rattle.std.specs.Prelude.{◌≡◌, ℕ, ◌<◌, ◌≤◌, ◌+◌, ◌-◌, ◌*◌}
 use Rattle.h41_ram.specs.RegisterMap.{RegisterMap, main_start, top_of, curtain_of, end_of}
 
--- where a program of so many bytes ends that fills its registers
+-- The end of programs with so many bytes, which fill registers.
 pub record IsPlace (memory : RegisterMap) (count end : ℕ) : Type 0 where
   pub size : 7 * (curtain_of memory - end) ≡ count
   pub low : main_start ≤ end
@@ -10,7 +10,7 @@ pub record IsPlace (memory : RegisterMap) (count end : ℕ) : Type 0 where
   pub inside : curtain_of memory ≤ top_of memory
   pub small : top_of memory ≤ main_start + 320
 
--- an end and a curtain to which the program of a memory moves
+-- The end and the curtain to which the programs of a memory move.
 pub record IsMove (memory : RegisterMap) (curtain end : ℕ) : Type 0 where
   pub low : main_start ≤ end
   pub high : curtain ≤ top_of memory

@@ -1,4 +1,4 @@
--- What the functions that read program memory promise one another.
+-- Definitions for the private functions that read program memory.
 use Rattle.std.specs.Prelude.{◌≡◌, ◌≤◌, ◌<◌, ℕ, ◌+◌, ◌-◌, ◌/◌, false, MatchBool, List}
 use Rattle.std.specs.Prelude.{map, min}
 use Rattle.std.specs.List.{range_with_len}
@@ -13,18 +13,18 @@ use Rattle.h41_program.specs.Lines.{is_end, is_final_end}
 use Rattle.h41_program.specs.ProgramBytes.{byte_count, program_byte}
 use Rattle.h41_program.specs.ProgramLines.{HasFirst, LinesFrom, PositionFrom}
 
--- a line ends neither a program nor memory
+-- A line ends neither a program nor memory.
 abbrev pub EndsNothing : Line → Type 0
 EndsNothing line = (false ≡ is_end line) × (false ≡ is_final_end line)
 
--- the position of the line behind a line, or the byte behind it where no line follows; that of
--- .END. is its own
+-- The position of the line after a line, or of the byte just after it if no line follows. .END. is
+-- followed by itself.
 abbrev pub FoundBehind : RegisterMap → Found → ℕ → Type 0
 FoundBehind memory first position =
     MatchBool (is_final_end first.listed.line) (position ≡ first.listed.position)
     (PositionFrom memory first.behind position)
 
--- what holds of the line that memory has first from a position on, at a place
+-- A fact about the first line of memory from a position on, which is at a place.
 abbrev pub OfPlace : RegisterMap → ℕ → LinePlace → (Line → Type 0) → Type 0
 OfPlace memory at place holds =
     (line : Line)
@@ -32,32 +32,33 @@ OfPlace memory at place holds =
     (record { listed = record { position = place.position; line = line }; behind = place.behind })
     → holds line
 
--- an answer is that of every list of lines from a position on
+-- An answer is that of every list of lines from a position on.
 abbrev pub AnswersFrom : {A : Type 0} → (List ListedLine → A) → RegisterMap → ℕ → A → Type 0
 AnswersFrom answer memory at result =
     (lines : List ListedLine) → LinesFrom memory at lines → result ≡ answer lines
 
--- the register that has the byte at a position; at the end the one below it
+-- The register that contains the byte at a position. At the end of program memory it is the one
+-- below the last.
 abbrev pub register_holding : RegisterMap → ℕ → List ℕ
 register_holding memory position = register_at memory (curtain_of memory - 1 - position / 7)
 
--- a number has the eight bytes from a position on, of which the first is its highest, or those of
--- them that program memory has
+-- A number contains the eight bytes from a position on, the first one as its highest byte, as far
+-- as program memory has them.
 abbrev pub HoldsBytes : RegisterMap → ℕ → ℕ → Type 0
 HoldsBytes memory at number =
     (k : ℕ) → k < 8 → at + k < byte_count memory
     → number_byte number (7 - k) ≡ program_byte memory (at + k)
 
--- the bytes from a position to another, or the first 18 of them
+-- The bytes from one position to another, at most the first 18 of them.
 abbrev pub bytes_seen : RegisterMap → ℕ → ℕ → List ℕ
 bytes_seen memory at limit = map (program_byte memory) (range_with_len at (min 18 (limit - at)))
 
--- the bytes from a position to another begin with a line of so many bytes that ends nothing
+-- The bytes from one position to another begin with a line of so many bytes that ends nothing.
 abbrev pub BeginsSized : RegisterMap → ℕ → ℕ → ℕ → Type 0
 BeginsSized memory at limit size =
     (line : Line) × Begins (bytes_seen memory at limit) line size × EndsNothing line
 
--- with the line of a place, which stands at that position
+-- The bytes begin with the line of a place at that position.
 abbrev pub BeginsAt : RegisterMap → ℕ → ℕ → LinePlace → Type 0
 BeginsAt memory at limit place =
     (line : Line) × (size : ℕ)
@@ -69,12 +70,13 @@ BeginsAt memory at limit place =
       ends_memory = is_final_end line;
     })
 
--- with no line
+-- The bytes begin with no line.
 abbrev pub BeginsNothing : RegisterMap → ℕ → ℕ → Type 0
 BeginsNothing memory at limit =
     (line : Line) (size : ℕ) → Begins (bytes_seen memory at limit) line size → ⊥
 
--- so many bytes stand from a position to another: a place for a line that ends nothing
+-- There are so many bytes from one position to another: this is the place of a line that ends
+-- nothing.
 pub record Fits (memory : RegisterMap) (at limit size : ℕ) (place : LinePlace) : Type 0 where
   pub inside : at + size ≤ limit
   pub bytes : (k : ℕ) → at ≤ k → k < at + size → program_byte memory k < 256

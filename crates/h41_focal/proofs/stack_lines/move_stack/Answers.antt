@@ -13,7 +13,7 @@ use Rattle.h41_focal.specs.declared.works.Movement.{Movement}
 use Rattle.h41_focal.specs.declared.works.Movement.TheVariants as moves
 use Rattle.h41_ram.specs.RegisterMap.{RegisterMap}
 
--- a line that moves the stack goes on to the next one
+-- A line that changes the stack continues at the next one.
 goes_on : (movement : Movement) → (move_row movement).goes ≡ rows.Next
 goes_on moves.Exchange = refl
 goes_on moves.RollUp = refl
@@ -24,7 +24,7 @@ goes_on moves.Pi = refl
 goes_on moves.ClearStack = refl
 goes_on moves.ClearX = refl
 
--- and answers nothing
+-- The answer of such a line is Done.
 answers_done : (memory : RegisterMap) (movement : Movement) (named : ℕ)
     → answers.Done ≡ answer_of_showing memory named (move_row movement).shows (move_row movement).ends
 answers_done memory moves.Exchange named = refl

@@ -1,4 +1,4 @@
--- The addresses in register c, and whether memory is sound by them.
+-- The addresses in register c, and what they say about whether memory is sound.
 use Rattle.std.proofs.Common.{◌≡◌, ◌≢◌, ℕ, ◌+◌, ◌/◌, ◌%◌, ◌<◌, ◌≤◌, Bool, true, List, length, get_or, get_or-set_same, get_or-set_other}
 use Rattle.std.proofs.Common.{length-set, refl, ◌∙◌, ap, arith, inl, inr}
 use Rattle.std.specs.Prelude.{◌&&◌, ◌==◌, nat_le, nat_lt, slice_set}
@@ -15,7 +15,7 @@ apart i j below = λ equal. absurd (omega (arith, equal))
 over : (i j : ℕ) → j < i → i ≢ j
 over i j below = λ equal. absurd (omega (arith, equal))
 
--- three digits that were written are read again
+-- Three digits that were written are read again.
 module _ (register : List ℕ) (place number : ℕ) where
   abbrev first_set : List ℕ
   first_set = slice_set register place (number % 16)
@@ -79,7 +79,7 @@ module _ (register : List ℕ) (place number : ℕ) where
       (apart (other + 2) (place + 1) (omega arith)) (apart (other + 2) (place + 2) (omega arith)) in
       omega (arith, low, middle, high)
 
--- where the constant stands, register c is there, and long enough for the curtain
+-- If the constant is in register c, the register is long enough for the curtain.
 no_digits : (register : List ℕ) → length register ≤ 6 → three_digits register 6 ≡ 0
 no_digits register short =
     omega (
@@ -107,7 +107,7 @@ c_there memory sound = elim (cases_lt 13 (length memory.status)) [
       absurd (omega (arith, constant memory sound, digits))
 ]
 
--- memory is sound by its addresses and its end
+-- Memory with these addresses and this end is sound.
 all_hold : (a b c d e : Bool) → a ≡ true → b ≡ true → c ≡ true → d ≡ true → e ≡ true → (a && (b && c && d) && e) ≡ true
 all_hold a b c d e one two three four five = rw (one, two, three, four, five) refl
 

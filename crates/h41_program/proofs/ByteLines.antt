@@ -1,4 +1,4 @@
--- A line of one byte or two that stands where a line is looked for is the first, and no END.
+-- A line of one or two bytes at a position is the first line from there on, and no END.
 use Rattle.std.proofs.Common.{◌≡◌, ◌≢◌, ℕ, ◌+◌, ◌-◌, ◌<◌, List, [], ◌∷◌, map, min, length, true, false, Ok}
 use Rattle.std.proofs.Common.{Result, inl, inr, refl, sym, subst, ap, ◌∙◌, arith}
 use Rattle.std.specs.List.{range_with_len}
@@ -16,7 +16,7 @@ use Rattle.h41_program.proofs.Memory.{Looked, looked_first}
 use Rattle.h41_program.proofs.ShortLines.{BeginsNoNumber, begins_by, no_number, seen_alone, seen_narrow, whole_narrow}
 use Rattle.h41_ram.specs.RegisterMap.{RegisterMap, is_sound}
 
--- lines of one byte end nothing
+-- Lines of one byte end neither a program nor memory.
 pub ends_no_program : (byte : ℕ) (line : Line) → byte ∷ [] ≡ spelling line → false ≡ is_end line
 ends_no_program byte (End link marks) same = absurd (omega (arith, ap length same))
 ends_no_program byte line same = refl
@@ -48,13 +48,13 @@ module _ (one : OneLine) (numbers : NumberBegins) (memory : RegisterMap) (sound 
       looked_first one memory sound at at last last (bytes_seen memory at last) looked answer
       (seen_alone one numbers memory at last byte line 1 before is (no_number byte alone) begins) line 1 (at + 1) refl refl
 
--- the bytes of two positions
+-- The bytes at two positions.
 seen_pair : (memory : RegisterMap) (at : ℕ) → bytes_seen memory at (at + 2) ≡ program_byte memory at ∷ program_byte memory (at + 1) ∷ []
 seen_pair memory at =
     let two : at + 2 - at ≡ 2 = omega arith in
     ap (λ n. map (program_byte memory) (range_with_len at (min 18 n))) two
 
--- a byte that begins a line of two is no null, and no number
+-- A byte that begins a line of two bytes begins no null and no number.
 two_not_null : (byte : ℕ) → IsTwoBytes byte → byte ≢ 0
 two_not_null byte (inl low) = λ null. omega (arith, low.0, null)
 two_not_null byte (inr (inl high)) = λ null. omega (arith, high.0, null)

@@ -1,4 +1,4 @@
--- What closing the last program leaves is read.
+-- Memory after its last program is closed is read again.
 use Rattle.std.proofs.Common.{◌≡◌, Bool, true, false, List, [], ◌∷◌, ◌++◌, refl, sym, ◌∙◌, ap, subst, inl, inr, All, Option, Some, None}
 use Rattle.std.proofs.Common.{Result, Ok, Err}
 use Rattle.std.specs.Prelude.{OnOk, not, if◌then◌else◌}
@@ -32,7 +32,7 @@ same_first line other lines others same = cc
 same_rest : (line other : Line) (lines others : List Line) → ◌≡◌ {A = List Line} (line ∷ lines) (other ∷ others) → lines ≡ others
 same_rest line other lines others same = cc
 
--- a list that ends with .END. has the other lines before it
+-- In a list that ends in .END., the other lines precede it.
 ends_with : (lines : List Line) (listed : List ListedLine) → All IsInner lines → lines_of listed ≡ lines ++ FinalEnd 0 0 ∷ []
     → (after : List ListedLine) × (before_end listed ≡ Some after) × (lines_of after ≡ lines)
 ends_with [] [] inner same = absurd (no_lines (FinalEnd 0 0) [] same)
@@ -50,7 +50,7 @@ ends_with (line ∷ lines) (first ∷ rest) inner same =
       ap (λ (l : List Line). first.line ∷ l) more.2 ∙ ap (λ (l : Line). l ∷ lines) here,
     )
 
--- closed lines are not open
+-- Closed lines are not open.
 closed_shut_by : (b : Bool) (lines : List Line) → is_open lines ≡ b → is_open (if b then lines ++ End 0 0 ∷ [] else lines) ≡ false
 closed_shut_by true lines is = ap (λ (o : Option Line). option_map_or (λ line. not (is_end line)) o false) (last_line-more lines (End 0 0))
 closed_shut_by false lines is = is
@@ -111,7 +111,7 @@ leaves_behind again old left lines None sound from own has = absurd (refused_is_
 leaves_behind again old left lines (Some before) sound from own has =
     leaves_lines again old left lines before sound from own (is_open (lines_of before)) refl has
 
--- memory that is not sound is not closed
+-- In memory that is not sound the last program is never closed.
 pub close_read : ByteRoundTrip → CloseIsRead
 close_read again old left closes = elim (cases_Bool (is_sound old)) [
   | inl sound ↦ leaves_behind again old left closes.0 (before_end closes.0) sound closes.1 refl closes.2

@@ -1,4 +1,4 @@
--- The last program closed.
+-- Closing the last program.
 use Rattle.std.proofs.Common.{◌≡◌, Bool, true, false, List, refl, sym, ◌∙◌, ap, subst, Option, Some, None, Result, Ok, Err}
 use Rattle.std.specs.Prelude.{MatchOption, IsOkAnd, not, if◌then◌else◌}
 use Rattle.std.specs.Option.{option_map_or}
@@ -16,12 +16,12 @@ use Rattle.h41_program.specs.Rewriting.{with_program_lines, HasOutcome}
 use Rattle.h41_program.proofs.Outcomes.{written_outcome}
 use Rattle.h41_program.proofs.Cases.{not_both, same_error}
 
--- whether lines want an END
+-- Whether lines need an END.
 pub open_test : (packer : Packer) (lines : List Line) (answer : Bool) → Packs packer lines
     → answer ≡ option_map_or (λ line. not (is_end line)) packer.last false → answer ≡ is_open lines
 open_test packer lines answer packs is = is ∙ ap (λ (o : Option Line). option_map_or (λ line. not (is_end line)) o false) packs.last
 
--- whether the last program is open, by its packed lines
+-- Whether the last program is open, by its packed lines.
 pub open_ok : (before : Option (List ListedLine)) (first : Result Packer ProgramRefusal) (packer : Packer) (answer : Bool)
     → MatchOption before (first ≡ Err BrokenProgram) (λ listed. IsOkAnd first (λ held. Packs held (lines_of listed))) → first ≡ Ok packer
     → answer ≡ option_map_or (λ line. not (is_end line)) packer.last false → Ok answer ≡ open_before before
@@ -65,7 +65,7 @@ close_err old None first refusal matches err =
 close_err old (Some listed) first refusal matches err =
     absurd (subst (λ (r : Result Packer ProgramRefusal). IsOkAnd r (λ held. Packs held (lines_of listed))) err matches)
 
--- what is left is sound
+-- The memory after closing is sound.
 outcome_sound : (b : Bool) (old left : RegisterMap) (result : Result (Unit {0}) ProgramRefusal) (lines : List Line) → is_sound old ≡ true
     → HasOutcome old left result (if b then memory_with_answer tt (with_program_lines old lines) else Ok (old, tt)) → is_sound left ≡ true
 outcome_sound true old left result lines sound has = written_outcome old left result tt lines sound has

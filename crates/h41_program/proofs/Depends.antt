@@ -1,4 +1,4 @@
--- Memories that agree on their programs.
+-- Memories with the same program.
 use Rattle.std.proofs.Common.{◌≡◌, ℕ, ◌-◌, ◌/◌, ◌%◌, ◌<◌, Bool, true, false, List, refl, sym, ◌∙◌, ap, subst, arith, Ok, Err}
 use Rattle.std.specs.Prelude.{◌⊎◌, MatchBool}
 use Rattle.std.proofs.lemmas.List.{ext_get_or}
@@ -69,7 +69,7 @@ module _ (memory other : RegisterMap) (agree : SameProgram memory other) where
       ∙ sym
       (get_or-map-range_with_len (program_byte other) 0 (byte_count other) p p 0 (omega (arith, own, inside, same_count)) (omega arith)))
 
-  -- what holds of the bytes of one holds of those of the other
+  -- What is true of the bytes of one is true of those of the other.
   carried : (P : List ℕ → ℕ → Type 0) → P (program_bytes memory) (final_position memory) → P (program_bytes other) (final_position other)
   carried P holds =
       subst (λ (n : ℕ). P (program_bytes other) n) same_final (subst (λ (bytes : List ℕ). P bytes (final_position memory)) same_bytes holds)
@@ -100,7 +100,7 @@ pub line : LineDepends
 line memory other at (Ok first) agree answers = carried memory other agree (λ bytes final. FirstFrom bytes final at first) answers
 line memory other at (Err refusal) agree answers = (answers.0, nones memory other at agree answers.1)
 
--- the position behind a line, by bytes
+-- The position after a line, by bytes.
 abbrev BehindIn : List ℕ → ℕ → ListedLine → ℕ → Type 0
 BehindIn bytes final first position =
     MatchBool (ends_list first.line) (position ≡ first.position)

@@ -1,4 +1,4 @@
--- There is never a second first line, list of lines, outcome or answer.
+-- The first line, the list of lines, outcomes and answers are determined.
 use Rattle.std.proofs.Common.{◌≡◌, ℕ, ◌<◌, Bool, List, [], ◌∷◌, length, get_or, refl, sym, ◌∙◌, ap, subst, arith, inl, inr, Option, Some}
 use Rattle.std.proofs.Common.{None, Result}
 use Rattle.std.specs.Prelude.{MatchBool}
@@ -18,7 +18,7 @@ use Rattle.h41_program.specs.ProgramLines.{line_bytes, FirstFrom, ReadsTo, behin
 use Rattle.h41_program.proofs.FirstLines.{first_inside, first_byte, only_null}
 use Rattle.h41_program.proofs.Windows.{begins_least}
 
--- no first line stands where another one passes over nulls
+-- A first line is never among the nulls that precede another one.
 not_before : OneLine → (bytes : List ℕ) (final at : ℕ) (first other : ListedLine) → FirstFrom bytes final at first
     → FirstFrom bytes final at other → first.position < other.position → ⊥
 not_before one bytes final at first other is is_other before =

@@ -1,4 +1,4 @@
--- What a change that was made answers.
+-- The answer of a change that was made.
 use Rattle.std.proofs.Common.{◌≡◌, ℕ, zero, suc, Bool, true, false, List, [], ◌∷◌, ◌++◌, refl, sym, ◌∙◌, ap, subst, inl, inr, Option, Some}
 use Rattle.std.proofs.Common.{None, Result, Ok, Err}
 use Rattle.std.specs.Prelude.{◌&&◌, is_some, slice_get}
@@ -33,7 +33,7 @@ use Rattle.h41_program.proofs.NewLines.{replaced_keeps}
 use Rattle.h41_program.proofs.Outcomes.{edit_read}
 use Rattle.h41_program.proofs.Sound.{and_second}
 
--- a change that was made had a line to be changed
+-- A change that was made had a line to be changed.
 was_made : (b : Bool) (old new : RegisterMap) (lines : List Line) → HasOutcome old new (Ok tt) (changed_outcome b old lines) → b ≡ true
 was_made true old new lines has = refl
 was_made false old new lines has = absurd (refused has.0)
@@ -69,7 +69,7 @@ edit_had old new change at edits = elim edits.1 [
       absurd (true≢false (sym (was_made false old new [] outcome)))
 ]
 
--- lines of a longer list, and of one with positions
+-- Lines of a longer list, and of one with positions.
 get_front : (xs ys : List Line) (k : ℕ) (x : Line) → slice_get xs k ≡ Some x → slice_get (xs ++ ys) k ≡ Some x
 get_front [] ys k x is = cc
 get_front (first ∷ xs) ys zero x is = is
@@ -85,7 +85,7 @@ of_line : (listed : List ListedLine) (count : ℕ) (line : Line) (o : Option Lis
 of_line listed count line None is same = absurd (none-some line same)
 of_line listed count line (Some there) is same = record { there = there; got = is; same = same_Some there.line line same }
 
--- a change that puts a line at a place and keeps the others
+-- A change that writes a line at a place and leaves the others unchanged.
 pub record PutsAt (line : Line) (change : ℕ → ListedLine → List Line) : Type 0 where
   pub begins : (place : ℕ) → Begins place line (change place)
   pub keeps : (place : ℕ) → Keeps place (change place)
@@ -103,7 +103,7 @@ put_there line Instead inner = record {
   inner = λ place. replaced_inner line place inner;
 }
 
--- such a change leaves the line where as many lines are before it
+-- After such a change as many lines precede the new line.
 pub record LeavesNew (old : RegisterMap) (change : ℕ → ListedLine → List Line)
     (at : ℕ) (new : RegisterMap) (count : ℕ) (line : Line) : Type 0 where
   pub leaves : LeavesChanged old change at new
@@ -141,7 +141,7 @@ module _ (again : ByteRoundTrip) (one : OneLine) (old new : RegisterMap)
             (sym (slice_get-map (λ (each : ListedLine). each.line) leaves.listed count) ∙ all);
       }
 
-  -- it stands at its own position
+  -- The line begins at its own position.
   pub stands_there : is_sound new ≡ true → (left : LeavesNew old change at new count line) (found : ListedLine)
       → Some found ≡ slice_get left.leaves.listed count → Stands new line found.position
   stands_there sound left found is =
@@ -151,12 +151,12 @@ module _ (again : ByteRoundTrip) (one : OneLine) (old new : RegisterMap)
       subst (λ (l : ListedLine). Stands new line l.position) (sym (same_Some found there (is ∙ left.has.got)))
       (subst (λ (l : Line). Stands new l there.position) left.has.same first)
 
--- a line that was found
+-- A line that was found.
 pub some_found : (o : Option Found) (listed : ListedLine) → listed_of o ≡ Some listed → is_some o ≡ true
 some_found None listed is = absurd (none-some listed is)
 some_found (Some found) listed is = refl
 
--- the answers
+-- The answers.
 module _ (old new : RegisterMap) (at count : ℕ) (counts : Counts old at count)
     (listed : List ListedLine) (read : LinesFrom new 0 listed) where
   answers_changed : {A : Type 0} (answer : ℕ → List ListedLine → A) (result : A) → result ≡ answer count listed

@@ -1,4 +1,4 @@
--- Lines counted before a change, and found behind it.
+-- Lines that are counted before a change, and found after it.
 use Rattle.std.proofs.Common.{◌≡◌, ℕ, zero, suc, ◌+◌, ◌-◌, ◌<◌, ◌≤◌, List, [], ◌∷◌, ◌++◌, length, refl, sym, ◌∙◌, ap, subst, arith, inl}
 use Rattle.std.proofs.Common.{inr, Option, Some}
 use Rattle.std.specs.Prelude.{cond, nat_lt, slice_get}
@@ -21,7 +21,7 @@ zero_add n = omega arith
 add_zero : (n : ℕ) → n + 0 ≡ n
 add_zero n = omega arith
 
--- whether a line counts
+-- Whether a line counts.
 abbrev counts : ℕ → ListedLine → ℕ
 counts place listed = cond (nat_lt listed.position place) 1 0
 
@@ -42,7 +42,7 @@ pub count_more : (place : ℕ) (before : List ListedLine) (listed : ListedLine) 
 count_more place before listed below =
     sum_by_push (counts place) before listed ∙ ap (λ (n : ℕ). count_before place before + n) (counts_one place listed below)
 
--- no line counts from a position on that is not before the place
+-- No line from a position on counts if the position is not before the place.
 pub none_before : (bytes : List ℕ) (final place at : ℕ) (lines : List ListedLine)
     → ((first : ListedLine) → FirstFrom bytes final at first → place ≤ first.position) → Reads bytes final at lines
     → count_before place lines ≡ 0
@@ -58,7 +58,7 @@ none_before bytes final place at (first ∷ rest) above reads =
     sum_by-cons (counts place) first rest ∙ ap (λ (n : ℕ). n + count_before place rest) (counts_none place first here)
     ∙ zero_add (count_before place rest) ∙ rests
 
--- a walk stops at the first line that does not count
+-- A walk stops at the first line that does not count.
 pub count_stops : (bytes : List ℕ) (final place at next : ℕ) (before rest lines : List ListedLine) (listed : ListedLine)
     → IsFirst bytes final at listed next → place ≤ listed.position → lines ≡ before ++ rest → Reads bytes final at rest
     → count_before place before ≡ count_before place lines
@@ -69,7 +69,7 @@ count_stops bytes final place at next before rest lines listed is above whole re
     sym (ap (count_before place) whole ∙ sum_by-append (counts place) before rest ∙ ap (λ (n : ℕ). count_before place before + n) none
     ∙ add_zero (count_before place before))
 
--- the last of so many lines, where there are some
+-- The last of so many lines, if there are any.
 pub in_front : (count : ℕ) (lines : List ListedLine) (last : Option ListedLine) → (count ≡ 0 → ⊥) → last ≡ slice_get lines (count - 1)
     → option_map_or front_behind last (Start 0) ≡ position_in_front count lines
 in_front zero lines last some is = absurd (some refl)
@@ -77,7 +77,7 @@ in_front (suc n) lines last some is =
     let less : suc n - 1 ≡ n = omega arith in
     ap (λ (o : Option ListedLine). option_map_or front_behind o (Start 0)) (is ∙ ap (slice_get lines) less)
 
--- the line behind others
+-- The line after others.
 pub get_behind : (before : List ListedLine) (listed : ListedLine) (rest : List ListedLine)
     → slice_get (before ++ listed ∷ rest) (length before) ≡ Some listed
 get_behind [] listed rest = refl

@@ -1,4 +1,4 @@
--- The list changed line after line.
+-- Changing the list line by line.
 use Rattle.std.proofs.Common.{◌≡◌, ℕ, Bool, true, false, List, [], ◌∷◌, ◌++◌, refl, sym, ◌∙◌, ap, subst, inl, inr, append-nil, append_assoc}
 use Rattle.std.proofs.Common.{Result, Ok, Err}
 use Rattle.std.specs.Prelude.{◌&&◌, ◌||◌, ◌==◌, is_some, IsOkAnd, MatchBool, if◌then◌else◌}
@@ -40,14 +40,14 @@ pub changed-more : (change : ListedLine → List Line) (before : List ListedLine
 changed-more change before listed =
     flat_map-append change before (listed ∷ []) ∙ ap (λ (l : List Line). flat_map change before ++ l) (append-nil (change listed))
 
--- a line that is kept, and .END.
+-- A line that remains, and .END.
 own_line-other : (listed : ListedLine) → is_final_end listed.line ≡ false → own_line listed ≡ listed.line ∷ []
 own_line-other listed other = rw other refl
 
 own_line-final : (listed : ListedLine) → is_final_end listed.line ≡ true → own_line listed ≡ []
 own_line-final listed final = rw final refl
 
--- what a change makes of a line, where it is the one to be changed or not
+-- The lines after a change at a line, which is the one to be changed or not.
 abbrev made : Change → Bool → ListedLine → List Line
 made (Put line Before) here listed = (if here then line ∷ [] else []) ++ own_line listed
 made (Put line Instead) here listed = if here then line ∷ [] else own_line listed
@@ -77,7 +77,7 @@ made_final (Put line Instead) false listed final = sym (own_line-final listed fi
 made_final Delete true listed final = refl
 made_final Delete false listed final = sym (own_line-final listed final)
 
--- one more line, and .END.
+-- One more line, and .END.
 pub one_packs : (packer : Packer) (change : Change) (place : ℕ) (before : List ListedLine) (listed : ListedLine) (here kept : Bool)
     → here ≡ (listed.position == place) → kept ≡ is_kept here change → is_final_end listed.line ≡ false
     → Packs packer ((flat_map (lines_of_change change place) before ++ new_part here change) ++ line_if kept listed.line)
@@ -102,21 +102,21 @@ last_packs packer change place before listed here is final packs =
     ∙ sym (changed-more (lines_of_change change place) before listed))
     packs
 
--- the list was read so far, and each line changed
+-- The list was read so far, and each line changed.
 pub record Changed (bytes : List ℕ) (final : ℕ) (packer : Packer) (met : Bool)
     (change : ListedLine → List Line) (place at : ℕ) (before : List ListedLine) : Type 0 where
   pub read : UpTo bytes final 0 before at
   pub packs : Packs packer (flat_map change before)
   pub found : met ≡ has_line_at place before
 
--- the outcome of the test
+-- The outcome of the test.
 by_test : (b : Bool) (packer : Packer) (lines : List Line) → Packs packer lines
     → MatchBool b (IsOkAnd {E = ProgramRefusal} (if b then Ok packer else Err BrokenProgram) (λ held. Packs held lines))
     (◌≡◌ {A = Result Packer ProgramRefusal} (if b then Ok packer else Err BrokenProgram) (Err BrokenProgram))
 by_test true packer lines packs = packs
 by_test false packer lines packs = refl
 
--- .END. is met
+-- .END. is reached.
 pub changed_final : (bytes : List ℕ) (final at next : ℕ) (packer : Packer) (met : Bool)
     (change : ListedLine → List Line) (place : ℕ) (before lines : List ListedLine) (listed : ListedLine)
     → UpTo bytes final 0 before at → IsFirst bytes final at listed next → is_final_end listed.line ≡ true
@@ -129,7 +129,7 @@ changed_final bytes final at next packer met change place before lines listed up
     let end = before_end-final bytes final 0 at before listed upto last in
     rw (all, end, test, found) (by_test (has_line_at place (before ++ listed ∷ [])) packer (flat_map change (before ++ listed ∷ [])) packs)
 
--- no more line is met
+-- There is no further line.
 pub changed_none : (bytes : List ℕ) (final at : ℕ) (change : ListedLine → List Line) (place : ℕ) (before lines : List ListedLine)
     → UpTo bytes final 0 before at → NoneFrom bytes final at → Reads bytes final 0 lines
     → MatchBool (is_some (before_end lines) && has_line_at place lines)
@@ -139,7 +139,7 @@ changed_none bytes final at change place before lines upto none reads =
     let end = ap before_end (ends_none bytes final 0 at before lines upto none reads) ∙ before_end-none bytes final 0 at before upto in
     rw end refl
 
--- the changed lines are written
+-- The changed lines are written.
 pub changed_written : (old new : RegisterMap) (change : ListedLine → List Line) (place : ℕ) (lines : List ListedLine)
     (result : Result Packer ProgramRefusal) (packer : Packer) (wrote : Result (Unit {0}) ProgramRefusal) (b : Bool)
     → MatchBool b (IsOkAnd result (λ held. Packs held (flat_map change lines))) (result ≡ Err BrokenProgram) → result ≡ Ok packer
@@ -163,7 +163,7 @@ changed_refused old change lines result refusal false matches err = (same_refusa
         → ◌≡◌ {A = Result (Unit {0}) ProgramRefusal} (Err refusal) (Err BrokenProgram)
     same_refusal result refusal one other = let e : refusal ≡ BrokenProgram = cc in ap (λ (r : ProgramRefusal). Err r) e
 
--- the list is changed, or not
+-- The list is changed, or not.
 module _ (old : RegisterMap) (change : ℕ → ListedLine → List Line) (at : ℕ) where
   pub edit_none : (result : Result ℕ ProgramRefusal) (refusal : ProgramRefusal) → AnswersFirst old at (Err refusal) → result ≡ Err refusal
       → Edits old old change at (without_answer result)

@@ -18,12 +18,12 @@ use Rattle.h41_program.proofs.FirstLines.{line_bytes-at, line_bytes-below, first
 use Rattle.h41_program.proofs.Windows.{begins_count, begins_least}
 use Rattle.h41_program.proofs.Walks.{from_reads}
 
--- whether a line is the null
+-- A line is the null or not.
 null_or : (line : Line) → (line ≡ Null) ⊎ (line ≡ Null → ⊥)
 null_or Null = inl refl
 null_or line = inr (λ same. cc)
 
--- no bytes are left behind the last
+-- There are no bytes after the last.
 no_more : (bytes : List ℕ) (final position : ℕ) → position ≤ final → length bytes ≤ position → length (line_bytes bytes final position) ≡ 0
 no_more bytes final position inside above = elim (cases_lt position final) [
   | inl before ↦
@@ -36,7 +36,7 @@ no_more bytes final position inside above = elim (cases_lt position final) [
       omega (arith, above, same, length-drop final bytes) in all
 ]
 
--- where a line begins further on there is a byte to take
+-- If a line begins further on, there is a byte to read.
 byte_to_take : (bytes : List ℕ) (final at from : ℕ) (first : ListedLine) → FirstFrom bytes final from first → at < first.position
     → 1 ≤ length (line_bytes bytes final at)
 byte_to_take bytes final at from first is before =
@@ -51,7 +51,7 @@ byte_to_take bytes final at from first is before =
     (omega (arith, inside, before, there, length-take (final - at) (drop at bytes), length-drop at bytes))
 
 module _ (one : OneLine) (tells : LineOrNone) (bytes : List ℕ) (final : ℕ) where
-  -- a first line stands at a position, or further on where a null stands there
+  -- If the first line begins further on, there is a null at the position.
   at_null : (at : ℕ) (first : ListedLine) → FirstFrom bytes final at first → at < first.position → Begins (line_bytes bytes final at) Null 1
   at_null at first is before =
       let inside = first_inside bytes final at first is in
@@ -77,7 +77,7 @@ module _ (one : OneLine) (tells : LineOrNone) (bytes : List ℕ) (final : ℕ) w
     not_null = is.not_null;
   }
 
-  -- what stands at a position where a first line from there on is another
+  -- The first line begins at the position or further on.
   here_or_further : (at : ℕ) (first : ListedLine) → FirstFrom bytes final at first → (first.position ≡ at) ⊎ (at < first.position)
   here_or_further at first is = elim (cases_lt at first.position) [
     | inl before ↦ inr before
@@ -91,7 +91,7 @@ module _ (one : OneLine) (tells : LineOrNone) (bytes : List ℕ) (final : ℕ) w
       → Begins (taken at) first.line (length (spelling first.line))
   begins_here at first is here = subst (λ (n : ℕ). Begins (taken n) first.line (length (spelling first.line))) here is.begins
 
-  -- a line begins at the position
+  -- A line begins at the position.
   line_here : (at count : ℕ) (line : Line) → Begins (taken at) line count → (line ≡ Null → ⊥)
       → FirstFrom bytes final at (record { position = at; line = line })
   line_here at count line begins other = record {
@@ -101,7 +101,7 @@ module _ (one : OneLine) (tells : LineOrNone) (bytes : List ℕ) (final : ℕ) w
     not_null = other;
   }
 
-  -- a null begins at the position
+  -- A null begins at the position.
   null_here : (at count : ℕ) (line : Line) → Begins (taken at) line count → line ≡ Null → (first : ListedLine)
       → FirstFrom bytes final at first → at < first.position
   null_here at count line begins null first is = elim (here_or_further at first is) [
@@ -120,7 +120,7 @@ module _ (one : OneLine) (tells : LineOrNone) (bytes : List ℕ) (final : ℕ) w
   null_at : (at count : ℕ) (line : Line) → at ≤ final → Begins (taken at) line count → line ≡ Null → get_or bytes at 0 ≡ 0
   null_at at count line inside begins null = sym (first_byte bytes final at inside) ∙ null_byte (taken at) line count begins null
 
-  -- the first line from a position on, or none
+  -- There is a first line from a position on, or none.
   pub first_or_none : (n at : ℕ) → final < at + n → ((first : ListedLine) × FirstFrom bytes final at first) ⊎ NoneFrom bytes final at
   first_or_none zero at past = inr (λ first is.
       let inside = first_inside bytes final at first is in
@@ -143,7 +143,7 @@ module _ (one : OneLine) (tells : LineOrNone) (bytes : List ℕ) (final : ℕ) w
     ]
   ]
 
-  -- the lines from a position on
+  -- The lines from a position on.
   pub reads_some : (ends : Line → Bool) (n at : ℕ) → final < at + n → (lines : List ListedLine) × ReadsTo ends bytes final at lines
   reads_some ends zero at past = (
     [],

@@ -1,4 +1,4 @@
--- The first line from a position on: what is known once nulls were passed over.
+-- The first line from a position on, after nulls are skipped.
 use Rattle.std.proofs.Common.{◌≡◌, ◌≢◌, ℕ, ◌-◌, ◌<◌, ◌≤◌, true, false, List, [], ◌∷◌, ◌++◌, length, drop, get_or, refl, sym, ◌∙◌, ap, subst}
 use Rattle.std.proofs.Common.{arith, inl, inr}
 use Rattle.std.specs.Prelude.{nat_lt, ◌==◌, slice_range}
@@ -14,7 +14,7 @@ use Rattle.h41_program.specs.declared.listed_line.ListedLine.{ListedLine}
 use Rattle.h41_program.specs.ProgramLines.{line_bytes, FirstFrom, behind}
 use Rattle.h41_program.proofs.Windows.{begins_count, begins_least}
 
--- the three cases of the bytes that a line may take
+-- The three cases of the bytes that a line may take.
 pub line_bytes-below : (bytes : List ℕ) (final position : ℕ) → position < final
     → line_bytes bytes final position ≡ slice_range bytes position final
 line_bytes-below bytes final position below =
@@ -33,14 +33,14 @@ line_bytes-above bytes final position above =
     let same : (position == final) ≡ false = grind (arith, nat_tests) in
     rw (test, same) refl
 
--- no line begins with nothing
+-- An empty list of bytes begins with no line.
 nothing : (line : Line) (count : ℕ) → Begins [] line count → ⊥
 nothing line count begins =
     let least = begins_least [] line count begins in
     let none : count ≤ 0 = begins.inside in
     absurd (omega (arith, least, none))
 
--- a line begins at the final bytes or before them
+-- A line begins at the last three bytes or before them.
 pub first_inside : (bytes : List ℕ) (final at : ℕ) (first : ListedLine) → FirstFrom bytes final at first → first.position ≤ final
 first_inside bytes final at first is = elim (cases_lt final first.position) [
   | inl above ↦ absurd (nothing first.line (length (spelling first.line))
@@ -49,7 +49,7 @@ first_inside bytes final at first is = elim (cases_lt final first.position) [
   | inr below ↦ below
 ]
 
--- the first byte that a line may take is that of its position
+-- The first byte that a line may take is the one at its position.
 pub first_byte : (bytes : List ℕ) (final position : ℕ) → position ≤ final
     → get_or (line_bytes bytes final position) 0 0 ≡ get_or bytes position 0
 first_byte bytes final position inside = elim (cases_lt position final) [
@@ -65,14 +65,14 @@ first_byte bytes final position inside = elim (cases_lt position final) [
       ∙ ap (λ n. get_or bytes n 0) (omega arith)
 ]
 
--- before the final bytes there is a byte to take
+-- Before the last three bytes there is a byte to read.
 pub some_byte : (bytes : List ℕ) (final position : ℕ) → position < final → final ≤ length bytes
     → 1 ≤ length (line_bytes bytes final position)
 some_byte bytes final position below inside =
     rw (line_bytes-below bytes final position below)
     (omega (arith, length-take (final - position) (drop position bytes), length-drop position bytes))
 
--- a null begins with a null
+-- A byte 00 begins the null.
 pub null_begins : (bytes : List ℕ) → 1 ≤ length bytes → get_or bytes 0 0 ≡ 0 → Begins bytes Null 1
 null_begins [] some null = absurd (omega arith)
 null_begins (byte ∷ bytes) some null = record {
@@ -81,12 +81,12 @@ null_begins (byte ∷ bytes) some null = record {
   whole = tt;
 }
 
--- and with no other line
+-- A byte 00 begins no other line.
 pub only_null : OneLine → (bytes : List ℕ) (line : Line) (count : ℕ) → 1 ≤ length bytes → get_or bytes 0 0 ≡ 0 → Begins bytes line count
     → line ≡ Null
 only_null one bytes line count some null begins = (one bytes line Null count 1 begins (null_begins bytes some null)).0
 
--- nulls were passed over up to a position
+-- Nulls were skipped up to a position.
 pub record Passed (bytes : List ℕ) (final at position : ℕ) : Type 0 where
   pub from : at ≤ position
   pub to : position ≤ final
@@ -94,7 +94,7 @@ pub record Passed (bytes : List ℕ) (final at position : ℕ) : Type 0 where
   pub stop : position < final → get_or bytes position 0 ≢ 0
   pub inside : final ≤ length bytes
 
--- the first line stands there, and nowhere else
+-- The first line is at that position, and nowhere else.
 pub stands_there : OneLine → (bytes : List ℕ) (final at position : ℕ) → Passed bytes final at position → (first : ListedLine)
     → FirstFrom bytes final at first → first.position ≡ position
 stands_there one bytes final at position passed first is = elim (cases_lt first.position position) [
@@ -111,7 +111,7 @@ stands_there one bytes final at position passed first is = elim (cases_lt first.
   ]
 ]
 
--- a null's first byte is 00
+-- The first byte of the null is 00.
 pub null_byte : (bytes : List ℕ) (line : Line) (count : ℕ) → Begins bytes line count → line ≡ Null → get_or bytes 0 0 ≡ 0
 null_byte bytes line count begins null =
     ap (λ (all : List ℕ). get_or all 0 0) (sym (take-append-drop count bytes) ∙ ap (λ front. front ++ drop count bytes) begins.spells.same)

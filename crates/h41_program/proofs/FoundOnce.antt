@@ -1,4 +1,4 @@
--- What is found is determined, and is that of the list.
+-- The answers of searches are determined, and are those of the list.
 use Rattle.std.proofs.Common.{◌≡◌, ℕ, Bool, true, false, List, [], ◌∷◌, sym, ◌∙◌, ap, subst, inl, inr, Ok, Err}
 use Rattle.std.specs.Prelude.{MatchBool}
 use Rattle.std.specs.Option.{option_or}
@@ -36,7 +36,7 @@ local one memory at n found other is again =
     is.is ∙ ap (λ (l : List ListedLine). position_of (option_or (label_in n l) (label_in n is.own))) onward
     ∙ ap (λ (l : List ListedLine). position_of (option_or (label_in n again.onward) (label_in n l))) own ∙ sym again.is
 
--- the line at a position is one
+-- The line at a position is determined.
 pub one_line : OneLine → LineIsDetermined
 one_line one memory at (Ok first) (Ok other) is again =
     ap (λ (line : ListedLine). Ok line) (first_determined one (program_bytes memory) (final_position memory) at first other is again)
@@ -44,7 +44,7 @@ one_line one memory at (Ok first) (Err refusal) is none = absurd (none.1 first i
 one_line one memory at (Err refusal) (Ok other) none is = absurd (none.1 other is)
 one_line one memory at (Err refusal) (Err other) none again = ap (λ (why : ProgramRefusal). Err why) (none.0 ∙ sym again.0)
 
--- and so is the position of the next
+-- The next position is determined.
 same_from : OneLine → (memory : RegisterMap) (at position other : ℕ) → PositionFrom memory at position → PositionFrom memory at other
     → position ≡ other
 same_from one memory at position other from again = elim from [
@@ -75,7 +75,7 @@ one_next one memory at (Ok position) (Err refusal) is none = absurd (none.1 is.0
 one_next one memory at (Err refusal) (Ok other) none is = absurd (none.1 is.0 is.1)
 one_next one memory at (Err refusal) (Err other) none again = ap (λ (why : ProgramRefusal). Err why) (none.0 ∙ sym again.0)
 
--- the line at a position
+-- The line at a position is the first of the list.
 module _ (one : OneLine) (memory : RegisterMap) (at : ℕ) where
   abbrev bytes : List ℕ
   bytes = program_bytes memory
@@ -88,7 +88,7 @@ module _ (one : OneLine) (memory : RegisterMap) (at : ℕ) where
   ok_line first [] is reads = absurd (reads first is)
   ok_line first (other ∷ rest) is reads = ap (λ (l : ListedLine). Ok l) (first_determined one bytes final at first other is reads.0)
 
-  -- and the position behind it
+  -- The next position is that of the second line of the list.
   behind_final : (first : ListedLine) (rest : List ListedLine) (position : ℕ) → is_final_end first.line ≡ true → rest ≡ []
       → position ≡ first.position → Ok position ≡ next_of (first ∷ rest)
   behind_final first rest position last none same = rw (none, last) (ap (λ (n : ℕ). Ok n) same)

@@ -1,4 +1,4 @@
--- The lines of bytes that are given.
+-- The lines of given bytes.
 use Rattle.std.proofs.Common.{◌≡◌, ◌≢◌, ℕ, ◌+◌, ◌-◌, ◌<◌, ◌≤◌, List, length, drop, get_or, sym, ◌∙◌, ap, subst, arith, inl, inr, Result, Ok}
 use Rattle.std.proofs.Common.{Err}
 use Rattle.std.proofs.lemmas.List.{take_all, length-drop}
@@ -13,7 +13,7 @@ use Rattle.h41_program.proofs.FirstLines.{line_bytes-below, line_bytes-at, Passe
 use Rattle.h41_program.proofs.Memory.{ok_line, no_error}
 use Rattle.h41_program.proofs.Windows.{begins_count, begins_least}
 
--- all bytes from a position on can be taken
+-- A line may take all bytes from its position on.
 pub line_bytes-all : (bytes : List ℕ) (position : ℕ) → position ≤ length bytes
     → line_bytes bytes (length bytes) position ≡ drop position bytes
 line_bytes-all bytes position inside = elim (cases_lt position (length bytes)) [

@@ -1,4 +1,4 @@
--- Lines that programs can have.
+-- Inner lines, which programs can contain.
 use Rattle.std.proofs.Common.{◌≢◌, ◌≡◌, ℕ, Bool, true, false, List, [], ◌∷◌, ◌++◌, refl, sym, ◌∙◌, ap, subst, arith, inl, inr, All, Option}
 use Rattle.std.proofs.Common.{Some, None}
 use Rattle.std.specs.Prelude.{◌||◌, if◌then◌else◌}
@@ -20,7 +20,7 @@ use Rattle.h41_program.proofs.Walks.{more_rest, last_rest}
 use Rattle.h41_program.proofs.Cases.{not_empty}
 use Rattle.std.proofs.lemmas.Option.{none-some, same_Some}
 
--- a line by its kind
+-- A line by its kind.
 inner_kind : (line : Line) → line ≢ Null → is_final_end line ≡ false → is_inner line ≡ true
 inner_kind Null some other = absurd (some refl)
 inner_kind (FinalEnd link marks) some other = absurd (true≢false other)
@@ -33,12 +33,12 @@ pub not_final : (line : Line) → is_inner line ≡ true → is_final_end line �
 not_final (FinalEnd link marks) is = sym is
 not_final line is = refl
 
--- a line that is read is inner where it is not .END.
+-- A line that is read is inner if it is not .END.
 pub read_inner : (bytes : List ℕ) (final at : ℕ) (first : ListedLine) → FirstFrom bytes final at first → is_final_end first.line ≡ false
     → IsInner first.line
 read_inner bytes final at first is other = record { valid = is.begins.spells.valid; inner = inner_kind first.line is.not_null other }
 
--- the lines before .END.
+-- The lines before .END. are inner.
 module _ (bytes : List ℕ) (final : ℕ) where
   pub before_inner : (at : ℕ) (lines before : List ListedLine) → Reads bytes final at lines → before_end lines ≡ Some before
       → All IsInner (lines_of before)
@@ -63,7 +63,7 @@ module _ (bytes : List ℕ) (final : ℕ) where
           subst (λ (l : List ListedLine). All IsInner (lines_of l)) (same_Some (first ∷ found) before own)
           (All-cons IsInner first.line (lines_of found) inner (each found refl))
 
-  -- lines that are loaded
+  -- The lines that are loaded are inner.
   pub loaded_inner : (at : ℕ) (given : List ListedLine) → Reads bytes final at given → All IsInner (without_end (lines_of given))
   loaded_inner at [] reads = All-nil IsInner
   loaded_inner at (first ∷ []) reads = chosen (is_end first.line) first.line (λ other. read_inner bytes final at first reads.0 other)
@@ -84,7 +84,7 @@ module _ (bytes : List ℕ) (final : ℕ) where
         (more_rest bytes final (behind first) (is_final_end first.line) (second ∷ rest) other reads.1))
   ]
 
--- an END is inner
+-- An END is inner.
 end_inner : IsInner (End 0 0)
 end_inner = record { valid = (omega arith, omega arith); inner = refl }
 
@@ -95,11 +95,11 @@ closed_inner lines inner = chosen (is_open lines)
     chosen true = All-append IsInner lines (End 0 0 ∷ []) inner (All-cons IsInner (End 0 0) [] end_inner (All-nil IsInner))
     chosen false = inner
 
--- lines by their test
+-- A line that passes the test is inner.
 pub inner_line : (line : Line) → is_inner line ≡ true → IsLine line → IsInner line
 inner_line line is valid = record { valid = valid; inner = is }
 
--- a change of a list makes inner lines of its lines
+-- A change of a list makes only inner lines of its lines.
 abbrev pub KeepsInner : (ListedLine → List Line) → Type 0
 KeepsInner change = (listed : ListedLine) → IsLine listed.line → listed.line ≢ Null → All IsInner (change listed)
 

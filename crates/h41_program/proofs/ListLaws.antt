@@ -1,4 +1,4 @@
--- Lists of lines from the positions of their own lines.
+-- Lists of lines from the positions of their own lines on.
 use Rattle.std.proofs.Common.{◌≡◌, ℕ, Bool, List, [], ◌∷◌, subst, arith, inl, inr}
 use Rattle.std.specs.Prelude.{MatchBool}
 use Rattle.std.proofs.lemmas.Bool.{cases_Bool}
@@ -9,7 +9,7 @@ use Rattle.h41_program.specs.ProgramLaws.{GoesOnFromNext, StandsForItsLine}
 use Rattle.h41_program.specs.ProgramLines.{FirstFrom, Reads, behind}
 use Rattle.h41_program.proofs.Cases.{not_empty}
 
--- a first line is the first from its own position on
+-- A first line is the first from its own position on.
 own_first : (bytes : List ℕ) (final at : ℕ) (first : ListedLine) → FirstFrom bytes final at first
     → FirstFrom bytes final first.position first
 own_first bytes final at first is = record {

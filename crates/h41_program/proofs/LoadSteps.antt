@@ -1,4 +1,4 @@
--- The steps of a load, one after the other.
+-- The steps of a load, one after another.
 use Rattle.std.proofs.Common.{◌≡◌, ℕ, ◌+◌, ◌<◌, ◌≤◌, inl, inr, List, ◌++◌, length, refl, sym, ◌∙◌, ap, subst, arith, Option, Some, None}
 use Rattle.std.proofs.Common.{Result, Ok, Err}
 use Rattle.std.specs.Prelude.{MatchOption, IsOkAnd}
@@ -18,7 +18,7 @@ use Rattle.h41_program.proofs.Packings.{packed-less, length-packing, no_room}
 use Rattle.h41_program.proofs.Rooms.{written-none}
 use Rattle.h41_program.proofs.Cases.{not_both, same_error}
 
--- an answer in the place of another
+-- An answer that replaces another.
 gives_ok : {A : Type 0} (old new : RegisterMap) (result : Result (Unit {0}) ProgramRefusal)
     (answer : A) (outcome : Result RegisterMap ProgramRefusal)
     → result ≡ Ok tt → HasOutcome old new result (memory_with_answer tt outcome)
@@ -34,7 +34,7 @@ gives_err old new result refusal given answer (Ok memory) err same gives = absur
 gives_err old new result refusal given answer (Err other) err same gives =
     (same ∙ ap (λ (e : ProgramRefusal). Err e) (same_error result refusal other err gives.0), gives.1)
 
--- lines of which the first ones are too many are refused
+-- Lines are refused if the first of them are too many already.
 too_many : (memory : RegisterMap) (lines more : List Line) → curtain_of memory ≤ main_start + 320 → 2237 < length (packed_lines lines)
     → with_program_lines memory (lines ++ more) ≡ Err NoRoom
 too_many memory lines more small many =
@@ -44,7 +44,7 @@ too_many memory lines more small many =
     (omega (arith, many, less)) (sym (length-packing (lines ++ more))) in
     written-none memory (lines ++ more) (omega (arith, small, above))
 
--- where the lines begin that were loaded
+-- The start of the lines that were loaded.
 begins_there : (memory : RegisterMap) (packer : Packer) (lines more : List Line) (after : RegisterMap) (start : ℕ)
     → curtain_of memory ≤ main_start + 320 → Packs packer lines → start ≡ length packer.bytes.items
     → with_program_lines memory (lines ++ more) ≡ Ok after → start ≡ length (packed_lines lines)
@@ -54,7 +54,7 @@ begins_there memory packer lines more after start small packs is done = elim (ca
   | inr room ↦ is ∙ ap length (packs.held room)
 ]
 
--- lines that are written
+-- Lines that are written.
 was_written : (old new : RegisterMap) (result : Result (Unit {0}) ProgramRefusal) (outcome : Result RegisterMap ProgramRefusal)
     → result ≡ Ok tt → HasOutcome old new result (memory_with_answer tt outcome) → (after : RegisterMap) × (outcome ≡ Ok after)
 was_written old new result (Ok memory) ok gives = (memory, refl)
@@ -68,7 +68,7 @@ gives_start : (old new : RegisterMap) (result : Result (Unit {0}) ProgramRefusal
 gives_start old new result start place (Ok memory) ok same gives = (ap (λ (n : ℕ). Ok n) (same memory refl), gives.1)
 gives_start old new result start place (Err refusal) ok same gives = absurd (not_both result tt refusal ok gives.0)
 
--- what a load gives by the lines before .END. and those of the bytes
+-- The outcome of a load, given the lines before .END. and those of the bytes.
 abbrev pub outcome_of : RegisterMap → Option (List ListedLine) → Option (List Line) → Result (RegisterMap × ℕ) ProgramRefusal
 outcome_of memory None loaded = Err BrokenProgram
 outcome_of memory (Some lines) loaded = load_outcome memory lines loaded
@@ -78,7 +78,7 @@ pub loads_behind : (memory : RegisterMap) (bytes : List ℕ) (before : Option (L
 loads_behind memory bytes None given reads = refl
 loads_behind memory bytes (Some lines) given reads = (given, reads, refl)
 
--- the list of memory does not reach .END.
+-- The list of memory does not reach .END.
 pub load_broken : (memory : RegisterMap) (bytes : List ℕ) (first : Result Packer ProgramRefusal)
     (before : Option (List ListedLine)) (refusal : ProgramRefusal) (answer : Result ℕ ProgramRefusal)
     → MatchOption before (first ≡ Err BrokenProgram) (λ listed. IsOkAnd first (λ held. Packs held (lines_of listed))) → first ≡ Err refusal
@@ -88,7 +88,7 @@ load_broken memory bytes first None refusal answer is err same =
 load_broken memory bytes first (Some listed) refusal answer is err same =
     absurd (subst (λ (r : Result Packer ProgramRefusal). IsOkAnd r (λ held. Packs held (lines_of listed))) err is)
 
--- what is known of a load when the lines of memory were packed
+-- The facts about a load after the lines of memory are packed.
 pub record Loading (before : Option (List ListedLine)) (loaded : Option (List Line)) (first : Result Packer ProgramRefusal)
     (packer closed_packer new : Packer) (put : Result (Unit {0}) ProgramRefusal) : Type 0 where
   pub program : MatchOption before (first ≡ Err BrokenProgram) (λ listed. IsOkAnd first (λ held. Packs held (lines_of listed)))
@@ -106,7 +106,7 @@ module _ (memory after : RegisterMap) (first : Result Packer ProgramRefusal)
       subst (λ (r : Result Packer ProgramRefusal). IsOkAnd r (λ held. Packs held (lines_of listed))) is.begun is.program in
       is.closes (lines_of listed) ok
 
-  -- given bytes are refused
+  -- The given bytes are refused.
   pub load_refused : (before : Option (List ListedLine)) (loaded : Option (List Line))
       (refusal : ProgramRefusal) (answer : Result ℕ ProgramRefusal)
       → Loading before loaded first packer closed_packer new put → put ≡ Err refusal → answer ≡ Err refusal
@@ -121,7 +121,7 @@ module _ (memory after : RegisterMap) (first : Result Packer ProgramRefusal)
   load_refused (Some listed) (Some lines) refusal answer is err same =
       absurd (not_both put tt refusal (is.puts (with_last_end (lines_of listed)) (packs_closed listed (Some lines) is)).0 err)
 
-  -- the lines have no room
+  -- There is no room for the lines.
   pub load_unwritten : (before : Option (List ListedLine)) (loaded : Option (List Line))
       (wrote : Result (Unit {0}) ProgramRefusal) (refusal : ProgramRefusal) (answer : Result ℕ ProgramRefusal)
       → Loading before loaded first packer closed_packer new put → put ≡ Ok tt → wrote ≡ Err refusal → answer ≡ Err refusal
@@ -135,7 +135,7 @@ module _ (memory after : RegisterMap) (first : Result Packer ProgramRefusal)
       gives_err memory after wrote refusal answer (length (packed_lines all)) (with_program_lines memory (all ++ lines)) err same
       (writes (all ++ lines) (is.puts all (packs_closed listed (Some lines) is)).1)
 
-  -- the lines were written
+  -- The lines were written.
   pub load_written : (before : Option (List ListedLine)) (loaded : Option (List Line))
       (wrote : Result (Unit {0}) ProgramRefusal) (start : ℕ)
       → Loading before loaded first packer closed_packer new put → put ≡ Ok tt → wrote ≡ Ok tt → start ≡ length closed_packer.bytes.items

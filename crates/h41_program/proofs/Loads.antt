@@ -1,4 +1,4 @@
--- Lines that are loaded, of which the last may be dropped.
+-- Lines that are loaded. The last one may be dropped.
 use Rattle.std.proofs.Common.{◌≡◌, ℕ, ◌≤◌, Bool, true, false, List, [], ◌∷◌, ◌++◌, length, drop, refl, sym, ◌∙◌, ap, subst, arith}
 use Rattle.std.proofs.Common.{append_assoc, append-nil, Option, Some, None, Result, Ok, Err}
 use Rattle.std.specs.Prelude.{◌||◌, ◌==◌, if◌then◌else◌, MatchOption, IsOkAnd}
@@ -20,7 +20,7 @@ use Rattle.h41_program.specs.ProgramLines.{behind}
 use Rattle.h41_program.proofs.Packings.{last_line-more}
 use Rattle.h41_program.proofs.Walks.{UpTo, all_final, up_to_none, up_to_more, before_end-final}
 
--- lines but for the last
+-- Lines without the last.
 abbrev pub but_last : List Line → List Line
 but_last [] = []
 but_last (line ∷ []) = []
@@ -44,14 +44,14 @@ dropped_or : (b : Bool) (line : Line) → ◌≡◌ {A = List Line} (if b || tru
 dropped_or true line = refl
 dropped_or false line = refl
 
--- the last is no .END.
+-- The last line is no .END.
 pub without_end-kept : (lines : List Line) → ((line : Line) → last_line lines ≡ Some line → is_final_end line ≡ false)
     → without_end lines ≡ but_last lines ++ kept_option (last_line lines)
 without_end-kept [] other = refl
 without_end-kept (line ∷ []) other = rw (other line refl) (kept_or (is_end line) line)
 without_end-kept (line ∷ next ∷ lines) other = ap (λ (l : List Line). line ∷ l) (without_end-kept (next ∷ lines) other)
 
--- a final .END. is dropped
+-- A final .END. is dropped.
 pub without_end-final : (lines : List Line) (line : Line) → is_final_end line ≡ true → without_end (lines ++ line ∷ []) ≡ lines
 without_end-final [] line final = rw final (dropped_or (is_end line) line)
 without_end-final (one ∷ []) line final = ap (λ (l : List Line). one ∷ l) (without_end-final [] line final)
@@ -67,7 +67,7 @@ end_of_lines-more [] listed = refl
 end_of_lines-more (one ∷ []) listed = refl
 end_of_lines-more (one ∷ next ∷ before) listed = end_of_lines-more (next ∷ before) listed
 
--- lines were taken of bytes, and all but the last were put behind others
+-- Lines were read from bytes, and all except the last were appended to others.
 pub record Loaded (bytes : List ℕ) (old new : Packer) (pending : Option Line) (at : ℕ) (before : List ListedLine) : Type 0 where
   pub read : UpTo bytes (length bytes) 0 before at
   pub end : end_of_lines before ≡ at
@@ -76,7 +76,7 @@ pub record Loaded (bytes : List ℕ) (old new : Packer) (pending : Option Line) 
   pub line : (line : Line) → pending ≡ Some line → (is_final_end line ≡ false) × IsLine line
   pub packs : (front : List Line) → Packs old front → Packs new (front ++ but_last (lines_of before))
 
--- the lines of memory are packed where .END. is met
+-- The lines of memory are packed when .END. is reached.
 pub packed_lines : (bytes : List ℕ) (final at : ℕ) (before : List ListedLine) (listed : ListedLine) (packer : Packer)
     → UpTo bytes final 0 before at → is_final_end listed.line ≡ true → Packs packer (lines_of before)
     → MatchOption (before_end (before ++ listed ∷ [])) (◌≡◌ {A = Result Packer ProgramRefusal} (Ok packer) (Err BrokenProgram))
@@ -87,7 +87,7 @@ packed_lines bytes final at before listed packer upto last packs =
     (λ each. IsOkAnd {E = ProgramRefusal} (Ok packer) (λ held. Packs held (lines_of each))))
     (sym all) packs
 
--- one more line is taken: the one that was pending is put
+-- One more line is read, and the pending one is appended.
 pub loaded_more : (bytes : List ℕ) (old mid new : Packer) (pending : Option Line) (at : ℕ) (before : List ListedLine) (taken : Taken)
     → Loaded bytes old mid pending at before → BytesHaveFirst bytes at taken → is_final_end taken.line ≡ false
     → ((front : List Line) → Packs mid front → Packs new (front ++ listed_option pending))
@@ -113,7 +113,7 @@ loaded_more bytes old mid new pending at before taken loaded is other puts =
           (subst (λ (l : List Line). Packs new l) (append_assoc front (but_last lines) (listed_option pending)) put));
     }
 
--- what the bytes to be loaded have, by a test of what is left
+-- The lines of the bytes to be loaded, by a test of the remaining bytes.
 loaded_by : (bytes : List ℕ) (at : ℕ) (given : List ListedLine) (lines : List Line) → end_of_lines given ≡ at
     → without_end (lines_of given) ≡ lines
     → loaded_of bytes given ≡ (if list_all (λ byte. byte == 0) (drop at bytes) then Some lines else None)
@@ -121,7 +121,7 @@ loaded_by bytes at given lines end same =
     ap (λ (n : ℕ). if list_all (λ byte. byte == 0) (drop n bytes) then Some (without_end (lines_of given)) else None) end
     ∙ ap (λ (l : List Line). if list_all (λ byte. byte == 0) (drop at bytes) then Some l else None) same
 
--- the outcome of such a test
+-- The outcome of such a test.
 tested : (b : Bool) (lines : List Line) (front : List Line) (new : Packer) → (b ≡ true → Packs new (front ++ lines))
     → MatchOption (if b then Some lines else None)
     (◌≡◌ {A = Result (Unit {0}) ProgramRefusal} (if b then Ok tt else Err BrokenProgram) (Err BrokenProgram))
@@ -129,7 +129,7 @@ tested : (b : Bool) (lines : List Line) (front : List Line) (new : Packer) → (
 tested true lines front new packs = (refl, packs refl)
 tested false lines front new packs = refl
 
--- .END. is met
+-- .END. is reached.
 loaded_final : (bytes : List ℕ) (old mid new : Packer) (pending : Option Line)
     (at : ℕ) (before : List ListedLine) (taken : Taken) (front : List Line)
     → Loaded bytes old mid pending at before → BytesHaveFirst bytes at taken → is_final_end taken.line ≡ true
@@ -150,7 +150,7 @@ loaded_final bytes old mid new pending at before taken front loaded is last puts
           (subst (λ (l : List Line). Packs new l) (append_assoc front (but_last lines) (listed_option pending)) put),
     )
 
--- what is put then, by whether nothing but nulls is behind it
+-- The lines that are then appended, if only nulls follow.
 pub final_puts : (bytes : List ℕ) (old mid new : Packer) (pending : Option Line)
     (at : ℕ) (before : List ListedLine) (taken : Taken)
     → Loaded bytes old mid pending at before → BytesHaveFirst bytes at taken → is_final_end taken.line ≡ true
@@ -166,7 +166,7 @@ final_puts bytes old mid new pending at before taken loaded is last puts b test 
           rw (known.0, test) (tested b (lines_of before) front new (λ _. known.1)),
     )
 
--- no more line is met
+-- There is no further line.
 pub loaded_none : (bytes : List ℕ) (old mid : Packer) (pending : Option Line) (at : ℕ) (before : List ListedLine)
     → Loaded bytes old mid pending at before
     → loaded_of bytes before
@@ -177,7 +177,7 @@ loaded_none bytes old mid pending at before loaded =
     ∙ ap (λ (o : Option Line). but_last lines ++ kept_option o) (sym loaded.last) in
     loaded_by bytes at before (but_last lines ++ kept_option pending) loaded.end same
 
--- nothing is taken yet
+-- No line is read yet.
 pub loaded_nothing : (bytes : List ℕ) (packer : Packer) → Loaded bytes packer packer None 0 []
 loaded_nothing bytes packer = record {
   read = up_to_none bytes (length bytes) 0;

@@ -17,7 +17,7 @@ use Rattle.h41_program.proofs.FirstLines.{line_bytes-below, line_bytes-at, Passe
 use Rattle.h41_program.proofs.Sound.{final_byte}
 use Rattle.h41_program.proofs.Windows.{drop-map-range, take-window, begins_count, begins_least, begins_in, begins_out}
 
--- the bytes that are looked at
+-- The bytes that are examined.
 pub window_bytes : (f : ℕ → ℕ) (n final p limit : ℕ) → n ≡ final + 3 → p ≤ final → (p < final → limit ≡ final)
     → (p ≡ final → limit ≡ final + 3)
     → take 18 (line_bytes (map f (range_with_len 0 n)) final p) ≡ map f (range_with_len p (min 18 (limit - p)))
@@ -36,11 +36,11 @@ window_bytes f n final p limit count inside below last = elim (cases_lt p final)
       ∙ take-window f p (n - p) ∙ ap (λ m. map f (range_with_len p (min 18 m))) size
 ]
 
--- the byte of a position
+-- The byte at a position.
 pub byte_there : (memory : RegisterMap) (k : ℕ) → k < byte_count memory → get_or (program_bytes memory) k 0 ≡ program_byte memory k
 byte_there memory k inside = get_or-map-range_with_len (program_byte memory) 0 (byte_count memory) k k 0 inside (omega arith)
 
--- nulls that were passed over
+-- Nulls that were skipped.
 pub passed_nulls : (memory : RegisterMap) (at p : ℕ) → final_position memory + 3 ≡ byte_count memory → at ≤ p → p ≤ final_position memory
     → ((k : ℕ) → at ≤ k → k < p → program_byte memory k ≡ 0) → (p < final_position memory → program_byte memory p ≢ 0)
     → Passed (program_bytes memory) (final_position memory) at p
@@ -52,7 +52,7 @@ passed_nulls memory at p count from to nulls stop = record {
   inside = omega (arith, count, length-map-range_with_len (program_byte memory) 0 (byte_count memory));
 }
 
--- the byte behind them is no null, since .END. ends memory
+-- The byte after them is no null, because memory ends in .END.
 pub stops_there : (memory : RegisterMap) (p : ℕ) → is_sound memory ≡ true → final_position memory + 3 ≡ byte_count memory
     → p ≤ final_position memory → (p < final_position memory → program_byte memory p ≢ 0) → get_or (program_bytes memory) p 0 ≢ 0
 stops_there memory p sound count to stop = λ null. elim (cases_lt p (final_position memory)) [
@@ -65,7 +65,7 @@ stops_there memory p sound count to stop = λ null. elim (cases_lt p (final_posi
       absurd (omega (arith, here, high))
 ]
 
--- a line takes no more bytes than there are
+-- A line has no more bytes than there are.
 line_takes : (bytes : List ℕ) (final p : ℕ) (line : Line) (size : ℕ) → p ≤ final → final ≤ length bytes
     → Begins (line_bytes bytes final p) line size → p + size ≤ length bytes
 line_takes bytes final p line size inside all begins = elim (cases_lt p final) [
@@ -80,7 +80,7 @@ line_takes bytes final p line size inside all begins = elim (cases_lt p final) [
       omega (arith, taken, length-drop final bytes)
 ]
 
--- an answer tells one line
+-- An answer contains one line.
 pub ok_line : {E : Type 0} (one other : Line) (size count : ℕ) → ◌≡◌ {A = Result (Line × ℕ) E} (Ok (one, size)) (Ok (other, count))
     → one ≡ other
 ok_line one other size count same =
@@ -90,7 +90,7 @@ ok_line one other size count same =
 pub no_error : {E : Type 0} (answer : Line × ℕ) (error : E) → ◌≡◌ {A = Result (Line × ℕ) E} (Ok answer) (Err error) → ⊥
 no_error answer error same = cc
 
--- a line that was decoded is the first one
+-- A line that was decoded is the first one.
 module _ {E : Type 0} (one : OneLine) (memory : RegisterMap)
     (sound : is_sound memory ≡ true) (count : final_position memory + 3 ≡ byte_count memory)
     (at p : ℕ) (passed : Passed (program_bytes memory) (final_position memory) at p) (other : get_or (program_bytes memory) p 0 ≢ 0)
@@ -138,7 +138,7 @@ module _ {E : Type 0} (one : OneLine) (memory : RegisterMap)
   pub none_first : (error : E) → result ≡ Err error → HasNoLine memory at
   none_first error is first is_first = no_error (first.line, length (spelling first.line)) error (sym (decoded_other first is_first) ∙ is)
 
--- what is known where a line was looked for: where the final bytes begin, where the nulls before it end, and the bytes that were looked at
+-- The facts about a search for a line: the position of the last three bytes, the end of the nulls, and the bytes that are examined.
 pub record Looked (memory : RegisterMap) (at p last limit : ℕ) (window : List ℕ) : Type 0 where
   pub last_is : last ≡ final_position memory
   pub count : last + 3 ≡ byte_count memory

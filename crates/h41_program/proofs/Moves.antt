@@ -1,4 +1,4 @@
--- The numbers by which memory gets another size: they fit, and the program has a place to move to, or none.
+-- The numbers with which the size of memory changes: they fit, and there is a place to which the programs can move, or none.
 use Rattle.std.proofs.Common.{◌≡◌, ℕ, ◌+◌, ◌-◌, ◌<◌, ◌≤◌, true, length, refl, sym, ◌∙◌, ap, arith, Fits, w16, Err}
 use Rattle.h41_ram.specs.RegisterMap.{RegisterMap, IsMemory, main_start, top_of, curtain_of, end_of, is_sound}
 use Rattle.h41_program.specs.declared.refusal.ProgramRefusal.TheVariants.{NoRoom, SizeTooLarge}
@@ -9,7 +9,7 @@ use Rattle.h41_program.proofs.Cases.{above_test, below_test}
 use Rattle.h41_program.proofs.Resized.{Fits as FitsMemory}
 use Rattle.h41_program.proofs.Sound.{bounds}
 
--- a memory as it is read where it gets another size
+-- The parts of a memory that are read when its size changes.
 pub record Sized (memory : RegisterMap) (registers curtain end : ℕ) : Type 0 where
   pub memory_is : IsMemory registers memory
   pub sound : is_sound memory ≡ true
@@ -21,7 +21,7 @@ pub sized_by : (memory : RegisterMap) (registers curtain end : ℕ) → IsMemory
 sized_by memory registers curtain end is sound curtain_is end_is =
     record { memory_is = is; sound = sound; curtain_is = curtain_is; end_is = end_is }
 
--- it is too large
+-- The size is too large.
 pub gives_too_large : (memory : RegisterMap) (registers size read : ℕ) → IsMemory registers memory → read ≡ size → registers ≤ read
     → HasOutcome {A = Unit {0}} memory memory (Err SizeTooLarge) (size_outcome memory size)
 gives_too_large memory registers size read is same above =
@@ -41,7 +41,7 @@ module _ (memory : RegisterMap) (registers size curtain end : ℕ) (sized : Size
       let b = bounds memory sized.sound in
       omega (arith, sized.memory_is.most, sized.memory_is.main, sized.curtain_is, b.high)
 
-  -- it is not
+  -- The size is not too large.
   module _ (read : ℕ) (same : read ≡ size) (below : read < registers) where
     pub under_top : size ≤ main_start + registers
     under_top = omega (arith, same, below)
@@ -52,7 +52,7 @@ module _ (memory : RegisterMap) (registers size curtain end : ℕ) (sized : Size
     moved_is : moved_curtain memory size ≡ main_start + registers - size
     moved_is = ap (λ n. main_start + n - size) sized.memory_is.main
 
-    -- there is no room
+    -- There is no room.
     pub gives_no_room : main_start + registers - size + end < main_start + curtain
         → HasOutcome {A = Unit {0}} memory memory (Err NoRoom) (size_outcome memory size)
     gives_no_room low =
@@ -62,7 +62,7 @@ module _ (memory : RegisterMap) (registers size curtain end : ℕ) (sized : Size
         (omega (arith, moved_is, sized.end_is, sized.curtain_is, low)) in
         rw (small, none) (refl, refl)
 
-    -- there is
+    -- There is room.
     pub move_there : main_start + curtain ≤ main_start + registers - size + end
         → IsMove memory (main_start + registers - size) (main_start + registers - size + end - curtain)
     move_there room =

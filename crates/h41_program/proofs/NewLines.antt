@@ -1,4 +1,4 @@
--- The new line of a changed list: as many lines stand before it as stood before its place.
+-- The new line of a changed list: as many lines precede it as preceded its place.
 use Rattle.std.proofs.Common.{◌≡◌, ℕ, zero, suc, ◌<◌, ◌≤◌, Bool, true, false, List, [], ◌∷◌, ◌++◌, refl, sym, ◌∙◌, ap, subst, arith, inl}
 use Rattle.std.proofs.Common.{inr, Some}
 use Rattle.std.specs.Prelude.{◌==◌, ◌||◌, slice_get}
@@ -21,7 +21,7 @@ same_of a b is = grind (arith, nat_tests)
 other_of : (a b : ℕ) → (a == b) ≡ false → a ≡ b → ⊥
 other_of a b is same = grind (arith, nat_tests)
 
--- lines that a change keeps, and the one that it puts at a place
+-- A change writes a line at a place, and leaves the other lines unchanged.
 abbrev pub Begins : ℕ → Line → (ListedLine → List Line) → Type 0
 Begins place line change = (listed : ListedLine) → (listed.position == place) ≡ true → (rest : List Line) × (change listed ≡ line ∷ rest)
 
@@ -49,7 +49,7 @@ module _ (bytes : List ℕ) (final place : ℕ) where
   not_none : (rest : List ListedLine) → rest ≡ [] → has_line_at place rest ≡ true → ⊥
   not_none rest none has = true≢false (sym has ∙ ap (has_line_at place) none)
 
-  -- no line stands before the position from which lines are read
+  -- No line of a list precedes the position from which it is read.
   has_from : (at : ℕ) (lines : List ListedLine) → Reads bytes final at lines → has_line_at place lines ≡ true → at ≤ place
   has_from at [] reads has = absurd (not_none [] refl has)
   has_from at (first ∷ rest) reads has =
@@ -68,7 +68,7 @@ module _ (bytes : List ℕ) (final place : ℕ) where
         ]
       ]
 
-  -- the new line has as many lines before it
+  -- As many lines precede the new line.
   pub new_there : (line : Line) (change : ListedLine → List Line) → Begins place line change → Keeps place change
       → (at : ℕ) (lines : List ListedLine) → Reads bytes final at lines → has_line_at place lines ≡ true
       → slice_get (flat_map change lines) (count_before place lines) ≡ Some line
@@ -96,7 +96,7 @@ module _ (bytes : List ℕ) (final place : ℕ) where
     ]
   ]
 
--- a line of the list stands at its own position
+-- A line of the list begins at its own position.
 module _ (bytes : List ℕ) (final : ℕ) where
   pub get_first : (at : ℕ) (lines : List ListedLine) (count : ℕ) (found : ListedLine) → Reads bytes final at lines
       → slice_get lines count ≡ Some found → FirstFrom bytes final found.position found

@@ -1,4 +1,4 @@
--- The bytes of program memory, eight at once, and the nulls among them.
+-- The bytes of program memory, read eight at a time, and the nulls among them.
 use Rattle.std.proofs.Common.{◌≡◌, ◌≢◌, ℕ, suc, ◌+◌, ◌-◌, ◌*◌, ◌/◌, ◌%◌, ◌^◌, ◌<◌, ◌≤◌, Bool, List, true, false, refl, sym}
 use Rattle.std.proofs.Common.{ap, arith, ◌∙◌, subst, inl, inr}
 use Rattle.std.specs.Prelude.{nat_lt, if◌then◌else◌}
@@ -14,7 +14,7 @@ use Rattle.h41_program.specs.ProgramBytes.{byte_count, final_position, program_b
 use Rattle.h41_program.specs.private.Reading.{HoldsBytes}
 use Rattle.h41_program.proofs.Sound.{no_null_at_end}
 
--- a byte of two registers of program memory
+-- A byte of two registers of program memory.
 pub two_registers : (memory : RegisterMap) (at k : ℕ) (upper lower : List ℕ) → k < 8
     → upper ≡ register_at memory (curtain_of memory - 1 - at / 7)
     → (7 ≤ at % 7 + k → lower ≡ register_at memory (curtain_of memory - 1 - at / 7 - 1))
@@ -36,7 +36,7 @@ two_registers memory at k upper lower few here below =
           ∙ (λ i. byte_at (register_at memory (q i)) (r i))
     ] refl
 
--- the zeros in front of a number's highest bit
+-- The zeros before the highest bit of a number.
 module _ (number : ℕ) (some : 0 < number) (fits : number < 2 ^ 64) where
   abbrev nulls : ℕ
   nulls = leading_zeros w64 number / 8
@@ -71,13 +71,13 @@ module _ (number : ℕ) (some : 0 < number) (fits : number < 2 ^ 64) where
       div_below number (256 ^ place) 256 positive (subst (λ n. number < n) (pow-succ' 256 place) next) in
       λ null. omega (arith, least, null, mod-eq_of_lt less)
 
--- a number that is zero has zeros alone
+-- All bytes of the number zero are zero.
 zero_byte : (place : ℕ) → number_byte 0 place ≡ 0
 zero_byte place =
     let positive : 0 < 256 ^ place = rw (bits_of_weight place) (pow_pos (8 * place)) in
     ap (λ n. n % 256) (div-eq_of_lt positive)
 
--- bytes that were passed over are nulls, and end in front of one that is none
+-- The bytes that were skipped are nulls, and the byte after them is not.
 module _ (memory : RegisterMap) (at position : ℕ) (before : (k : ℕ) → at ≤ k → k < position → program_byte memory k ≡ 0) where
   pub more_nulls : (next last : ℕ)
       → ((k : ℕ) → k < next → position + k < byte_count memory → program_byte memory (position + k) ≡ 0)
@@ -112,7 +112,7 @@ pub leading : (memory : RegisterMap) (position number nulls : ℕ) → HoldsByte
 leading memory position number nulls holds few zeros k below inside =
     sym (holds k (omega (arith, below, few)) inside) ∙ zeros k below
 
--- bytes that were read in front of the last ones end there at the latest
+-- The search for a byte that is not null ends at the last three bytes or before.
 module _ (memory : RegisterMap) (position last number : ℕ) (sound : is_sound memory ≡ true) (last_is : last ≡ final_position memory)
     (count : last + 3 ≡ byte_count memory) (to : position ≤ last) (holds : HoldsBytes memory position number) where
   pub eight_inside : number ≡ 0 → position + 8 ≤ last

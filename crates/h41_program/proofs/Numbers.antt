@@ -1,4 +1,4 @@
--- Lines counted.
+-- Counting lines.
 use Rattle.std.proofs.Common.{◌≡◌, ℕ, suc, ◌+◌, ◌-◌, true, false, List, [], ◌∷◌, ◌++◌, length, refl, sym, ◌∙◌, ap, subst, arith, inl, inr}
 use Rattle.std.proofs.Common.{append_assoc, length-append, Option, Some, None}
 use Rattle.std.specs.Prelude.{◌==◌, ◌||◌}
@@ -21,7 +21,7 @@ same_test a b same = grind (arith, nat_tests)
 pub other_test : (a b : ℕ) → (a ≡ b → ⊥) → (a == b) ≡ false
 other_test a b other = grind (arith, nat_tests)
 
--- one more line, which is no END
+-- One more line, which is no END.
 pub up_to_end-other : (listed : ListedLine) (rest : List ListedLine) → is_end listed.line ≡ false
     → up_to_end (listed ∷ rest) ≡ listed ∷ up_to_end rest
 up_to_end-other listed rest other = rw other refl
@@ -29,7 +29,7 @@ up_to_end-other listed rest other = rw other refl
 pub up_to_end-end : (listed : ListedLine) (rest : List ListedLine) → is_end listed.line ≡ true → up_to_end (listed ∷ rest) ≡ listed ∷ []
 up_to_end-end listed rest end = rw end refl
 
--- the first of a program's lines, whatever it is
+-- The first line of a program, whatever it is.
 pub up_to_end-first : (listed : ListedLine) (rest : List ListedLine)
     → (more : List ListedLine) × (up_to_end (listed ∷ rest) ≡ listed ∷ more)
 up_to_end-first listed rest = elim (cases_Bool (is_end listed.line)) [
@@ -43,11 +43,11 @@ up_to_end-last listed = elim (cases_Bool (is_end listed.line)) [
   | inr other ↦ up_to_end-other listed [] other
 ]
 
--- the number of a line
+-- The number of a line.
 abbrev pub number_of : ℕ → List ListedLine → Option ℕ
 number_of place lines = number_in place (up_to_end lines)
 
--- so many lines were counted
+-- So many lines were counted.
 abbrev pub Counted : ℕ → List ListedLine → Type 0
 Counted place before =
     (rest : List ListedLine) → number_of place (before ++ rest) ≡ option_map (λ n. length before + n) (number_of place rest)
@@ -93,7 +93,7 @@ counted_end place before listed rest counted other end =
     counted (listed ∷ rest)
     ∙ ap (λ (o : Option ℕ). option_map (λ n. length before + n) o) (ap (number_in place) end ∙ number_other place listed [] other)
 
--- the line of a number
+-- The line with a number.
 abbrev pub place_of : ℕ → List ListedLine → Option ℕ
 place_of number lines = numbered_in number (up_to_end lines)
 
@@ -125,7 +125,7 @@ pub left_end : (number left : ℕ) (before : List ListedLine) (listed : ListedLi
 left_end number left before listed rest is other end =
     is (listed ∷ rest) ∙ ap (numbered_in left) end ∙ numbered_other left listed [] other
 
--- the lines so far end nothing
+-- The lines so far contain no END and no .END.
 abbrev pub Runs : List ListedLine → Type 0
 Runs before = (rest : List ListedLine) → end_in (up_to_end (before ++ rest)) ≡ end_in (up_to_end rest)
 
@@ -145,7 +145,7 @@ ends_here before listed rest runs here =
     let first = up_to_end-first listed rest in
     runs (listed ∷ rest) ∙ ap end_in first.1 ∙ (rw here refl)
 
--- an answer on the lines from a program's start is one on the program
+-- An answer for the lines from a program's start is one for the program.
 pub of_program : {A : Type 0} → OneLine → OneList → (answer : List ListedLine → A) (memory : RegisterMap) (at start : ℕ) (result : A)
     → AnswersOf (start_in at) memory 0 start → AnswersFrom (λ lines. answer (up_to_end lines)) memory start result
     → AnswersProgram answer memory at result

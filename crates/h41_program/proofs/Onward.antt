@@ -1,4 +1,4 @@
--- Where the first line from a position on stands, if there is one, as far as it is known without reading it.
+-- The position of the first line from a position on, as far as it is known without decoding the line.
 use Rattle.std.proofs.Common.{◌≡◌, ◌≢◌, ℕ, ◌+◌, ◌<◌, ◌≤◌, refl, sym, ◌∙◌, arith, inl, inr}
 use Rattle.std.proofs.lemmas.Bool.{cases_lt}
 use Rattle.h41_codes.specs.ByteLaws.{LineOrNone, OneLine}
@@ -11,7 +11,7 @@ use Rattle.h41_program.proofs.FirstLines.{first_inside}
 use Rattle.h41_program.proofs.Memory.{byte_there}
 
 module _ (one : OneLine) (tells : LineOrNone) (memory : RegisterMap) (at : ℕ) where
-  -- it stands at the position itself, or nowhere
+  -- It is at the position itself, or there is none.
   here_or_none : ((first : ListedLine) → FirstFrom (program_bytes memory) (final_position memory) at first → first.position ≡ at)
       → PositionFrom memory at at
   here_or_none here =
@@ -20,14 +20,14 @@ module _ (one : OneLine) (tells : LineOrNone) (memory : RegisterMap) (at : ℕ) 
         | inr none ↦ inr (none, refl)
       ]
 
-  -- no line begins behind the final position
+  -- No line begins after the last three bytes begin.
   pub at_the_end : final_position memory ≤ at → PositionFrom memory at at
   at_the_end end = here_or_none (λ first is.
       let inside = first_inside (program_bytes memory) (final_position memory) at first is in
       let from = is.from in
       omega (arith, end, inside, from))
 
-  -- nulls alone stand before a line
+  -- Only nulls precede a line.
   pub at_no_null : at < byte_count memory → program_byte memory at ≢ 0 → PositionFrom memory at at
   at_no_null inside other = here_or_none (λ first is. elim (cases_lt at first.position) [
     | inl further ↦ absurd (other (sym (byte_there memory at inside) ∙ is.nulls at (omega arith) further))

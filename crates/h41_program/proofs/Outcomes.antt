@@ -1,4 +1,4 @@
--- What calls leave is sound, and is read again.
+-- The memory after a call is sound, and is read again.
 use Rattle.std.proofs.Common.{◌∙◌, ◌≡◌, ℕ, Bool, true, false, List, [], ◌++◌, length, drop, All, refl, sym, ap, subst, inl, inr, Option}
 use Rattle.std.proofs.Common.{Some, None, Result, Ok, Err}
 use Rattle.std.specs.Prelude.{◌==◌, ◌&&◌, is_some, OnOk, if◌then◌else◌}
@@ -23,7 +23,7 @@ use Rattle.h41_program.proofs.Inner.{KeepsInner, before_inner, changed_inner, cl
 use Rattle.h41_program.proofs.Written.{written_behind, written_read, written_sound}
 use Rattle.std.proofs.lemmas.Option.{none-some, same_Some}
 
--- an outcome is sound where the memory that was written is
+-- An outcome is sound if the memory that was written is.
 refused_sound : {A : Type 0} (old new : RegisterMap) (result : Result A ProgramRefusal) (refusal : ProgramRefusal) → is_sound old ≡ true
     → HasOutcome old new result (Err refusal) → is_sound new ≡ true
 refused_sound old new result refusal sound has = subst (λ (m : RegisterMap). is_sound m ≡ true) (sym has.1) sound
@@ -42,7 +42,7 @@ pub written_outcome : {A : Type 0} (old new : RegisterMap) (result : Result A Pr
 written_outcome old new result answer lines sound has =
     answered_sound old new result answer (with_program_lines old lines) sound (λ m done. written_sound old m lines sound done) has
 
--- an edit
+-- An edit.
 changed_sound : (b : Bool) (old new : RegisterMap) (result : Result (Unit {0}) ProgramRefusal) (lines : List Line) → is_sound old ≡ true
     → HasOutcome old new result (changed_outcome b old lines) → is_sound new ≡ true
 changed_sound true old new result lines sound has = written_outcome old new result tt lines sound has
@@ -61,7 +61,7 @@ edit_sound old new change at result sound edits = elim edits.1 [
       (subst (λ (outcome : Result (RegisterMap × Unit {0}) ProgramRefusal). HasOutcome old new result outcome) none.1 edits.2)
 ]
 
--- a load
+-- A load.
 loaded_sound : (old new : RegisterMap) (lines : List ListedLine) (loaded : Option (List Line)) (result : Result ℕ ProgramRefusal)
     → is_sound old ≡ true → HasOutcome old new result (load_outcome old lines loaded) → is_sound new ≡ true
 loaded_sound old new lines None result sound has = refused_sound old new result BrokenProgram sound has
@@ -83,7 +83,7 @@ pub load_sound : (old new : RegisterMap) (bytes : List ℕ) (result : Result ℕ
     → Loads old new bytes result → is_sound new ≡ true
 load_sound old new bytes result sound loads = behind_sound old new bytes (before_end loads.1.0) loads.0 result sound loads.1.2 loads.2
 
--- what a load leaves
+-- The memory after a load.
 refused_is_not_done : (new : RegisterMap) (start : ℕ) (refusal : ProgramRefusal)
     → ◌≡◌ {A = Result (RegisterMap × ℕ) ProgramRefusal} (Ok (new, start)) (Err refusal) → ⊥
 refused_is_not_done new start refusal same = cc
@@ -100,7 +100,7 @@ was_written new start answer (Ok memory) same =
     let both = pair_of new memory start answer same in (ap (λ (m : RegisterMap). Ok m) both.0, both.1)
 was_written new start answer (Err refusal) same = absurd (refused_is_not_done new start refusal same)
 
--- lines that bytes have to be loaded are inner
+-- The lines of bytes that are to be loaded are inner.
 tested : (b : Bool) (lines loaded : List Line) → (if b then Some lines else None) ≡ Some loaded → lines ≡ loaded
 tested true lines loaded same = same_Some lines loaded same
 tested false lines loaded same = absurd (none-some loaded same)
@@ -142,7 +142,7 @@ module _ (again : ByteRoundTrip) (memory new : RegisterMap) (bytes : List ℕ) (
   leaves_behind lines (Some before) from own loads =
       leaves_joined lines before loads.0 (loaded_of bytes loads.0) from own loads.1 refl loads.2
 
--- memory that is not sound takes no load
+-- Memory that is not sound accepts no load.
 lost_end : (lines : List ListedLine) → lines ≡ [] → before_end lines ≡ None
 lost_end lines none = ap before_end none
 
@@ -156,7 +156,7 @@ load_read again memory new bytes start loads = elim (cases_Bool (is_sound memory
       absurd (refused_is_not_done new start BrokenProgram refused)
 ]
 
--- what an edit leaves
+-- The memory after an edit.
 written_reads : ByteRoundTrip
     → (old left : RegisterMap) (result : Result (Unit {0}) ProgramRefusal) (lines : List Line) (outcome : Result RegisterMap ProgramRefusal)
     → is_sound old ≡ true → All IsInner lines → with_program_lines old lines ≡ outcome

@@ -1,4 +1,4 @@
--- Lines put one behind the other.
+-- Lines packed one after another.
 use Rattle.std.proofs.Common.{◌≡◌, ℕ, ◌+◌, ◌/◌, ◌<◌, ◌≤◌, List, [], ◌∷◌, ◌++◌, length, replicate, refl, sym, ◌∙◌, ap, arith, inl, inr}
 use Rattle.std.proofs.Common.{append_assoc, append-nil, length-append, true≢false, Some}
 use Rattle.std.proofs.lemmas.Bool.{cases_Bool}
@@ -15,7 +15,7 @@ last_line-more [] line = refl
 last_line-more (one ∷ []) line = refl
 last_line-more (one ∷ next ∷ lines) line = last_line-more (next ∷ lines) line
 
--- one more line is parted from the last
+-- One more line is separated from the last.
 pub packed-more : (lines : List Line) (line : Line)
     → packed_lines (lines ++ line ∷ []) ≡ packed_lines lines ++ null_between (is_number line) (last_line lines) ++ spelling line
 packed-more [] line = simp append-nil
@@ -24,7 +24,7 @@ packed-more (one ∷ next ∷ lines) line =
     ap (λ (rest : List ℕ). spelling one ++ gap one (next ∷ lines) ++ rest) (packed-more (next ∷ lines) line)
     ∙ simp append_assoc
 
--- lines behind others are parted from the last of them
+-- Lines after others are separated from the last of these.
 pub packed-join : (lines : List Line) (line : Line) (rest : List Line)
     → packed_lines (lines ++ line ∷ rest) ≡ packed_lines lines ++ null_between (is_number line) (last_line lines)
     ++ packed_lines (line ∷ rest)
@@ -34,7 +34,7 @@ packed-join (one ∷ next ∷ lines) line rest =
     ap (λ (all : List ℕ). spelling one ++ gap one (next ∷ lines) ++ all) (packed-join (next ∷ lines) line rest)
     ∙ simp append_assoc
 
--- lines that are not followed have no more bytes
+-- Lines without more lines after them have no more bytes.
 pub packed-less : (lines others : List Line) → length (packed_lines lines) ≤ length (packed_lines (lines ++ others))
 packed-less [] others = omega arith
 packed-less (line ∷ []) others =
@@ -53,7 +53,7 @@ packed-less (line ∷ next ∷ lines) others =
       length-append (spelling line ++ gap line (next ∷ lines)) (packed_lines ((next ∷ lines) ++ others)),
     )
 
--- a line was put behind others
+-- A line was appended to others.
 pub puts : (old mid new : Packer) (line : Line) (lines : List Line) → Packs old lines
     → Pushes old mid (null_between (is_number line) old.last)
     → Pushes mid new (spelling line) → Packs (record { bytes = new.bytes; full = new.full; last = Some line }) (lines ++ line ∷ [])
@@ -97,17 +97,17 @@ puts old mid new line lines packs parts pushes =
       last = sym (last_line-more lines line);
     }
 
--- how many bytes there are once they were filled up
+-- The number of bytes with their nulls and .END.
 pub length-filled_up : (bytes : List ℕ) → length (filled_up bytes) ≡ length bytes + filler (length bytes) + 3
 length-filled_up bytes =
     length-append (bytes ++ replicate (filler (length bytes)) 0) written_end
     ∙ ap (λ n. n + 3) (length-append bytes (replicate (filler (length bytes)) 0)
     ∙ ap (λ n. length bytes + n) (length-replicate (filler (length bytes)) 0))
 
--- how many bytes a packing has
+-- The number of bytes of a packing.
 pub length-packing : (lines : List Line) → length (packing lines) ≡ length (packed_lines lines) + filler (length (packed_lines lines)) + 3
 length-packing lines = length-filled_up (packed_lines lines)
 
--- too many bytes have no room
+-- There is no room for too many bytes.
 pub no_room : (count registers : ℕ) → 2237 < count → count + filler count + 3 ≡ registers → 320 < registers / 7
 no_room count registers many size = omega arith

@@ -1,4 +1,4 @@
--- The place of the line that stands at a position, by the first of the bytes that are seen from there.
+-- The place of the line at a position, by the first of the bytes that are examined there.
 use Rattle.std.proofs.Common.{◌≡◌, ℕ, suc, ◌+◌, ◌-◌, ◌/◌, ◌%◌, ◌<◌, ◌≤◌, true, false, List, min, length, get_or, Option, Some, None}
 use Rattle.std.proofs.Common.{IfSome, IfNone, [], refl, sym, ◌∙◌, ap, subst, arith, inl, inr}
 use Rattle.std.proofs.lemmas.Bool.{cases_eq}
@@ -38,11 +38,11 @@ module _ (memory : RegisterMap) (at limit : ℕ) where
       subst (λ (byte : ℕ). byte < 256) (sym (seen_byte k (omega (arith, few, below)) (omega (arith, inside, below))))
       (all (at + k) (omega arith) (omega (arith, below)))
 
-  -- no line, by what bytes must have
+  -- There is no line, because the bytes do not satisfy the condition of their first byte.
   pub nothing : BeginsNoLine seen → BeginsNothing memory at limit
   nothing broken line size begins = broken line size begins.spells
 
-  -- a place for a line that ends nothing
+  -- The place of a line that ends neither a program nor memory.
   pub place_fits : (size : ℕ) (place : LinePlace) → Fits memory at limit size place → BeginsSized memory at limit size
       → BeginsAt memory at limit place
   place_fits size place fits line = (
@@ -63,7 +63,7 @@ module _ (memory : RegisterMap) (at limit : ℕ) where
   none_fits size None cut lacks = lacks cut
   none_fits size (Some place) cut lacks = tt
 
-  -- by the first byte, which is seen
+  -- The place, by the first byte.
   module _ (before : at < limit) (byte : ℕ) (is : byte ≡ program_byte memory at) where
     first : get_or seen 0 0 ≡ byte
     first = seen_here before ∙ sym is
@@ -106,7 +106,7 @@ module _ (memory : RegisterMap) (at limit : ℕ) where
     pub never : 0xAF ≤ byte → byte < 0xB1 → BeginsNothing memory at limit
     never from below = nothing (broken_af_b0 seen (omega (arith, first, from)) (omega (arith, first, below)))
 
-  -- a function in front of a text
+  -- A function with a text.
   module _ (before : at < limit) (range : IsIn 0x1D 0x20 (program_byte memory at)) where
     named_first : IsIn 0x1D 0x20 (get_or seen 0 0)
     named_first = subst (λ (b : ℕ). IsIn 0x1D 0x20 b) (sym (seen_here before)) range
@@ -139,7 +139,7 @@ module _ (memory : RegisterMap) (at limit : ℕ) where
           nothing (broken_at 3 0x1D 0x20 seen refl named_first.0 named_first.1
           (λ need. omega (arith, need.2, named_second, from, long, cut, seen_length)))
 
-  -- a global label, an END or .END.
+  -- A global label, an END or .END.
   module _ (before : at < limit) (range : IsIn 0xC0 0xCE (program_byte memory at)) where
     linked_first : IsIn 0xC0 0xCE (get_or seen 0 0)
     linked_first = subst (λ (b : ℕ). IsIn 0xC0 0xCE b) (sym (seen_here before)) range
@@ -203,7 +203,7 @@ module _ (memory : RegisterMap) (at limit : ℕ) where
             (λ clear. set (ap (λ b. b / 32 % 2) (sym linked_third) ∙ clear)) (three_bytes own next last) in
             (FinalEnd end.0 end.1, 3, end.2, refl)
 
-  -- a number, of all the bytes that can go on in it
+  -- A number, with all bytes that can belong to it.
   pub number_there : (size : ℕ) → 1 ≤ size → size ≤ 16 → at + size ≤ limit
       → ((k : ℕ) → at ≤ k → k < at + size → IsIn 0x10 0x1D (program_byte memory k))
       → (at + size < limit → IsIn 0x10 0x1D (program_byte memory (at + size)) → size ≡ 16) → BeginsSized memory at limit size
@@ -214,7 +214,7 @@ module _ (memory : RegisterMap) (at limit : ℕ) where
       (λ below on. whole (omega (arith, seen_length, below)) (subst (λ (b : ℕ). IsIn 0x10 0x1D b)
       (seen_byte size (omega (arith, most)) (omega (arith, seen_length, below))) on))
 
-  -- a line of one byte
+  -- A line of one byte.
   pub alone_there : NumberBegins → at < limit → (byte : ℕ) → byte ≡ program_byte memory at → IsOneByte byte → IsAlone byte
       → BeginsAt memory at limit (record { position = at; behind = at + 1; ends_program = false; ends_memory = false })
   alone_there numbers before byte is own line =

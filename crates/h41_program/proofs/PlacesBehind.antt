@@ -1,4 +1,4 @@
--- The line that stands behind nulls, or in the last three bytes.
+-- The line after nulls, or in the last three bytes.
 use Rattle.std.proofs.Common.{◌≡◌, ◌≢◌, ℕ, zero, suc, ◌+◌, ◌-◌, ◌<◌, ◌≤◌, min, true, false, refl, inl, inr, arith, subst}
 use Rattle.std.proofs.lemmas.Bool.{cases_lt}
 use Rattle.h41_codes.specs.Heads.{IsIn}
@@ -12,7 +12,7 @@ use Rattle.h41_program.proofs.Memory.{Looked}
 use Rattle.h41_program.proofs.Places.{final_there, number_there}
 use Rattle.h41_program.proofs.Sound.{final_bytes}
 
--- .END. stands in the last three bytes
+-- .END. is in the last three bytes.
 pub final_begins : (memory : RegisterMap) (last : ℕ) → is_sound memory ≡ true → IsRegister 14 (register_at memory (end_of memory))
     → last ≡ final_position memory
     → BeginsAt memory last (last + 3) (record { position = last; behind = last + 3; ends_program = false; ends_memory = true })
@@ -23,7 +23,7 @@ final_begins memory last sound register is =
     final_there memory last (last + 3) (omega arith) first (program_byte memory (last + 2)) refl (omega arith)
     (omega (arith, first.1)) bytes.second (omega (arith, third)) third bytes.marked
 
--- what was looked at behind nulls
+-- The bytes that are examined after nulls.
 module _ (memory : RegisterMap) (at p last : ℕ) (last_is : last ≡ final_position memory) (count : last + 3 ≡ byte_count memory)
     (from : at ≤ p) (to : p ≤ last) (nulls : (k : ℕ) → at ≤ k → k < p → program_byte memory k ≡ 0) where
   pub looked_before : p < last → program_byte memory p ≢ 0 → Looked memory at p last last (bytes_seen memory p last)
@@ -52,11 +52,11 @@ module _ (memory : RegisterMap) (at p last : ℕ) (last_is : last ≡ final_posi
     bytes = refl;
   }
 
--- the position of a place
+-- The position of a place.
 pub position_of : (memory : RegisterMap) (at : ℕ) (place : LinePlace) → HasPlace memory at place → PositionFrom memory at place.position
 position_of memory at place has = inl (record { position = place.position; line = has.0 }, has.1.first, refl)
 
--- how many bytes go on in a number
+-- The number of bytes that belong to a number.
 record Run (memory : RegisterMap) (at limit size : ℕ) : Type 0 where
   pub some : 1 ≤ size
   pub most : size ≤ 16
@@ -64,7 +64,7 @@ record Run (memory : RegisterMap) (at limit size : ℕ) : Type 0 where
   pub each : (k : ℕ) → at ≤ k → k < at + size → IsIn 0x10 0x1D (program_byte memory k)
   pub whole : at + size < limit → IsIn 0x10 0x1D (program_byte memory (at + size)) → size ≡ 16
 
--- so many at least are all, or one more is
+-- At least so many bytes belong to a number: there are no more, or there is one more.
 run_from : (memory : RegisterMap) (at limit left size : ℕ) → 1 ≤ size → size + left ≡ min 16 (limit - at) → at < limit
     → ((k : ℕ) → at ≤ k → k < at + size → IsIn 0x10 0x1D (program_byte memory k)) → (all : ℕ) × Run memory at limit all
 run_from memory at limit zero size some most before each = (
@@ -109,7 +109,7 @@ run_from memory at limit (suc left) size some most before each = elim (cases_lt 
   ]
 ]
 
--- a number begins with each of its characters
+-- Bytes 10 to 1C begin a number.
 pub number_begins : (memory : RegisterMap) (at limit : ℕ) → at < limit → IsIn 0x10 0x1D (program_byte memory at)
     → (size : ℕ) × BeginsSized memory at limit size
 number_begins memory at limit before first =

@@ -1,4 +1,4 @@
--- The first line from a position on, by the line that the bytes seen there begin with.
+-- The first line from a position on, by the line with which the bytes there begin.
 use Rattle.std.proofs.Common.{◌≡◌, ℕ, ◌+◌, ◌-◌, ◌<◌, ◌≤◌, true, List, [], map, min, length, take, get_or}
 use Rattle.std.proofs.Common.{Option, Some, None, Result, Ok, Err}
 use Rattle.std.proofs.Common.{IfSome, IfNone, refl, sym, ◌∙◌, ap, subst, arith, inl, inr, length-take-le}
@@ -46,7 +46,7 @@ module _ (one : OneLine) (memory : RegisterMap) (sound : is_sound memory ≡ tru
       looked_none one memory sound at p last limit (bytes_seen memory p limit) looked answer (answers_none lacks) tt refl
   none_place (Some place) lacks = tt
 
--- the line's bytes are among those that are seen
+-- The bytes of the line are among those that are examined.
 pub some_behind : (memory : RegisterMap) (p limit most : ℕ) → limit ≤ most → p ≤ limit → (found : Option LinePlace)
     → IfSome found (λ place. BeginsAt memory p limit place) → IfSome found (λ place. place.behind ≤ most)
 some_behind memory p limit most few from None found = tt
@@ -55,7 +55,7 @@ some_behind memory p limit most few from (Some place) found =
     let long = length-map-range_with_len (program_byte memory) p (min 18 (limit - p)) in
     subst (λ (n : ℕ). n ≤ most) (sym (ap (λ (there : LinePlace). there.behind) found.3)) (omega (arith, inside, long, few, from))
 
--- a line's own bytes begin with it
+-- The bytes of a line alone begin with it.
 whole_alone : (line : Line) → IsWhole line []
 whole_alone (Number characters) = λ goes. absurd goes
 whole_alone line = tt
@@ -74,7 +74,7 @@ begins_own bytes line size begins =
           (whole_alone line);
     }
 
--- the bytes of a place begin with its line
+-- The bytes of a place begin with its line.
 module _ (memory : RegisterMap) (sound : is_sound memory ≡ true) (at p next : ℕ) (line : Line)
     (has : HasFirst memory at (record { listed = record { position = p; line = line }; behind = next })) where
   abbrev final : ℕ
@@ -92,7 +92,7 @@ module _ (memory : RegisterMap) (sound : is_sound memory ≡ true) (at p next : 
   inside : p ≤ final
   inside = first_inside (program_bytes memory) final at (record { position = p; line = line }) has.first
 
-  -- the byte behind those that the line may take
+  -- The end of the bytes that the line may take.
   end_of_bytes : (end : ℕ) × (p < final → end ≡ final) × (p ≡ final → end ≡ final + 3)
   end_of_bytes = elim (cases_lt p final) [
     | inl before ↦ (final, (λ _. refl), (λ here. absurd (omega (arith, before, here))))
@@ -117,7 +117,7 @@ module _ (memory : RegisterMap) (sound : is_sound memory ≡ true) (at p next : 
       subst (λ (n : ℕ). Begins (bytes_seen memory p next) line n) (sym span)
       (subst (λ (bytes : List ℕ). Begins bytes line size) same own)
 
-  -- and are those of memory
+  -- The bytes of a place are those of memory.
   pub place_byte : (k : ℕ) → p + k < next → get_or (spelling line) k 0 ≡ program_byte memory (p + k)
   place_byte k below =
       let begins = place_begins in
@@ -143,7 +143,7 @@ module _ (memory : RegisterMap) (sound : is_sound memory ≡ true) (at p next : 
   pub place_from_to : p ≤ next
   place_from_to = let behind = has.behind in omega (arith, behind)
 
--- a line that was read of them is the same
+-- A line that is decoded from them is the same.
 pub same_answer : {E : Type 0} (bytes : List ℕ) (line other : Line) (size count : ℕ) (result : Result (Line × ℕ) E) → Begins bytes line size
     → AnswersLine result bytes → result ≡ Ok (other, count) → other ≡ line
 same_answer bytes line other size count result begins answers is =

@@ -1,4 +1,4 @@
--- What is found at a byte of memory is the line that it stands for, and the position of the next.
+-- The line at a byte of memory, and the next position.
 use Rattle.std.proofs.Common.{◌≡◌, ℕ, Ok, refl, subst}
 use Rattle.std.specs.Prelude.{MatchBool}
 use Rattle.h41_program.specs.Lines.{is_final_end}

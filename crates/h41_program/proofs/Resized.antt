@@ -1,4 +1,4 @@
--- Memory with another number of data registers: its program moved as it was, and it is sound.
+-- Memory with another number of data registers: its programs moved unchanged, and it is sound.
 use Rattle.std.proofs.Common.{◌≡◌, ℕ, ◌+◌, ◌-◌, ◌/◌, ◌%◌, ◌<◌, ◌≤◌, true, false, List, length, get_or-set_same, refl, sym, ◌∙◌, ap, subst}
 use Rattle.std.proofs.Common.{arith, inl, inr, Result, Ok, Err}
 use Rattle.std.specs.Prelude.{nat_lt}
@@ -65,7 +65,7 @@ module _ (memory : RegisterMap) (sound : is_sound memory ≡ true) (size : ℕ) 
   top_new : length new.main ≡ length memory.main
   top_new = length-map-range_with_len (resized_register memory size) main_start (length memory.main)
 
-  -- a register of the program is the one that it was
+  -- A register of the programs is unchanged.
   own_register : (address : ℕ) → moved_end memory size ≤ address → address < moved_curtain memory size
       → register_at new address ≡ register_at memory (address + end_of memory - moved_end memory size)
   own_register address from below =
@@ -119,7 +119,7 @@ module _ (memory : RegisterMap) (sound : is_sound memory ≡ true) (size : ℕ) 
       ∙ sym
       (get_or-map-range_with_len (program_byte memory) 0 (byte_count memory) p p 0 (omega (arith, all, inside, size_count)) (omega arith)))
 
--- what is known of a size that is taken
+-- The facts about a size that is accepted.
 pub record Fits (memory : RegisterMap) (size : ℕ) (after : RegisterMap) : Type 0 where
   pub small : size < length memory.main
   pub room : main_start + curtain_of memory ≤ moved_curtain memory size + end_of memory

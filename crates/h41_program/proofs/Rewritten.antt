@@ -1,4 +1,4 @@
--- Memory whose program was written anew: its addresses, its bytes, and that it is sound.
+-- Memory whose programs were written again: its addresses, its bytes, and that it is sound.
 use Rattle.std.proofs.Common.{◌≡◌, ℕ, zero, suc, ◌+◌, ◌-◌, ◌*◌, ◌/◌, ◌%◌, ◌<◌, ◌≤◌, true, false, List, length, get_or, get_or-set_same}
 use Rattle.std.proofs.Common.{refl, sym, ◌∙◌, ap, arith}
 use Rattle.std.specs.Prelude.{nat_lt}
@@ -13,11 +13,11 @@ use Rattle.h41_program.proofs.Addresses.{c_long, c_there, sound_by, three_above,
 use Rattle.h41_program.proofs.Sound.{bounds, constant}
 use Rattle.h41_program.proofs.Cases.{above_test, below_test}
 
--- a byte is its two digits
+-- A byte is its two digits.
 halves : (byte : ℕ) → byte / 16 * 16 + byte % 16 ≡ byte
 halves byte = omega arith
 
--- a register of bytes has them again
+-- A register of seven bytes contains these bytes.
 pub byte_again : (bytes : List ℕ) (below k p : ℕ) → k < 7 → p ≡ 7 * below + k
     → byte_at (program_register bytes below) (6 - k) ≡ get_or bytes p 0
 byte_again bytes below zero p inside same = halves (get_or bytes (7 * below) 0) ∙ ap (λ i. get_or bytes i 0) (omega arith)
@@ -33,12 +33,12 @@ byte_again bytes below (suc (suc (suc (suc (suc (suc zero)))))) p inside same =
     halves (get_or bytes (7 * below + 6) 0) ∙ ap (λ i. get_or bytes i 0) (sym same)
 byte_again bytes below (suc (suc (suc (suc (suc (suc (suc k))))))) p inside same = absurd (omega arith)
 
--- a register that ends with .END.
+-- A register that ends in .END.
 end_register : (bytes : List ℕ) (below : ℕ) → get_or bytes (7 * below + 4) 0 ≡ 0xC0 → get_or bytes (7 * below + 6) 0 ≡ 0x20
     → is_final_end (program_register bytes below) ≡ true
 end_register bytes below first last = rw (first, last) refl
 
--- the register at an address of main memory
+-- The register at an address of main memory.
 pub main_at : (memory : RegisterMap) (address : ℕ) → main_start ≤ address
     → register_at memory address ≡ get_or memory.main (address - main_start) zeros
 main_at memory address from =
@@ -53,7 +53,7 @@ main_register memory bytes address from below =
     ∙ get_or-map-range_with_len (rewritten_register memory bytes) main_start (length memory.main)
     (address - main_start) address zeros (omega (arith, from, below)) (omega (arith, from))
 
--- bytes that fill registers, and have room
+-- Bytes that fill registers, and for which there is room.
 module _ (memory : RegisterMap) (sound : is_sound memory ≡ true) (bytes : List ℕ)
     (count : ℕ) (size : length bytes ≡ 7 * count) (some : 1 ≤ count)
     (room : main_start + count ≤ curtain_of memory) where
@@ -82,7 +82,7 @@ module _ (memory : RegisterMap) (sound : is_sound memory ≡ true) (bytes : List
   top_new : length new.main ≡ length memory.main
   top_new = length-map-range_with_len (rewritten_register memory bytes) main_start (length memory.main)
 
-  -- a register of the program
+  -- A register of the programs.
   own_register : (below : ℕ) → below < count → register_at new (curtain_of memory - 1 - below) ≡ program_register bytes below
   own_register below inside =
       let high = (bounds memory sound).high in

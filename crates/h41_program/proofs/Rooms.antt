@@ -16,7 +16,7 @@ use Rattle.h41_program.specs.Rewriting.{with_program_lines, with_program_bytes, 
 use Rattle.h41_program.proofs.Packings.{length-filled_up, length-packing}
 use Rattle.h41_program.proofs.Sound.{bounds}
 
--- the test of room
+-- The test of whether there is room.
 pub written-none : (memory : RegisterMap) (lines : List Line) → curtain_of memory < main_start + length (packing lines) / 7
     → with_program_lines memory lines ≡ Err NoRoom
 written-none memory lines above =
@@ -29,14 +29,14 @@ written-some memory lines inside =
     let test : nat_lt (curtain_of memory) (main_start + length (packing lines) / 7) ≡ false = grind (arith, nat_tests) in
     rw test refl
 
--- how many registers so many bytes take
+-- The number of registers that so many bytes take.
 too_many : (count size room : ℕ) → size ≡ count + filler count + 3 → 7 * room < count + 3 → room < size / 7
 too_many count size room all many = omega arith
 
 few_enough : (count size room : ℕ) → size ≡ count + filler count + 3 → count + 3 ≤ 7 * room → size / 7 ≤ room
 few_enough count size room all few = omega arith
 
--- lines that are refused
+-- Lines that are refused.
 pub refused : (memory : RegisterMap) (packer : Packer) (lines : List Line) (room : ℕ) → curtain_of memory ≡ main_start + room → room ≤ 320
     → Packs packer lines → (packer.full ≡ true) ⊎ (7 * room < length packer.bytes.items + 3) → with_program_lines memory lines ≡ Err NoRoom
 refused memory packer lines room curtain small packs why =
@@ -53,7 +53,7 @@ refused memory packer lines room curtain small packs why =
     let above = too_many (length (packed_lines lines)) (length (packing lines)) room size many in
     written-none memory lines (omega (arith, curtain, above))
 
--- lines that are written
+-- Lines that are written.
 pub accepted : (memory : RegisterMap) (packer : Packer) (lines : List Line) (room : ℕ) → curtain_of memory ≡ main_start + room
     → Packs packer lines → packer.full ≡ false → length packer.bytes.items + 3 ≤ 7 * room
     → with_program_lines memory lines ≡ Ok (with_program_bytes memory (packing lines))
@@ -62,20 +62,20 @@ accepted memory packer lines room curtain packs unmarked few =
     let inside = few_enough (length (packed_lines lines)) (length (packing lines)) room (length-packing lines) (omega (arith, few, same)) in
     written-some memory lines (omega (arith, curtain, inside))
 
--- the bytes that were filled are the packing
+-- The bytes with their nulls and .END. are the packing.
 pub filled_packing : (packer : Packer) (lines : List Line) (bytes : List ℕ) → Packs packer lines → packer.full ≡ false
     → bytes ≡ packer.bytes.items ++ replicate (filler (length packer.bytes.items)) 0 ++ written_end → bytes ≡ packing lines
 filled_packing packer lines bytes packs unmarked same =
     same ∙ ap (λ (items : List ℕ). items ++ replicate (filler (length items)) 0 ++ written_end) (packs.held unmarked)
 
--- bytes for which there is room in a memory, as it is tested where they are written
+-- There is room for so many bytes in a memory, as the test before they are written says.
 pub record HasRoom (memory : RegisterMap) (registers curtain count : ℕ) : Type 0 where
   pub memory_is : IsMemory registers memory
   pub sound : is_sound memory ≡ true
   pub curtain_is : curtain ≡ curtain_of memory
   pub few : count + 3 ≤ 7 * (curtain - main_start)
 
--- where they stand once they were filled up
+-- The place of the bytes with their nulls and .END.
 place_size : (count size : ℕ) → size ≡ count + filler count + 3 → 7 * (size / 7) ≡ size
 place_size count size all = omega arith
 
@@ -101,7 +101,7 @@ module _ (memory : RegisterMap) (registers curtain : ℕ) (bytes : List ℕ)
         small = omega (arith, room.memory_is.main, room.memory_is.most);
       }
 
--- what a writing of a packer's lines gives
+-- The outcome of writing the lines of a packer.
 pub gives_written : (memory new : RegisterMap) (packer : Packer) (lines : List Line) (bytes : List ℕ) (room : ℕ)
     → curtain_of memory ≡ main_start + room → Packs packer lines → packer.full ≡ false → length packer.bytes.items + 3 ≤ 7 * room
     → new ≡ with_program_bytes memory bytes → bytes ≡ filled_up packer.bytes.items

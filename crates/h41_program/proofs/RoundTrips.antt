@@ -24,7 +24,7 @@ use Rattle.h41_program.proofs.FirstLines.{line_bytes-below, line_bytes-at}
 use Rattle.h41_program.proofs.Inner.{not_final, not_null}
 use Rattle.h41_program.proofs.Packings.{length-packing, packed-join}
 
--- nulls that follow part a number from what is behind them
+-- Nulls separate a number from the bytes after them.
 nulls_stop : (n : ℕ) → GoesOn (replicate n 0) → ⊥
 nulls_stop zero goes = goes
 nulls_stop (suc n) goes = absurd (omega (arith, goes.0))
@@ -52,14 +52,14 @@ after_front xs ys k above =
     let place : k ≡ length xs + (k - length xs) = omega arith in
     ap (λ m. get_or (xs ++ ys) m 0) place ∙ get_or-append-add xs ys (k - length xs) 0
 
--- the first of lines, and the others
+-- The first line, and the others.
 pub first_inner : (line : Line) (lines : List Line) → All IsInner (line ∷ lines) → IsInner line
 first_inner line lines inner = inner 0 line (omega arith)
 
 pub others_inner : (line : Line) (lines : List Line) → All IsInner (line ∷ lines) → All IsInner lines
 others_inner line lines inner = λ k d below. inner (suc k) d (omega (arith, below))
 
--- a front that ends with nulls, and more of them
+-- Bytes that end in nulls, followed by more nulls.
 body_null : (front : List ℕ) (n at : ℕ) → ((k : ℕ) → at ≤ k → k < length front → get_or front k 0 ≡ 0) → (k : ℕ) → at ≤ k
     → get_or (front ++ replicate n 0) k 0 ≡ 0
 body_null front n at nulls k low = elim (cases_lt k (length front)) [
@@ -67,17 +67,17 @@ body_null front n at nulls k low = elim (cases_lt k (length front)) [
   | inr above ↦ after_front front (replicate n 0) k above ∙ all_null n (k - length front)
 ]
 
--- .END. as it is written
+-- The bytes of .END.
 end_begins : Begins written_end (FinalEnd 0 0) 3
 end_begins = record { inside = omega arith; spells = record { valid = (omega arith, omega arith); same = refl }; whole = tt }
 
--- a number by its test
+-- A number passes the test for numbers.
 number_passes : (line : Line) → IsNumber line → is_number line ≡ true
 number_passes (Number characters) is = refl
 number_passes Null is = absurd is
 number_passes line is = absurd is
 
--- the bytes behind a number of lines that follow it
+-- The bytes of the lines after a number do not continue the number.
 number_stops : (next : Line) (behind : List ℕ) → IsLine next → GoesOn ((if is_number next then 0 ∷ [] else []) ++ (spelling next ++ behind))
     → ⊥
 number_stops next behind valid goes = elim (cases_Bool (is_number next)) [
@@ -91,7 +91,7 @@ number_stops next behind valid goes = elim (cases_Bool (is_number next)) [
       false≢true (sym other ∙ number_passes next ((number_begins next behind valid).0 on))
 ]
 
--- a line is whole before the lines that follow it
+-- A line is complete before the lines after it.
 follows_whole : (line : Line) (lines : List Line) (n : ℕ) → All IsInner lines
     → IsWhole line (gap line lines ++ (packed_lines lines ++ replicate n 0))
 follows_whole (Number characters) [] n inner = λ goes. absurd (nulls_stop n goes)
@@ -100,12 +100,12 @@ follows_whole (Number characters) (next ∷ lines) n inner =
     (subst (λ (l : List ℕ). GoesOn ((if is_number next then 0 ∷ [] else []) ++ l)) (parts next lines n) goes))
 follows_whole line lines n inner = tt
 
--- the bytes behind a front
+-- The bytes after other bytes.
 take-front : (xs ys : List ℕ) → take (length xs) (xs ++ ys) ≡ xs
 take-front [] ys = refl
 take-front (x ∷ xs) ys = ap (λ (l : List ℕ). x ∷ l) (take-front xs ys)
 
--- the bytes that a line may take between a front and the last three bytes
+-- The bytes that a line may take between other bytes and the last three.
 between : (front middle end : List ℕ) → 1 ≤ length middle
     → line_bytes ((front ++ middle) ++ end) (length (front ++ middle)) (length front) ≡ middle
 between front middle end some =
@@ -116,12 +116,12 @@ between front middle end some =
     ∙ ap (λ n. take n (middle ++ end)) (let all : length (front ++ middle) - length front ≡ length middle = omega (arith, size) in all)
     ∙ take-front middle end
 
--- nulls stay nulls
+-- The bytes between lines are nulls.
 gap_null : (line : Line) (lines : List Line) (k : ℕ) → get_or (gap line lines) k 0 ≡ 0
 gap_null line [] k = refl
 gap_null line (next ∷ lines) k = chosen_null (is_number line && is_number next) k
 
--- what is read of lines behind a front, where nulls may end the front
+-- Lines are read again after other bytes, which may end in nulls.
 module _ (again : ByteRoundTrip) where
   pub trip : (lines : List Line) (front : List ℕ) (at n : ℕ) → All IsInner lines → at ≤ length front
       → ((k : ℕ) → at ≤ k → k < length front → get_or front k 0 ≡ 0)
@@ -182,7 +182,7 @@ module _ (again : ByteRoundTrip) where
         ap (λ (l : List Line). line ∷ l) rest.2,
       )
 
-  -- the lines behind others, from the byte behind these on
+  -- Lines after others are read from the byte after these on.
   pub reads_behind : (lines rest : List Line) → All IsInner rest → (listed : List ListedLine)
       × Reads (packing (lines ++ rest)) (length (packing (lines ++ rest)) - 3) (length (packed_lines lines)) listed
       × (lines_of listed ≡ rest ++ FinalEnd 0 0 ∷ [])

@@ -1,4 +1,4 @@
--- Searches, line after line.
+-- Searches, line by line.
 use Rattle.std.proofs.Common.{◌≡◌, ℕ, ◌≤◌, Bool, true, false, List, [], ◌∷◌, ◌++◌, refl, sym, ◌∙◌, ap, Option, Some, None, arith, inl, inr}
 use Rattle.std.proofs.Common.{append_assoc}
 use Rattle.std.proofs.Math.Bool.{and-false}
@@ -18,7 +18,7 @@ use Rattle.h41_program.proofs.Walks.{last_rest, more_rest}
 use Rattle.h41_program.specs.Searches.{start_in, label_in, named_in, position_of}
 use Rattle.std.proofs.lemmas.Option.{none-some}
 
--- .END. is no END and no label
+-- .END. is no END and no label.
 final_no_end : (line : Line) → is_final_end line ≡ true → is_end line ≡ false
 final_no_end (FinalEnd link marks) final = refl
 final_no_end line final = cc
@@ -31,7 +31,7 @@ final_no_label : (n : ℕ) (line : Line) → is_final_end line ≡ true → is_l
 final_no_label n (FinalEnd link marks) final = refl
 final_no_label n line final = cc
 
--- a label is no END
+-- A label is no END.
 label_no_end : (n : ℕ) (line : Line) → is_label n line ≡ true → is_end line ≡ false
 label_no_end n (End link marks) is = cc
 label_no_end n line is = refl
@@ -61,7 +61,7 @@ pub start_in-final : (at : ℕ) (before : List ListedLine) (listed : ListedLine)
     → start_in at (before ++ listed ∷ []) ≡ start_in at before
 start_in-final at before listed final = start_in-more at before listed ∙ (rw (final_no_end listed.line final) refl)
 
--- a line at or behind a position tells nothing of what is before it, and neither do those behind the line
+-- A line at or after a position does not affect the start of the position's program, and neither do the lines after it.
 start_in-at : (at : ℕ) (before : List ListedLine) (listed : ListedLine) → at ≤ listed.position
     → start_in at (before ++ listed ∷ []) ≡ start_in at before
 start_in-at at before listed above =
@@ -96,7 +96,7 @@ pub named_in-final : (name : List ℕ) (before : List ListedLine) (listed : List
     → position_of (named_in name (before ++ listed ∷ [])) ≡ position_of (named_in name before)
 named_in-final name before listed final = named_in-more name before listed ∙ (rw (final_no_name name listed.line final) refl)
 
--- one line of a search for a label
+-- One line of a search for a label.
 module _ (n : ℕ) (listed : ListedLine) (rest : List ListedLine) where
   abbrev kept : List ListedLine
   kept = take_while (λ each. not (is_end each.line)) rest
@@ -116,13 +116,13 @@ module _ (n : ℕ) (listed : ListedLine) (rest : List ListedLine) where
 pub label_in-final : (n : ℕ) (listed : ListedLine) → is_final_end listed.line ≡ true → label_in n (listed ∷ []) ≡ None
 label_in-final n listed final = label_in-other n listed [] (final_no_end listed.line final) (final_no_label n listed.line final)
 
--- a search that found a line needs no other
+-- A search that found a line needs no second search.
 pub some_or : (first second : Option ListedLine) (position : ℕ) → position_of first ≡ Some position
     → Some position ≡ position_of (option_or first second)
 some_or None second position found = absurd (none-some position found)
 some_or (Some listed) second position found = sym found
 
--- a search that found nothing gives way to another
+-- After a search that found nothing, the answer is that of the second search.
 pub none_or : (first second : Option ListedLine) (result : Option ℕ) → position_of first ≡ None → result ≡ position_of second
     → result ≡ position_of (option_or first second)
 none_or None second result none same = same

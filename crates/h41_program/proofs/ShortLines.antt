@@ -1,4 +1,4 @@
--- A line of one byte is that of all bytes that begin with this byte.
+-- A line of one byte is the line of all bytes that begin with this byte.
 use Rattle.std.proofs.Common.{◌≡◌, ℕ, suc, ◌+◌, ◌-◌, ◌<◌, ◌≤◌, List, [], ◌∷◌, ◌++◌, map, take, drop, Ok, Result, sym, ◌∙◌, ap, subst, arith}
 use Rattle.std.proofs.Common.{inl, inr}
 use Rattle.std.proofs.Common.{min}
@@ -15,7 +15,7 @@ use Rattle.h41_program.specs.ProgramBytes.{program_byte}
 use Rattle.h41_program.specs.private.Reading.{bytes_seen}
 use Rattle.h41_ram.specs.RegisterMap.{RegisterMap}
 
--- a byte with which no number begins
+-- A byte with which no number begins.
 abbrev pub BeginsNoNumber : ℕ → Type 0
 BeginsNoNumber byte = 0x10 ≤ byte → byte ≤ 0x1C → ⊥
 
@@ -62,7 +62,7 @@ answers_alone one bytes line count begins = λ other size. (
   λ found. let same = one bytes line other count size begins found in ap Ok (λ i. (same.0 i, same.1 i)),
 )
 
--- the bytes that are seen begin with the first
+-- The bytes that are examined begin with the first one.
 pub seen_first : (memory : RegisterMap) (at limit : ℕ) → at < limit
     → bytes_seen memory at limit ≡ program_byte memory at ∷ map (program_byte memory) (range_with_len (at + 1) (min 18 (limit - at) - 1))
 seen_first memory at limit before =
@@ -73,7 +73,7 @@ answers_same : {E : Type 0} (found : Result (Line × ℕ) E) (bytes other : List
     → AnswersLine found other
 answers_same found bytes other same answers = subst (λ (of : List ℕ). AnswersLine found of) same answers
 
--- a line that was read of the first byte alone
+-- A line that was read from the first byte alone.
 pub seen_alone : {E : Type 0} (one : OneLine) (numbers : NumberBegins) (memory : RegisterMap) (at limit byte : ℕ) (line : Line) (count : ℕ)
     → at < limit → byte ≡ program_byte memory at → BeginsNoNumber byte → Begins (byte ∷ []) line count
     → AnswersLine {E = E} (Ok (line, count)) (bytes_seen memory at limit)
@@ -83,7 +83,7 @@ seen_alone one numbers memory at limit byte line count before is other begins =
     let alone = begins_alone numbers byte rest line count other begins in
     answers_same (Ok (line, count)) (byte ∷ rest) (bytes_seen memory at limit) same (answers_alone one (byte ∷ rest) line count alone)
 
--- a byte of which a line of its own begins no number
+-- A byte that is a line on its own begins no number.
 pub no_number : (byte : ℕ) → IsOneByte byte → BeginsNoNumber byte
 no_number byte (inl low) = λ from to. omega (arith, low, from)
 no_number byte (inr high) = λ from to. omega (arith, high.0, to)
@@ -96,7 +96,7 @@ whole_narrow numbers (Number characters) byte count more rest valid same other =
     absurd (other own.0 own.1)
 whole_narrow numbers line byte count more rest valid same other = tt
 
--- a line that no number is, of the first of bytes, is that of all
+-- A line of the first bytes that is no number is the line of all bytes.
 pub begins_narrow : (numbers : NumberBegins) (byte m : ℕ) (more : List ℕ) (line : Line) (count : ℕ) → BeginsNoNumber byte
     → Begins (take m (byte ∷ more)) line count → Begins (byte ∷ more) line count
 begins_narrow numbers byte m more line count other begins =
@@ -113,13 +113,13 @@ begins_narrow numbers byte m more line count other begins =
           (subst (λ (n : ℕ). take n (byte ∷ more) ≡ spelling line) one same) other;
     }
 
--- fewer bytes that are seen are the first of more
+-- If fewer bytes are examined, they are the first ones.
 seen_fewer : (memory : RegisterMap) (at near limit : ℕ) → near ≤ limit
     → take (min 18 (near - at)) (bytes_seen memory at limit) ≡ bytes_seen memory at near
 seen_fewer memory at near limit inside =
     take-map-range_with_len (program_byte memory) at (min 18 (limit - at)) (min 18 (near - at)) (omega (arith, inside))
 
--- a line that was read of fewer bytes, the first of which begins no number
+-- A line that was read from fewer bytes, the first of which begins no number.
 pub seen_narrow : {E : Type 0} (one : OneLine) (numbers : NumberBegins)
     (memory : RegisterMap) (at near limit byte : ℕ) (line : Line) (count : ℕ)
     → at < limit → near ≤ limit → byte ≡ program_byte memory at → BeginsNoNumber byte → Begins (bytes_seen memory at near) line count

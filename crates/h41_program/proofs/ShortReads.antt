@@ -1,4 +1,4 @@
--- A short line of the bytes that were read is that of memory.
+-- A short line that is read from eight bytes is that of memory.
 use Rattle.std.proofs.Common.{◌≡◌, ◌≢◌, ℕ, suc, ◌+◌, ◌-◌, ◌<◌, ◌≤◌, List, [], ◌∷◌, ◌++◌, map, min, length, take, drop, Ok, Result}
 use Rattle.std.proofs.Common.{true, refl, sym, ap, ◌∙◌, subst, arith, inl, inr}
 use Rattle.std.specs.Prelude.{slice_index, slice_range}
@@ -26,13 +26,13 @@ use Rattle.h41_program.proofs.ShortLines.{BeginsNoNumber, seen_narrow}
 use Rattle.h41_program.proofs.Windows.{begins_least, drop-map-range}
 use Rattle.h41_ram.specs.RegisterMap.{RegisterMap, is_sound}
 
--- the first of the bytes that were read
+-- The first of the bytes that were read.
 pub first_read : (memory : RegisterMap) (at number byte : ℕ) → at < byte_count memory → HoldsBytes memory at number
     → byte ≡ number_byte number 7 → byte ≡ program_byte memory at
 first_read memory at number byte inside holds is =
     is ∙ holds 0 (omega arith) (omega (arith, inside)) ∙ ap (program_byte memory) (omega arith)
 
--- what short lines are not
+-- A short line is no null and no number, is complete before any bytes, and has at most three.
 no_null : (line : ShortLine) → line_of line ≡ Null → ⊥
 no_null (short.LocalLabel label) same = cc
 no_null (short.Register function register) same = cc
@@ -73,7 +73,7 @@ three (short.BranchIndirect branch register) = omega arith
 three (short.ShortGoTo label distance) = omega arith
 three (short.BranchTo branch distance backwards label) = omega arith
 
--- they do not end memory
+-- A short line does not end memory.
 pub goes_on : (memory : RegisterMap) (line : ShortLine) (at behind next : ℕ) → PositionFrom memory behind next
     → FoundBehind memory (record { listed = record { position = at; line = line_of line }; behind = behind }) next
 goes_on memory (short.LocalLabel label) at behind next from = from
@@ -85,7 +85,7 @@ goes_on memory (short.BranchIndirect branch register) at behind next from = from
 goes_on memory (short.ShortGoTo label distance) at behind next from = from
 goes_on memory (short.BranchTo branch distance backwards label) at behind next from = from
 
--- what the first byte of a short line is not
+-- The first byte of a short line begins no null and no number.
 module _ (first : ℕ) (more : List ℕ) (line : ShortLine) (size : ℕ) (begins : Begins (first ∷ more) (line_of line) size) where
   spelled : first ∷ take (size - 1) more ≡ spelling (line_of line)
   spelled =
@@ -102,13 +102,13 @@ module _ (first : ℕ) (more : List ℕ) (line : ShortLine) (size : ℕ) (begins
       no_number line ((numbers (line_of line) [] begins.spells.valid).0
       (subst (λ (bytes : List ℕ). GoesOn (bytes ++ [])) spelled (from, to)))
 
--- how many bytes a short line can have
+-- A short line has one to three bytes.
 pub size_of : (first size : ℕ) → IsShort first size → (1 ≤ size) × (size ≤ 3)
 size_of first size (inl one) = (omega (arith, one.0), omega (arith, one.0))
 size_of first size (inr (inl two)) = (omega (arith, two.0), omega (arith, two.0))
 size_of first size (inr (inr three)) = (omega (arith, three.0), omega (arith, three.0))
 
--- a short line that was found, and the next position
+-- A short line that was found, and the next position.
 pub short_found :
     (memory : RegisterMap) (at : ℕ) (line : ShortLine) (next : ℕ)
     → HasShort memory at line next → AnswersBoth memory at (Ok (line_of line, next))
@@ -132,7 +132,7 @@ module _ (one : OneLine) (memory : RegisterMap) (at last first second third : �
   taken : (size : ℕ) → size ≤ 3 → take size bytes ≡ map (program_byte memory) (range_with_len at size)
   taken size few = ap (take size) seen ∙ take-map-range_with_len (program_byte memory) at 3 size few
 
-  -- a line that fits before the final bytes is the first
+  -- A line that fits before the last three bytes is the first line.
   pub short_first : NumberBegins → NullBegins → is_sound memory ≡ true → (line : ShortLine) (size : ℕ) → Begins bytes (line_of line) size
       → at + size ≤ last
       → HasFirst memory at (record { listed = record { position = at; line = line_of line }; behind = at + size })
@@ -168,7 +168,7 @@ module _ (memory : RegisterMap) (at last first : ℕ) (last_is : last ≡ final_
   abbrev behind_first : List ℕ
   behind_first = map (program_byte memory) (range_with_len (at + 1) (final - at - 1))
 
-  -- the bytes up to the final ones, the first of them in front
+  -- The bytes up to the last three, with the first one separated.
   first_in_front : slice_range (program_bytes memory) at final ≡ first ∷ behind_first
   first_in_front =
       let f = program_byte memory in
@@ -193,7 +193,7 @@ module _ (memory : RegisterMap) (at last first : ℕ) (last_is : last ≡ final_
       let same = sized behind_first line long (begins_with_first line long begins) in
       omega (arith, over, most, same, last_is)
 
--- none stands at the final bytes or behind them
+-- There is no short line at the last three bytes or after them.
 pub none_at_end : (memory : RegisterMap) (at : ℕ) → final_position memory ≤ at → HasNoShort memory at
 none_at_end memory at end line size begins =
     let all = program_bytes memory in

@@ -1,4 +1,4 @@
--- Bytes begin with a line of the size that their first bytes tell, where there are so many of them.
+-- Bytes begin with a line of the size that their first bytes determine, if there are as many.
 use Rattle.std.proofs.Common.{◌≡◌, ℕ, zero, suc, ◌+◌, ◌-◌, ◌*◌, ◌/◌, ◌%◌, ◌<◌, ◌≤◌, Bool, true, false, ◌&&◌, List, [], ◌∷◌, map, length}
 use Rattle.std.proofs.Common.{take, drop, get_or, refl, sym, ◌∙◌, ap, subst, arith, inl, inr, length-take-le, length-take}
 use Rattle.std.specs.Prelude.{◌==◌}
@@ -24,15 +24,15 @@ use Rattle.h41_codes.specs.declared.line.Operand.TheVariants.{Direct, Indirect}
 use Rattle.h41_codes.proofs.Beginnings.{begins_by, begins_label}
 use Rattle.h41_program.specs.private.Reading.{EndsNothing}
 
--- bytes begin with a line of so many bytes that ends nothing
+-- Bytes begin with a line of so many bytes that ends neither a program nor memory.
 abbrev pub Sized : List ℕ → ℕ → Type 0
 Sized bytes size = (line : Line) × Begins bytes line size × EndsNothing line
 
--- bytes are all those of a line that is no number and ends nothing
+-- Bytes are all those of a line that is no number and ends neither a program nor memory.
 abbrev Spelled : List ℕ → Type 0
 Spelled bytes = (line : Line) × Spells bytes line × ((rest : List ℕ) → IsWhole line rest) × EndsNothing line
 
--- so many first ones are bytes
+-- The first so many numbers are bytes.
 abbrev pub Bytes : List ℕ → ℕ → Type 0
 Bytes bytes size = (k : ℕ) → k < size → get_or bytes k 0 < 256
 
@@ -45,7 +45,7 @@ are_bytes bytes from count size within all index inside =
     let same = get_or-take count (drop from bytes) index 0 low ∙ get_or-drop from bytes index 0 in
     subst (λ (byte : ℕ). byte < 256) (sym same) (all (from + index) (omega (arith, low, within)))
 
--- a test of each number below one
+-- A test of each number below a bound.
 abbrev every : ℕ → (ℕ → Bool) → Bool
 every zero test = true
 every (suc n) test = test n && every n test
@@ -59,7 +59,7 @@ every_holds (suc n) test all k inside =
       | inr here ↦ let same : n ≡ k = omega (arith, here, inside) in subst (λ (m : ℕ). test m ≡ true) same parts.0
     ]
 
--- lines of two bytes: the function with an operand of a code, by the code that its kind begins with
+-- Lines of two bytes: the function with an operand that has a code, by the first code of its kind.
 function_of : (first count index : ℕ)
     → every count (λ k. parameter_function_code (get_or parameter_functions (index + k) Recall) == first + k) ≡ true
     → (code : ℕ) → first ≤ code → code < first + count
@@ -155,7 +155,7 @@ pair_sized (first ∷ []) some two all = absurd (omega (arith, some))
 pair_sized (first ∷ second ∷ rest) some two all =
     in_front (first ∷ second ∷ rest) 2 some (pair_line first second two (all 1 (omega arith)))
 
--- branches of three bytes
+-- Branches of three bytes.
 branch_of : (first : ℕ) → 0xD0 ≤ first → first < 0xF0
     → (branch : Branch) × (high : ℕ) × (high < 16) × (branch_code branch + high ≡ first)
 branch_of first from below = elim (cases_lt first 0xE0) [
@@ -198,7 +198,7 @@ triple_sized (first ∷ second ∷ third ∷ rest) some from below all =
     in_front (first ∷ second ∷ third ∷ rest) 3 some
     (triple_line first second third from below (all 1 (omega arith)) (all 2 (omega arith)))
 
--- texts, and a function in front of one
+-- Texts, and functions with a text.
 pub text_sized : (bytes : List ℕ) (n : ℕ) → get_or bytes 0 0 ≡ 0xF0 + n → n ≤ 15 → suc n ≤ length bytes → Bytes bytes (suc n)
     → Sized bytes (suc n)
 text_sized [] n is few inside all = absurd (omega (arith, inside))
@@ -245,7 +245,7 @@ named_sized (first ∷ second ∷ rest) n range is few inside all =
       (refl, refl),
     )
 
--- END and .END., by bit 5 of the third byte
+-- END and .END., by bit 5 of the third byte.
 pub end_sized : (bytes : List ℕ) → 3 ≤ length bytes → IsIn 0xC0 0xCE (get_or bytes 0 0) → get_or bytes 2 0 < 0xF0
     → get_or bytes 2 0 / 32 % 2 ≡ 0 → Bytes bytes 3 → (link marks : ℕ) × Begins bytes (End link marks) 3
 end_sized [] some range below clear all = absurd (omega (arith, some))
@@ -283,7 +283,7 @@ final_sized (first ∷ second ∷ third ∷ rest) some range below set all =
           tt,
     )
 
--- global labels, with one character less than the third byte counts
+-- Global labels, with one character less than the third byte counts.
 pub label_sized : (bytes : List ℕ) (n : ℕ) → IsIn 0xC0 0xCE (get_or bytes 0 0) → get_or bytes 2 0 ≡ 0xF1 + n → n ≤ 14
     → 4 + n ≤ length bytes → Bytes bytes (4 + n) → Sized bytes (4 + n)
 label_sized bytes n range is few inside all =
@@ -298,7 +298,7 @@ label_sized bytes n range is few inside all =
       (refl, refl),
     )
 
--- numbers
+-- Numbers.
 character_of : (code : ℕ) → IsIn 0x10 0x1D code → (character : Character) × (character_code character ≡ code)
 character_of code range =
     let k = code - 0x10 in

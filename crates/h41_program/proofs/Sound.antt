@@ -1,4 +1,4 @@
--- What is known of sound memory: where its program memory lies, and that it ends with an END.
+-- The facts about sound memory: the bounds of its program memory, and that it ends in .END.
 use Rattle.std.proofs.Common.{◌≡◌, ◌≢◌, ap, get_or, ℕ, ◌+◌, ◌-◌, ◌*◌, ◌/◌, ◌%◌, ◌<◌, ◌≤◌, Bool, true, false, List, length, arith, refl}
 use Rattle.std.proofs.lemmas.Bool.Decides.{nat_tests}
 use Rattle.std.specs.Prelude.{◌&&◌, nat_lt, nat_le, ◌==◌}
@@ -9,7 +9,7 @@ use Rattle.h41_digits.specs.Register.{byte_at, IsRegister}
 use Rattle.std.proofs.lemmas.List.Elements.{All-get_or}
 use Rattle.h41_program.specs.ProgramBytes.{program_byte, final_position}
 
--- where program memory lies
+-- The bounds of program memory.
 pub record Bounds (memory : RegisterMap) : Type 0 where
   pub low : main_start ≤ end_of memory
   pub order : end_of memory < curtain_of memory
@@ -23,7 +23,7 @@ pub and_second : (a b : Bool) → (a && b) ≡ true → b ≡ true
 and_second true b h = h
 and_second false b h = cc
 
--- a test that holds
+-- A test that is true.
 le_holds : (a b : ℕ) → nat_le a b ≡ true → a ≤ b
 le_holds a b h = grind (arith, nat_tests)
 
@@ -33,7 +33,7 @@ lt_holds a b h = grind (arith, nat_tests)
 eq_holds : (a b : ℕ) → (a == b) ≡ true → a ≡ b
 eq_holds a b h = grind (arith, nat_tests)
 
--- the parts of a test of five
+-- The five parts of a test.
 module _ (a b c d e : Bool) (h : (a && (b && c && d) && e) ≡ true) where
   first_holds : b ≡ true
   first_holds = and_first b c (and_first (b && c) d (and_second a (b && c && d) (and_first (a && (b && c && d)) e h)))
@@ -91,7 +91,7 @@ module _ (memory : RegisterMap) (sound : is_sound memory ≡ true) where
       and_first first second (and_first (first && second) third (and_first (first && second && third) (bit_of final 5)
       (last_holds constant_test low_test order_test high_test end_test sound)))
 
-  -- the last three bytes, tested
+  -- The test of the last three bytes.
   three_tests : (nat_le 0xC0 (byte_at final 2) && nat_le (byte_at final 2) 0xCD && nat_lt (byte_at final 0) 0xF0) ≡ true
   three_tests =
       and_first (nat_le 0xC0 (byte_at final 2) && nat_le (byte_at final 2) 0xCD && nat_lt (byte_at final 0) 0xF0) (bit_of final 5) ends
@@ -113,19 +113,19 @@ module _ (memory : RegisterMap) (sound : is_sound memory ≡ true) where
       eq_holds (get_or final 1 0 / 2 % 2) 1
       (and_second (nat_le 0xC0 (byte_at final 2) && nat_le (byte_at final 2) 0xCD && nat_lt (byte_at final 0) 0xF0) (bit_of final 5) ends)
 
--- the byte of a position, by its register and its place there
+-- The byte at a position, by its register and its place there.
 pub program_byte-at : (memory : RegisterMap) (position address place : ℕ) → curtain_of memory - 1 - position / 7 ≡ address
     → 6 - position % 7 ≡ place → program_byte memory position ≡ byte_at (register_at memory address) place
 program_byte-at memory position address place here there = rw (here, there) refl
 
--- .END. stands in the last three bytes of the last register
+-- .END. is in the last three bytes of the last register.
 last_register : (curtain end : ℕ) → end < curtain → curtain - 1 - (7 * (curtain - end) - 3) / 7 ≡ end
 last_register curtain end below = omega arith
 
 last_place : (curtain end : ℕ) → end < curtain → 6 - (7 * (curtain - end) - 3) % 7 ≡ 2
 last_place curtain end below = omega arith
 
--- the first of the last three bytes
+-- The first of the last three bytes.
 pub final_byte : (memory : RegisterMap) → is_sound memory ≡ true → 0xC0 ≤ program_byte memory (final_position memory)
 final_byte memory sound =
     let below = (bounds memory sound).order in
@@ -133,7 +133,7 @@ final_byte memory sound =
     (last_register (curtain_of memory) (end_of memory) below) (last_place (curtain_of memory) (end_of memory) below))
     (le_holds 0xC0 (byte_at (register_at memory (end_of memory)) 2) (final_test memory sound))
 
--- so no null
+-- It is therefore no null.
 pub no_null_at_end : (memory : RegisterMap) (last : ℕ) → is_sound memory ≡ true → last ≡ final_position memory
     → program_byte memory last ≢ 0
 no_null_at_end memory last sound is null =
@@ -141,7 +141,7 @@ no_null_at_end memory last sound is null =
     let same = ap (program_byte memory) is in
     omega (arith, high, null, same)
 
--- all three
+-- All three bytes.
 pub record FinalBytes (memory : RegisterMap) (last : ℕ) : Type 0 where
   pub first : IsIn 0xC0 0xCE (program_byte memory last)
   pub second : program_byte memory (last + 1) < 256

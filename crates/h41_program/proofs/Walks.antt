@@ -1,4 +1,4 @@
--- A walk along the list of lines: what was read so far, and what is left.
+-- A walk along the list of lines: the lines read so far, and the remaining ones.
 use Rattle.std.proofs.Common.{◌≡◌, ℕ, Bool, true, false, List, [], ◌∷◌, ◌++◌, refl, sym, ◌∙◌, ap, subst, append_assoc, append-nil, Option}
 use Rattle.std.proofs.Common.{Some, None}
 use Rattle.std.specs.Prelude.{MatchBool}
@@ -11,7 +11,7 @@ use Rattle.h41_program.specs.ProgramLines.{IsFirst, NoneFrom, Reads, LinesFrom, 
 use Rattle.h41_ram.specs.RegisterMap.{RegisterMap, is_sound}
 use Rattle.std.proofs.lemmas.Bool.{true≢false}
 
--- the list of lines from a position on, by its first one
+-- The list of lines from a position on, by its first line.
 pub first_rest : (bytes : List ℕ) (final at next : ℕ) (listed : ListedLine) (lines : List ListedLine) → IsFirst bytes final at listed next
     → Reads bytes final at lines
     → (rest : List ListedLine) × (lines ≡ listed ∷ rest) × MatchBool (is_final_end listed.line) (rest ≡ []) (Reads bytes final next rest)
@@ -28,7 +28,7 @@ pub no_rest : (bytes : List ℕ) (final at : ℕ) (lines : List ListedLine) → 
 no_rest bytes final at [] none reads = refl
 no_rest bytes final at (first ∷ rest) none reads = absurd (none first reads.0)
 
--- .END. is the last of the list, and no other line is for being one
+-- .END. ends the list, and no other line does.
 pub last_rest : (bytes : List ℕ) (final next : ℕ) (b : Bool) (rest : List ListedLine) → b ≡ true
     → MatchBool b (rest ≡ []) (Reads bytes final next rest) → rest ≡ []
 last_rest bytes final next b rest is matches = subst (λ (t : Bool). MatchBool t (rest ≡ []) (Reads bytes final next rest)) is matches
@@ -37,7 +37,7 @@ pub more_rest : (bytes : List ℕ) (final next : ℕ) (b : Bool) (rest : List Li
     → MatchBool b (rest ≡ []) (Reads bytes final next rest) → Reads bytes final next rest
 more_rest bytes final next b rest is matches = subst (λ (t : Bool). MatchBool t (rest ≡ []) (Reads bytes final next rest)) is matches
 
--- these lines were read, none of them .END., and those from a position on are left
+-- These lines were read, none of them .END., and those from a position on remain.
 pub record UpTo (bytes : List ℕ) (final from : ℕ) (before : List ListedLine) (at : ℕ) : Type 0 where
   pub split : (lines : List ListedLine) → Reads bytes final from lines
       → (rest : List ListedLine) × (lines ≡ before ++ rest) × Reads bytes final at rest
@@ -99,7 +99,7 @@ up_to_more bytes final from at next before listed upto is other = record {
       ∙ one_more before listed (before_end rest);
 }
 
--- the whole list, by the line that comes next
+-- The whole list, by the next line.
 pub goes_on : (bytes : List ℕ) (final from at next : ℕ) (before lines : List ListedLine) (listed : ListedLine)
     → UpTo bytes final from before at → IsFirst bytes final at listed next → Reads bytes final from lines
     → (rest : List ListedLine) × (lines ≡ before ++ listed ∷ rest)
@@ -108,7 +108,7 @@ goes_on bytes final from at next before lines listed upto is reads =
     let rest = first_rest bytes final at next listed parts.0 is parts.2 in
     (rest.0, parts.1 ∙ ap (λ (l : List ListedLine). before ++ l) rest.1)
 
--- the whole list, at its end
+-- The whole list, at its end.
 pub ends_none : (bytes : List ℕ) (final from at : ℕ) (before lines : List ListedLine) → UpTo bytes final from before at
     → NoneFrom bytes final at → Reads bytes final from lines → lines ≡ before
 ends_none bytes final from at before lines upto none reads =
@@ -125,7 +125,7 @@ ends_final bytes final from at next before lines listed upto is last reads =
     ∙ ap (λ (l : List ListedLine). before ++ l)
     (rest.1 ∙ ap (λ (l : List ListedLine). listed ∷ l) (last_rest bytes final next (is_final_end listed.line) rest.0 last rest.2))
 
--- the list was read to its end
+-- The list was read to its end.
 pub all_none : (bytes : List ℕ) (final from at : ℕ) (before : List ListedLine) → UpTo bytes final from before at → NoneFrom bytes final at
     → Reads bytes final from before
 all_none bytes final from at before upto none =
@@ -135,7 +135,7 @@ pub all_final : (bytes : List ℕ) (final from at next : ℕ) (before : List Lis
     → IsFirst bytes final at listed next → is_final_end listed.line ≡ true → Reads bytes final from (before ++ listed ∷ [])
 all_final bytes final from at next before listed upto is last = upto.joins (listed ∷ []) (reads_last bytes final at next listed is last)
 
--- the lines of sound memory
+-- The lines of sound memory.
 pub from_reads : (memory : RegisterMap) (at : ℕ) (lines : List ListedLine) → is_sound memory ≡ true
     → Reads (program_bytes memory) (final_position memory) at lines → LinesFrom memory at lines
 from_reads memory at lines sound reads = record {
@@ -143,7 +143,7 @@ from_reads memory at lines sound reads = record {
   lost = λ lost. absurd (true≢false (sym sound ∙ lost));
 }
 
--- the lines before .END.: none where the list ends otherwise
+-- The lines before .END. There are none if the list ends otherwise.
 pub before_end-none : (bytes : List ℕ) (final from at : ℕ) (before : List ListedLine) → UpTo bytes final from before at
     → before_end before ≡ None
 before_end-none bytes final from at before upto = ap before_end (sym (append-nil before)) ∙ upto.running []

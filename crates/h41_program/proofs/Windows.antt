@@ -1,4 +1,4 @@
--- A line is read of 18 bytes as of all.
+-- A line is read from 18 bytes as from all of them.
 use Rattle.std.proofs.Common.{◌≡◌, ℕ, suc, ◌+◌, ◌-◌, ◌<◌, ◌≤◌, List, [], ◌∷◌, map, length, take, drop, length-take-le, refl, sym, ◌∙◌, ap}
 use Rattle.std.proofs.Common.{subst, arith, inl, inr}
 use Rattle.std.specs.List.{range_with_len}
@@ -13,12 +13,12 @@ use Rattle.h41_codes.specs.declared.line.Line.{Line}
 use Rattle.h41_codes.specs.declared.line.Line.TheVariants.{Number}
 use Rattle.h41_codes.proofs.LineLengths.{spelling_most, spelling_least}
 
--- a count of bytes with which a line begins is that of its own
+-- The number of bytes with which bytes begin with a line is the line's own number of bytes.
 pub begins_count : (bytes : List ℕ) (line : Line) (count : ℕ) → Begins bytes line count → count ≡ length (spelling line)
 begins_count bytes line count begins =
     sym (length-take-le count bytes begins.inside) ∙ ap length begins.spells.same
 
--- the number of bytes of a line that is begun with
+-- A line with which bytes begin has at most 18 bytes.
 pub begins_most : (bytes : List ℕ) (line : Line) (count : ℕ) → Begins bytes line count → count ≤ 18
 begins_most bytes line count begins =
     subst (λ (n : ℕ). n ≤ 18) (sym (begins_count bytes line count begins)) (spelling_most line begins.spells.valid)
@@ -35,7 +35,7 @@ goes_out : (m : ℕ) (bytes : List ℕ) → GoesOn (take (suc m) bytes) → Goes
 goes_out m [] goes = absurd goes
 goes_out m (byte ∷ bytes) goes = goes
 
--- what is behind a line of fewer than 18 bytes
+-- The bytes after a line of fewer than 18 bytes.
 rest_in : (count : ℕ) (bytes : List ℕ) → count < 18 → drop count (take 18 bytes) ≡ take (suc (17 - count)) (drop count bytes)
 rest_in count bytes below =
     let size : 18 ≡ count + suc (17 - count) = omega arith in
@@ -79,7 +79,7 @@ begins_in bytes line count begins =
       whole = whole_in line bytes count begins.spells.valid (begins_count bytes line count begins) begins.whole;
     }
 
--- a part of a list made from a function
+-- A part of a list of a function's values.
 pub drop-map-range : (f : ℕ → ℕ) (n p : ℕ) → p ≤ n → drop p (map f (range_with_len 0 n)) ≡ map f (range_with_len p (n - p))
 drop-map-range f n p inside =
     let whole = length-map-range_with_len f 0 n in
@@ -92,7 +92,7 @@ drop-map-range f n p inside =
     ∙ get_or-map-range_with_len f 0 n (p + i) (p + i) 0 (omega arith) (omega arith)
     ∙ sym (get_or-map-range_with_len f p (n - p) i (p + i) 0 low refl))
 
--- the bytes of a window
+-- The first 18 bytes.
 pub take-window : (f : ℕ → ℕ) (p m : ℕ) → take 18 (map f (range_with_len p m)) ≡ map f (range_with_len p (min 18 m))
 take-window f p m = elim (cases_lt m 18) [
   | inl few ↦

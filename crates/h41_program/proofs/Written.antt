@@ -1,4 +1,4 @@
--- Lines that were written into memory: it is sound, and they are read again.
+-- Memory with lines that were written is sound, and the lines are read again.
 use Rattle.std.proofs.Common.{refl, ◌≡◌, ℕ, ◌+◌, ◌-◌, ◌*◌, ◌/◌, ◌≤◌, true, List, ◌++◌, length, get_or, replicate, sym, ◌∙◌, ap, subst}
 use Rattle.std.proofs.Common.{arith, inl, inr, All, Result, Ok, Err, length-append, get_or-append-add}
 use Rattle.std.proofs.lemmas.Bool.{cases_lt}
@@ -19,14 +19,14 @@ use Rattle.h41_program.proofs.Rooms.{written-none, written-some}
 use Rattle.h41_program.proofs.RoundTrips.{reads_behind, reads_packing}
 use Rattle.h41_program.proofs.Walks.{from_reads}
 
--- .END. ends a packing
+-- A packing ends in .END.
 final_bytes : (lines : List Line) (k : ℕ) → get_or (packing lines) (length (packing lines) - 3 + k) 0 ≡ get_or written_end k 0
 final_bytes lines k =
     let body = packed_lines lines ++ replicate (filler (length (packed_lines lines))) 0 in
     let size : length (packing lines) - 3 ≡ length body = omega (arith, length-append body written_end) in
     ap (λ n. get_or (packing lines) (n + k) 0) size ∙ get_or-append-add body written_end k 0
 
--- a packing fills registers
+-- A packing fills whole registers.
 pub registers_filled : (lines : List Line) → length (packing lines) ≡ 7 * (length (packing lines) / 7)
 registers_filled lines = omega (arith, length-packing lines)
 
@@ -45,7 +45,7 @@ refused_is_not_done new same = cc
 same_memory : (one other : RegisterMap) → ◌≡◌ {A = Result RegisterMap ProgramRefusal} (Ok one) (Ok other) → one ≡ other
 same_memory one other same = cc
 
--- lines that were written had room
+-- There was room for lines that were written.
 pub has_room : (memory new : RegisterMap) (lines : List Line) → with_program_lines memory lines ≡ Ok new
     → main_start + length (packing lines) / 7 ≤ curtain_of memory
 has_room memory new lines done = elim (cases_lt (curtain_of memory) (main_start + length (packing lines) / 7)) [
@@ -89,7 +89,7 @@ module _ (memory new : RegisterMap) (lines : List Line) (sound : is_sound memory
         subst (λ (n : ℕ). Reads (program_bytes new) n at listed) (sym written_final)
         (subst (λ (bytes : List ℕ). Reads bytes (length (packing lines) - 3) at listed) (sym written_bytes) reads)
 
--- lines behind others, from the byte behind these on
+-- Lines after others are read from the byte after these on.
 pub written_behind : ByteRoundTrip → (memory new : RegisterMap) (lines rest : List Line) → is_sound memory ≡ true → All IsInner rest
     → with_program_lines memory (lines ++ rest) ≡ Ok new → HasLines new (length (packed_lines lines)) rest
 written_behind again memory new lines rest sound inner done =

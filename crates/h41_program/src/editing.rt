@@ -35,7 +35,7 @@ enum Change {
     Delete,
 }
 
-/// Where a new line is written, relative to an existing one.
+/// The place of a new line, relative to an existing one.
 #[derive(Clone, Copy)]
 enum Placement {
     /// Before the existing line.

@@ -4,12 +4,12 @@ use Rattle.h41_program.specs.ProgramBytes.{program_bytes, final_position}
 use Rattle.h41_program.proofs.Walks.{UpTo}
 use Rattle.h41_program.proofs.editing.line_behind.Given as goal
 
--- the lines so far, and how many more stand before the line
+-- The lines so far, and how many more precede the line.
 abbrev pub invariant-loop-found : goal.invariant-loop-found
 invariant-loop-found g l =
     (before : List ListedLine) × UpTo (program_bytes l.ram.registers) (final_position l.ram.registers) 0 before l.at
     × (length before + l.left ≡ l.count)
 
--- the bytes that are left
+-- The number of remaining bytes.
 abbrev pub decreases-loop-found : goal.decreases-loop-found
 decreases-loop-found g l = length (program_bytes l.ram.registers) - l.at

@@ -5,7 +5,7 @@ use Rattle.h41_program.specs.ProgramBytes.{program_bytes, final_position}
 use Rattle.h41_program.proofs.Walks.{UpTo}
 use Rattle.h41_program.proofs.editing.lines_before.Given as goal
 
--- the lines so far stand before the place
+-- The lines so far precede the place.
 abbrev pub invariant-loop-found : goal.invariant-loop-found
 invariant-loop-found g l =
     (before : List ListedLine)
@@ -13,6 +13,6 @@ invariant-loop-found g l =
     × (l.count ≡ count_before l.place before)
     × (l.count ≤ l.at)
 
--- the bytes that are left
+-- The number of remaining bytes.
 abbrev pub decreases-loop-found : goal.decreases-loop-found
 decreases-loop-found g l = length (program_bytes l.ram.registers) - l.at

@@ -6,12 +6,12 @@ use Rattle.h41_program.specs.ProgramBytes.{program_bytes, final_position}
 use Rattle.h41_program.proofs.Walks.{UpTo}
 use Rattle.h41_program.proofs.loading.packed_program.Given as goal
 
--- the lines so far are packed
+-- The lines so far are packed.
 abbrev pub invariant-loop-found : goal.invariant-loop-found
 invariant-loop-found g l =
     (before : List ListedLine) × UpTo (program_bytes l.ram.registers) (final_position l.ram.registers) 0 before l.at
     × Packs l.packer (lines_of before)
 
--- the bytes that are left
+-- The number of remaining bytes.
 abbrev pub decreases-loop-found : goal.decreases-loop-found
 decreases-loop-found g l = length (program_bytes l.ram.registers) - l.at

@@ -3,10 +3,10 @@ use Rattle.h41_program.specs.declared.listed_line.ListedLine.{ListedLine}
 use Rattle.h41_program.proofs.Loads.{Loaded}
 use Rattle.h41_program.proofs.loading.put_loaded.Given as goal
 
--- all lines so far but the last are packed
+-- All lines so far except the last are packed.
 abbrev pub invariant-loop-taken : goal.invariant-loop-taken
 invariant-loop-taken l = (before : List ListedLine) × Loaded l.bytes l.initial.packer l.packer l.pending l.at before
 
--- the bytes that are left
+-- The number of remaining bytes.
 abbrev pub decreases-loop-taken : goal.decreases-loop-taken
 decreases-loop-taken l = length l.bytes - l.at

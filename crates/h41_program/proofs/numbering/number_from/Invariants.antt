@@ -5,7 +5,7 @@ use Rattle.h41_program.proofs.Numbers.{Counted}
 use Rattle.h41_program.proofs.Walks.{UpTo}
 use Rattle.h41_program.proofs.numbering.number_from.Given as goal
 
--- the lines so far
+-- The lines so far.
 abbrev pub invariant-loop-found : goal.invariant-loop-found
 invariant-loop-found g l =
     (before : List ListedLine)
@@ -14,6 +14,6 @@ invariant-loop-found g l =
     × (l.count ≤ l.at)
     × Counted l.position before
 
--- the bytes that are left
+-- The number of remaining bytes.
 abbrev pub decreases-loop-found : goal.decreases-loop-found
 decreases-loop-found g l = length (program_bytes l.ram.registers) - l.at

@@ -5,12 +5,12 @@ use Rattle.h41_program.proofs.Numbers.{Left}
 use Rattle.h41_program.proofs.Walks.{UpTo}
 use Rattle.h41_program.proofs.numbering.numbered_from.Given as goal
 
--- the lines so far
+-- The lines so far.
 abbrev pub invariant-loop-found : goal.invariant-loop-found
 invariant-loop-found g l =
     (before : List ListedLine) × UpTo (program_bytes l.ram.registers) (final_position l.ram.registers) l.from before l.at
     × Left l.number l.left before
 
--- the bytes that are left
+-- The number of remaining bytes.
 abbrev pub decreases-loop-found : goal.decreases-loop-found
 decreases-loop-found g l = length (program_bytes l.ram.registers) - l.at

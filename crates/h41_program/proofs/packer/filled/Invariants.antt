@@ -1,7 +1,7 @@
 use Rattle.std.proofs.Common.{◌≡◌, ◌+◌, ◌++◌, length, replicate}
 use Rattle.h41_program.proofs.packer.filled.Given as goal
 
--- the nulls so far
+-- The nulls so far.
 abbrev pub invariant-loop-null : goal.invariant-loop-null
 invariant-loop-null l = record {
   items : l.bytes.items ≡ l.initial.bytes.items ++ replicate l._null 0;

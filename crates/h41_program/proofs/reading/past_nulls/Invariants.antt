@@ -2,7 +2,7 @@ use Rattle.std.proofs.Common.{◌≡◌, ℕ, ◌-◌, ◌<◌, ◌≤◌}
 use Rattle.h41_program.specs.ProgramBytes.{program_byte}
 use Rattle.h41_program.proofs.reading.past_nulls.Given as goal
 
--- the bytes so far are nulls
+-- The bytes so far are nulls.
 abbrev pub invariant-loop-nulls : goal.invariant-loop-nulls
 invariant-loop-nulls g l = record {
   from : l.at ≤ l.position;

@@ -40,7 +40,7 @@ returns-in-240-to-255-clause-none g c =
     (text_lacks c.args.ram.now.registers c.args.at c.args.limit c.requires.from c.args.byte c.requires.byte
     (omega arith) (omega arith) (c.from.result + 1) (ap (λ n. n + 1) c.from.ensures))
 
--- the other bytes begin lines of two
+-- The other bytes begin lines of two bytes.
 from_90 : (byte : ℕ) → (IsOneByte byte → ⊥) → 0x20 ≤ byte → byte < 0xAF → IsTwoBytes byte
 from_90 byte longer from below = elim (cases_lt byte 0x90) [
   | inl low ↦ absurd (longer (inr (from, low)))

@@ -5,11 +5,11 @@ use Rattle.h41_program.proofs.Numbers.{Runs}
 use Rattle.h41_program.proofs.Walks.{UpTo}
 use Rattle.h41_program.proofs.searches.end_from.Given as goal
 
--- the lines so far
+-- The lines so far.
 abbrev pub invariant-loop-place : goal.invariant-loop-place
 invariant-loop-place g l = (before : List ListedLine) × UpTo (program_bytes l.ram.registers) (final_position l.ram.registers) l.from before
     l.at × Runs before
 
--- the bytes that are left
+-- The number of remaining bytes.
 abbrev pub decreases-loop-place : goal.decreases-loop-place
 decreases-loop-place g l = length (program_bytes l.ram.registers) - l.at

@@ -5,13 +5,13 @@ use Rattle.h41_program.specs.Searches.{named_in, position_of}
 use Rattle.h41_program.proofs.Walks.{UpTo}
 use Rattle.h41_program.proofs.searches.global.Given as goal
 
--- the answer of the lines so far
+-- The answer for the lines so far.
 abbrev pub invariant-loop-place : goal.invariant-loop-place
 invariant-loop-place g l =
     (before : List ListedLine)
     × UpTo (program_bytes l.ram.registers) (final_position l.ram.registers) 0 before l.position
     × (l.last ≡ position_of (named_in l.name before))
 
--- the bytes that are left
+-- The number of remaining bytes.
 abbrev pub decreases-loop-place : goal.decreases-loop-place
 decreases-loop-place g l = length (program_bytes l.ram.registers) - l.position

@@ -25,7 +25,7 @@ returns-then-place g c =
       before.2 ∙ sym (start_in-final c.args.at before.0 listed final),
     )
 
--- the list from there on has no line before the position
+-- The rest of the list has no line before the position.
 pub returns-then-place-at : goal.returns-then-place-at
 returns-then-place-at g c =
     let memory = c.args.ram.now.registers in

@@ -5,12 +5,12 @@ use Rattle.h41_program.specs.Searches.{start_in}
 use Rattle.h41_program.proofs.Walks.{UpTo}
 use Rattle.h41_program.proofs.searches.start_of.Given as goal
 
--- the answer of the lines so far
+-- The answer for the lines so far.
 abbrev pub invariant-loop-place : goal.invariant-loop-place
 invariant-loop-place g l =
     (before : List ListedLine) × UpTo (program_bytes l.ram.registers) (final_position l.ram.registers) 0 before l.position
     × (l.start ≡ start_in l.at before)
 
--- the bytes that are left
+-- The number of remaining bytes.
 abbrev pub decreases-loop-place : goal.decreases-loop-place
 decreases-loop-place g l = length (program_bytes l.ram.registers) - l.position

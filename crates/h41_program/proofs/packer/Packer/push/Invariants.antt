@@ -1,7 +1,7 @@
 use Rattle.std.proofs.Common.{◌≡◌, ◌+◌, ◌++◌, take, length}
 use Rattle.h41_program.proofs.packer.Packer.push.Given as goal
 
--- the bytes so far
+-- The bytes so far.
 abbrev pub invariant-loop-byte : goal.invariant-loop-byte
 invariant-loop-byte l = record {
   items : l.self.bytes.items ≡ l.initial.self.bytes.items ++ take l.byte-index l.more;

@@ -5,7 +5,7 @@ use Rattle.h41_program.proofs.Sound.{bounds}
 use Rattle.h41_program.proofs.packer.Packer.write.Goals.{then-full-via-then-full, then-full-via-else-full+then-len-room}
 use Rattle.h41_program.proofs.packer.Packer.write.Goals as goal
 
--- the test of room
+-- The test of whether there is room.
 few_by : (count long from curtain : ℕ) → count ≡ long → from ≡ curtain → count + 3 ≤ 7 * (from - main_start)
     → long + 3 ≤ 7 * (curtain - main_start)
 few_by count long from curtain counted same few = omega (arith, counted, same, few)
@@ -14,7 +14,7 @@ many_by : (count long from curtain : ℕ) → count ≡ long → from ≡ curtai
     → 7 * (curtain - main_start) < long + 3
 many_by count long from curtain counted same many = omega (arith, counted, same, many)
 
--- how much room there is at most
+-- The most room that there can be.
 module _ (memory : RegisterMap) (registers curtain : ℕ) (is : IsMemory registers memory) (sound : is_sound memory ≡ true)
     (same : curtain ≡ curtain_of memory) where
   room_from : curtain_of memory ≡ main_start + (curtain - main_start)
@@ -31,7 +31,7 @@ has_room : (memory : RegisterMap) (registers curtain from count long : ℕ) → 
 has_room memory registers curtain from count long is sound same counted read few =
     record { memory_is = is; sound = sound; curtain_is = same; few = few_by count long from curtain counted read few }
 
--- its parts, as they are read
+-- The parts of the test, as they are read.
 module _ (memory : RegisterMap) (registers curtain from : ℕ) (is : IsMemory registers memory) (sound : is_sound memory ≡ true)
     (same : curtain ≡ curtain_of memory) (read : from ≡ curtain) where
   curtain_low : main_start ≤ from
@@ -74,7 +74,7 @@ returns-then-full-clause-small g c = curtain_small c.args.ram.now.registers _ c.
 pub returns-clause-small : goal.returns-clause-small
 returns-clause-small g c = curtain_small c.args.ram.now.registers _ c.curtain-curtain.ensures.memory c.requires
 
--- what fits
+-- The numbers fit into their types.
 fits_word : (n : ℕ) → n ≤ 320 → Fits w16 n
 fits_word n small = omega (arith, small)
 

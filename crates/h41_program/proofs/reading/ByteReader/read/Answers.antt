@@ -6,7 +6,7 @@ use Rattle.h41_program.specs.private.Reading.{register_holding}
 use Rattle.h41_program.proofs.reading.ByteReader.read.Goals as goal
 use Rattle.h41_program.proofs.reading.ByteReader.read.Goals.{then-self-eq0, else-self-eq0}
 
--- the register of a position, and how many of its bytes follow
+-- The register of a position, and the number of its bytes that are left.
 record IsHeld (register expected : List ℕ) (left position : ℕ) : Type 0 where
   pub own : register ≡ expected
   pub few : left ≤ 7

@@ -1,4 +1,4 @@
--- A register is kept as its number: the digits of a number, and what masks and shifts do to them.
+-- A register is stored as its number: the digits of a number, and the effect of masks and shifts on them.
 use Rattle.std.proofs.Common.{◌≡◌, ℕ, suc, zero, ◌+◌, ◌-◌, ◌*◌, ◌/◌, ◌%◌, ◌^◌, ◌<◌, ◌≤◌, List, [], ◌∷◌, length, set, get_or, replicate}
 use Rattle.std.proofs.Common.{refl, sym, ap, subst, arith, ◌∙◌, ◌≢◌, length-set, get_or-set_other, mul_comm, drop, ◌++◌, Bool, true, eqb}
 use Rattle.std.specs.Fmt.{digit_glyph}
@@ -15,7 +15,7 @@ use Rattle.h41_digits.specs.Register.{IsRegister, value, text, byte_at, set_byte
 use Rattle.h41_digits.specs.Packed.{digits_of, pow-next, value-digits_of, value-cons}
 use Rattle.h41_digits.proofs.Values.{value-below, text-snoc}
 
--- a place is four bits wide
+-- A place is four bits wide.
 pub bits_of_places : (places : ℕ) → 2 ^ (4 * places) ≡ 16 ^ places
 bits_of_places zero = refl
 bits_of_places (suc places) =
@@ -33,7 +33,7 @@ each-digits_of : (places number : ℕ) → AllByRecursion (λ digit. digit < 16)
 each-digits_of zero number = tt
 each-digits_of (suc places) number = (omega arith, each-digits_of places (number / 16))
 
--- the digits of a number that digits hold are those
+-- The digits of a number that digits hold are those.
 digits_of-value_each : (digits : List ℕ) → AllByRecursion (λ digit. digit < 16) digits → digits_of (length digits) (value digits) ≡ digits
 digits_of-value_each [] each = refl
 digits_of-value_each (digit ∷ digits) each =
@@ -57,18 +57,18 @@ get-digits_of (suc places) number (suc place) inside =
     get-digits_of places (number / 16) place (omega (arith, inside))
     ∙ ap (λ rest. rest % 16) (div-div-eq-div-mul number 16 (16 ^ place) ∙ ap (λ weight. number / weight) (sym (pow-succ' 16 place)))
 
--- the digits of any number are a register
+-- The digits of any number are a register.
 pub register-digits_of : (places number : ℕ) → IsRegister places (digits_of places number)
 register-digits_of places number =
     record { size = length-digits_of places number; each = All-from_recursion _ _ (each-digits_of places number) }
 
--- what is kept is a register, and the number is that of its digits
+-- What is kept is a register, and the number is that of its digits.
 pub is_register : (places word : ℕ) (digits : List ℕ) → digits_of places word ≡ digits → word < 16 ^ places
     → IsRegister places digits × (value digits ≡ word)
 is_register places word digits seen fits =
     (subst (IsRegister places) seen (register-digits_of places word), ap value (sym seen) ∙ value-digits_of places word fits)
 
--- another digit at one place
+-- Another digit at one place.
 pub value-set : (digits : List ℕ) (place digit : ℕ) → place < length digits
     → value (set digits place digit) + get_or digits place 0 * 16 ^ place ≡ value digits + digit * 16 ^ place
 value-set [] place digit inside = absurd (omega (arith, inside))
@@ -84,7 +84,7 @@ set-register places digits place digit register small = record {
   each = All-set (λ digit. digit < 16) digits place digit small register.each;
 }
 
--- a word that holds the number of digits is kept as those
+-- A word that holds the number of digits is kept as those.
 pub kept_as : (places word : ℕ) (digits : List ℕ) → IsRegister places digits → value digits ≡ word
     → (digits_of places word ≡ digits) × (word < 16 ^ places)
 kept_as places word digits register held = (
@@ -92,7 +92,7 @@ kept_as places word digits register held = (
   omega (arith, rw register.size at (value-below digits register.each)),
 )
 
--- the bits of a mask, and a word without them
+-- The bits of a mask, and a word without them.
 mul_one_more : (a b : ℕ) → a * b + b ≡ (a + 1) * b
 mul_one_more a b = omega arith
 
@@ -113,11 +113,11 @@ apart_from_mask word mask bits fits own =
     ap (bit_and kept) (sym own ∙ and_comm bits mask) ∙ sym (and_assoc bits kept mask) ∙ ap (λ n. bit_and n bits) cleared
     ∙ omega (arith, and_le_l 0 bits)
 
--- what is kept and what is put in
+-- What is kept and what is put in.
 pub three_parts : (joined kept moved covered word : ℕ) → joined ≡ kept + moved → kept + covered ≡ word → joined + covered ≡ word + moved
 three_parts joined kept moved covered word e parts = omega arith
 
--- other bits in the place of some
+-- Other bits in the place of some.
 pub put_in : (word at width bits : ℕ) → word < 2 ^ 64 → width + at ≤ 64 → bits < 2 ^ width
     → bit_or (bit_and word (2 ^ 64 - 1 - (2 ^ width - 1) * 2 ^ at % 2 ^ 64)) (bits * 2 ^ at % 2 ^ 64) + word / 2 ^ at % 2 ^ width * 2 ^ at
     ≡ word + bits * 2 ^ at
@@ -142,18 +142,18 @@ put_in word at width bits fits inside small =
     ∙ ap (λ n. bit_and (2 ^ 64 - 1 - mask) word + n) (sym covered ∙ sym turned_mask) ∙ parts in
     three_parts _ kept moved _ word joined all
 
--- a byte is two places wide
+-- A byte is two places wide.
 pub bits_of_bytes : (k : ℕ) → 2 ^ (8 * k) ≡ 16 ^ (2 * k)
 bits_of_bytes k = ap (λ bits. 2 ^ bits) (omega arith) ∙ bits_of_places (2 * k)
 
--- the digit at a place, and the byte of two, as a shift and a mask read them
+-- The digit at a place, and the byte of two, as a shift and a mask read them.
 pub digit_read : (places word place : ℕ) (digits : List ℕ) → digits_of places word ≡ digits → place < places
     → bit_and (word / 2 ^ (4 * place)) 15 ≡ get_or digits place 0
 digit_read places word place digits seen inside =
     and_mask (word / 2 ^ (4 * place)) 4 ∙ ap (λ weight. word / weight % 16) (bits_of_places place)
     ∙ sym (get-digits_of places word place inside) ∙ ap (λ d. get_or d place 0) seen
 
--- a byte has two digits
+-- A byte has two digits.
 halves : (q high low : ℕ) → high ≡ q / 16 % 16 → low ≡ q % 16 → q % 256 ≡ high * 16 + low
 halves q high low is_high is_low = omega arith
 
@@ -182,7 +182,7 @@ pub byte_read : (places word k : ℕ) (digits : List ℕ) → digits_of places w
     → bit_and (word / 2 ^ (8 * k)) 255 ≡ byte_at digits k
 byte_read places word k digits seen inside = and_mask (word / 2 ^ (8 * k)) 8 ∙ byte_shifted places word k digits seen inside
 
--- another digit, and another byte, put into the word
+-- Another digit, and another byte, put into the word.
 pub put_digit : (places word new place digit : ℕ) (digits : List ℕ) → digits_of places word ≡ digits → word < 16 ^ places → place < places
     → digit < 16 → new + word / 2 ^ (4 * place) % 16 * 2 ^ (4 * place) ≡ word + digit * 2 ^ (4 * place)
     → (digits_of places new ≡ set digits place digit) × (new < 16 ^ places)
@@ -195,7 +195,7 @@ put_digit places word new place digit digits seen fits inside small changed =
     rw (read, old.1) at (value-set digits place digit (omega (arith, inside, old.0.size))) in
     kept_as places new (set digits place digit) (set-register places digits place digit old.0 small) (omega (arith, at_place, by_list))
 
--- two digits changed are a byte changed
+-- Two digits changed are a byte changed.
 both_halves : (v w1 old_high old_low high low weight word new covered byte : ℕ) → w1 + old_low * weight ≡ word + low * weight
     → v + old_high * (16 * weight) ≡ w1 + high * (16 * weight) → covered ≡ old_high * 16 + old_low → byte ≡ high * 16 + low
     → new + covered * weight ≡ word + byte * weight → v ≡ new
@@ -229,7 +229,7 @@ put_byte places word new k byte digits seen fits inside small changed =
     (both_halves (value (set_byte digits k byte)) (value low) _ _ (byte / 16) (byte % 16)
     weight word new (word / weight % 256) byte first second covered (omega arith) at_place)
 
--- the test of a number that fits
+-- The test of a number that fits.
 pub fits_from_shift : (places number : ℕ) → number / 2 ^ (4 * places) ≡ 0 → number < 16 ^ places
 fits_from_shift places number high =
     let weight = 16 ^ places in
@@ -240,7 +240,7 @@ fits_from_shift places number high =
 pub shift_from_fits : (places number : ℕ) → number < 16 ^ places → number / 2 ^ (4 * places) ≡ 0
 shift_from_fits places number small = rw bits_of_places (div-eq_of_lt small)
 
--- the digit at a place stands in front of those above it
+-- The digit at a place follows the text of the digits above it.
 pub text-from : (places word place next : ℕ) (digits : List ℕ) → digits_of places word ≡ digits → word < 16 ^ places → place + 1 ≡ next
     → next ≤ places → text (drop next digits) ++ digit_glyph true (bit_and (word / 2 ^ (4 * place)) 15) ∷ [] ≡ text (drop place digits)
 text-from places word place next digits seen fits above inside =
@@ -257,7 +257,7 @@ text-past places word digits seen fits =
     let size = (is_register places word digits seen fits).0.size in
     ap text (drop_all places digits (omega (arith, size)))
 
--- to compare the numbers that are kept is to compare those of the digits
+-- To compare the numbers that are kept is to compare those of the digits.
 pub same_kept : (places w v : ℕ) (x y : List ℕ) (answer : Bool) → digits_of places w ≡ x → w < 16 ^ places → digits_of places v ≡ y
     → v < 16 ^ places → answer ≡ eqb w v → answer ≡ eqb (value x) (value y)
 same_kept places w v x y answer seen_x fits_x seen_y fits_y told =

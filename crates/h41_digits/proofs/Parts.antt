@@ -10,7 +10,7 @@ use Rattle.h41_digits.specs.Register.{IsRegister, value}
 use Rattle.h41_digits.specs.Packed.{digits_of, value-digits_of, value-cons}
 use Rattle.h41_digits.proofs.Packed.{bits_of_places, length-digits_of, is_register, register-digits_of, kept_as}
 
--- the digits of a number hold what is left of it below their count
+-- The digits of a number hold what is left of it below their count.
 pub value-digits_of_any : (places number : ℕ) → value (digits_of places number) ≡ number % 16 ^ places
 value-digits_of_any zero number = omega arith
 value-digits_of_any (suc places) number =
@@ -19,7 +19,7 @@ value-digits_of_any (suc places) number =
     ∙ mod-pow-add number (4 * places) 4 ∙ ap (λ weight. number / 16 % weight * 16 + number % 16) (bits_of_places places) in
     omega (arith, value-cons (number % 16) (digits_of places (number / 16)), value-digits_of_any places (number / 16), split)
 
--- digits behind one another
+-- The number of a list of digits that is followed by another list.
 pub value-append : (low high : List ℕ) → value (low ++ high) ≡ value low + 16 ^ length low * value high
 value-append [] high = omega arith
 value-append (digit ∷ low) high =
@@ -42,7 +42,7 @@ drop-digits_of (suc count) (suc places) number few =
     (div-div-eq-div-mul number 16 (16 ^ count) ∙ ap (λ weight. number / weight) (sym (pow-succ' 16 count)))
     ∙ ap (λ left. digits_of left (number / 16 ^ suc count)) (omega arith)
 
--- the number of some places of a word
+-- The number of some places of a word.
 pub part_read : (places word lo count : ℕ) (digits : List ℕ) → digits_of places word ≡ digits → lo + count ≤ places
     → value (take count (drop lo digits)) ≡ word / 16 ^ lo % 16 ^ count
 part_read places word lo count digits seen inside =
@@ -58,7 +58,7 @@ number_read places word lo hi digits seen few ordered inside =
     ∙ ap (λ weight. word / weight % 2 ^ (4 * count)) (bits_of_places lo) ∙ ap (λ weight. word / 16 ^ lo % weight) (bits_of_places count)
     ∙ sym (part_read places word lo count digits seen (omega arith))
 
--- the places are all those of the register
+-- The places are all those of the register.
 abbrev AreAll : ℕ → ℕ → ℕ → Type 0
 AreAll places lo hi = (lo ≤ hi) × (hi < places) × (hi + 1 - lo ≡ places)
 
@@ -77,7 +77,7 @@ none_above places lo hi digits others one other all =
     drop_all (hi + 1) digits (omega (arith, one.size, all.0, all.1, all.2))
     ∙ sym (drop_all (hi + 1) others (omega (arith, other.size, all.0, all.1, all.2)))
 
--- a register with a number's digits in the place of some
+-- A register with a number's digits in the place of some.
 abbrev pub spliced : List ℕ → ℕ → ℕ → ℕ → List ℕ
 spliced digits lo hi number = take lo digits ++ (digits_of (hi + 1 - lo) number ++ drop (hi + 1) digits)
 
@@ -128,7 +128,7 @@ spliced-register places lo hi number digits register ordered inside =
           (All-append (λ digit. digit < 16) _ _ middle.each (All-drop (λ digit. digit < 16) (hi + 1) digits register.each));
     }
 
--- the bits of a number put into the word
+-- The bits of a number put into the word.
 pub put_number : (places word new lo hi number : ℕ) (digits : List ℕ) → digits_of places word ≡ digits → word < 16 ^ places → lo ≤ hi
     → hi < places → number < 16 ^ (hi + 1 - lo)
     → new + word / 2 ^ (4 * lo) % 2 ^ (4 * (hi + 1 - lo)) * 2 ^ (4 * lo) ≡ word + number * 2 ^ (4 * lo)
@@ -144,7 +144,7 @@ put_number places word new lo hi number digits seen fits ordered inside small ch
     kept_as places new (spliced digits lo hi number)
     (spliced-register places lo hi number digits old.0 ordered inside) (omega (arith, at_places, by_list))
 
--- what a register with a number put in has where
+-- The places of a register into which a number was written.
 pub spliced-middle : (digits : List ℕ) (lo hi number : ℕ) → lo ≤ length digits → number < 16 ^ (hi + 1 - lo)
     → value (take (hi + 1 - lo) (drop lo (spliced digits lo hi number))) ≡ number
 spliced-middle digits lo hi number inside small =

@@ -1,4 +1,4 @@
--- A span's mask takes the digits of its places out of a word, and puts those of another in their place.
+-- A span's mask selects the digits of its places in a word, and lets the digits of another word replace them.
 use Rattle.std.proofs.Common.{◌≡◌, ℕ, zero, suc, refl, inl, inr, ◌+◌, ◌-◌, ◌*◌, ◌/◌, ◌%◌, ◌^◌, ◌<◌, ◌≤◌, List, sym, ap, arith, ◌∙◌}
 use Rattle.std.proofs.lemmas.Bool.{cases_lt}
 use Rattle.std.proofs.Math.Nat.{mod-eq_of_lt, pow-le-pow_right, pow-succ', mul-div_cancel, mul-add-mod_self_right, mul-le-mul_right}
@@ -13,13 +13,13 @@ use Rattle.h41_digits.specs.Packed.{digits_of}
 use Rattle.h41_digits.proofs.Packed.{bits_of_places, weight_positive, mask-lt, apart_from_mask, three_parts}
 use Rattle.h41_digits.proofs.Parts.{part_read, put_number, spliced}
 
--- so many bits, from that of the first place
+-- So many bits, from that of the first place.
 pub mask_bits : (lo hi mask : ℕ) → lo ≤ hi → mask + 16 ^ lo ≡ 16 ^ (hi + 1) → mask ≡ 2 ^ (4 * (hi + 1 - lo) + 4 * lo) - 2 ^ (4 * lo)
 mask_bits lo hi mask ordered is_mask =
     let top : 2 ^ (4 * (hi + 1 - lo) + 4 * lo) ≡ 16 ^ (hi + 1) = ap (λ bits. 2 ^ bits) (omega arith) ∙ bits_of_places (hi + 1) in
     omega (arith, top, bits_of_places lo)
 
--- what the mask leaves of a word
+-- What the mask leaves of a word.
 masked : (word lo hi mask : ℕ) → lo ≤ hi → mask + 16 ^ lo ≡ 16 ^ (hi + 1) → bit_and word mask ≡ in_places word lo hi * 2 ^ (4 * lo)
 masked word lo hi mask ordered is_mask =
     ap (bit_and word) (mask_bits lo hi mask ordered is_mask) ∙ and_high word (4 * (hi + 1 - lo)) (4 * lo)
@@ -35,7 +35,7 @@ span_read places word lo hi mask digits seen ordered inside is_mask =
 pub in_places-lt : (word lo hi : ℕ) → in_places word lo hi < 16 ^ (hi + 1 - lo)
 in_places-lt word lo hi = omega (arith, weight_positive (hi + 1 - lo))
 
--- the digits of a word put in
+-- The digits of a word put in.
 replaced_bits : (word bits lo hi mask : ℕ) → word < 2 ^ 64 → lo ≤ hi → hi < 14 → mask + 16 ^ lo ≡ 16 ^ (hi + 1)
     → bit_or (bit_and word (2 ^ 64 - 1 - mask)) (bit_and bits mask) + word / 2 ^ (4 * lo) % 2 ^ (4 * (hi + 1 - lo)) * 2 ^ (4 * lo)
     ≡ word + in_places bits lo hi * 2 ^ (4 * lo)
@@ -66,14 +66,14 @@ put_span places word bits lo hi mask digits seen fits few ordered inside is_mask
     (replaced_bits word bits lo hi mask (omega (arith, fits, pow-le-pow_right {n = 16} (omega arith) {i = places} {j = 14} few))
     ordered (omega arith) is_mask)
 
--- the words of a new span: the first place's weight, and that of the place behind the last
+-- The two words that make the mask of a new span: the weight of the first place, and the weight of the place after the last.
 pub shifted_places : (places : ℕ) → places < 16 → 1 * 2 ^ (4 * places) % 2 ^ 64 ≡ 16 ^ places
 shifted_places places few = one_shl (4 * places) 64 (omega arith) ∙ bits_of_places places
 
 pub places-le : (lo hi : ℕ) → lo ≤ hi → 16 ^ lo ≤ 16 ^ (hi + 1)
 places-le lo hi ordered = pow-le-pow_right {n = 16} (omega arith) {i = lo} {j = hi + 1} (omega arith)
 
--- the lowest bit of a mask
+-- The lowest bit of a mask.
 lowest : (t a b : ℕ) → 1 < a → 0 < b → (t * a + 1) * b / b % a * b ≡ b
 lowest t a b more positive =
     ap (λ n. n % a * b) (mul-div_cancel (t * a + 1) positive) ∙ ap (λ n. n * b) (mul-add-mod_self_right t a 1 ∙ mod-eq_of_lt more)
@@ -116,7 +116,7 @@ first_one lo hi mask negative ordered inside is fits in_word sum =
     (mask_bits lo hi mask ordered is) (omega (arith, sum, more, is, weight_positive lo))
     ∙ bits_of_places lo
 
--- a one at each of so many places
+-- A one at each of so many places.
 abbrev pub repunit : ℕ → ℕ
 repunit zero = 0
 repunit (suc count) = 1 + 16 * repunit count
@@ -137,7 +137,7 @@ repunit_sum high (suc low) =
     next : (high weight low more : ℕ) → more ≡ 16 * weight → 1 + 16 * (high * weight + low) ≡ high * more + (1 + 16 * low)
     next high weight low more is = rw is (omega arith)
 
--- a mask is fifteen times a whole number
+-- A mask is fifteen times a whole number.
 pub fifteen_times : (lo hi mask : ℕ) → lo ≤ hi → mask + 16 ^ lo ≡ 16 ^ (hi + 1) → mask ≡ 15 * (repunit (hi + 1 - lo) * 16 ^ lo)
 fifteen_times lo hi mask ordered is =
     let count = hi + 1 - lo in
@@ -147,7 +147,7 @@ fifteen_times lo hi mask ordered is =
     without_one : (mask ones limit weight : ℕ) → 15 * ones + 1 ≡ limit → mask + weight ≡ limit * weight → mask ≡ 15 * (ones * weight)
     without_one mask ones limit weight fifteen is = omega (arith, rw (← fifteen) at is)
 
--- the sixes of a mask
+-- The sixes of a mask.
 sixes_of_fifteens : (few more : ℕ) → few ≤ more → bit_and (15 * repunit few) (6 * repunit more) ≡ 6 * repunit few
 sixes_of_fifteens zero more less = omega (arith, and_le_l 0 (6 * repunit more))
 sixes_of_fifteens (suc few) zero less = absurd (omega (arith, less))
@@ -185,7 +185,7 @@ some_sixes lo hi ordered =
 pub next-le : (hi : ℕ) → hi < 14 → 16 ^ (hi + 1) ≤ 2 ^ 56
 next-le hi inside = pow-le-pow_right {n = 16} (omega arith) {i = hi + 1} {j = 14} (omega arith)
 
--- a weight is that of one place
+-- A weight is that of one place.
 heavier : (a b : ℕ) → a < b → 16 ^ a < 16 ^ b
 heavier a b less =
     omega (arith, pow-succ' 16 a, weight_positive a, pow-le-pow_right {n = 16} (omega arith) {i = suc a} {j = b} (omega arith))

@@ -12,24 +12,24 @@ use Rattle.h41_digits.specs.Register.{byte_at, byte_of_two, number_byte}
 use Rattle.h41_digits.specs.Packed.{digits_of}
 use Rattle.h41_digits.proofs.Packed.{byte_shifted}
 
--- a byte is eight bits wide
+-- A byte is eight bits wide.
 pub bits_of_weight : (k : ℕ) → 256 ^ k ≡ 2 ^ (8 * k)
 bits_of_weight zero = refl
 bits_of_weight (suc k) =
     pow-succ' 256 k ∙ ap (λ weight. 256 * weight) (bits_of_weight k) ∙ sym (pow-add 2 8 (8 * k)) ∙ ap (λ bits. 2 ^ bits) (omega arith)
 
--- a byte as a shift and a mask read it
+-- A byte as a shift and a mask read it.
 pub number_byte_read : (number k : ℕ) → bit_and (number / 2 ^ (8 * k)) 255 ≡ number_byte number k
 number_byte_read number k = and_mask (number / 2 ^ (8 * k)) 8 ∙ ap (λ weight. number / weight % 256) (sym (bits_of_weight k))
 
--- zeros were shifted in
+-- Zeros were shifted in.
 shifted_up : (word rest width : ℕ) → word * 2 ^ width % 2 ^ (rest + width) ≡ word % 2 ^ rest * 2 ^ width
 shifted_up word rest width =
     let split = mod-pow-add (word * 2 ^ width) rest width in
     let kept = ap (λ n. n % 2 ^ rest * 2 ^ width) (shl-shr word width) in
     omega (arith, split, kept, mul-mod_left word (2 ^ width))
 
--- a byte of the upper part, and one of the lower
+-- A byte of the upper part, and one of the lower.
 upper_byte : (word lower more place width : ℕ) → lower < 2 ^ width
     → (word % 2 ^ (more + 8 + place) * 2 ^ width + lower) / 2 ^ (width + place) % 256 ≡ word / 2 ^ place % 256
 upper_byte word lower more place width small =

@@ -1,4 +1,4 @@
--- How a register is kept: as its number. No contract speaks of this.
+-- How a register is stored: as the number that its digits form. No contract mentions this.
 use Rattle.std.specs.Prelude.{◌≡◌, ℕ, zero, suc, ◌+◌, ◌*◌, ◌/◌, ◌%◌, ◌^◌, ◌<◌, List, [], ◌∷◌}
 use Rattle.std.proofs.Common.{refl, sym, ap, subst, add-one, ◌∙◌, lit<}
 use Rattle.std.proofs.Math.Nat.{pow-suc, pow-succ', mul-one, mul-add, mul_left_comm, mod-add-div}
@@ -6,16 +6,16 @@ use Rattle.std.proofs.Math.Arith.{lt-one}
 use Rattle.std.proofs.lemmas.Nat.{div_below}
 use Rattle.h41_digits.specs.Register.{value_from, value}
 
--- so many digits of a number, the lowest first
+-- The lowest digits of a number, as many as asked for, the lowest first.
 abbrev pub digits_of : ℕ → ℕ → List ℕ
 digits_of zero number = []
 digits_of (suc places) number = number % 16 ∷ digits_of places (number / 16)
 
--- the weight of the next place
+-- The weight of the next place is sixteen times the weight of this one.
 pub pow-next : (place : ℕ) → 16 ^ (place + 1) ≡ 16 * 16 ^ place
 pow-next place = ap (λ n. 16 ^ n) (add-one place) ∙ pow-succ' 16 place
 
--- one place higher, a digit counts sixteen times as much
+-- One place higher, each digit counts sixteen times as much.
 pub value_from-next : (place : ℕ) (digits : List ℕ)
     → value_from (place + 1) digits ≡ 16 * value_from place digits
 value_from-next place [] = refl
@@ -25,12 +25,14 @@ value_from-next place (digit ∷ digits) =
     ∙ ap (λ n. 16 * (digit * 16 ^ place) + n) (value_from-next (place + 1) digits)
     ∙ sym (mul-add 16 (digit * 16 ^ place) (value_from (place + 1) digits))
 
+-- With a digit below the others, the number is this digit plus sixteen times the number of the
+-- others.
 pub value-cons : (digit : ℕ) (digits : List ℕ) → value (digit ∷ digits) ≡ digit + 16 * value digits
 value-cons digit digits =
     ap (λ n. n + value_from (0 + 1) digits) (mul-one digit)
     ∙ ap (λ n. digit + n) (value_from-next 0 digits)
 
--- the digits of a number that fits hold it
+-- The digits of a number that fits into them hold that number.
 pub value-digits_of : (places number : ℕ) → number < 16 ^ places
     → value (digits_of places number) ≡ number
 value-digits_of zero number small = sym (lt-one small)

@@ -1,4 +1,4 @@
-//! Registers of the HP-41: fixed rows of hexadecimal digits.
+//! Registers of the HP-41: a fixed number of hexadecimal digits.
 #![tactic(auto)]
 
 ghost use Rattle.std.specs.Prelude.{◌≡◌, ℕ, true, ◌+◌, ◌-◌, ◌*◌, ◌/◌, ◌%◌, ◌^◌, ◌<◌, ◌≤◌, ◌↔◌};
@@ -20,16 +20,16 @@ mod span;
 
 pub use span::Span;
 
-/// How many digits a register of the processor or of the memory has.
+/// The number of digits of a register of the processor or of the memory: 14.
 pub const PLACES: usize = 14;
 
-/// A register of the processor or of the memory: 14 digits.
+/// A register of the processor or of the memory: 14 hexadecimal digits, 56 bits.
 pub type Reg = Digits<14>;
 
-/// A row of `N` hexadecimal digits, 1 to 14 of them. Place 0 is the rightmost, least one.
+/// A register of `N` hexadecimal digits, with `N` from 1 to 14. Place 0 is the rightmost, least significant digit.
 #[derive(Clone, Copy, Debug, PartialEq, Eq)]
 pub struct Digits<const N: usize> {
-    /// The number that the digits make up: four bits for each place, those of place 0 the lowest.
+    /// The number that the digits form: four bits for each place, those of place 0 lowest.
     word: u64,
 }
 
@@ -47,7 +47,7 @@ impl<const N: usize> Model for Digits<N> {
 }
 
 impl<const N: usize> Digits<N> {
-    /// All digits zero.
+    /// Returns the register whose digits are all zero.
     pub fn zero() -> Self
         requires { N ≤ 14 }
         ensures { result ≡ replicate N 0 }
@@ -55,7 +55,7 @@ impl<const N: usize> Digits<N> {
         Digits { word: 0 }
     }
 
-    /// The register that holds a number, or nothing where the number is 16 to the power of `N` or more.
+    /// Returns the register that holds a number, or `None` if the number is 16 to the power of `N` or greater.
     pub fn from_u64(number: u64) -> Option<Self>
         requires { N ≤ 14 }
         ensures fits { IsSome result ↔ (number < 16 ^ N) }
@@ -69,7 +69,7 @@ impl<const N: usize> Digits<N> {
         }
     }
 
-    /// The register that holds a number below 16 to the power of `N`. It prints as the number's `N` hexadecimal digits.
+    /// Returns the register that holds a number less than 16 to the power of `N`. Its text is the number in `N` hexadecimal digits.
     pub fn holding(number: u64) -> Self
         requires places { N ≤ 14 }
         requires fits { number < 16 ^ N }
@@ -80,7 +80,7 @@ impl<const N: usize> Digits<N> {
         Digits { word: number }
     }
 
-    /// The number that the register holds.
+    /// Returns the number that the register holds, less than 16 to the power of `N`.
     pub fn to_u64(&self) -> u64
         ensures value { result ≡ value self.now }
         ensures register { IsRegister N self.now }
@@ -88,7 +88,7 @@ impl<const N: usize> Digits<N> {
         self.word
     }
 
-    /// The digit, 0 to 15, at a place, 0 to `N` - 1.
+    /// Returns the digit, 0 to 15, at a place from 0 to `N` - 1.
     pub fn get(&self, place: usize) -> u8
         requires { place < N }
         ensures digit { result ≡ slice_index self.now place }
@@ -97,7 +97,7 @@ impl<const N: usize> Digits<N> {
         (self.word >> (4 * place) & 0xF) as u8
     }
 
-    /// The same register with another digit, 0 to 15, at one place, 0 to `N` - 1.
+    /// Returns a copy of the register with another digit, 0 to 15, at one place from 0 to `N` - 1.
     pub fn with(&self, place: usize, digit: u8) -> Self
         requires in_register { place < N }
         requires is_digit { digit < 16 }
@@ -110,7 +110,7 @@ impl<const N: usize> Digits<N> {
         }
     }
 
-    /// Writes another digit, 0 to 15, at one place, 0 to `N` - 1.
+    /// Writes a digit, 0 to 15, to one place from 0 to `N` - 1. The other places do not change.
     pub fn set(&mut self, place: usize, digit: u8)
         requires in_register { place < N }
         requires is_digit { digit < 16 }
@@ -121,7 +121,7 @@ impl<const N: usize> Digits<N> {
         *self = self.with(place, digit);
     }
 
-    /// The byte of places 2`k` + 1 (its higher digit) and 2`k` (its lower digit).
+    /// Returns byte `k` of the register: place 2`k` + 1 is its higher digit, place 2`k` its lower digit.
     pub fn byte(&self, k: usize) -> u8
         requires { 2 * k + 1 < N }
         ensures byte { result ≡ byte_at self.now k }
@@ -130,7 +130,7 @@ impl<const N: usize> Digits<N> {
         (self.word >> (8 * k) & 0xFF) as u8
     }
 
-    /// The same register with another byte at places 2`k` + 1 (its higher digit) and 2`k` (its lower digit).
+    /// Returns a copy of the register with another byte `k`: place 2`k` + 1 is its higher digit, place 2`k` its lower digit.
     pub fn with_byte(&self, k: usize, byte: u8) -> Self
         requires { 2 * k + 1 < N }
         ensures changed { result ≡ set_byte self.now k byte }
@@ -142,7 +142,7 @@ impl<const N: usize> Digits<N> {
         }
     }
 
-    /// The number of the digits from place `lo` to place `hi`, of which the one at `lo` is the least.
+    /// Returns the number that the digits from place `lo` to place `hi` form. The digit at `lo` is the least significant one.
     #[inline(always)]
     pub fn number(&self, lo: usize, hi: usize) -> u64
         requires ordered { lo ≤ hi }
@@ -157,7 +157,8 @@ impl<const N: usize> Digits<N> {
         digits & ((1 << (4 * (hi + 1 - lo))) - 1)
     }
 
-    /// The same register with the digits of a number at the places from `lo`, which takes the least, to `hi`.
+    /// Returns a copy of the register with the digits of a number at the places from `lo` to `hi`. The least significant digit is
+    /// written to `lo`.
     #[inline(always)]
     pub fn with_number(&self, lo: usize, hi: usize, number: u64) -> Self
         requires ordered { lo ≤ hi }
@@ -178,8 +179,8 @@ impl<const N: usize> Digits<N> {
         }
     }
 
-    /// The digits of a span in their places, as a word of which all other digits are zero: their number times 16 to the power of the
-    /// span's first place.
+    /// Returns the digits of a span as a word in which they have their own places and all other digits are zero: the number of the
+    /// span's digits times 16 to the power of the span's first place.
     pub fn in_span(&self, span: Span) -> u64
         requires { span.hi < N }
         ensures digits { result ≡ value_between self.now span.lo span.hi * 16 ^ span.lo }
@@ -190,7 +191,8 @@ impl<const N: usize> Digits<N> {
         word & span.mask
     }
 
-    /// The same register with the digits that a word has in the places of a span. Other digits of the word have no part in it.
+    /// Returns a copy of the register in which the places of a span have the digits that a word has there. The word's other digits
+    /// are ignored.
     pub fn with_span(&self, span: Span, word: u64) -> Self
         requires { span.hi < N }
         ensures number { value_between result span.lo span.hi ≡ in_places word span.lo span.hi }
@@ -204,7 +206,7 @@ impl<const N: usize> Digits<N> {
         }
     }
 
-    /// The digits as characters, the highest place first, at the front of as many bytes as any register needs.
+    /// Returns the digits as characters, the highest place first, in the first `N` bytes of the array. The other bytes are `0`.
     #[inline(always)]
     fn glyphs(&self) -> [u8; PLACES]
         ensures digits { take N result ≡ text self.now }
@@ -219,8 +221,8 @@ impl<const N: usize> Digits<N> {
     }
 }
 
-/// The eight bytes of two registers, one behind the other, that follow so many skipped ones of the first: the leftmost is the
-/// highest of the number.
+/// Returns eight consecutive bytes of two adjacent registers as one number, the leftmost byte highest. They begin after `skipped`
+/// bytes, 0 to 6, of the first register.
 #[inline(always)]
 pub fn eight_bytes(here: Reg, below: Reg, skipped: usize) -> u64
     requires { skipped < 7 }
@@ -230,7 +232,7 @@ pub fn eight_bytes(here: Reg, below: Reg, skipped: usize) -> u64
     (here.word << (8 * skipped + 8)) + (below.word >> (48 - 8 * skipped))
 }
 
-/// The byte `k`, 0 to 7, of a number, of which byte 0 is the lowest.
+/// Returns byte `k`, 0 to 7, of a number. Byte 0 is the lowest.
 #[inline(always)]
 pub fn number_byte(number: u64, k: usize) -> u8
     requires { k < 8 }
@@ -239,7 +241,7 @@ pub fn number_byte(number: u64, k: usize) -> u8
     (number >> (8 * k) & 0xFF) as u8
 }
 
-/// A hexadecimal digit, 0 to 15, in upper case.
+/// Returns a hexadecimal digit, 0 to 15, as an ASCII character in upper case.
 #[inline(always)]
 pub fn glyph(digit: u8) -> u8
     requires { digit < 16 }
@@ -253,7 +255,7 @@ pub fn glyph(digit: u8) -> u8
     }
 }
 
-/// A word with other bits in place of `width` of its own, the lowest of which is bit `at`.
+/// Returns a word in which `width` bits, from bit `at` upwards, are replaced by others.
 #[inline(always)]
 fn with_bits(word: u64, at: usize, width: usize, bits: u64) -> u64
     requires width { (0 < width) × (width < 64) }
@@ -265,7 +267,7 @@ fn with_bits(word: u64, at: usize, width: usize, bits: u64) -> u64
     word & !mask | bits << at
 }
 
-/// The digits in upper-case hexadecimal, the highest place first.
+/// Prints the digits in upper-case hexadecimal, the highest place first.
 impl<const N: usize> fmt::Display for Digits<N> {
     ghost output = { λ digits. Some (text digits) };
 

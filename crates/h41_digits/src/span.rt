@@ -1,4 +1,4 @@
-//! Places in a row.
+//! Spans: consecutive places of a register.
 
 ghost use Rattle.std.specs.Prelude.{◌≡◌, ℕ, ◌<◌, ◌≤◌, ◌+◌, ◌*◌, ◌^◌};
 ghost use Rattle.h41_digits.specs.Spans.{AreItsPlaces, IsFilled, IsNotFilled};
@@ -8,14 +8,14 @@ use crate::PLACES;
 /// A six at each of the 14 places of a register.
 const SIXES: u64 = 0x66_6666_6666_6666;
 
-/// Places in a row, from `lo` to `hi`, both with them. There is at least one.
+/// The consecutive places of a register from `lo` to `hi`, both included. A span has at least one place.
 #[derive(Clone, Copy, Debug, PartialEq, Eq)]
 pub struct Span {
-    /// The first place, 0 to 13, the rightmost one.
+    /// The first (rightmost) place, 0 to 13.
     pub lo: usize,
-    /// The last place, 0 to 13, not below the first.
+    /// The last (leftmost) place, `lo` to 13.
     pub hi: usize,
-    /// An F at each place, as a register's word has four bits for each.
+    /// A word with F at each place of the span and 0 elsewhere. Each place has four bits.
     pub mask: u64,
     ghost ordered: { lo ≤ hi },
     ghost in_register: { hi < 14 },
@@ -24,7 +24,7 @@ pub struct Span {
 }
 
 impl Span {
-    /// The places from `lo` to `hi`, 0 to 13.
+    /// Returns the span of the places from `lo` to `hi`, with `lo` not above `hi` and `hi` at most 13.
     pub fn new(lo: usize, hi: usize) -> Self
         requires ordered { lo ≤ hi }
         requires in_register { hi < 14 }
@@ -38,7 +38,7 @@ impl Span {
         }
     }
 
-    /// The places that have this mask; where none have it, all those of a register.
+    /// Returns the span that has this mask. If no span has it, returns the span of the whole register, places 0 to 13.
     #[cold]
     pub fn from_mask(mask: u64) -> Self
         ensures places { AreItsPlaces mask result.lo result.hi }
@@ -55,7 +55,7 @@ impl Span {
         if span.mask == mask { span } else { whole }
     }
 
-    /// A one at the first place: 16 to the power of `lo`.
+    /// Returns a word with 1 at the first place: 16 to the power of `lo`.
     pub fn first(&self) -> u64
         ensures weight { result ≡ 16 ^ self.now.lo }
         ensures next { self.now.mask + result ≡ 16 ^ (self.now.hi + 1) }
@@ -65,7 +65,7 @@ impl Span {
         self.mask & self.mask.wrapping_neg()
     }
 
-    /// A six at each place: what a digit of base 10 lacks to carry as one of base 16 does.
+    /// Returns a word with 6 at each place. Adding six makes a digit of base 10 carry as a digit of base 16 does.
     pub fn sixes(&self) -> u64
         ensures fifths { 5 * result ≡ 2 * self.now.mask }
         ensures first { 16 ^ self.now.lo ≤ result }
@@ -74,7 +74,7 @@ impl Span {
     }
 }
 
-/// The place, 0 to 14, that has this weight, 16 to the power of it; 0 where none has.
+/// Returns the place, 0 to 14, whose weight is the given power of 16, or 0 if there is none.
 fn place_of(weight: u64) -> usize
     ensures { (place : ℕ) → place < 15 → weight ≡ 16 ^ place → result ≡ place }
 {

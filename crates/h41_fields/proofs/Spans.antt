@@ -1,4 +1,4 @@
--- Why the places of a field stand in a row.
+-- Why the places of a field are consecutive.
 use Rattle.std.proofs.Common.{List, cond, ◌≡◌, ℕ, zero, suc, ◌+◌, ◌-◌, ◌<◌, ◌≤◌, Bool, true, false, ◌∷◌, length, slice_index, filter, refl}
 use Rattle.std.proofs.Common.{ap, arith, inl, inr, ◌∙◌, sym}
 use Rattle.std.specs.List.{range_with_len}
@@ -12,13 +12,13 @@ use Rattle.h41_fields.specs.declared.field.Pointer.{Pointer}
 use Rattle.h41_fields.specs.Field.{active_place, is_place, is_pointed, register_places, places, first_place, last_place, from_to}
 use Rattle.h41_fields.specs.FieldLaws.{PlacesAreOrdered}
 
--- the test passes from lo to hi, and nowhere else
+-- The test passes from lo to hi, and nowhere else.
 pub record PassesFromTo (test : ℕ → Bool) (lo hi : ℕ) : Type 0 where
   pub below : (place : ℕ) → place < lo → test place ≡ false
   pub inside : (place : ℕ) → lo ≤ place → place ≤ hi → test place ≡ true
   pub above : (place : ℕ) → hi < place → place < 14 → test place ≡ false
 
--- from the first passing place on
+-- From the first passing place on.
 filter_from : (test : ℕ → Bool) (lo hi first count : ℕ) → PassesFromTo test lo hi → lo ≤ first → hi < first + count → first + count ≤ 14
     → filter test (range_with_len first count) ≡ range_with_len first (hi + 1 - first)
 filter_from test lo hi first zero passes from past few =
@@ -36,7 +36,7 @@ filter_from test lo hi first (suc count) passes from past few =
           (ap (λ rest. first ∷ rest) (filter_from test lo hi (first + 1) count passes (omega arith) (omega arith) (omega arith)))
     ]
 
--- from a place before it
+-- From a place before it.
 filter_to : (test : ℕ → Bool) (lo hi first count : ℕ) → PassesFromTo test lo hi → first ≤ lo → lo ≤ hi → hi < first + count
     → first + count ≤ 14 → filter test (range_with_len first count) ≡ range_with_len lo (hi + 1 - lo)
 filter_to test lo hi first zero passes before ordered past few = absurd (omega arith)
@@ -70,7 +70,7 @@ IsSpanOf-from_test field p q active lo hi passes ordered inside =
       each = all;
     }
 
--- each field's first and last place
+-- Each field's first and last place.
 pub span_at_pointer : (p q : ℕ) (active : Pointer) → active_place p q active < 14
     → IsSpanOf AtPointer p q active (active_place p q active) (active_place p q active)
 span_at_pointer p q active inside =
@@ -133,7 +133,7 @@ pub span_mantissa_sign : (p q : ℕ) (active : Pointer) → IsSpanOf MantissaSig
 unfolding places register_places from_to first_place last_place
 span_mantissa_sign p q active = record { first = refl; last = refl; each = refl }
 
--- the field of the pointers that is no other
+-- The field of the pointers that is no other.
 pub span_of_other : (field : Field) (p q : ℕ) (active : Pointer) → active_place p q active < 14 → is_pointed field ≡ true
     → (field ≡ AtPointer → ⊥) → (field ≡ PToQ → ⊥) → IsSpanOf field p q active 0 (active_place p q active)
 span_of_other AtPointer p q active inside pointed first second = absurd (first refl)
@@ -145,7 +145,7 @@ span_of_other ExponentSign p q active inside pointed first second = cc
 span_of_other Mantissa p q active inside pointed first second = cc
 span_of_other MantissaSign p q active inside pointed first second = cc
 
--- each number of a list is at least this
+-- Each number of a list is at least this.
 abbrev AllFrom : ℕ → List ℕ → Type 0
 AllFrom first list = (index : ℕ) → index < length list → first ≤ slice_index list index
 
@@ -153,7 +153,7 @@ from_cons : (first : ℕ) (rest : List ℕ) → AllFrom first rest → AllFrom f
 from_cons first rest behind zero inside = omega arith
 from_cons first rest behind (suc index) inside = behind index (omega arith)
 
--- what a row keeps is at least its first number
+-- What a row keeps is at least its first number.
 kept_from : (test : ℕ → Bool) (first count : ℕ) → AllFrom first (filter test (range_with_len first count))
 kept_from test first zero = λ index inside. absurd (omega arith)
 kept_from test first (suc count) =
@@ -164,7 +164,7 @@ kept_from test first (suc count) =
       | false ↦ λ index inside. omega (arith, behind index inside)
     ]
 
--- the first number of a list is not above its last
+-- The first number of a list is not above its last.
 abbrev FirstIsLow : List ℕ → Type 0
 FirstIsLow list = slice_index list 0 ≤ slice_index list (length list - 1)
 

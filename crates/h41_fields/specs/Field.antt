@@ -1,5 +1,5 @@
--- The fields of a register: the places that a word of the Nut processor works on, by the names of
--- this project's table of mnemonics.
+-- The fields of a register: the places on which a word of the Nut processor works, under the names
+-- of this project's table of mnemonics.
 use Rattle.std.specs.Prelude.{ℕ, ◌+◌, ◌-◌, Bool, true, false, ◌&&◌, ◌||◌, List, [], ◌∷◌, length}
 use Rattle.std.specs.Prelude.{slice_index, filter, nat_lt, nat_le, ◌==◌}
 use Rattle.std.specs.List.{range_with_len}
@@ -10,54 +10,55 @@ use Rattle.h41_fields.specs.declared.field.Field.TheVariants.{MantissaSign}
 use Rattle.h41_fields.specs.declared.field.Pointer.{Pointer}
 use Rattle.h41_fields.specs.declared.field.Pointer.TheVariants.{P, Q}
 
--- the place that the active pointer names, where P and Q name these
+-- The place that the active pointer names; p and q are the places that P and Q name.
 abbrev pub active_place : ℕ → ℕ → Pointer → ℕ
 active_place p q P = p
 active_place p q Q = q
 
--- whether a place belongs to a field, at pointers P and Q
+-- Whether a place belongs to a field; p and q are the places that P and Q name.
 abbrev pub is_place : Field → ℕ → ℕ → Pointer → ℕ → Bool
--- @R: the active pointer's place
+-- @R: the active pointer's place.
 is_place AtPointer p q active place = place == active_place p q active
--- S&X: the exponent and its sign, places 0 to 2
+-- S&X: the exponent and its sign, places 0 to 2.
 is_place SignAndExponent p q active place = nat_le place 2
--- R<: up to the active pointer's place, and with it
+-- R<: the places up to the active pointer's place, this included.
 is_place ToPointer p q active place = nat_le place (active_place p q active)
--- ALL: each place
+-- ALL: every place.
 is_place All p q active place = true
--- P-Q: from P's place to Q's, and where P is above Q from P's place to the last (this project's
--- choice)
+-- P-Q: from P's place to Q's place. If P is above Q, from P's place to the last (this project's
+-- choice).
 is_place PToQ p q active place = nat_le p place && (nat_le place q || nat_lt q p)
--- XS: the exponent's sign, place 2
+-- XS: the exponent's sign, place 2.
 is_place ExponentSign p q active place = place == 2
--- M: the mantissa, places 3 to 12
+-- M: the mantissa, places 3 to 12.
 is_place Mantissa p q active place = nat_le 3 place && nat_le place 12
--- MS: the mantissa's sign, place 13
+-- MS: the mantissa's sign, place 13.
 is_place MantissaSign p q active place = place == 13
 
--- whether the pointers decide a field's places
+-- Whether the places of a field depend on the pointers.
 abbrev pub is_pointed : Field → Bool
 is_pointed AtPointer = true
 is_pointed ToPointer = true
 is_pointed PToQ = true
 is_pointed field = false
 
--- the places of a register, from the rightmost
+-- The places of a register, beginning with the rightmost.
 unfoldable pub register_places : List ℕ
 register_places = 0 ∷ 1 ∷ 2 ∷ 3 ∷ 4 ∷ 5 ∷ 6 ∷ 7 ∷ 8 ∷ 9 ∷ 10 ∷ 11 ∷ 12 ∷ 13 ∷ []
 
--- the places of a field, ascending
+-- The places of a field, in ascending order.
 unfoldable pub places : Field → ℕ → ℕ → Pointer → List ℕ
 places field p q active = filter (is_place field p q active) register_places
 
--- the first and the last of them
+-- The first place of a field, which is its lowest.
 unfoldable pub first_place : Field → ℕ → ℕ → Pointer → ℕ
 first_place field p q active = slice_index (places field p q active) 0
 
+-- The last place of a field, which is its highest.
 unfoldable pub last_place : Field → ℕ → ℕ → Pointer → ℕ
 last_place field p q active =
     slice_index (places field p q active) (length (places field p q active) - 1)
 
--- all the numbers from lo to hi
+-- All numbers from lo to hi.
 unfoldable pub from_to : ℕ → ℕ → List ℕ
 from_to lo hi = range_with_len lo (hi + 1 - lo)

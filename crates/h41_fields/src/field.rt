@@ -1,6 +1,6 @@
-//! Fields, and the pointers that some of them follow.
+//! Fields, and the pointers that determine some of them.
 
-/// One of the two pointers of the processor.
+/// A pointer of the processor.
 #[derive(Clone, Copy, Debug, PartialEq, Eq)]
 pub enum Pointer {
     /// The pointer P.
@@ -9,18 +9,18 @@ pub enum Pointer {
     Q,
 }
 
-/// A field: which places of a register a word works on. They are numbered 0 to 7 in the words, in this order.
+/// A field: the places of a register that a word works on. The variants are in the order of the field numbers 0 to 7 in the words.
 #[derive(Clone, Copy, Debug, PartialEq, Eq)]
 pub enum Field {
-    /// `@R`: the active pointer's place.
+    /// `@R`: the place that the active pointer names.
     AtPointer,
     /// `S&X`: the exponent and its sign, places 0 to 2.
     SignAndExponent,
-    /// `R<`: place 0 to the active pointer's.
+    /// `R<`: from place 0 to the place that the active pointer names, both included.
     ToPointer,
     /// `ALL`: places 0 to 13.
     All,
-    /// `P-Q`: from P's place to Q's, and where P is above Q from P's place to 13 (this project's choice).
+    /// `P-Q`: from P's place to Q's place. If P is above Q, from P's place to 13 (this project's choice).
     PToQ,
     /// `XS`: the exponent's sign, place 2.
     ExponentSign,

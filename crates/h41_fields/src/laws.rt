@@ -1,8 +1,8 @@
-//! Laws of fields: each is the contract of a function with nothing to do.
+//! Laws of fields. Each law is the contract of a function with an empty body.
 
 ghost use Rattle.h41_fields.specs.FieldLaws.{PlacesAreOrdered};
 
-/// The first place of a field is not above its last, wherever the pointers are.
+/// States that the first place of a field is never above its last, whatever the pointers are.
 pub fn places_are_ordered()
     ensures { PlacesAreOrdered }
 {}

@@ -1,4 +1,5 @@
-//! The fields of a register that the words of the HP-41's Nut processor work on, by the names of this project's table of mnemonics.
+//! The fields of a register on which the words of the HP-41's Nut processor work, under the names of this project's table of
+//! mnemonics.
 #![tactic(auto)]
 
 mod field;

@@ -6,10 +6,10 @@ ghost use Rattle.h41_fields.specs.Field.{is_pointed, places, from_to, first_plac
 use crate::field::{Field, Pointer};
 use h41_digits::{PLACES, Span};
 
-/// The leftmost place of a register.
+/// The leftmost place of a register, 13.
 const LAST_PLACE: usize = PLACES - 1;
 
-/// The mask of each field that no pointer decides, at its number; 0 stands at a pointer's fields.
+/// The mask of each field, by its number. The entry is 0 for a field that depends on the pointers.
 static MASKS: [u64; 8] = [
     0,
     0xFFF,
@@ -21,7 +21,7 @@ static MASKS: [u64; 8] = [
     0xF0_0000_0000_0000,
 ];
 
-/// The first and the last place of the same.
+/// The first and the last place of each field, by its number. The entry is unused for a field that depends on the pointers.
 static ENDS: [(usize, usize); 8] = [
     (0, 0),
     (0, 2),
@@ -33,7 +33,8 @@ static ENDS: [(usize, usize); 8] = [
     (LAST_PLACE, LAST_PLACE),
 ];
 
-/// The places of a field, where the pointers P and Q, each 0 to 13, name these places and one of them is active.
+/// Returns the places of a field as a span. `p` and `q` are the places, 0 to 13, that the pointers P and Q name; `active` is the
+/// pointer that is selected.
 #[inline(always)]
 pub fn span(field: Field, p: usize, q: usize, active: Pointer) -> Span
     requires p_in_register { p < 14 }
@@ -52,8 +53,8 @@ pub fn span(field: Field, p: usize, q: usize, active: Pointer) -> Span
     }
 }
 
-/// The first and the last place of a field that the pointers decide. Its machine code stands apart, so that other fields don't wait
-/// for the pointers.
+/// Returns the first and the last place of a field that depends on the pointers. It is a function of its own, never inlined, so
+/// that the other fields do not wait for the pointers.
 #[cold]
 #[inline(never)]
 fn pointed_places(field: Field, p: usize, q: usize, active: Pointer) -> (usize, usize)

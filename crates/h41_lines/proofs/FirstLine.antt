@@ -33,7 +33,7 @@ lines_last text e some =
     let none : All (λ x. p x ≡ false) text = λ k d l. fails_before_first p text k d (omega arith) in
     ap lines_of_parts (slice_split_none p text none) ∙ ap (λ t. cond t [] (text ∷ [])) (ne_eqb (length text) 0 some)
 
--- the bytes up to the last line end, where it stands right before this place, or nowhere
+-- The bytes up to the last line end, if it is right before this place, or if there is none.
 pub ended_at : (text : List ℕ) (end : ℕ) → end ≤ length text → ((k : ℕ) → end ≤ k → k < length text → (slice_index text k == 10) ≡ false)
     → (0 < end → slice_index text (end - 1) ≡ 10) → take end text ≡ ended_lines text
 ended_at text end within none last =

@@ -15,11 +15,11 @@ is_word word = nat_lt 0 (length word)
 abbrev words_of_parts : List (List ℕ) → List (List ℕ)
 words_of_parts parts = filter is_word parts
 
--- a blank at the front parts nothing
+-- A space or tab at the start of a line separates nothing.
 words_of-blank : (byte : ℕ) (line : List ℕ) → is_blank byte ≡ true → words_of (byte ∷ line) ≡ words_of line
 words_of-blank byte line blank = ap words_of_parts (slice_split-cons_yes is_blank byte line blank)
 
--- where the first byte that is no blank stands, by the first byte
+-- The position of the first byte that is no separator, by the first byte.
 pub on_start-blank : (byte : ℕ) (line : List ℕ) → is_blank byte ≡ true
     → drop (position_or_len (λ b. not (is_blank b)) line) line ≡ drop (position_or_len (λ b. not (is_blank b)) (byte ∷ line)) (byte ∷ line)
 on_start-blank byte line blank =
@@ -31,7 +31,7 @@ pub on_start-other : (byte : ℕ) (line : List ℕ) → is_blank byte ≡ false
     → byte ∷ line ≡ drop (position_or_len (λ b. not (is_blank b)) (byte ∷ line)) (byte ∷ line)
 on_start-other byte line other = rw other refl
 
--- the words begin at the first byte that is no blank
+-- The words begin at the first byte that is no separator.
 words_of-from_start : (line : List ℕ) → words_of line ≡ words_of (drop (position_or_len (λ byte. not (is_blank byte)) line) line)
 words_of-from_start [] = refl
 words_of-from_start (byte ∷ line) = elim (cases_Bool (is_blank byte)) [
@@ -44,7 +44,7 @@ words_of-none line e =
     let end = position_none (λ byte. not (is_blank byte)) line e in
     words_of-from_start line ∙ ap words_of (drop_all _ line (omega arith))
 
--- the first word ends at the first blank
+-- The first word ends at the first separator.
 words_of-at : (line : List ℕ) (n : ℕ) → n ≡ position_or_len is_blank line → n < length line → 0 < n
     → words_of line ≡ take n line ∷ words_of (drop n line)
 words_of-at line n here within some =
@@ -57,7 +57,7 @@ words_of-at line n here within some =
     ∙ cond-true (is_word (take n line)) (take n line ∷ words_of (drop (n + 1) line)) (words_of (drop (n + 1) line)) word
     ∙ ap (λ words. take n line ∷ words) (sym after)
 
--- or with the line
+-- If there is no separator, the first word ends with the line.
 words_of-last : (line : List ℕ) → position_or_len is_blank line ≡ length line → 0 < length line → words_of line ≡ line ∷ []
 words_of-last line end some =
     let none : All (λ x. is_blank x ≡ false) line = λ k d l. fails_before_first is_blank line k d (omega arith) in
@@ -79,7 +79,7 @@ starts line start e =
     rw at.0 (passes_at_first (λ byte. not (is_blank byte)) line 0 (omega (arith, at.0, at.1))) in
     rw (drop_more line start 0 at.1, first) (omega arith)
 
--- the first word, and the words after it
+-- The first word, and the words after it.
 pub words_of-first : (line : List ℕ) (start n : ℕ) → Some start ≡ position (λ byte. not (is_blank byte)) line
     → n ≡ position_or_len is_blank (drop start line) → words_of line ≡ take n (drop start line) ∷ words_of (drop n (drop start line))
 words_of-first line start n e here =

@@ -12,7 +12,7 @@ use Rattle.h41_digits.specs.Register.{hexadecimal_text}
 use Rattle.h41_lines.specs.Laws.{HexadecimalRoundTrip}
 use Rattle.h41_lines.specs.Numbers.{is_numeral, is_hexadecimal}
 
--- what each of sixteen digits passes
+-- A test that each of the sixteen digits passes.
 abbrev pub passes_all : (ℕ → Bool) → Type 0
 passes_all test = (digit : ℕ) → digit < 16 → test (digit_glyph true digit) ≡ true
 
@@ -50,7 +50,7 @@ value_of_hexadecimal (suc count) number inside =
     value_after-append 0 (hexadecimal_text count (number / 16)) (digit_glyph true (number % 16))
     ∙ omega (arith, value_of_hexadecimal count (number / 16) fits, value_of_glyph (number % 16) (omega arith))
 
--- so many digits tell a number that they can hold
+-- Hexadecimal digits determine a number that fits into them.
 pub read_hexadecimal : HexadecimalRoundTrip
 read_hexadecimal count number some inside =
     let text : List ℕ = hexadecimal_text count number in

@@ -4,17 +4,17 @@ use Rattle.std.specs.List.{onto_first, slice_split}
 use Rattle.std.specs.Str.Lines.{lines_of_parts}
 use Rattle.h41_lines.specs.Lines.{lines}
 
--- an empty part in front adds one line at most
+-- An empty part before the others adds at most one line.
 count_empty : (parts : List (List ℕ)) → length (lines_of_parts ([] ∷ parts)) ≤ length (lines_of_parts parts) + 1
 count_empty [] = omega arith
 count_empty (part ∷ parts) = omega arith
 
--- one part is one line at most
+-- One part is one line at most.
 count_one : (none : Bool) (part : List ℕ) → length (cond none [] (part ∷ [])) ≤ 1
 count_one true part = omega arith
 count_one false part = omega arith
 
--- a byte in front adds one at most too
+-- A byte before the others adds at most one line, too.
 count_byte : (byte : ℕ) (parts : List (List ℕ)) → length (lines_of_parts (onto_first byte parts)) ≤ length (lines_of_parts parts) + 1
 count_byte byte [] = omega arith
 count_byte byte (part ∷ []) = let one = count_one (length (byte ∷ part) == 0) (byte ∷ part) in omega (arith, one)

@@ -1,4 +1,4 @@
--- Numbers of words, as their digits come.
+-- Numbers of words, digit by digit.
 use Rattle.std.proofs.Common.{inl, inr, ◌≡◌, ℕ, ◌<◌, ◌≤◌, ◌^◌, ◌&&◌, true, nat_le, nat_lt, List, [], ◌∷◌, length, take, Some, None, arith}
 use Rattle.std.proofs.Common.{if◌then◌else◌, refl, sym, ◌∙◌}
 use Rattle.std.specs.List.{list_all}
@@ -10,7 +10,7 @@ use Rattle.std.proofs.Math.Nat.{pow-le-pow_right}
 use Rattle.std.proofs.lemmas.Str.Parse.{digits_value-take-le}
 use Rattle.h41_lines.specs.Numbers.{hexadecimal, is_numeral, is_hexadecimal}
 
--- the first digits alone are above the greatest value
+-- The first digits alone are above the greatest value.
 pub number_too_large : {A : Type 0} (radix most n : ℕ) (word : List ℕ) (good bad : A) → 1 ≤ radix → most < digits_value radix (take n word)
     → bad ≡ (if is_numeral radix word && nat_le (digits_value radix word) most then good else bad)
 number_too_large radix most n word good bad low over =
@@ -31,7 +31,7 @@ numeral-lt radix most word low short e =
     let grows : radix ^ length word ≤ radix ^ most = pow-le-pow_right low short in
     omega arith
 
--- at so few digits no number is too large
+-- With at most four digits, no number is too large.
 pub hexadecimal_is : {A : Type 0} (least most : ℕ) (word : List ℕ) (good bad : A) → most ≤ 4 → least ≤ length word → length word ≤ most
     → (if is_numeral 16 word && nat_le (digits_value 16 word) 65535 then good else bad)
     ≡ (if is_hexadecimal least most word then good else bad)

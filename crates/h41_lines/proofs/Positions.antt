@@ -1,10 +1,10 @@
--- Where the first element of a kind stands in a list.
+-- The position of the first element of a list that passes a test.
 use Rattle.std.proofs.Common.{inl, inr, not, ◌≡◌, ℕ, ◌<◌, ◌≤◌, Bool, nat_lt, List, length, Some, None, ◌∙◌, arith}
 use Rattle.std.specs.List.{position, position_or_len}
 use Rattle.std.proofs.lemmas.Bool.{cases_Bool, ltb-true, ltb-false, cond-true, cond-false}
 use Rattle.std.proofs.lemmas.List.Sums.{prefix_len-le-length}
 
--- where a place was found, it is the first one
+-- If a position was found, it is the first one.
 pub position_some : (p : ℕ → Bool) (xs : List ℕ) (n : ℕ) → Some n ≡ position p xs → (n ≡ position_or_len p xs) × (n < length xs)
 position_some p xs n e = elim (cases_Bool (nat_lt (position_or_len p xs) (length xs))) [
   | inl found ↦

@@ -1,9 +1,9 @@
--- What follows from the definitions alone.
+-- Consequences of the definitions alone.
 use Rattle.std.specs.Prelude.{◌≡◌, ℕ, ◌<◌, ◌^◌, Some}
 use Rattle.h41_digits.specs.Register.{hexadecimal_text}
 use Rattle.h41_lines.specs.Numbers.{hexadecimal}
 
--- so many digits of a number that has no more are read as that number
+-- The hexadecimal digits of a number that fits into them are read as that number.
 abbrev pub HexadecimalRoundTrip : Type 0
 HexadecimalRoundTrip =
     (count number : ℕ) → 0 < count → number < 16 ^ count

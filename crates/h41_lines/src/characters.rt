@@ -1,4 +1,4 @@
-//! Digits and characters as texts show them.
+//! Digits and characters as they appear in texts.
 
 ghost use Rattle.std.specs.Prelude.{◌≡◌, ◌+◌, ◌<◌, ◌≤◌, [], ◌∷◌, ◌++◌, ◌*◌, length, true};
 ghost use Rattle.std.specs.Fmt.{digit_glyph};
@@ -8,7 +8,7 @@ ghost use Rattle.h41_lines.specs.Characters as spec;
 
 use arrayvec::ArrayString;
 
-/// The two decimal digits of a number below 100.
+/// Returns the two decimal digits of a number from 0 to 99.
 #[inline]
 pub fn two_digits(number: u8) -> ArrayString<2>
     requires { number < 100 }
@@ -20,7 +20,7 @@ pub fn two_digits(number: u8) -> ArrayString<2>
     digits
 }
 
-/// The two hexadecimal digits of a byte.
+/// Returns the two hexadecimal digits of a byte, in upper case.
 #[inline]
 pub fn byte_digits(byte: u8) -> ArrayString<2>
     ensures { result.bytes ≡ hexadecimal_text 2 byte }
@@ -30,7 +30,7 @@ pub fn byte_digits(byte: u8) -> ArrayString<2>
     digits
 }
 
-/// The four hexadecimal digits of an address.
+/// Returns the four hexadecimal digits of an address, in upper case.
 #[inline]
 pub fn address_digits(address: u16) -> ArrayString<4>
     ensures { result.bytes ≡ hexadecimal_text 4 address }
@@ -41,7 +41,7 @@ pub fn address_digits(address: u16) -> ArrayString<4>
     digits
 }
 
-/// Appends the two hexadecimal digits of a byte.
+/// Appends the two hexadecimal digits of a byte, in upper case, to a text.
 #[inline(always)]
 pub fn push_byte_digits<const N: usize>(text: &mut ArrayString<N>, byte: u8)
     requires { array_string_len text.old + 2 ≤ N }
@@ -51,7 +51,7 @@ pub fn push_byte_digits<const N: usize>(text: &mut ArrayString<N>, byte: u8)
     text.push_str(glyph_text(byte % 16));
 }
 
-/// A hexadecimal digit, 0 to 15, in upper case, as a text.
+/// Returns a hexadecimal digit, 0 to 15, in upper case, as a text of one character.
 #[inline(always)]
 pub fn glyph_text(digit: u8) -> &'static str
     requires { digit < 16 }
@@ -77,7 +77,8 @@ pub fn glyph_text(digit: u8) -> &'static str
     }
 }
 
-/// A character as the display shows it: 20 to 7E but `\` as it is, and any other escaped.
+/// Returns a character as the display shows it: the characters 20 to 7E as they are, except `\`; any other escaped, as `\` and two
+/// hexadecimal digits.
 #[inline]
 pub fn character_text(character: u8) -> ArrayString<3>
     ensures { result.bytes ≡ spec.character_text character }
@@ -91,7 +92,7 @@ pub fn character_text(character: u8) -> ArrayString<3>
     }
 }
 
-/// A character as `\` and its two hexadecimal digits.
+/// Returns a character in escaped form: `\` and its two hexadecimal digits.
 #[inline]
 pub fn escaped(character: u8) -> ArrayString<3>
     ensures { result.bytes ≡ spec.escape_of character }
@@ -102,7 +103,7 @@ pub fn escaped(character: u8) -> ArrayString<3>
     text
 }
 
-/// Appends characters as the display shows them, one behind the other.
+/// Appends characters to a text as the display shows them, in their order.
 #[inline]
 pub fn push_characters<const N: usize>(text: &mut ArrayString<N>, characters: &[u8])
     requires { array_string_len text.old + 3 * length characters.now ≤ N }
@@ -113,7 +114,7 @@ pub fn push_characters<const N: usize>(text: &mut ArrayString<N>, characters: &[
     }
 }
 
-/// Whether a character stands for itself: 20 to 7E, but for `\`.
+/// Returns whether a character is shown as it is: 20 to 7E, except `\`.
 #[inline(always)]
 fn is_plain(character: u8) -> bool
     ensures { result ≡ spec.is_plain character }

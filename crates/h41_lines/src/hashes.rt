@@ -1,10 +1,11 @@
-//! Hashes, by which the words of a table are found.
+//! Hashes, with which the code finds words in tables.
 
 ghost use Rattle.std.specs.Prelude.{◌≡◌};
 ghost use Rattle.h41_lines.specs.private.Hashes as spec;
 
-/// The hash of a word, 0 to 255. It begins as `first`; each byte is added to it, and the sum is multiplied by `factor`, modulo
-/// 65536. The upper byte of that is answered. A table has two numbers by which no two of its words have one hash.
+/// Returns the hash of a word, 0 to 255. The computation begins with `first`. For each byte, the byte is added and the sum is
+/// multiplied by `factor`, modulo 65536. The hash is the upper byte of the last product. For each table, `first` and `factor` are
+/// chosen so that no two of its words have the same hash.
 #[inline(always)]
 pub fn word_hash(word: &[u8], first: u16, factor: u16) -> u8
     ensures { result ≡ spec.word_hash first factor word.now }

@@ -1,8 +1,8 @@
-//! Laws of numbers: each is the contract of a function with nothing to do.
+//! Laws of numbers. Each law is the contract of a function with an empty body.
 
 ghost use Rattle.h41_lines.specs.Laws.{HexadecimalRoundTrip};
 
-/// The hexadecimal digits of a number are read as that number.
+/// States that the hexadecimal digits of a number are read as that number.
 pub fn hexadecimal_round_trip()
     ensures { HexadecimalRoundTrip }
 {}

@@ -1,4 +1,4 @@
-//! Lines, words, numbers and characters, as people write them. Nothing here has a state, and nothing takes memory.
+//! Lines, words, numbers and characters as people write them. Nothing in this crate has a state, and nothing allocates memory.
 #![tactic(auto)]
 
 pub mod characters;

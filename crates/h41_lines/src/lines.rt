@@ -1,4 +1,4 @@
-//! The lines of a text, each without its end.
+//! The lines of a text, without their line ends.
 
 ghost use Rattle.std.specs.Iterator.{YieldsFirstRef, item_count};
 ghost use Rattle.std.specs.List.{position};
@@ -6,15 +6,15 @@ ghost use Rattle.std.specs.Prelude.{◌≡◌, ◌==◌};
 ghost use Rattle.std.specs.Str.Lines.{strip_carriage_return};
 ghost use Rattle.h41_lines.specs.Lines.{lines};
 
-/// The lines that are left of a text, each without its LF and without a CR right before that. The last LF may be missing.
+/// An iterator over the lines of a text, each without its LF and without a CR directly before the LF. The last LF may be missing.
 #[derive(Debug, Drop)]
 pub struct Lines<'a> {
-    /// The bytes from the next line on.
+    /// The bytes that are not read yet, from the next line on.
     pub rest: &'a [u8],
 }
 
 impl<'a> Lines<'a> {
-    /// All lines of a text.
+    /// Returns an iterator over all lines of a text.
     pub fn new(text: &'a [u8]) -> Self
         ensures { result.rest.now ≡ text.now }
     {
@@ -48,7 +48,7 @@ impl<'a> Iterator for Lines<'a> {
     }
 }
 
-/// Where the first LF of a text stands.
+/// Returns the position of the first LF of a text, or `None` if it has none.
 #[inline(always)]
 pub fn line_end(text: &[u8]) -> Option<usize>
     ensures { result ≡ position (λ byte. byte == 10) text.now }
@@ -56,7 +56,7 @@ pub fn line_end(text: &[u8]) -> Option<usize>
     text.iter().position(|byte| *byte == b'\n')
 }
 
-/// A line without the CR at its end, if it has one.
+/// Returns a line without the CR at its end, if it has one.
 #[inline(always)]
 pub fn without_return(line: &[u8]) -> &[u8]
     ensures { result.now ≡ strip_carriage_return line.now }

@@ -1,10 +1,10 @@
-//! The numbers that words write.
+//! Reads the numbers that words contain.
 
 ghost use Rattle.std.specs.Prelude.{◌≡◌, ◌≤◌, ◌<◌, ◌^◌, IfSome};
 ghost use Rattle.h41_lines.specs.Numbers as spec;
 
-/// The number that a word's digits write in a radix, of either case and with any count of leading zeros. Nothing where the word
-/// has no digit, where a byte of it is none, or where the number is above `most`.
+/// Returns the number that a word's digits form in a radix from 2 to 36. Letters may be in either case, and leading zeros are
+/// allowed. Returns `None` if the word is empty, if one of its bytes is not a digit, or if the number is greater than `most`.
 pub fn number_up_to(most: u32, radix: u32, word: &[u8]) -> Option<u32>
     requires most_in { most ≤ 9999999 }
     requires radix_from_two { 2 ≤ radix }
@@ -26,7 +26,8 @@ pub fn number_up_to(most: u32, radix: u32, word: &[u8]) -> Option<u32>
     Some(value)
 }
 
-/// The decimal number that a word writes, from 1 up. Nothing where it writes none, or one above `most`.
+/// Returns the decimal number, at least 1, that a word's digits form. Returns `None` if the word is not a decimal number, or if the
+/// number is 0 or greater than `most`.
 pub fn count_up_to(most: u32, word: &[u8]) -> Option<u32>
     requires { most ≤ 9999999 }
     ensures small { IfSome result (λ number. number ≤ most) }
@@ -39,7 +40,8 @@ pub fn count_up_to(most: u32, word: &[u8]) -> Option<u32>
     Some(count)
 }
 
-/// The number of a word of `least` to `most` hexadecimal digits, of either case. Nothing where it is no such word.
+/// Returns the number that a word of `least` to `most` hexadecimal digits, of either case, forms. Returns `None` for any other
+/// word.
 pub fn hexadecimal(least: usize, most: usize, word: &[u8]) -> Option<u16>
     requires { most ≤ 4 }
     ensures small { IfSome result (λ number. number < 16 ^ most) }

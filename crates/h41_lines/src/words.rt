@@ -5,15 +5,15 @@ ghost use Rattle.std.specs.List.{position};
 ghost use Rattle.std.specs.Prelude.{◌≡◌, not};
 ghost use Rattle.h41_lines.specs.Words.{is_blank, words_of};
 
-/// The words that are left of a line, which blanks and tabs part.
+/// An iterator over the words of a line, which are separated by spaces and tabs.
 #[derive(Debug, Drop)]
 pub struct LineWords<'a> {
-    /// The bytes that are left of the line.
+    /// The part of the line that is not read yet.
     pub rest: &'a [u8],
 }
 
 impl<'a> LineWords<'a> {
-    /// All words of a line.
+    /// Returns an iterator over all words of a line.
     pub fn new(line: &'a [u8]) -> Self
         ensures { result.rest.now ≡ line.now }
     {
@@ -38,7 +38,7 @@ impl<'a> Iterator for LineWords<'a> {
     }
 }
 
-/// A byte that parts words: a blank or a tab.
+/// Returns whether a byte separates words: whether it is a space or a tab.
 #[inline(always)]
 pub fn is_blank(byte: u8) -> bool
     ensures { result ≡ is_blank byte }
@@ -46,7 +46,7 @@ pub fn is_blank(byte: u8) -> bool
     matches!(byte, b' ' | b'\t')
 }
 
-/// Where the first byte of a line that is no blank stands.
+/// Returns the position of the first byte of a line that is neither a space nor a tab, or `None` if there is none.
 #[inline(always)]
 pub fn word_start(line: &[u8]) -> Option<usize>
     ensures { result ≡ position (λ byte. not (is_blank byte)) line.now }
@@ -54,7 +54,7 @@ pub fn word_start(line: &[u8]) -> Option<usize>
     line.iter().position(|byte| !is_blank(*byte))
 }
 
-/// Where the first blank of a line stands.
+/// Returns the position of the first space or tab of a line, or `None` if there is none.
 fn word_end(line: &[u8]) -> Option<usize>
     ensures { result ≡ position is_blank line.now }
 {

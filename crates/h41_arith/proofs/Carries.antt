@@ -8,7 +8,7 @@ use Rattle.std.proofs.Math.Seq.{get_or-append_seam}
 use Rattle.h41_arith.specs.DigitRule.{SumDigit, DifferenceDigit, HasCarries, carry_digit}
 use Rattle.h41_arith.specs.DigitRuleLaws.{IsDetermined}
 
--- a rule of one place by which the digit and the carry out are determined
+-- A rule of one place by which the digit and the carry out are determined.
 abbrev pub Determines : (ℕ → ℕ → ℕ → ℕ → ℕ → Type 0) → Type 0
 Determines rule = (x y carry z out w other : ℕ) → rule x y carry z out → rule x y carry w other → (z ≡ w) × (out ≡ other)
 
@@ -26,7 +26,7 @@ DifferenceDigit-determines base x y carry z out w other (inr p) (inr q) = (p.1 �
 
 module _ (rule : ℕ → ℕ → ℕ → ℕ → ℕ → Type 0) (determines : Determines rule) (x y z w : List ℕ) (carry_in lo hi out other : ℕ)
     (a : HasCarries rule x y carry_in lo hi z out) (b : HasCarries rule x y carry_in lo hi w other) where
-  -- two lists of carries agree, so many places above lo
+  -- Two lists of carries agree, so many places above lo.
   same_carry : (above : ℕ) → lo + above ≤ hi + 1 → slice_index a.carries (lo + above) ≡ slice_index b.carries (lo + above)
   same_carry zero inside =
       let at : lo ≡ lo + 0 =
@@ -66,7 +66,7 @@ pub record CarriedTo (rule : ℕ → ℕ → ℕ → ℕ → ℕ → Type 0) (x 
   pub places : (place : ℕ) → lo ≤ place → place < next
       → rule (slice_index x place) (slice_index y place) (slice_index carries place) (slice_index z place) (slice_index carries (place + 1))
 
--- before the first place, with nothing below it
+-- Before the first place, with nothing below it.
 pub carried_none : (rule : ℕ → ℕ → ℕ → ℕ → ℕ → Type 0) (x y : List ℕ) (carry_in lo : ℕ) (z : List ℕ)
     → CarriedTo rule x y carry_in lo lo z carry_in
 carried_none rule x y carry_in lo z = record {
@@ -91,7 +91,7 @@ kept carries out index within = get_or_append_left carries (out ∷ []) 0 index 
 new_last : (carries : List ℕ) (out next : ℕ) → length carries ≡ next + 1 → slice_index (carries ++ out ∷ []) (next + 1) ≡ out
 new_last carries out next size = subst (λ index. slice_index (carries ++ out ∷ []) index ≡ out) size (get_or-append_seam carries out [] 0)
 
--- one place more
+-- One place more.
 pub carried_more : (rule : ℕ → ℕ → ℕ → ℕ → ℕ → Type 0) (x y : List ℕ) (carry_in lo next : ℕ) (z : List ℕ) (carry digit out : ℕ)
     → next < length z → lo ≤ next → CarriedTo rule x y carry_in lo next z carry
     → rule (slice_index x next) (slice_index y next) carry digit out → CarriedTo rule x y carry_in lo (next + 1) (set z next digit) out
@@ -116,7 +116,7 @@ carried_more rule x y carry_in lo next z carry digit out inside from so_far step
   ];
 }
 
--- the last place is behind
+-- The rule holds at all places up to the last.
 pub carried_all : (rule : ℕ → ℕ → ℕ → ℕ → ℕ → Type 0) (x y : List ℕ) (carry_in lo hi : ℕ) (z : List ℕ) (out : ℕ) → carry_in ≤ 1
     → CarriedTo rule x y carry_in lo (hi + 1) z out → HasCarries rule x y carry_in lo hi z out
 carried_all rule x y carry_in lo hi z out bit done = record {
@@ -137,7 +137,7 @@ same_carry_bit true false h = absurd (omega (arith, h))
 same_carry_bit false true h = absurd (omega (arith, h))
 same_carry_bit false false h = refl
 
--- a rule that determines one place gives one register and one carry
+-- A rule that determines one place gives one register and one carry.
 pub result_determined : (rule : ℕ → ℕ → ℕ → ℕ → ℕ → Type 0) → Determines rule → IsDetermined (HasCarries rule)
 result_determined rule determines into x y z w carry_in carry other lo hi ordered a b = (
   ext_get_or 0 z w (a.register.size ∙ sym b.register.size) (λ place _. elim (cases_lt place lo) [

@@ -14,7 +14,7 @@ use Rattle.h41_arith.proofs.Borrows.{digits_value, value_more}
 use Rattle.h41_arith.proofs.Places.{different_at, same_throughout}
 use Rattle.h41_arith.proofs.Parts.{part, part_at, part-register}
 
--- one digit more at the left of the first ones
+-- One digit more at the left of the first ones.
 last_more : (x : List ℕ) (lo count : ℕ) → lo + count < length x
     → value (take (count + 1) (drop lo x)) ≡ value (take count (drop lo x)) + slice_index x (lo + count) * 16 ^ count
 last_more x lo count inside =
@@ -54,7 +54,7 @@ is_same a b same = grind (arith, nat_tests)
 is_other : (a b : ℕ) → a ≢ b → not (a == b) ≡ true
 is_other a b other = grind (arith, nat_tests)
 
--- where no place differs, the numbers are the same
+-- If the digits are the same at every place, the numbers are the same.
 same_part : (x y : List ℕ) (lo hi : ℕ) → IsRegister 14 x → IsRegister 14 y → lo ≤ hi → hi < 14 → is_different x y lo hi ≡ false
     → value (part x lo hi) ≡ value (part y lo hi)
 same_part x y lo hi p q ordered inside same =

@@ -17,19 +17,19 @@ use Rattle.h41_arith.proofs.Carries.{carry_le}
 use Rattle.h41_arith.proofs.Parts.{part, part-register, keeps_outside}
 use Rattle.h41_arith.proofs.Steps.{Steps, steps_none, steps_more, has_carries}
 
--- a one at each of so many places
+-- A one at each of so many places.
 abbrev pub ones : ℕ → ℕ
 ones count = value (replicate count 1)
 
 pub ones_more : (count : ℕ) → ones (suc count) ≡ 1 + 16 * ones count
 ones_more count = value-cons 1 (replicate count 1)
 
--- fifteen times that, and one, is the first number with a digit more
+-- Fifteen times that, and one, is the first number with a digit more.
 pub fifteen_ones : (count : ℕ) → 15 * ones count + 1 ≡ 16 ^ count
 fifteen_ones zero = refl
 fifteen_ones (suc count) = omega (arith, ones_more count, fifteen_ones count, pow-succ' 16 count)
 
--- the carries out of each digit of a sum, as ones
+-- The carries out of each digit of a sum, as ones.
 abbrev pub carry_word : List ℕ → List ℕ → ℕ → ℕ
 carry_word [] y carry = 0
 carry_word (a ∷ x) [] carry = 0
@@ -38,16 +38,16 @@ carry_word (a ∷ x) (b ∷ y) carry = (a + b + carry) / 16 + 16 * carry_word x 
 pub last_of_xor : (x y : ℕ) → bit_xor x y % 2 ≡ (x % 2 + y % 2) % 2
 last_of_xor x y = omega (arith, sym (bit_at_lowest (bit_xor x y)) ∙ bit_at_xor x y 0, bit_at_lowest x, bit_at_lowest y)
 
--- the last bit of two numbers and their sum tells the carry in, whatever even number more is in the sum
+-- The last bits of two numbers and of their sum determine the carry in, whatever even number is added to the sum.
 carry_bit : (x y sum carry half : ℕ) → carry ≤ 1 → sum ≡ x + y + carry + 2 * half → bit_xor (bit_xor x y) sum % 2 ≡ carry
 carry_bit x y sum carry half bit is = omega (arith, last_of_xor (bit_xor x y) sum, last_of_xor x y)
 
--- and the bits of the carry itself are even with it
+-- And the bits of the carry itself are even with it.
 pub even_with_carry : (x y sum carry half : ℕ) → sum ≡ x + y + carry + 2 * half → bit_xor (bit_xor (bit_xor x y) carry) sum % 2 ≡ 0
 even_with_carry x y sum carry half is =
     omega (arith, last_of_xor (bit_xor (bit_xor x y) carry) sum, last_of_xor (bit_xor x y) carry, last_of_xor x y)
 
--- one digit less of the sum of two numbers
+-- One digit less of the sum of two numbers.
 pub shifted_xor : (a b s x y sum : ℕ) → a < 16 → b < 16 → s < 16
     → bit_xor (bit_xor (a + 16 * x) (b + 16 * y)) (s + 16 * sum) / 16 ≡ bit_xor (bit_xor x y) sum
 shifted_xor a b s x y sum a_small b_small s_small =
@@ -59,7 +59,7 @@ shifted_xor a b s x y sum a_small b_small s_small =
     (xor_shr (a + 16 * x) (b + 16 * y) 4 ∙ ap (λ n. bit_xor n ((b + 16 * y) / 16)) is_x ∙ ap (bit_xor x) is_y)
     ∙ ap (bit_xor (bit_xor x y)) is_sum
 
--- a mask of ones, one digit at a time
+-- A mask of ones, one digit at a time.
 pub masked_more : (n mask : ℕ) → bit_and n (1 + 16 * mask) ≡ n % 2 + 16 * bit_and (n / 16) mask
 masked_more n mask =
     let split : n ≡ n / 16 * 16 + n % 16 = omega arith in
@@ -72,7 +72,7 @@ masked_more n mask =
       low,
     )
 
--- six more at each digit
+-- Six more at each digit.
 abbrev pub with_sixes : List ℕ → List ℕ
 with_sixes digits = map (λ digit. digit + 6) digits
 
@@ -81,15 +81,15 @@ value-with_sixes [] = refl
 value-with_sixes (digit ∷ digits) =
     omega (arith, value-cons (digit + 6) (with_sixes digits), value-cons digit digits, value-with_sixes digits, ones_more (length digits))
 
--- a one at each of so many digits behind which the last bit of a result is not that of two numbers
+-- A 1 at each of the digits after which the last bit of a result is not that of two numbers.
 abbrev pub changed : ℕ → ℕ → ℕ → ℕ → ℕ
 changed first second result places = bit_and (bit_xor (bit_xor first second) result / 16) (ones places)
 
--- a one at each digit that carries in a sum with a carry and with sixes more
+-- A one at each digit that carries in a sum with a carry and with sixes more.
 abbrev pub tens : ℕ → ℕ → ℕ → ℕ → ℕ → ℕ
 tens first second carry sixes places = changed first second (first + second + carry + sixes) places
 
--- the total in base 10 with them
+-- The total in base 10 with them.
 abbrev pub total_with_tens : ℕ → ℕ → ℕ → ℕ → ℕ → ℕ
 total_with_tens first second carry mask places = first + second + carry + 6 * tens first second carry (6 * mask) places
 
@@ -99,7 +99,7 @@ nothing_to_read sum places small =
     ap (λ n. bit_and n (ones places)) (xor_shr (bit_xor 0 0) sum 4 ∙ ap (bit_xor (bit_xor 0 0 / 16)) none)
     ∙ omega (arith, and_le_l 0 (ones places))
 
--- the bits of two numbers and their sum tell the carries
+-- The bits of two numbers and of their sum determine the carries.
 pub tens_read : (x y : List ℕ) (carry places : ℕ) → AllByRecursion (λ digit. digit < 10) x → AllByRecursion (λ digit. digit < 16) y
     → length x ≡ length y → length y ≤ places → carry ≤ 1
     → tens (value x) (value y) carry (6 * ones (length y)) places ≡ carry_word (with_sixes x) y carry
@@ -130,7 +130,7 @@ tens_read (a ∷ x) (b ∷ y) carry (suc places) p q same few bit =
     (carry_bit (value x) (value y) sum next (3 * ones (length y)) next_bit (omega arith))
     ∙ ap (λ n. next + 16 * n) (tens_read x y next places p.1 q.1 (omega (arith, same)) (omega (arith, few)) next_bit)
 
--- a letter is told by adding nothing else
+-- A letter is found by adding sixes to the number alone.
 value-zeros : (count : ℕ) → value (replicate count 0) ≡ 0
 value-zeros zero = refl
 value-zeros (suc count) = omega (arith, value-cons 0 (replicate count 0), value-zeros count)
@@ -139,7 +139,7 @@ zeros_small : (count : ℕ) → AllByRecursion (λ digit. digit < 10) (replicate
 zeros_small zero = tt
 zeros_small (suc count) = (omega arith, zeros_small count)
 
--- where nothing carries when six is added to each digit, each is below 10
+-- If nothing carries when six is added to each digit, each digit is below 10.
 no_letter : (digits : List ℕ) → carry_word (with_sixes (replicate (length digits) 0)) digits 0 ≡ 0
     → AllByRecursion (λ digit. digit < 10) digits
 no_letter [] none = tt
@@ -161,7 +161,7 @@ decimal_digits digits number mask places each is is_mask few none =
     rw (value-zeros count) at read in
     no_letter digits (sym known ∙ rw (is, is_mask) at none)
 
--- the lowest digit of a sum in base 10
+-- The lowest digit of a sum in base 10.
 tens_step : (a b carry d x y z above : ℕ) → a < 10 → b < 16 → carry ≤ 1 → d < 16
     → d + 16 * z ≡ a + 16 * x + (b + 16 * y) + carry + 6 * ((a + 6 + b + carry) / 16 + 16 * above)
     → SumDigit 10 a b carry d ((a + 6 + b + carry) / 16) × (z ≡ x + y + (a + 6 + b + carry) / 16 + 6 * above)
@@ -198,7 +198,7 @@ tens_steps (a ∷ x) (b ∷ y) (d ∷ z) carry out p q r same_x same_y bit whole
     steps_more _ a b d x y z carry next (length z) out step.0
     (tens_steps x y z next out p.1 q.1 r.1 (omega (arith, same_x)) (omega (arith, same_y)) next_bit step.1)
 
--- no number of digits below 10 is above that of nines
+-- No number of digits below 10 is above that of nines.
 pub nine_most : (digits : List ℕ) → AllByRecursion (λ digit. digit < 10) digits → value digits ≤ 9 * ones (length digits)
 nine_most [] each = omega arith
 nine_most (digit ∷ digits) each = omega (arith, each.0, value-cons digit digits, nine_most digits each.1, ones_more (length digits))
@@ -207,7 +207,7 @@ fifteen_most : (digits : List ℕ) → AllByRecursion (λ digit. digit < 16) dig
 fifteen_most [] each = omega arith
 fifteen_most (digit ∷ digits) each = omega (arith, each.0, value-cons digit digits, fifteen_most digits each.1, ones_more (length digits))
 
--- a total is below twice the first number with a digit more
+-- A total is below twice the first number with a digit more.
 carry_word-le : (x y : List ℕ) (carry : ℕ) → AllByRecursion (λ digit. digit < 10) x → AllByRecursion (λ digit. digit < 16) y
     → length x ≡ length y → carry ≤ 1 → carry_word (with_sixes x) y carry ≤ ones (length y)
 carry_word-le [] [] carry p q same bit = omega arith
@@ -232,11 +232,11 @@ total_small x y carry places p q same few bit =
       carry_word-le x y carry p q same bit,
     )
 
--- what the test of a letter tells
+-- The consequences of the test for a letter.
 pub no_carry : (answer : Bool) (carries : ℕ) → answer ≡ not (carries == 0) → answer ≡ false → carries ≡ 0
 no_carry answer carries told is = grind (arith, nat_tests)
 
--- the steps of a sum that was computed with its carries
+-- The steps of a sum that was computed with its carries.
 pub tens_of : (x y z : List ℕ) (carry out count places digits first second limit mask : ℕ) → AllByRecursion (λ digit. digit < 10) x
     → AllByRecursion (λ digit. digit < 16) y → AllByRecursion (λ digit. digit < 16) z → length x ≡ count → length y ≡ count
     → length z ≡ count → count ≤ places → carry ≤ 1 → value z ≡ digits → first ≡ value x → second ≡ value y → limit ≡ 16 ^ count
@@ -254,7 +254,7 @@ tens_of x y z carry out count places digits first second limit mask p q r size_x
     subst (λ n. Steps (SumDigit 10) x y carry z n out) size_z
     (tens_steps x y z carry out p q r (size_x ∙ sym size_z) (size_y ∙ sym size_z) bit final)
 
--- the digits of a span, of which none is a letter
+-- The digits of a span, of which none is a letter.
 pub part_decimal : (x : List ℕ) (lo hi number mask places : ℕ) → IsRegister 14 x → lo ≤ hi → hi < 14 → number ≡ value (part x lo hi)
     → mask ≡ ones (hi + 1 - lo) → hi + 1 - lo ≤ places → tens 0 number 0 (6 * mask) places ≡ 0
     → AllByRecursion (λ digit. digit < 10) (part x lo hi)
@@ -270,7 +270,7 @@ part_most x lo hi number mask register ordered inside is is_mask each =
     let most : value (part x lo hi) ≤ 9 * ones (hi + 1 - lo) = rw digits.size at (nine_most (part x lo hi) each) in
     omega (arith, is, is_mask, most)
 
--- a sum in base 10 put into a span
+-- A sum in base 10 put into a span.
 pub tens_result : (into x y z : List ℕ) (carry_in carry : Bool) (lo hi places digits first second limit mask : ℕ) → IsRegister 14 x
     → IsRegister 14 y → IsRegister 14 z → lo ≤ hi → hi < 14 → AllByRecursion (λ digit. digit < 10) (part x lo hi)
     → value (part z lo hi) ≡ digits → first ≡ value (part x lo hi) → second ≡ value (part y lo hi) → limit ≡ 16 ^ (hi + 1 - lo)
@@ -291,7 +291,7 @@ tens_result into x y z carry_in carry lo hi places digits first second limit mas
       outside = keeps_outside into z lo hi below above;
     }
 
--- the totals of a span are small
+-- The totals of a span are small.
 pub part_total_small : (x y : List ℕ) (carry : Bool) (lo hi places : ℕ) → IsRegister 14 x → IsRegister 14 y → lo ≤ hi → hi < 14
     → AllByRecursion (λ digit. digit < 10) (part x lo hi) → hi + 1 - lo ≤ places
     → total_with_tens (value (part x lo hi)) (value (part y lo hi)) (carry_digit carry) (ones (hi + 1 - lo)) places < 2 * 16 ^ (hi + 1 - lo)

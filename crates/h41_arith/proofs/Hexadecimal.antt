@@ -15,7 +15,7 @@ use Rattle.std.proofs.lemmas.List.Elements.{recursion_from_All}
 abbrev Digits : List ℕ → Type 0
 Digits digits = AllByRecursion (λ digit. digit < 16) digits
 
--- the lowest digit of a sum, and the carry into the sum of the others
+-- The lowest digit of a sum, and the carry into the sum of the others.
 abbrev SumStep : ℕ → ℕ → ℕ → ℕ → ℕ → ℕ → ℕ → Type 0
 SumStep a b carry d x y z = (next : ℕ) × (next ≤ 1) × SumDigit 16 a b carry d next × (z ≡ x + y + next)
 
@@ -45,7 +45,7 @@ sum_steps (a ∷ x) (b ∷ y) (d ∷ z) carry out p q r same_x same_y bit whole 
     steps_more _ a b d x y z carry step.0 (length z) out step.2
     (sum_steps x y z step.0 out p.1 q.1 r.1 (omega (arith, same_x)) (omega (arith, same_y)) step.1 step.3)
 
--- the lowest digit of a difference, and the borrow into the difference of the others
+-- The lowest digit of a difference, and the borrow into the difference of the others.
 abbrev DifferenceStep : ℕ → ℕ → ℕ → ℕ → ℕ → ℕ → ℕ → ℕ → Type 0
 DifferenceStep a b borrow d x y z above = (next : ℕ) × (next ≤ 1) × DifferenceDigit 16 a b borrow d next × (z + y + next ≡ x + above)
 
@@ -75,7 +75,7 @@ difference_steps (a ∷ x) (b ∷ y) (d ∷ z) borrow out p q r same_x same_y bi
     steps_more _ a b d x y z borrow step.0 (length z) out step.2
     (difference_steps x y z step.0 out p.1 q.1 r.1 (omega (arith, same_x)) (omega (arith, same_y)) step.1 step.3)
 
--- a sum of two numbers put into a span
+-- A sum of two numbers put into a span.
 pub sum_result : (into x y z : List ℕ) (carry_in carry : Bool) (lo hi : ℕ) → IsRegister 14 x → IsRegister 14 y → IsRegister 14 z → lo ≤ hi
     → hi < 14
     → value (part z lo hi) + 16 ^ (hi + 1 - lo) * carry_digit carry ≡ value (part x lo hi) + value (part y lo hi) + carry_digit carry_in
@@ -99,7 +99,7 @@ sum_result into x y z carry_in carry lo hi p q r ordered inside whole below abov
       outside = keeps_outside into z lo hi below above;
     }
 
--- and a difference
+-- And a difference.
 pub difference_result : (into x y z : List ℕ) (borrow_in borrow : Bool) (lo hi : ℕ) → IsRegister 14 x → IsRegister 14 y → IsRegister 14 z
     → lo ≤ hi → hi < 14
     → value (part z lo hi) + value (part y lo hi) + carry_digit borrow_in ≡ value (part x lo hi) + 16 ^ (hi + 1 - lo) * carry_digit borrow

@@ -17,11 +17,11 @@ use Rattle.h41_arith.proofs.Parts.{part}
 use Rattle.h41_digits.specs.Register.{IsRegister, value}
 use Rattle.std.specs.List.{AllByRecursion}
 
--- the weight of the place behind the last
+-- The weight of the place after the last.
 pub whole_weight : (lo hi : ℕ) → lo ≤ hi → 16 ^ (hi + 1) ≡ 16 ^ (hi + 1 - lo) * 16 ^ lo
 whole_weight lo hi ordered = ap (λ places. 16 ^ places) (omega arith) ∙ pow-add 16 (hi + 1 - lo) lo
 
--- a number in its places is a whole number times the weight, and no other
+-- A number in its places is a whole number times the weight, and no other.
 pub is_multiple : (number n weight : ℕ) → number ≡ n * weight → number % weight ≡ 0
 is_multiple number n weight is = ap (λ k. k % weight) is ∙ mul-mod_left n weight
 
@@ -31,13 +31,13 @@ is_quotient number n weight positive is = ap (λ k. k / weight) is ∙ mul-div_c
 pub whole_quotient : (number weight : ℕ) → 0 < weight → number % weight ≡ 0 → number ≡ number / weight * weight
 whole_quotient number weight positive multiple = omega (arith, mod-add-div number weight, multiple, mul_comm weight (number / weight))
 
--- one place down
+-- One place down.
 pub sixteenth_at : (number n weight : ℕ) → 0 < weight → number ≡ n * weight → number / 16 / weight ≡ n / 16
 sixteenth_at number n weight positive is =
     div-div-eq-div-mul number 16 weight ∙ ap (λ m. number / m) (mul_comm 16 weight) ∙ sym (div-div-eq-div-mul number weight 16)
     ∙ ap (λ m. m / 16) (is_quotient number n weight positive is)
 
--- numbers in the same places compare as they do in the first
+-- Numbers in the same places compare as they do in the first.
 less_here : (a b weight : ℕ) → a < b → a * weight + weight ≤ b * weight
 less_here a b weight less = omega (arith, mul-le-mul_right {m = a + 1} {n = b} weight (omega arith))
 
@@ -68,7 +68,7 @@ in_place-eq x y a b weight positive is_x is_y = elim (cases_eq a b) [
       ∙ sym (is_other a b other)
 ]
 
--- below twice the weight behind the last place
+-- The number is less than twice the weight of the place after the last.
 pub below_twice : (number n limit weight whole : ℕ) → 0 < weight → number ≡ n * weight → whole ≡ limit * weight → n < 2 * limit
     → number < 2 * whole
 below_twice number n limit weight whole positive is is_whole few =
@@ -78,7 +78,7 @@ pub few_of_twice : (number n limit weight whole : ℕ) → number ≡ n * weight
 few_of_twice number n limit weight whole is is_whole below =
     lt_of_mul-lt-mul_right weight {m = n} {n = 2 * limit} (omega (arith, is, is_whole, below))
 
--- a number's digits and the 1 above them: it is there where the number is above the mask
+-- A number's digits, and the 1 above them: it is there exactly if the number is greater than the mask.
 pub in_parts : (number n limit weight mask digits : ℕ) → 0 < weight → number ≡ n * weight → n < 2 * limit → mask + weight ≡ limit * weight
     → digits ≡ n % limit → digits + limit * carry_digit (nat_lt mask number) ≡ n
 in_parts number n limit weight mask digits positive is few is_mask is_digits = elim (cases_lt n limit) [
@@ -99,18 +99,18 @@ in_parts number n limit weight mask digits positive is few is_mask is_digits = e
     rest : (n limit : ℕ) → n < 2 * limit → limit ≤ n → n - limit < limit
     rest n limit few more = omega arith
 
--- what the code adds up
+-- What the code adds up.
 pub sum_at : (first second carry v u b weight : ℕ) → first ≡ v * weight → second ≡ u * weight → carry ≡ b * weight
     → first + second + carry ≡ (v + u + b) * weight
 sum_at first second carry v u b weight is_first is_second is_carry = omega (arith, is_first, is_second, is_carry)
 
--- a register's word is a whole number of times the weight behind the last place
+-- Two to the power of 64 is a multiple of the weight of the place after the last.
 pub whole_word : (lo hi : ℕ) → lo ≤ hi → hi < 14 → 2 ^ 64 ≡ 16 ^ (15 - hi) * (16 ^ (hi + 1 - lo) * 16 ^ lo)
 whole_word lo hi ordered inside =
     let split : 16 ≡ 15 - hi + (hi + 1) = omega arith in
     ap (λ places. 16 ^ places) split ∙ pow-add 16 (15 - hi) (hi + 1) ∙ ap (λ n. 16 ^ (15 - hi) * n) (whole_weight lo hi ordered)
 
--- what is left where more is taken away than there is, in a word that begins again above its limit
+-- The result of a subtraction, modulo a limit, if more is subtracted than there is.
 wrapped : (left limit more : ℕ) → 1 ≤ more → left ≤ limit → 0 < left → (more * limit - left) % limit + left ≡ limit
 wrapped left limit more some fits positive =
     let split : more * limit - left ≡ (more - 1) * limit + (limit - left) = omega (arith, once more limit some) in
@@ -128,11 +128,11 @@ wrapped left limit more some fits positive =
     below : (limit left : ℕ) → left ≤ limit → 0 < left → limit - left < limit
     below limit left fits positive = omega arith
 
--- a difference of numbers in their places is in its place
+-- A difference of numbers in their places is in its place.
 apart : (v t d weight : ℕ) → t ≡ v + d → t * weight ≡ v * weight + d * weight
 apart v t d weight is = rw is (omega arith)
 
--- the difference in such a word, where less is there than is taken away, and where enough is there
+-- The difference modulo a limit, with a borrow and without one.
 short_by : (first taken v t limit weight more word : ℕ) → 0 < weight → first ≡ v * weight → taken ≡ t * weight → v < t → t ≤ limit
     → 1 ≤ more → word ≡ more * (limit * weight) → (first + (word - taken)) % word / weight % limit + t ≡ v + limit
 short_by first taken v t limit weight more word positive is_first is_taken short most some is_word =
@@ -171,7 +171,7 @@ enough_by first taken v t limit weight more word positive is_first is_taken less
     below : (d v limit : ℕ) → v < limit → v ≡ t + d → d < limit
     below d v limit less is = omega arith
 
--- with whether it borrows
+-- With whether it borrows.
 pub difference_at : (first taken v t limit weight more word : ℕ) → 0 < weight → first ≡ v * weight → taken ≡ t * weight → v < limit
     → t ≤ limit → 1 ≤ more → word ≡ more * (limit * weight)
     → (first + (word - taken)) % word / weight % limit + t ≡ v + limit * carry_digit (nat_lt first taken)
@@ -184,7 +184,7 @@ difference_at first taken v t limit weight more word positive is_first is_taken 
       rw none (enough_by first taken v t limit weight more word positive is_first is_taken less enough some is_word ∙ omega arith)
 ]
 
--- the sixes of a span are those of so many places, in their places
+-- The sixes of a span are those of so many places, in their places.
 pub sixes_in_place : (lo hi mask sixes : ℕ) → lo ≤ hi → mask + 16 ^ lo ≡ 16 ^ (hi + 1) → 5 * sixes ≡ 2 * mask
     → sixes ≡ 6 * ones (hi + 1 - lo) * 16 ^ lo
 sixes_in_place lo hi mask sixes ordered is_mask fifths =
@@ -195,7 +195,7 @@ sixes_in_place lo hi mask sixes ordered is_mask fifths =
         → sixes ≡ 6 * ones * weight
     two_fifths ones limit weight mask sixes fifteen is fifths = omega (arith, rw (← fifteen) at is, fifths)
 
--- bits of numbers in their places are in their places
+-- Bits of numbers in their places are in their places.
 xor_in_place : (a b k : ℕ) → bit_xor (a * 2 ^ k) (b * 2 ^ k) ≡ bit_xor a b * 2 ^ k
 xor_in_place a b k =
     let none : (n : ℕ) → n * 2 ^ k ≡ n * 2 ^ k + 0 = λ n. omega arith in
@@ -205,7 +205,7 @@ xor_in_place a b k =
 xor_at : (a b lo : ℕ) → bit_xor (a * 16 ^ lo) (b * 16 ^ lo) ≡ bit_xor a b * 16 ^ lo
 xor_at a b lo = subst (λ weight. bit_xor (a * weight) (b * weight) ≡ bit_xor a b * weight) (bits_of_places lo) (xor_in_place a b (4 * lo))
 
--- and ones below them find nothing there
+-- Ones below the places of a number select nothing there.
 ones_at : (n places lo : ℕ) → bit_and (n * 16 ^ lo) (ones (places + lo)) ≡ bit_and n (ones places) * 16 ^ lo
 ones_at n places zero =
     let all : places + 0 ≡ places = omega arith in
@@ -226,7 +226,7 @@ ones_at n places (suc lo) =
     turned : (n weight : ℕ) → n * (16 * weight) ≡ 16 * (n * weight)
     turned n weight = omega arith
 
--- what changes in a digit is told by the one before it
+-- The change of a digit is visible in the digit below it.
 changed_here : (x y c result places : ℕ) → c < 16 → bit_xor (bit_xor (bit_xor x y) c) result % 2 ≡ 0
     → bit_and (bit_xor (bit_xor (bit_xor x y) c) result) (ones (suc places)) ≡ 16 * changed x y result places
 changed_here x y c result places small even =
@@ -254,7 +254,7 @@ carried_at first second carry result x y c r lo inside small is_first is_second 
     split : (lo : ℕ) → lo < 14 → 15 ≡ suc (14 - lo) + lo
     split lo inside = omega arith
 
--- the same of a sum with sixes
+-- The same of a sum with sixes.
 pub tens_at : (first second carry sixes x y c m lo : ℕ) → lo < 14 → c < 16 → first ≡ x * 16 ^ lo → second ≡ y * 16 ^ lo
     → carry ≡ c * 16 ^ lo → sixes ≡ 6 * m * 16 ^ lo
     → carried_of first second carry (first + second + carry + sixes) ≡ 16 * tens x y c (6 * m) (14 - lo) * 16 ^ lo
@@ -263,7 +263,7 @@ tens_at first second carry sixes x y c m lo inside small is_first is_second is_c
     carried_at first second carry (first + second + carry + sixes) x y c (x + y + c + 6 * m) lo inside small
     is_first is_second is_carry is_sum (even_with_carry x y (x + y + c + 6 * m) c (3 * m) (omega arith))
 
--- and the total in base 10
+-- And the total in base 10.
 pub total_at : (first second carry sixes x y c m lo : ℕ) → lo < 14 → c < 16 → first ≡ x * 16 ^ lo → second ≡ y * 16 ^ lo
     → carry ≡ c * 16 ^ lo → sixes ≡ 6 * m * 16 ^ lo
     → decimal_total_of first second carry sixes ≡ total_with_tens x y c m (14 - lo) * 16 ^ lo
@@ -276,7 +276,7 @@ total_at first second carry sixes x y c m lo inside small is_first is_second is_
     put_together first second carry carried x y c tens weight is_first is_second is_carry is =
         omega (arith, is_first, is_second, is_carry, is)
 
--- digits of a span without a letter, as the code tells it of their number in its places
+-- The code finds no letter in a span from the number of its digits in their places: so each is a decimal digit.
 pub span_decimal : (x : List ℕ) (lo hi mask sixes number : ℕ) (answer : Bool) → IsRegister 14 x → lo ≤ hi → hi < 14
     → mask + 16 ^ lo ≡ 16 ^ (hi + 1) → 5 * sixes ≡ 2 * mask → number ≡ value (part x lo hi) * 16 ^ lo
     → answer ≡ not (carried_of 0 number 0 (number + sixes) == 0) → answer ≡ false → AllByRecursion (λ digit. digit < 10) (part x lo hi)
@@ -304,7 +304,7 @@ span_most x lo hi mask sixes number register ordered inside is_mask fifths is ea
     let placed : value (part x lo hi) * 16 ^ lo ≤ 9 * ones (hi + 1 - lo) * 16 ^ lo = mul-le-mul_right (16 ^ lo) most in
     omega (arith, is, placed, sixes_in_place lo hi mask sixes ordered is_mask fifths)
 
--- a difference in such a word, whole: it is in its place, and goes on above where less is there than is taken away
+-- The whole difference modulo a limit is in its place; if there is a borrow, it continues above the span.
 pub whole_difference : (first taken v t total weight word : ℕ) → 0 < weight → first ≡ v * weight → taken ≡ t * weight
     → word ≡ total * weight → v < total → t ≤ total
     → (left : ℕ)

@@ -16,7 +16,7 @@ use Rattle.h41_digits.proofs.Parts.{value-append}
 use Rattle.h41_arith.specs.DigitRule.{KeepsOutside, with_places}
 use Rattle.h41_arith.proofs.Places.{filled_all}
 
--- the digits at the places from lo to hi
+-- The digits at the places from lo to hi.
 abbrev pub part : List ℕ → ℕ → ℕ → List ℕ
 part digits lo hi = take (hi + 1 - lo) (drop lo digits)
 
@@ -37,7 +37,7 @@ part-lt digits lo hi register ordered inside =
     let is = part-register digits lo hi register ordered inside in
     rw is.size at (value-below (part digits lo hi) is.each)
 
--- what was put in is read, and the rest stays
+-- What was written is read, and the other digits do not change.
 pub keeps_outside : (into z : List ℕ) (lo hi : ℕ) → take lo z ≡ take lo into → drop (hi + 1) z ≡ drop (hi + 1) into
     → KeepsOutside into lo hi z
 keeps_outside into z lo hi below above = record {
@@ -51,7 +51,7 @@ keeps_outside into z lo hi below above = record {
     past : (into z : List ℕ) (place : ℕ) → drop (hi + 1) z ≡ drop (hi + 1) into → hi < place → slice_index z place ≡ slice_index into place
     past into z place above high = sym (there z place high) ∙ ap (λ d. slice_index d (place - (hi + 1))) above ∙ there into place high
 
--- the digits of a part with a known number
+-- The digits of a part with a known number.
 pub known_part : (z digits : List ℕ) (lo hi place : ℕ) → IsRegister 14 z → lo ≤ hi → hi < 14 → IsRegister (hi + 1 - lo) digits
     → value (part z lo hi) ≡ value digits → lo ≤ place → place ≤ hi → slice_index z place ≡ slice_index digits (place - lo)
 known_part z digits lo hi place register ordered inside are held from to =
@@ -59,7 +59,7 @@ known_part z digits lo hi place register ordered inside are held from to =
     ∙ ap (λ d. slice_index d (place - lo))
     (same_register (hi + 1 - lo) (part z lo hi) digits (part-register z lo hi register ordered inside) are held)
 
--- a register with known digits put in is a replaced one
+-- A register with known digits put in is a replaced one.
 pub replaced_by : (into z digits : List ℕ) (lo hi : ℕ) (digit : ℕ → ℕ) → IsRegister 14 z → lo ≤ hi → hi < 14
     → IsRegister (hi + 1 - lo) digits → value (part z lo hi) ≡ value digits → take lo z ≡ take lo into
     → drop (hi + 1) z ≡ drop (hi + 1) into → ((place : ℕ) → lo ≤ place → place ≤ hi → slice_index digits (place - lo) ≡ digit place)
@@ -74,11 +74,11 @@ replaced_by into z digits lo hi digit register ordered inside are held below abo
       above = λ place high. outside.above place (omega arith);
     })
 
--- how many digits a span has, and the highest of them
+-- How many digits a span has, and the highest of them.
 pub span_size : (lo hi : ℕ) → lo ≤ hi → hi + 1 - lo ≡ suc (hi - lo)
 span_size lo hi ordered = omega arith
 
--- the digits of a part one place up: a number times 16, without what goes past the last place
+-- The digits of a part one place up: the number times 16, without what exceeds the last place.
 up_value : (digits : List ℕ) (count : ℕ) → IsRegister (suc count) digits
     → value digits * 16 % 16 ^ suc count ≡ value (0 ∷ take count digits)
 up_value digits count register =
@@ -99,7 +99,7 @@ up_value digits count register =
     moved_up : (whole low weight high next : ℕ) → whole ≡ low + weight * high → next ≡ 16 * weight → whole * 16 ≡ high * next + 16 * low
     moved_up whole low weight high next split is_next = rw (split, is_next) (omega arith)
 
--- and one place down: a sixteenth
+-- And one place down: a sixteenth.
 down_value : (digits : List ℕ) → AllByRecursion (λ digit. digit < 16) digits → value digits / 16 ≡ value (drop 1 digits ++ 0 ∷ [])
 down_value [] each = refl
 down_value (digit ∷ digits) each = omega (arith, value-cons digit digits, each.0, value-append digits (0 ∷ []))
@@ -179,6 +179,6 @@ down_at digits lo hi place register inside from to =
     down_below : (hi place digit : ℕ) → place < hi → digit ≡ (if place == hi then 0 else digit)
     down_below hi place digit below = grind (arith, nat_tests)
 
--- a part of a number is below its limit
+-- A part of a number is below its limit.
 pub sixteenth : (number limit : ℕ) → number < limit → number / 16 < limit
 sixteenth number limit small = omega arith

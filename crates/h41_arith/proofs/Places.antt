@@ -18,7 +18,7 @@ pub record FilledTo (into : List ℕ) (lo next : ℕ) (digit : ℕ → ℕ) (z :
   pub below : (place : ℕ) → place < lo → slice_index z place ≡ slice_index into place
   pub above : (place : ℕ) → next ≤ place → slice_index z place ≡ slice_index into place
 
--- the digit of a replaced span at a place
+-- The digit of a replaced span at a place.
 replaced_at : (into : List ℕ) (lo hi : ℕ) (digit : ℕ → ℕ) (place : ℕ) → place < 14
     → slice_index (with_places into lo hi digit) place
     ≡ (if nat_le lo place && nat_le place hi then digit place else slice_index into place)
@@ -41,7 +41,7 @@ below_span lo place hi low = grind (arith, nat_tests)
 above_span : (lo place hi : ℕ) → hi < place → (nat_le lo place && nat_le place hi) ≡ false
 above_span lo place hi high = grind (arith, nat_tests)
 
--- a register with the digits of a replaced span is that one
+-- A register with the digits of a replaced span is that one.
 pub filled_all : (into z : List ℕ) (lo hi : ℕ) (digit : ℕ → ℕ) → length z ≡ 14 → FilledTo into lo (hi + 1) digit z
     → z ≡ with_places into lo hi digit
 filled_all into z lo hi digit size filled =
@@ -56,7 +56,7 @@ filled_all into z lo hi digit size filled =
       ]
     ])
 
--- a replaced span has its digits
+-- A replaced span has its digits.
 has_digits : (into : List ℕ) (lo hi : ℕ) (digit : ℕ → ℕ) → length into ≡ 14 → hi < 14
     → HasDigits into lo hi digit (with_places into lo hi digit)
 has_digits into lo hi digit size inside = record {
@@ -95,7 +95,7 @@ not_same a b other = grind (arith, nat_tests)
 same : (a b : ℕ) → a ≡ b → not (a == b) ≡ false
 same a b equal = grind (arith, nat_tests)
 
--- a place where two registers differ
+-- A place where two registers differ.
 pub different_at : (x y : List ℕ) (lo hi place : ℕ) → lo ≤ place → place ≤ hi → slice_index x place ≢ slice_index y place
     → is_different x y lo hi ≡ true
 unfolding is_different from_to
@@ -107,7 +107,7 @@ different_at x y lo hi place from to other =
     (ap test (get_or-range_with_len lo (hi + 1 - lo) (place - lo) 0 index ∙ there)
     ∙ not_same (slice_index x place) (slice_index y place) other)
 
--- no place where they differ
+-- No place where they differ.
 pub same_throughout : (x y : List ℕ) (lo hi : ℕ) → ((place : ℕ) → lo ≤ place → place ≤ hi → slice_index x place ≡ slice_index y place)
     → is_different x y lo hi ≡ false
 unfolding is_different from_to

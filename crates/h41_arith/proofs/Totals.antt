@@ -23,7 +23,7 @@ use Rattle.h41_arith.proofs.InPlace.{whole_difference}
 use Rattle.h41_arith.proofs.Parts.{part, part_at, part-lt, part-register, keeps_outside}
 use Rattle.h41_arith.proofs.Remainders.{borrow_word, even_with_borrow, borrows_read, remainder_left, remainder_result}
 
--- a number with a 1 above it tells both
+-- A number with a 1 above it determines both.
 same_parts : (a b limit p q : ℕ) → a < limit → b < limit → p ≤ 1 → q ≤ 1 → a + limit * p ≡ b + limit * q → (a ≡ b) × (p ≡ q)
 same_parts a b limit p q a_small b_small p_bit q_bit whole = elim (cases_lt p q) [
   | inl less ↦
@@ -41,7 +41,7 @@ same_parts a b limit p q a_small b_small p_bit q_bit whole = elim (cases_lt p q)
   ]
 ]
 
--- a rule's result has the same digits in another register
+-- A rule's result has the same digits in another register.
 put_result : (rule : ℕ → ℕ → ℕ → ℕ → ℕ → Type 0) (into other x y z d : List ℕ) (carry_in told : Bool) (lo hi : ℕ) → IsRegister 14 z
     → lo ≤ hi → hi < 14 → HasResult (HasCarries rule) other x y carry_in lo hi d told → value_between z lo hi ≡ value_between d lo hi
     → take lo z ≡ take lo into → drop (hi + 1) z ≡ drop (hi + 1) into → HasResult (HasCarries rule) into x y carry_in lo hi z told
@@ -66,15 +66,15 @@ put_result rule into other x y z d carry_in told lo hi register ordered inside r
       outside = keeps_outside into z lo hi below above;
     }
 
--- A total is in its place, below twice the weight behind the last, and tells the result in base 10: whatever register has its number in
--- the span, with a 1 above it or not, is the one with the digits of the sum or the difference.
+-- A total is in its place, less than twice the weight of the place after the last, and determines the result in base 10: the register that
+-- has its number in the span, with a 1 above it or not, is the one with the digits of the sum or the difference.
 pub record Tells (operation : DigitOperation) (x y : List ℕ) (carry_in : Bool) (lo hi total : ℕ) : Type 0 where
   pub places : total % 16 ^ lo ≡ 0
   pub most : total < 2 * 16 ^ (hi + 1)
   pub result : (into z : List ℕ) (carry : Bool) → IsRegister 14 z → IsInParts (total / 16 ^ lo) lo hi z carry
       → take lo z ≡ take lo into → drop (hi + 1) z ≡ drop (hi + 1) into → RuleInto operation into x y carry_in lo hi z carry
 
--- the total of digits that were made place by place
+-- The total of digits that were made place by place.
 below_twice_limit : (digits limit carry : ℕ) → digits < limit → carry ≤ 1 → digits + limit * carry < 2 * limit
 below_twice_limit digits limit zero small bit = omega (arith, small)
 below_twice_limit digits limit (suc carry) small bit =
@@ -103,7 +103,7 @@ rule_tells operation x y carry_in lo hi total ordered inside made =
           out lo hi register ordered inside made.rule same.0 below above);
     }
 
--- and that of a sum of numbers, of which the first has no letter
+-- And that of a sum of numbers, of which the first has no letter.
 pub sum_tells : (x y : List ℕ) (carry_in : Bool) (lo hi first second carry sixes total : ℕ) → IsRegister 14 x → IsRegister 14 y → lo ≤ hi
     → hi < 14 → AllByRecursion (λ digit. digit < 10) (part x lo hi) → first ≡ value (part x lo hi) * 16 ^ lo
     → second ≡ value (part y lo hi) * 16 ^ lo → carry ≡ carry_digit carry_in * 16 ^ lo → sixes ≡ 6 * ones (hi + 1 - lo) * 16 ^ lo
@@ -126,7 +126,7 @@ sum_tells x y carry_in lo hi first second carry sixes total p q ordered inside e
           (parts ∙ is_quotient total _ _ (weight_positive lo) is) below above;
     }
 
--- the places of a word above a span are even in number, and have room for six in each
+-- There is an even number of weights above a span, with room for six in each place.
 even_above : (hi : ℕ) → hi < 14 → 16 ^ (15 - hi) ≡ 2 * (8 * 16 ^ (14 - hi))
 even_above hi inside =
     let next : 15 - hi ≡ 1 + (14 - hi) = omega arith in
@@ -141,7 +141,7 @@ six_fit lo hi bits ordered inside few =
     sym (pow-add 16 (15 - hi) (hi + 1 - lo)) ∙ ap (λ places. 16 ^ places) (omega arith) in
     omega (arith, few, fifteen_ones (14 - lo), whole, pow-le-pow_right {n = 16} (omega arith) {i = 14 - lo} {j = 16 - lo} (omega arith))
 
--- the difference of a span's numbers in a word, and what it takes for the digits that borrow
+-- The difference of a span's numbers in a word, and what it takes for the digits that borrow.
 pub difference_tells : (into x y z : List ℕ) (borrow_in : Bool) (lo hi first second borrow number : ℕ) → IsRegister 14 x → IsRegister 14 y
     → IsRegister 14 z → lo ≤ hi → hi < 14 → AllByRecursion (λ digit. digit < 10) (part y lo hi) → first ≡ value (part x lo hi) * 16 ^ lo
     → second ≡ value (part y lo hi) * 16 ^ lo → borrow ≡ carry_digit borrow_in * 16 ^ lo → number ≡ decimal_remainder_of first second borrow
@@ -204,7 +204,7 @@ difference_tells into x y z borrow_in lo hi first second borrow number p q r
     eighth : (carried bits weight : ℕ) → carried ≡ 16 * bits * weight → 3 * carried / 8 ≡ 6 * bits * weight
     eighth carried bits weight is = omega (arith, is)
 
--- what the code makes of the digits' number
+-- What the code makes of the digits' number.
 pub total_with : (digits : List ℕ) (lo hi number next : ℕ) → lo ≤ hi → number ≡ value_between digits lo hi * 16 ^ lo → next ≡ 16 ^ (hi + 1)
     → number + next ≡ (value_between digits lo hi + 16 ^ (hi + 1 - lo) * 1) * 16 ^ lo
 total_with digits lo hi number next ordered is is_next =

@@ -1,6 +1,6 @@
-//! Arithmetic on a span of a register, by its digits, as the Nut processor's words do it: sums and differences in base 16
-//! or 10 with a carry, copies, exchanges, shifts and comparisons. What lies outside the span stays. One rule holds for all
-//! digits, A to F in base 10 among them (this project's choice).
+//! Arithmetic on a span of a register, digit by digit, as the words of the Nut processor perform it: sums and differences in base
+//! 16 or 10 with a carry, copies, exchanges, shifts and comparisons. Digits outside the span do not change. One rule applies to all
+//! digits, including A to F in base 10 (this project's choice).
 #![tactic(auto)]
 
 mod comparisons;

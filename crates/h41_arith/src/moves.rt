@@ -1,11 +1,11 @@
-//! Digits that are copied, exchanged and shifted within a span.
+//! Copies, exchanges and shifts of the digits within a span.
 
 ghost use Rattle.std.specs.Prelude.{◌≡◌, false};
 ghost use Rattle.h41_arith.specs.DigitRule.{copy_of, shifted_left, shifted_right};
 
 use h41_digits::{Reg, Span};
 
-/// `into` with the digits of `x` in the span, and no carry.
+/// Returns `into` with the digits of `x` in the span, and no carry.
 #[inline(always)]
 pub fn copy(into: Reg, x: Reg, span: Span) -> (Reg, bool)
     ensures digits { result.0 ≡ copy_of into x span.lo span.hi }
@@ -14,8 +14,8 @@ pub fn copy(into: Reg, x: Reg, span: Span) -> (Reg, bool)
     (into.with_span(span, x.in_span(span)), false)
 }
 
-/// `into` with the digits of `x` in the span, each one place further to the left; the span's first digit becomes 0. There
-/// is no carry.
+/// Returns `into` with the digits of `x` in the span, each shifted one place to the left, and no carry. The span's first digit
+/// becomes 0.
 #[inline(always)]
 pub fn shift_left(into: Reg, x: Reg, span: Span) -> (Reg, bool)
     ensures digits { result.0 ≡ shifted_left into x span.lo span.hi }
@@ -24,8 +24,8 @@ pub fn shift_left(into: Reg, x: Reg, span: Span) -> (Reg, bool)
     (into.with_span(span, x.in_span(span) << 4), false)
 }
 
-/// `into` with the digits of `x` in the span, each one place further to the right; the span's last digit becomes 0. There
-/// is no carry.
+/// Returns `into` with the digits of `x` in the span, each shifted one place to the right, and no carry. The span's last digit
+/// becomes 0.
 #[inline(always)]
 pub fn shift_right(into: Reg, x: Reg, span: Span) -> (Reg, bool)
     ensures digits { result.0 ≡ shifted_right into x span.lo span.hi }
@@ -34,7 +34,7 @@ pub fn shift_right(into: Reg, x: Reg, span: Span) -> (Reg, bool)
     (into.with_span(span, x.in_span(span) >> 4), false)
 }
 
-/// The two registers with their digits in the span exchanged.
+/// Returns both registers with their digits in the span exchanged.
 #[inline(always)]
 pub fn exchange(x: Reg, y: Reg, span: Span) -> (Reg, Reg)
     ensures first { result.0 ≡ copy_of x y span.lo span.hi }

@@ -1,4 +1,4 @@
-//! Numbers of a span's digits, in their places: times 16 to the power of its first place.
+//! The numbers that a span's digits form in their places, that is, multiplied by 16 to the power of the span's first place.
 
 ghost use Rattle.std.specs.Prelude.{◌≡◌, ◌<◌, ◌≤◌, ◌+◌, ◌-◌, ◌*◌, ◌/◌, ◌%◌, ◌^◌, take, drop};
 ghost use Rattle.h41_digits.specs.Register.{IsRegister};
@@ -7,7 +7,7 @@ ghost use Rattle.h41_arith.specs.private.DigitOperations.{IsInParts};
 
 use h41_digits::{Reg, Span};
 
-/// A one at the span's first place where there is a carry, else zero.
+/// Returns a word with 1 at the span's first place if there is a carry, otherwise 0.
 pub fn carry_in_span(carry: bool, span: Span) -> u64
     ensures value { result ≡ carry_digit carry * 16 ^ span.lo }
     ensures most { result ≤ 16 ^ span.lo }
@@ -15,7 +15,7 @@ pub fn carry_in_span(carry: bool, span: Span) -> u64
     if carry { span.first() } else { 0 }
 }
 
-/// `into` with a number's digits in the span, and whether the number has a 1 above them.
+/// Returns `into` with the digits of a number in the span, and whether the number has a 1 at the place above the span.
 pub fn put(into: Reg, number: u64, span: Span) -> (Reg, bool)
     requires places { number % 16 ^ span.lo ≡ 0 }
     requires most { number < 2 * 16 ^ (span.hi + 1) }

@@ -1,4 +1,5 @@
-//! Sums and differences of two registers over a span, of the numbers of its digits. In base 10 a letter has them made digit by digit.
+//! Sums and differences of two registers over a span. They are computed with whole words; only if a digit is A to F in base 10,
+//! digit by digit.
 
 ghost use Rattle.std.specs.Prelude.{◌≡◌, ℕ, ◌+◌, ◌*◌, ◌^◌, ◌<◌, ◌≤◌, ◌⊎◌, ◌==◌, not, true, false};
 ghost use Rattle.h41_digits.specs.Register.{IsRegister};
@@ -13,20 +14,20 @@ ghost use Rattle.h41_arith.specs.private.DigitOperations.{decimal_total_of, rule
 use crate::spans::{carry_in_span, put};
 use h41_digits::{Reg, Span};
 
-/// A one in each digit of a register, and in the next.
+/// A 1 in each digit of a register, and in the digit above them.
 const ONES: u64 = 0x111_1111_1111_1111;
 
-/// What is done with the digits of two registers.
+/// The operation on the digits of two registers.
 #[derive(Clone, Copy)]
 pub enum DigitOperation {
-    /// A sum with its carry.
+    /// Addition with a carry.
     Add,
-    /// A difference with its borrow.
+    /// Subtraction with a borrow.
     Subtract,
 }
 
 impl DigitOperation {
-    /// One place in base 10: the digit, and whether there is a carry or borrow out.
+    /// Returns the digit at one place in base 10, and whether there is a carry or borrow out.
     fn digit(self, x: u8, y: u8, carry_in: bool) -> (u8, bool)
         requires x_is_digit { x < 16 }
         requires y_is_digit { y < 16 }
@@ -39,8 +40,8 @@ impl DigitOperation {
         }
     }
 
-    /// The digits of `x` and `y` added or subtracted in base 10, one after the other from place `lo` to place `hi`, in a register of zeros,
-    /// and the carry or borrow out of the last.
+    /// Returns the digits of `x` and `y` added or subtracted in base 10, one place after the other from `lo` to `hi`, in a register
+    /// of zeros, and whether there is a carry or borrow out of the last place.
     fn over_places(self, x: Reg, y: Reg, carry_in: bool, lo: usize, hi: usize) -> (Reg, bool)
         requires ordered { lo ≤ hi }
         requires in_register { hi < 14 }
@@ -58,8 +59,9 @@ impl DigitOperation {
         (digits, carry)
     }
 
-    /// The same in the places that have the mask, as one number, with a 1 above its digits where there is a carry or borrow out. Its
-    /// machine code stands apart: digits from A to F in base 10 are rare.
+    /// Returns the digits of `x` and `y` added or subtracted in base 10 at the places of a mask, as one number in its places, with
+    /// a 1 above them if there is a carry or borrow out. This is a cold function of its own because digits from A to F are rare in
+    /// base 10.
     #[cold]
     #[inline(never)]
     fn digit_by_digit(self, x: Reg, y: Reg, carry: bool, mask: u64) -> u64
@@ -76,7 +78,7 @@ impl DigitOperation {
     }
 }
 
-/// One place of a sum in base 10: the digit, and whether there is a carry out.
+/// Returns the digit at one place of a sum in base 10, and whether there is a carry out.
 fn sum_digit(x: u8, y: u8, carry_in: bool) -> (u8, bool)
     requires x_is_digit { x < 16 }
     requires y_is_digit { y < 16 }
@@ -91,7 +93,7 @@ fn sum_digit(x: u8, y: u8, carry_in: bool) -> (u8, bool)
     }
 }
 
-/// One place of a difference in base 10: the digit, and whether there is a borrow out.
+/// Returns the digit at one place of a difference in base 10, and whether there is a borrow out.
 fn difference_digit(x: u8, y: u8, borrow_in: bool) -> (u8, bool)
     requires x_is_digit { x < 16 }
     requires y_is_digit { y < 16 }
@@ -106,7 +108,7 @@ fn difference_digit(x: u8, y: u8, borrow_in: bool) -> (u8, bool)
     }
 }
 
-/// `into` with `x` + `y` + the carry in, in base 16, in the span, and the carry out.
+/// Returns `into` with `x` + `y` + the carry in, in base 16, in the span, and the carry out.
 #[inline(always)]
 fn hexadecimal_sum(into: Reg, x: Reg, y: Reg, carry_in: bool, span: Span) -> (Reg, bool)
     ensures { SumInto 16 into x y carry_in span.lo span.hi result.0 result.1 }
@@ -116,7 +118,7 @@ fn hexadecimal_sum(into: Reg, x: Reg, y: Reg, carry_in: bool, span: Span) -> (Re
     put(into, first + second + carry_in_span(carry_in, span), span)
 }
 
-/// `into` with `x` - `y` - the borrow in, in base 16, in the span, and the borrow out.
+/// Returns `into` with `x` - `y` - the borrow in, in base 16, in the span, and the borrow out.
 #[inline(always)]
 fn hexadecimal_difference(into: Reg, x: Reg, y: Reg, borrow_in: bool, span: Span) -> (Reg, bool)
     ensures { DifferenceInto 16 into x y borrow_in span.lo span.hi result.0 result.1 }
@@ -129,8 +131,8 @@ fn hexadecimal_difference(into: Reg, x: Reg, y: Reg, borrow_in: bool, span: Span
     )
 }
 
-/// A one in each digit of a sum or difference of two numbers that the digit below carries into or borrows from: its last bit is not that
-/// of the two numbers and of the carry or borrow at the first digit.
+/// Returns a 1 in each digit of a sum or difference of two numbers into which the digit below carries, or from which it borrows.
+/// The last bit of such a digit differs from the exclusive or of the last bits of the two numbers and of the carry or borrow in.
 fn carried(first: u64, second: u64, carry: u64, answer: u64) -> u64
     ensures carried { result ≡ carried_of first second carry answer }
     ensures most { result ≤ all_ones }
@@ -138,7 +140,7 @@ fn carried(first: u64, second: u64, carry: u64, answer: u64) -> u64
     (first ^ second ^ carry ^ answer) & ONES
 }
 
-/// Whether a number has a digit from A to F in a span: where six is added to each digit, one carries.
+/// Returns whether a number has a digit from A to F in a span: adding six to each digit then produces a carry.
 fn has_letter(number: u64, sixes: u64) -> bool
     requires { number + sixes < 2 ^ 64 }
     ensures { result ≡ not (carried_of 0 number 0 (number + sixes) == 0) }
@@ -146,8 +148,9 @@ fn has_letter(number: u64, sixes: u64) -> bool
     carried(0, number, 0, number + sixes) != 0
 }
 
-/// The sum of two numbers in base 10 with a carry, of which the first has no digit from A to F: the sum in base 16, and six more at
-/// each digit that carries. It carries where it does so with six more in each digit, which leave the last bits as they are.
+/// Returns the sum of two numbers in base 10 with a carry; the first must have no digit from A to F. It is the sum in base 16, plus
+/// six at each digit that carries in base 10. These digits carry in base 16 if six is added to each; sixes do not change the last
+/// bits.
 fn decimal_total(first: u64, second: u64, carry: u64, sixes: u64) -> u64
     requires sixes { sixes < 2 ^ 56 }
     requires first { 2 * first ≤ 3 * sixes }
@@ -159,8 +162,9 @@ fn decimal_total(first: u64, second: u64, carry: u64, sixes: u64) -> u64
     sum + 3 * carried(first, second, carry, sum + sixes) / 8
 }
 
-/// The difference of two numbers in base 10 with a borrow, of which the second has no digit from A to F: the difference in base 16, and
-/// six less at each digit that borrows. Above the span it goes on, where the last digit borrows.
+/// Returns the difference of two numbers in base 10 with a borrow; the second must have no digit from A to F. It is the difference
+/// in base 16, minus six at each digit that borrows. If the last digit of the span borrows, the digits above the span have no
+/// meaning.
 fn decimal_remainder(first: u64, second: u64, borrow: u64) -> u64
     requires { second + borrow < 2 ^ 64 }
     ensures { result ≡ decimal_remainder_of first second borrow }
@@ -169,7 +173,7 @@ fn decimal_remainder(first: u64, second: u64, borrow: u64) -> u64
     difference.wrapping_sub(3 * carried(first, second, borrow, difference) / 8)
 }
 
-/// `into` with `x` + `y` + the carry in, in base 10, in the span, and the carry out.
+/// Returns `into` with `x` + `y` + the carry in, in base 10, in the span, and the carry out.
 #[inline(always)]
 fn decimal_sum(into: Reg, x: Reg, y: Reg, carry_in: bool, span: Span) -> (Reg, bool)
     ensures { SumInto 10 into x y carry_in span.lo span.hi result.0 result.1 }
@@ -185,7 +189,7 @@ fn decimal_sum(into: Reg, x: Reg, y: Reg, carry_in: bool, span: Span) -> (Reg, b
     put(into, total, span)
 }
 
-/// `into` with `x` - `y` - the borrow in, in base 10, in the span, and the borrow out.
+/// Returns `into` with `x` - `y` - the borrow in, in base 10, in the span, and the borrow out.
 #[inline(always)]
 fn decimal_difference(into: Reg, x: Reg, y: Reg, borrow_in: bool, span: Span) -> (Reg, bool)
     ensures { DifferenceInto 10 into x y borrow_in span.lo span.hi result.0 result.1 }
@@ -203,8 +207,8 @@ fn decimal_difference(into: Reg, x: Reg, y: Reg, borrow_in: bool, span: Span) ->
     )
 }
 
-/// `into` with `x` + `y` + the carry in, in the span, and the carry out of the span's top digit. The base is 10 where `DEC`,
-/// else 16. In base 10 a digit from A to F is added like others: F + 1 is 6 with a carry (this project's choice).
+/// Returns `into` with `x` + `y` + the carry in, in the span, and the carry out of the span's last digit. The base is 10 if `DEC`
+/// is true, otherwise 16. In base 10 a digit from A to F is added like any other: F + 1 is 6 with a carry (this project's choice).
 #[inline(always)]
 pub fn add<const DEC: bool>(into: Reg, x: Reg, y: Reg, carry_in: bool, span: Span) -> (Reg, bool)
     ensures { SumInto (base_of DEC) into x y carry_in span.lo span.hi result.0 result.1 }
@@ -216,8 +220,9 @@ pub fn add<const DEC: bool>(into: Reg, x: Reg, y: Reg, carry_in: bool, span: Spa
     }
 }
 
-/// `into` with `x` - `y` - the borrow in, in the span, and the borrow out of the span's top digit. The base is 10 where
-/// `DEC`, else 16. In base 10 a digit from A to F is subtracted like others: 0 - F is B with a borrow (this project's choice).
+/// Returns `into` with `x` - `y` - the borrow in, in the span, and the borrow out of the span's last digit. The base is 10 if `DEC`
+/// is true, otherwise 16. In base 10 a digit from A to F is subtracted like any other: 0 - F is B with a borrow (this project's
+/// choice).
 #[inline(always)]
 pub fn sub<const DEC: bool>(into: Reg, x: Reg, y: Reg, borrow_in: bool, span: Span) -> (Reg, bool)
     ensures { DifferenceInto (base_of DEC) into x y borrow_in span.lo span.hi result.0 result.1 }
@@ -229,7 +234,7 @@ pub fn sub<const DEC: bool>(into: Reg, x: Reg, y: Reg, borrow_in: bool, span: Sp
     }
 }
 
-/// `into` with `x` + 1 in the span, and the carry.
+/// Returns `into` with `x` + 1 in the span, and the carry out. The base is 10 if `DEC` is true, otherwise 16.
 #[inline(always)]
 pub fn inc<const DEC: bool>(into: Reg, x: Reg, span: Span) -> (Reg, bool)
     ensures { SumInto (base_of DEC) into x zeros true span.lo span.hi result.0 result.1 }
@@ -237,7 +242,7 @@ pub fn inc<const DEC: bool>(into: Reg, x: Reg, span: Span) -> (Reg, bool)
     add::<DEC>(into, x, Reg::zero(), true, span)
 }
 
-/// `into` with `x` - 1 in the span, and the borrow.
+/// Returns `into` with `x` - 1 in the span, and the borrow out. The base is 10 if `DEC` is true, otherwise 16.
 #[inline(always)]
 pub fn dec<const DEC: bool>(into: Reg, x: Reg, span: Span) -> (Reg, bool)
     ensures { DifferenceInto (base_of DEC) into x zeros true span.lo span.hi result.0 result.1 }
@@ -245,7 +250,8 @@ pub fn dec<const DEC: bool>(into: Reg, x: Reg, span: Span) -> (Reg, bool)
     sub::<DEC>(into, x, Reg::zero(), true, span)
 }
 
-/// `into` with 0 - `x` in the span, the complement to the base, and the borrow.
+/// Returns `into` with 0 - `x` in the span, the complement to the base, and the borrow out. The base is 10 if `DEC` is true,
+/// otherwise 16.
 #[inline(always)]
 pub fn neg<const DEC: bool>(into: Reg, x: Reg, span: Span) -> (Reg, bool)
     ensures { DifferenceInto (base_of DEC) into zeros x false span.lo span.hi result.0 result.1 }
@@ -253,7 +259,8 @@ pub fn neg<const DEC: bool>(into: Reg, x: Reg, span: Span) -> (Reg, bool)
     sub::<DEC>(into, Reg::zero(), x, false, span)
 }
 
-/// `into` with 0 - `x` - 1 in the span, each digit's complement to the base less one, and the borrow, which is always set.
+/// Returns `into` with 0 - `x` - 1 in the span, each digit's complement to the base less one, and the borrow out, which is always
+/// set. The base is 10 if `DEC` is true, otherwise 16.
 #[inline(always)]
 pub fn neg1<const DEC: bool>(into: Reg, x: Reg, span: Span) -> (Reg, bool)
     ensures sub { DifferenceInto (base_of DEC) into zeros x true span.lo span.hi result.0 result.1 }

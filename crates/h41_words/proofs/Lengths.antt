@@ -27,7 +27,7 @@ unfolding length_of
 two_words word jump =
     sym (cond-true (word % 4 == 1 || word == 0x130) 2 1 (or_left (word % 4 == 1) (word == 0x130) (eq-eqb (word % 4) 1 jump)))
 
--- a word of a column is no jump, and LDI is in column 30
+-- A word of a column is no jump, and LDI is in column 30.
 in_column : (row column : ℕ) → column % 4 ≡ 0 → column % 64 ≡ column → (column ≡ 0x30 → ⊥) → 1 ≡ length_of (word_at row column)
 in_column row column low six not_30 = one_word (word_at row column) 0 (omega arith) (λ e. omega (arith, e)) (λ e. omega (arith, e, not_30))
 
@@ -69,6 +69,6 @@ words_of_number (ReturnIf NoCarry) valid = refl
 words_of_number (ReturnIf Carry) valid = refl
 words_of_number row valid = refl
 
--- a row whose number is this word's takes as many words as an instruction that begins with it
+-- A row whose number is this word's takes as many words as an instruction that begins with it.
 pub is_length_of : (row : Row) (word : ℕ) → IsRow row → number_of row ≡ word → words_of row ≡ length_of word
 is_length_of row word valid same = words_of_number row valid ∙ ap length_of same

@@ -26,7 +26,7 @@ use Rattle.h41_words.specs.WordTable.{OneWordOfRow}
 use Rattle.h41_words.specs.Unassigned.{unassigned_words}
 use Rattle.h41_words.proofs.Members.{in_flat_map, in_map, in_range, at_member}
 
--- the row that a table gives for a word has the number of that word
+-- The row that a table gives for a word has the number of that word.
 row_in_number : (rows : List Row) (word : ℕ) → number_of (row_in (with_numbers rows) word) ≡ word
 unfolding number_of
 row_in_number [] word = refl
@@ -34,17 +34,17 @@ row_in_number (row ∷ rows) word =
     cond_both (number_of row == word) row (row_in (with_numbers rows) word) (λ found. number_of found ≡ word)
     (λ same. eqb-true (number_of row) word same) (λ other. row_in_number rows word)
 
--- whether no number stands twice in a list
+-- Whether no number occurs twice in a list.
 abbrev are_distinct : List ℕ → Bool
 are_distinct [] = true
 are_distinct (number ∷ numbers) = not (list_any (λ other. number == other) numbers) && are_distinct numbers
 
--- the numbers of the listing are distinct
+-- The numbers of the listing are distinct.
 listed_distinct : are_distinct (map number_of listed_rows) ≡ true
 unfolding number_of listed_rows
 listed_distinct = refl
 
--- a number that no row of a list has is not that of its k-th row
+-- A number that no row of a list has is not that of its k-th row.
 absent : (number k : ℕ) (row : Row) (rows : List Row) → k < length rows → get_or rows k row ≡ row
     → list_any (λ other. number == other) (map number_of rows) ≡ false → (number == number_of row) ≡ false
 absent number k row [] inside same none = absurd (omega arith)
@@ -53,7 +53,7 @@ absent number zero row (first ∷ rest) inside same none =
 absent number (suc k) row (first ∷ rest) inside same none =
     absent number k row rest (omega arith) same (or_parts (number == number_of first) _ none).1
 
--- a table whose numbers are distinct gives each of its rows for the row's number
+-- A table whose numbers are distinct gives each of its rows for the row's number.
 row_in_at : (k : ℕ) (row : Row) (rows : List Row) → k < length rows → get_or rows k row ≡ row
     → are_distinct (map number_of rows) ≡ true → row_in (with_numbers rows) (number_of row) ≡ row
 row_in_at k row [] inside same distinct = absurd (omega arith)
@@ -65,7 +65,7 @@ row_in_at (suc k) row (first ∷ rest) inside same distinct =
     cond-false (number_of first == number_of row) first _ (absent (number_of first) k row rest (omega arith) same (not-true _ parts.0))
     ∙ row_in_at k row rest (omega arith) same parts.1
 
--- and CON for a word that is none of its rows'
+-- And CON for a word that is none of its rows'.
 row_in_none : (word : ℕ) (rows : List Row) → list_any (λ other. other == word) (map number_of rows) ≡ false
     → row_in (with_numbers rows) word ≡ Constant word
 row_in_none word [] none = refl
@@ -73,7 +73,7 @@ row_in_none word (first ∷ rest) none =
     let parts = or_parts (number_of first == word) (list_any (λ other. other == word) (map number_of rest)) none in
     cond-false (number_of first == word) first _ parts.0 ∙ row_in_none word rest parts.1
 
--- no row of the listing has an unassigned word
+-- No row of the listing has an unassigned word.
 none_unassigned : list_all (λ word. not (list_any (λ other. other == word) (map number_of listed_rows))) unassigned_words ≡ true
 unfolding number_of listed_rows unassigned_words
 none_unassigned = refl
@@ -84,18 +84,18 @@ constant number member =
     row_in_none number listed_rows (not-true _ (at_member
     (λ word. not (list_any (λ other. other == word) (map number_of listed_rows))) unassigned_words number none_unassigned member))
 
--- each row of the listing is the row of its word
+-- Each row of the listing is the row of its word.
 listed : (row : Row) → Contains listed_rows row → row_of (number_of row) ≡ row
 unfolding row_of word_table
 listed row at = row_in_at at.0 row listed_rows at.1 at.2 listed_distinct
 
--- a row of the k-th family is the row of its word
+-- A row of the k-th family is the row of its word.
 in_family : (k : ℕ) (row : Row) (family : List Row) → k < length families → get_or families k family ≡ family → Contains family row
     → row_of (number_of row) ≡ row
 unfolding listed_rows
 in_family k row family inside same member = listed row (in_flat_map (λ rows. rows) k family row families inside same member)
 
--- a row of a family with a number as its operand
+-- A row of a family with a number as its operand.
 in_numbers : (k first count number : ℕ) (row : ℕ → Row) → k < length families
     → get_or families k (map row (range_with_len first count)) ≡ map row (range_with_len first count)
     → first ≤ number → number < first + count → row_of (number_of (row number)) ≡ row number
@@ -103,7 +103,7 @@ in_numbers k first count number row inside same low high =
     in_family k (row number) (map row (range_with_len first count)) inside same
     (in_map row number (range_with_len first count) (in_range first count number low high))
 
--- an operation and a field are those of their numbers
+-- An operation and a field are those of their numbers.
 in_operations : (operation : Operation) → Contains operations operation
 in_operations ClearA = (0, (omega arith), refl)
 in_operations operation = (operation_number operation, (omega arith), refl)
@@ -119,7 +119,7 @@ arithmetic operation field =
     (in_flat_map (λ o. map (λ f. Arithmetic o f) fields) at.0 operation (Arithmetic operation field) operations at.1 at.2
     (in_map (λ f. Arithmetic operation f) field fields (in_fields field)))
 
--- a displacement of seven bits is one of the listing's
+-- A displacement of seven bits is one of the listing's.
 in_displacements : (displacement : ℤ) → negsuc 63 ≤ℤ displacement → displacement ≤ℤ pos 63 → Contains displacements displacement
 in_displacements (pos words) low high =
     Contains-append_left (map (λ w. pos w) (range_with_len 0 64)) (map (λ w. negsuc w) (range_with_len 0 64)) (pos words)
@@ -137,13 +137,13 @@ short_jump Carry displacement low high =
     in_family 3 (ShortJump Carry displacement) (map (λ d. ShortJump Carry d) displacements) (omega arith) refl
     (in_map (λ d. ShortJump Carry d) displacement displacements (in_displacements displacement low high))
 
--- a copy or an exchange is the row of its word
+-- A copy or an exchange is the row of its word.
 transfer : (which : RegisterTransfer) → row_of (number_of (Transfer which)) ≡ Transfer which
 unfolding number_of row_of word_table listed_rows
 transfer CToG = refl
 transfer which = refl
 
--- the other single words are the rows of their words, and so are all rows
+-- The other single words are the rows of their words, and so are all rows.
 pub row_of_number : (row : Row) → IsRow row → row_of (number_of row) ≡ row
 unfolding number_of row_of word_table listed_rows
 row_of_number (Arithmetic operation field) valid = arithmetic operation field
@@ -170,16 +170,16 @@ row_of_number (ReturnIf NoCarry) valid = refl
 row_of_number (ReturnIf Carry) valid = refl
 row_of_number row valid = refl
 
--- a row whose number is this word's is the word's row
+-- A row whose number is this word's is the word's row.
 pub is_row_of : (row : Row) (word : ℕ) → IsRow row → number_of row ≡ word → row ≡ row_of word
 is_row_of row word valid same = sym (row_of_number row valid) ∙ ap row_of same
 
--- and a word's row has its number
+-- And a word's row has its number.
 pub number_of_row : WordOfRow
 unfolding row_of word_table
 number_of_row word inside = row_in_number listed_rows word
 
--- each row is the row of one word
+-- Each row is the row of one word.
 pub one_word_of_row : OneWordOfRow
 unfolding row_of word_table
 one_word_of_row row valid word =

@@ -1,4 +1,4 @@
--- The listing: which rows there are, family after family, and then the single words.
+-- The list of all rows, family by family, and then the single words.
 use Rattle.std.specs.Prelude.{◌-◌, ℤ, pos, negsuc, List, [], ◌∷◌, ◌++◌, map}
 use Rattle.std.specs.List.{flat_map, range_with_len}
 use Rattle.h41_fields.specs.declared.field.Field.{Field}
@@ -34,13 +34,13 @@ use Rattle.h41_words.specs.declared.rows.Bank.TheVariants.{First, Second, Third,
 use Rattle.h41_words.specs.declared.rows.Condition.TheVariants.{NoCarry, Carry}
 use Rattle.h41_words.specs.Counts.{status_bit_count, place_count, digit_count, block_register_count}
 
--- the fields in their order
+-- The fields in the order of their numbers.
 abbrev pub fields : List Field
 fields =
     AtPointer ∷ SignAndExponent ∷ ToPointer ∷ All ∷ PToQ ∷ ExponentSign ∷ Mantissa ∷ MantissaSign
     ∷ []
 
--- the operations in their order
+-- The operations in the order of their numbers.
 abbrev pub operations : List Operation
 operations =
     ClearA ∷ ClearB ∷ ClearC ∷ ExchangeAB ∷ AToB ∷ ExchangeAC ∷ BToC ∷ ExchangeBC ∷ CToA ∷ AddBToA
@@ -49,7 +49,7 @@ operations =
     ∷ TestCNonzero ∷ TestALessThanC ∷ TestALessThanB ∷ TestANonzero ∷ TestADiffersFromC
     ∷ ShiftRightA ∷ ShiftRightB ∷ ShiftRightC ∷ ShiftLeftA ∷ []
 
--- the single words
+-- The rows of the single words.
 abbrev pub single_rows : List Row
 single_rows =
     rows.Nop ∷ rows.WriteRom ∷ rows.EnableBank First ∷ rows.EnableBank Second
@@ -66,13 +66,13 @@ single_rows =
     ∷ rows.LoadImmediate ∷ rows.PushAddress ∷ rows.PopAddress ∷ rows.GoToKey ∷ rows.SelectRegister
     ∷ rows.WriteData ∷ rows.FetchWord ∷ rows.Or ∷ rows.And ∷ rows.SelectPeripheral ∷ []
 
--- the displacements of short jumps
+-- The displacements of short jumps.
 abbrev pub displacements : List ℤ
 displacements =
     map (λ words. pos words) (range_with_len 0 64)
     ++ map (λ words. negsuc words) (range_with_len 0 64)
 
--- the families, in the order of the listing, and the single words
+-- The families in the order of the list, and the single words after them.
 abbrev pub families : List (List Row)
 families =
     flat_map (λ operation. map (λ field. rows.Arithmetic operation field) fields) operations
@@ -91,6 +91,6 @@ families =
     ∷ single_rows
     ∷ []
 
--- the rows of the listing
+-- All rows.
 unfoldable pub listed_rows : List Row
 listed_rows = flat_map (λ family. family) families

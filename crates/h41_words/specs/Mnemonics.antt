@@ -1,6 +1,6 @@
--- The text of each instruction in this project's table of mnemonics: its name, and an operand
--- behind a blank where it takes one. Addresses, displacements and the numbers of LDI and CON are
--- hexadecimal and in upper case, the other operands decimal.
+-- The text of each instruction in this project's table of mnemonics: its name, followed by a space
+-- and an operand if it has one. Addresses, displacements and the numbers of LDI and CON are in
+-- upper-case hexadecimal, the other operands in decimal.
 use Rattle.std.specs.Prelude.{ℕ, ◌+◌, ◌*◌, ℤ, pos, negsuc, List, [], ◌++◌, Option, Some, None}
 use Rattle.std.specs.Prelude.{codes}
 use Rattle.std.specs.Fmt.{decimal}
@@ -46,7 +46,7 @@ use Rattle.h41_words.specs.declared.second_word.SecondWord.{SecondWord}
 use Rattle.h41_words.specs.SecondWord.{second_of}
 use Rattle.h41_words.specs.WordTable.{number_of}
 
--- the fields
+-- The names of the fields.
 abbrev pub field_text : Field → List ℕ
 field_text AtPointer = codes "@R"
 field_text SignAndExponent = codes "S&X"
@@ -57,6 +57,7 @@ field_text ExponentSign = codes "XS"
 field_text Mantissa = codes "M"
 field_text MantissaSign = codes "MS"
 
+-- The names of the operations.
 abbrev pub operation_text : Operation → List ℕ
 operation_text ClearA = codes "A=0"
 operation_text ClearB = codes "B=0"
@@ -91,6 +92,7 @@ operation_text ShiftRightB = codes "RSHFB"
 operation_text ShiftRightC = codes "RSHFC"
 operation_text ShiftLeftA = codes "LSHFA"
 
+-- The names of the copies and exchanges.
 abbrev pub transfer_text : RegisterTransfer → List ℕ
 transfer_text CToG = codes "G=C"
 transfer_text GToC = codes "C=G"
@@ -108,41 +110,42 @@ transfer_text CToN = codes "N=C"
 transfer_text NToC = codes "C=N"
 transfer_text ExchangeCN = codes "C<>N"
 
--- the choice of a bank, and of a pointer
+-- The names of the words that activate a bank.
 abbrev pub bank_text : Bank → List ℕ
 bank_text First = codes "ENBANK1"
 bank_text Second = codes "ENBANK2"
 bank_text Third = codes "ENBANK3"
 bank_text Fourth = codes "ENBANK4"
 
+-- The names of the words that select a pointer.
 abbrev pub selection_text : Pointer → List ℕ
 selection_text P = codes "SLCT P"
 selection_text Q = codes "SLCT Q"
 
--- the returns at a carry
+-- The names of the returns with a condition.
 abbrev pub return_text : Condition → List ℕ
 return_text NoCarry = codes "?NC RTN"
 return_text Carry = codes "?C RTN"
 
--- the four jumps by address
+-- The names of the four jumps by address.
 abbrev pub long_jump_text : Condition → LongJumpKind → List ℕ
 long_jump_text NoCarry Execute = codes "?NC XQ"
 long_jump_text Carry Execute = codes "?C XQ"
 long_jump_text NoCarry Go = codes "?NC GO"
 long_jump_text Carry Go = codes "?C GO"
 
--- the two by a displacement
+-- The names of the two jumps by a displacement.
 abbrev pub short_jump_text : Condition → List ℕ
 short_jump_text NoCarry = codes "JNC"
 short_jump_text Carry = codes "JC"
 
--- a displacement: its sign and two digits, +00 where it is zero
+-- A displacement: its sign and two digits; +00 if it is zero.
 abbrev pub displacement_text : ℤ → List ℕ
 displacement_text (pos words) = codes "+" ++ hexadecimal_text 2 words
 displacement_text (negsuc words) = codes "-" ++ hexadecimal_text 2 (words + 1)
 
--- the mnemonic of a row of one word: CON where it stands for no instruction, and where it begins
--- one of two words but stands without its second
+-- The mnemonic of a row of one word. It is CON for a word that is no instruction, and for the first
+-- word of an instruction of two words without its second word.
 abbrev pub mnemonic : Row → List ℕ
 mnemonic (rows.Arithmetic operation field) = operation_text operation
 mnemonic (rows.LongJump low_byte) = codes "CON"
@@ -192,7 +195,7 @@ mnemonic rows.And = codes "C=C AND A"
 mnemonic rows.SelectPeripheral = codes "PRPH SLCT"
 mnemonic (rows.Transfer transfer) = transfer_text transfer
 
--- and its operand: that of CON is the word's own number. A single word has none.
+-- The operand of a row: for CON, the word's own number. A single word has no operand.
 abbrev pub operand : Row → Option (List ℕ)
 operand (rows.Arithmetic operation field) = Some (field_text field)
 operand (rows.LongJump low_byte) = Some (hexadecimal_text 3 (number_of (rows.LongJump low_byte)))
@@ -210,22 +213,22 @@ operand (rows.Constant number) = Some (hexadecimal_text 3 number)
 operand rows.LoadImmediate = Some (hexadecimal_text 3 (number_of rows.LoadImmediate))
 operand single = None
 
--- what an operand adds to its mnemonic
+-- An operand after its mnemonic: a space comes first.
 abbrev pub behind : Option (List ℕ) → List ℕ
 behind None = []
 behind (Some text) = codes " " ++ text
 
--- a row of one word
+-- The text of a row of one word.
 abbrev pub row_text : Row → List ℕ
 row_text row = mnemonic row ++ behind (operand row)
 
--- a jump by address, of two words
+-- The text of a jump by address, which has two words.
 abbrev pub address_text : ℕ → SecondWord → List ℕ
 address_text low_byte second =
     long_jump_text second.condition second.kind ++ codes " "
     ++ hexadecimal_text 4 (second.high_byte * 256 + low_byte)
 
--- a row and the word behind it, which only an instruction of two words reads
+-- The text of a row and the word after it, which is used only if the instruction has two words.
 abbrev pub instruction_text : Row → ℕ → List ℕ
 instruction_text (rows.LongJump low_byte) second = address_text low_byte (second_of second)
 instruction_text rows.LoadImmediate second = codes "LDI " ++ hexadecimal_text 3 second

@@ -1,18 +1,19 @@
--- The words that stand for no instruction.
+-- The words that are no instruction.
 use Rattle.std.specs.Prelude.{ℕ, List, [], ◌∷◌}
 
--- column by column: their low two bits are 00, the column is the low six bits, the line bits 9 to 6
+-- The unassigned words, column by column. Their two low bits are 00; the column is the six low
+-- bits, the line bits 9 to 6.
 unfoldable pub unassigned_words : List ℕ
 unassigned_words =
-    -- column 00
+    -- Column 00.
     0x080 ∷ 0x0C0 ∷ 0x200 ∷ 0x240 ∷ 0x280 ∷ 0x2C0 ∷ 0x300 ∷ 0x340 ∷ 0x380 ∷ 0x3C0
-    -- the columns 04, 08, 0C, 14, 1C and 3C
+    -- The columns 04, 08, 0C, 14, 1C and 3C.
     ∷ 0x1C4 ∷ 0x1C8 ∷ 0x1CC ∷ 0x1D4 ∷ 0x1DC ∷ 0x1FC ∷ 0x3FC
-    -- column 18
+    -- Column 18.
     ∷ 0x018 ∷ 0x118 ∷ 0x218 ∷ 0x318
-    -- column 30
+    -- Column 30.
     ∷ 0x030 ∷ 0x1F0 ∷ 0x2B0
-    -- the columns 24, 2C and 34, each line
+    -- The columns 24, 2C and 34, each line.
     ∷ 0x024 ∷ 0x064 ∷ 0x0A4 ∷ 0x0E4 ∷ 0x124 ∷ 0x164 ∷ 0x1A4 ∷ 0x1E4
     ∷ 0x224 ∷ 0x264 ∷ 0x2A4 ∷ 0x2E4 ∷ 0x324 ∷ 0x364 ∷ 0x3A4 ∷ 0x3E4
     ∷ 0x02C ∷ 0x06C ∷ 0x0AC ∷ 0x0EC ∷ 0x12C ∷ 0x16C ∷ 0x1AC ∷ 0x1EC

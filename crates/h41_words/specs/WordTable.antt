@@ -1,5 +1,5 @@
--- The table of the words: which row each of the 1,024 words has, and how many words an instruction
--- takes. Numbers of words are those of the instruction set of HP's Nut processor.
+-- The table of the words: the row of each of the 1,024 words, and the number of words of an
+-- instruction. The numbers of words are those of the instruction set of HP's Nut processor.
 use Rattle.std.specs.Prelude.{◌≡◌, ℕ, ◌+◌, ◌-◌, ◌*◌, ◌%◌, ◌<◌, ◌≤◌, ℤ, pos, negsuc, ◌≤ℤ◌, Bool}
 use Rattle.std.specs.Prelude.{false, ◌||◌, ◌↔◌, List, [], ◌∷◌, map, Contains, Option, Some, None}
 use Rattle.std.specs.Prelude.{◌==◌, if◌then◌else◌}
@@ -42,7 +42,7 @@ use Rattle.h41_words.specs.Counts.{block_register_count, least_displacement, gre
 use Rattle.h41_words.specs.Listing.{listed_rows}
 use Rattle.h41_words.specs.Unassigned.{unassigned_words}
 
--- the number of a field, bits 4 to 2 of an arithmetic word
+-- The number of a field: bits 4 to 2 of an arithmetic word.
 abbrev pub field_number : Field → ℕ
 field_number AtPointer = 0
 field_number SignAndExponent = 1
@@ -53,7 +53,7 @@ field_number ExponentSign = 5
 field_number Mantissa = 6
 field_number MantissaSign = 7
 
--- the number of an operation, bits 9 to 5 of an arithmetic word
+-- The number of an operation: bits 9 to 5 of an arithmetic word.
 abbrev pub operation_number : Operation → ℕ
 operation_number ClearA = 0x00
 operation_number ClearB = 0x01
@@ -88,37 +88,38 @@ operation_number ShiftRightB = 0x1D
 operation_number ShiftRightC = 0x1E
 operation_number ShiftLeftA = 0x1F
 
--- The words whose low two bits are 00 stand in 16 lines, bits 9 to 6, and 16 columns, the low six
--- bits.
+-- The words whose two low bits are 00 are arranged in 16 lines, bits 9 to 6, and 16 columns, the
+-- six low bits.
 abbrev pub word_at : ℕ → ℕ → ℕ
 word_at line column = line * 0x40 + column
 
--- the mapped columns: which number each of the lines 0 to F means there. Lines 7 and F mean none.
+-- The mapped columns: the number that each of the lines 0 to F means there. Lines 7 and F mean
+-- none.
 abbrev pub mapped_column : List (Option ℕ)
 mapped_column =
     Some 3 ∷ Some 4 ∷ Some 5 ∷ Some 10 ∷ Some 8 ∷ Some 6 ∷ Some 11 ∷ None
     ∷ Some 2 ∷ Some 9 ∷ Some 7 ∷ Some 13 ∷ Some 1 ∷ Some 12 ∷ Some 0 ∷ None ∷ []
 
--- whether a line of a mapped column means this number
+-- Whether a line of a mapped column means this number.
 abbrev pub means : ℕ → Option ℕ → Bool
 means number None = false
 means number (Some meant) = meant == number
 
--- the line of a mapped column that means a number
+-- The line of a mapped column that means a number.
 abbrev pub mapped_line : ℕ → ℕ
 mapped_line number = position_or_len (means number) mapped_column
 
--- the bits 9 to 3 of a short jump: its displacement, where -1 is 127 and -64 is 64
+-- The displacement of a short jump as its bits 9 to 3: for example, -1 is 127 and -64 is 64.
 abbrev pub displacement_bits : ℤ → ℕ
 displacement_bits (pos words) = words
 displacement_bits (negsuc words) = 127 - words
 
--- bit 2 of a short jump
+-- The condition of a short jump as its bit 2.
 abbrev pub condition_bit : Condition → ℕ
 condition_bit NoCarry = 0
 condition_bit Carry = 1
 
--- the word of a copy or an exchange
+-- The number of the word of a copy or an exchange.
 abbrev pub transfer_number : RegisterTransfer → ℕ
 transfer_number CToG = 0x058
 transfer_number GToC = 0x098
@@ -136,30 +137,30 @@ transfer_number CToN = 0x070
 transfer_number NToC = 0x0B0
 transfer_number ExchangeCN = 0x0F0
 
--- the number of a row's word
+-- The number of a row's word.
 unfoldable pub number_of : Row → ℕ
--- OPERATION FIELD: the low two bits are 10
+-- OPERATION FIELD: the two low bits are 10.
 number_of (rows.Arithmetic operation field) =
     operation_number operation * 32 + field_number field * 4 + 2
--- ?NC XQ and the like, the first of two words: the low byte of the address, and 01
+-- The first word of ?NC XQ and the like: the low byte of the address, and 01.
 number_of (rows.LongJump low_byte) = low_byte * 4 + 1
--- JNC and JC: the displacement, the condition and 11
+-- JNC and JC: the displacement, the condition, and 11.
 number_of (rows.ShortJump condition displacement) =
     displacement_bits displacement * 8 + condition_bit condition * 4 + 3
--- CLRF n, SETF n, ?FSET n, ?R= n, R= n and RCR n: the mapped columns
+-- CLRF n, SETF n, ?FSET n, ?R= n, R= n and RCR n: these are the mapped columns.
 number_of (rows.ClearStatus bit) = word_at (mapped_line bit) 0x04
 number_of (rows.SetStatus bit) = word_at (mapped_line bit) 0x08
 number_of (rows.TestStatus bit) = word_at (mapped_line bit) 0x0C
 number_of (rows.TestPointer place) = word_at (mapped_line place) 0x14
 number_of (rows.SetPointer place) = word_at (mapped_line place) 0x1C
 number_of (rows.RotateRight digits) = word_at (mapped_line digits) 0x3C
--- LD@R n, WRIT n and READ n: n is the line
+-- LD@R n, WRIT n and READ n: n is the line.
 number_of (rows.LoadDigit digit) = word_at digit 0x10
 number_of (rows.Write register) = word_at register 0x28
 number_of (rows.Read register) = word_at register 0x38
--- CON hhh: the number itself
+-- CON hhh: the number itself.
 number_of (rows.Constant number) = number
--- the single words
+-- The single words.
 number_of rows.Nop = 0x000
 number_of rows.WriteRom = 0x040
 number_of (rows.EnableBank First) = 0x100
@@ -200,24 +201,24 @@ number_of rows.And = 0x3B0
 number_of rows.SelectPeripheral = 0x3F0
 number_of (rows.Transfer transfer) = transfer_number transfer
 
--- rows with the numbers of their words
+-- The rows of a list, each with the number of its word.
 abbrev pub with_numbers : List Row → List (ℕ × Row)
 with_numbers some = map (λ row. (number_of row, row)) some
 
--- the table: each row of the listing beside its word
+-- The table: all rows, each with the number of its word.
 unfoldable pub word_table : List (ℕ × Row)
 word_table = with_numbers listed_rows
 
--- the row of a word in a table, and CON where it has none there
+-- The row of a word in a table, or CON if the word has none there.
 abbrev pub row_in : List (ℕ × Row) → ℕ → Row
 row_in [] word = rows.Constant word
 row_in (entry ∷ entries) word = if entry.0 == word then entry.1 else row_in entries word
 
--- the row of a word
+-- The row of a word.
 unfoldable pub row_of : ℕ → Row
 row_of word = row_in word_table word
 
--- whether the operands of a row are in their ranges
+-- The operands of a row are in their ranges.
 abbrev pub IsRow : Row → Type 0
 IsRow (rows.LongJump low_byte) = low_byte < 256
 IsRow (rows.ShortJump condition displacement) =
@@ -234,20 +235,20 @@ IsRow (rows.Read register) = (1 ≤ register) × (register < block_register_coun
 IsRow (rows.Constant number) = Contains unassigned_words number
 IsRow row = Unit {0}
 
--- the word table round trip: a word's row has the word's number,
+-- The word table round trip: the row of a word has the word's number.
 abbrev pub WordOfRow : Type 0
 WordOfRow = (word : ℕ) → word < word_count → number_of (row_of word) ≡ word
 
--- and each row is the row of just one word
+-- Each row is the row of exactly one word.
 abbrev pub OneWordOfRow : Type 0
 OneWordOfRow = (row : Row) → IsRow row → (word : ℕ) → (row_of word ≡ row) ↔ (word ≡ number_of row)
 
--- how many words an instruction takes: two where its first word is a long jump (its low two bits
--- are 01) or LDI
+-- The number of words of an instruction: two if its first word is a jump by address (its two low
+-- bits are 01) or LDI, otherwise one.
 unfoldable pub length_of : ℕ → ℕ
 length_of word = if word % 4 == 1 || word == 0x130 then 2 else 1
 
--- how many words a row takes
+-- The number of words of a row.
 abbrev pub words_of : Row → ℕ
 words_of (rows.LongJump low_byte) = 2
 words_of rows.LoadImmediate = 2

@@ -1,5 +1,5 @@
-//! The words of the HP-41's Nut processor, and the table of what they are. Numbers are those of HP's documents, the
-//! names this project's table of mnemonics.
+//! The words of the HP-41's Nut processor, and the table of their meanings. The numbers are those of HP's documents, the names
+//! those of this project's table of mnemonics.
 #![tactic(auto)]
 
 pub mod laws;

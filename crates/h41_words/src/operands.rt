@@ -1,4 +1,4 @@
-//! The operands of words: numbers, each with its range.
+//! The operands of words. Each is a number with a range.
 ghost use Rattle.std.specs.Prelude.{◌≡◌, ℕ, ℤ, ◌<◌, ◌≤◌, ◌≤ℤ◌};
 ghost use Rattle.h41_words.specs.Counts.{status_bit_count, place_count, digit_count};
 ghost use Rattle.h41_words.specs.Counts.{block_register_count, least_displacement};
@@ -6,7 +6,7 @@ ghost use Rattle.h41_words.specs.Counts.{greatest_displacement};
 
 use std::marker::Model;
 
-/// One of the processor's status bits, 0 to 13.
+/// A status bit of the processor, 0 to 13.
 #[derive(Clone, Copy, Debug, PartialEq, Eq)]
 pub struct StatusBit {
     number: u8,
@@ -23,7 +23,7 @@ impl Model for StatusBit {
 }
 
 impl StatusBit {
-    /// The status bit with this number.
+    /// Returns the status bit with a number from 0 to 13.
     pub fn new(number: u8) -> Self
         requires { number < status_bit_count }
         ensures { result ≡ number }
@@ -31,7 +31,7 @@ impl StatusBit {
         StatusBit { number }
     }
 
-    /// Its number, 0 to 13.
+    /// Returns the number of the status bit, 0 to 13.
     pub fn number(self) -> u8
         ensures value { result ≡ self }
         ensures bound { result < status_bit_count }
@@ -40,7 +40,7 @@ impl StatusBit {
     }
 }
 
-/// A place of a register, 0 to 13, where a pointer can be, or a count of digits to rotate by.
+/// A place of a register, 0 to 13: the position of a pointer, or the number of digits of a rotation.
 #[derive(Clone, Copy, Debug, PartialEq, Eq)]
 pub struct DigitPlace {
     number: u8,
@@ -57,7 +57,7 @@ impl Model for DigitPlace {
 }
 
 impl DigitPlace {
-    /// The place with this number.
+    /// Returns the place with a number from 0 to 13.
     pub fn new(number: u8) -> Self
         requires { number < place_count }
         ensures { result ≡ number }
@@ -65,7 +65,7 @@ impl DigitPlace {
         DigitPlace { number }
     }
 
-    /// Its number, 0 to 13.
+    /// Returns the number of the place, 0 to 13.
     pub fn number(self) -> u8
         ensures value { result ≡ self }
         ensures bound { result < place_count }
@@ -74,7 +74,7 @@ impl DigitPlace {
     }
 }
 
-/// A hexadecimal digit, 0 to 15.
+/// A hexadecimal digit, 0 to 15, that a word loads.
 #[derive(Clone, Copy, Debug, PartialEq, Eq)]
 pub struct LoadedDigit {
     number: u8,
@@ -91,7 +91,7 @@ impl Model for LoadedDigit {
 }
 
 impl LoadedDigit {
-    /// The digit with this number.
+    /// Returns the digit with a value from 0 to 15.
     pub fn new(number: u8) -> Self
         requires { number < digit_count }
         ensures { result ≡ number }
@@ -99,7 +99,7 @@ impl LoadedDigit {
         LoadedDigit { number }
     }
 
-    /// Its number, 0 to 15.
+    /// Returns the value of the digit, 0 to 15.
     pub fn number(self) -> u8
         ensures value { result ≡ self }
         ensures bound { result < digit_count }
@@ -108,7 +108,7 @@ impl LoadedDigit {
     }
 }
 
-/// A register of a block of 16 in the memory, 0 to 15.
+/// A register, 0 to 15, of a block of 16 registers of the memory.
 #[derive(Clone, Copy, Debug, PartialEq, Eq)]
 pub struct BlockRegister {
     number: u8,
@@ -125,7 +125,7 @@ impl Model for BlockRegister {
 }
 
 impl BlockRegister {
-    /// The register with this number.
+    /// Returns the register with a number from 0 to 15 in its block.
     pub fn new(number: u8) -> Self
         requires { number < block_register_count }
         ensures { result ≡ number }
@@ -133,7 +133,7 @@ impl BlockRegister {
         BlockRegister { number }
     }
 
-    /// Its number, 0 to 15.
+    /// Returns the number of the register in its block, 0 to 15.
     pub fn number(self) -> u8
         ensures value { result ≡ self }
         ensures bound { result < block_register_count }
@@ -142,7 +142,7 @@ impl BlockRegister {
     }
 }
 
-/// A register of a block of 16 that `READ n` can name, 1 to 15. The word of a `READ 0` is `READ DATA`.
+/// A register, 1 to 15, of a block of 16 registers that `READ n` can name. There is no `READ 0`: its word is `READ DATA`.
 #[derive(Clone, Copy, Debug, PartialEq, Eq)]
 pub struct ReadRegister {
     number: u8,
@@ -159,7 +159,7 @@ impl Model for ReadRegister {
 }
 
 impl ReadRegister {
-    /// The register with this number.
+    /// Returns the register with a number from 1 to 15 in its block.
     pub fn new(number: u8) -> Self
         requires low { 1 ≤ number }
         requires high { number < block_register_count }
@@ -168,7 +168,7 @@ impl ReadRegister {
         ReadRegister { number }
     }
 
-    /// Its number, 1 to 15.
+    /// Returns the number of the register in its block, 1 to 15.
     pub fn number(self) -> u8
         ensures value { result ≡ self }
         ensures low { 1 ≤ result }
@@ -178,7 +178,7 @@ impl ReadRegister {
     }
 }
 
-/// How many words after its own address a short jump goes, -64 to 63.
+/// The displacement of a short jump: the number of words, -64 to 63, from the address of the jump to its target.
 #[derive(Clone, Copy, Debug, PartialEq, Eq)]
 pub struct Displacement {
     words: i8,
@@ -196,7 +196,7 @@ impl Model for Displacement {
 }
 
 impl Displacement {
-    /// The displacement by so many words.
+    /// Returns the displacement of a number of words from -64 to 63.
     pub fn new(words: i8) -> Self
         requires low { least_displacement ≤ℤ words }
         requires high { words ≤ℤ greatest_displacement }
@@ -205,7 +205,7 @@ impl Displacement {
         Displacement { words }
     }
 
-    /// By how many words, -64 to 63.
+    /// Returns the number of words, -64 to 63.
     pub fn words(self) -> i8
         ensures value { result ≡ self }
         ensures low { least_displacement ≤ℤ result }

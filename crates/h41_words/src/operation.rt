@@ -1,70 +1,71 @@
-//! What an arithmetic word does within its field.
+//! The operations of arithmetic words within a field.
 
-/// An operation within a field of the registers A, B and C. They are numbered 00 to 1F in the words, in this order.
+/// An operation on a field of the registers A, B and C. The variants are in the order of the operation numbers 00 to 1F in the
+/// words.
 #[derive(Clone, Copy, Debug, PartialEq, Eq)]
 pub enum Operation {
-    /// `A=0`.
+    /// `A=0`: clears A.
     ClearA,
-    /// `B=0`.
+    /// `B=0`: clears B.
     ClearB,
-    /// `C=0`.
+    /// `C=0`: clears C.
     ClearC,
-    /// `A<>B`.
+    /// `A<>B`: exchanges A and B.
     ExchangeAB,
-    /// `B=A`.
+    /// `B=A`: copies A to B.
     AToB,
-    /// `A<>C`.
+    /// `A<>C`: exchanges A and C.
     ExchangeAC,
-    /// `C=B`.
+    /// `C=B`: copies B to C.
     BToC,
-    /// `B<>C`.
+    /// `B<>C`: exchanges B and C.
     ExchangeBC,
-    /// `A=C`.
+    /// `A=C`: copies C to A.
     CToA,
-    /// `A=A+B`.
+    /// `A=A+B`: adds B to A.
     AddBToA,
-    /// `A=A+C`.
+    /// `A=A+C`: adds C to A.
     AddCToA,
-    /// `A=A+1`.
+    /// `A=A+1`: adds 1 to A.
     IncrementA,
-    /// `A=A-B`.
+    /// `A=A-B`: subtracts B from A.
     SubtractBFromA,
-    /// `A=A-1`.
+    /// `A=A-1`: subtracts 1 from A.
     DecrementA,
-    /// `A=A-C`.
+    /// `A=A-C`: subtracts C from A.
     SubtractCFromA,
-    /// `C=C+C`.
+    /// `C=C+C`: adds C to itself.
     DoubleC,
-    /// `C=A+C`.
+    /// `C=A+C`: adds A to C.
     AddAToC,
-    /// `C=C+1`.
+    /// `C=C+1`: adds 1 to C.
     IncrementC,
-    /// `C=A-C`.
+    /// `C=A-C`: writes A minus C to C.
     SubtractCFromAToC,
-    /// `C=C-1`.
+    /// `C=C-1`: subtracts 1 from C.
     DecrementC,
-    /// `C=0-C`.
+    /// `C=0-C`: writes the complement of C to the base to C.
     NegateC,
-    /// `C=-C-1`.
+    /// `C=-C-1`: writes the complement of C to the base less one to C.
     ComplementC,
-    /// `?B#0`.
+    /// `?B#0`: sets the carry if B is not 0.
     TestBNonzero,
-    /// `?C#0`.
+    /// `?C#0`: sets the carry if C is not 0.
     TestCNonzero,
-    /// `?A<C`.
+    /// `?A<C`: sets the carry if A is less than C.
     TestALessThanC,
-    /// `?A<B`.
+    /// `?A<B`: sets the carry if A is less than B.
     TestALessThanB,
-    /// `?A#0`.
+    /// `?A#0`: sets the carry if A is not 0.
     TestANonzero,
-    /// `?A#C`.
+    /// `?A#C`: sets the carry if A and C differ.
     TestADiffersFromC,
-    /// `RSHFA`.
+    /// `RSHFA`: shifts A right by one digit.
     ShiftRightA,
-    /// `RSHFB`.
+    /// `RSHFB`: shifts B right by one digit.
     ShiftRightB,
-    /// `RSHFC`.
+    /// `RSHFC`: shifts C right by one digit.
     ShiftRightC,
-    /// `LSHFA`.
+    /// `LSHFA`: shifts A left by one digit.
     ShiftLeftA,
 }

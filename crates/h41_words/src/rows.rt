@@ -1,4 +1,4 @@
-//! The rows of the table of words: what a word can stand for. Each comment begins with the mnemonic.
+//! The rows of the table of words: the possible meanings of a word. The comment of each begins with the mnemonic.
 use crate::operands::{
     BlockRegister, DigitPlace, Displacement, LoadedDigit, ReadRegister, StatusBit,
 };
@@ -6,48 +6,48 @@ use crate::operation::Operation;
 use crate::unassigned::UnassignedWord;
 use h41_fields::{Field, Pointer};
 
-/// The row of a word: what it stands for. It is one of a family, with its operands, or a single word.
+/// The row of a word: its meaning. It belongs to a family of words with operands, or is a single word.
 #[derive(Clone, Copy, Debug, PartialEq, Eq)]
 pub enum Row {
-    /// `A=A+1 ALL` and the like: works on a field of the registers A, B and C.
+    /// `A=A+1 ALL` and the like: performs an operation on a field of the registers A, B and C.
     Arithmetic(Operation, Field),
-    /// The first word of a jump by address, with the low byte of that address. The second word (`SecondWord`) has the
-    /// high byte, and says which of the four jumps it is.
+    /// `?NC XQ`, `?C XQ`, `?NC GO` or `?C GO`: the first word of a jump by address, with the low byte of the address. The second
+    /// word (`SecondWord`) has the high byte and determines which of the four jumps it is.
     LongJump(u8),
-    /// `JNC +hh` and `JC +hh`: a jump by a displacement, where the carry is as the condition says.
+    /// `JNC +hh` and `JC +hh`: jumps by a displacement if the carry meets the condition.
     ShortJump(Condition, Displacement),
     /// `CLRF n`: clears a status bit.
     ClearStatus(StatusBit),
     /// `SETF n`: sets a status bit.
     SetStatus(StatusBit),
-    /// `?FSET n`: whether a status bit is set.
+    /// `?FSET n`: sets the carry if a status bit is set.
     TestStatus(StatusBit),
-    /// `?R= n`: whether the active pointer is at a place.
+    /// `?R= n`: sets the carry if the active pointer is at a place.
     TestPointer(DigitPlace),
-    /// `R= n`: puts the active pointer at a place.
+    /// `R= n`: moves the active pointer to a place.
     SetPointer(DigitPlace),
-    /// `RCR n`: rotates C right by so many digits.
+    /// `RCR n`: rotates C right by a number of digits.
     RotateRight(DigitPlace),
-    /// `LD@R n`: the digit goes to C at the active pointer.
+    /// `LD@R n`: writes the digit to C at the active pointer's place.
     LoadDigit(LoadedDigit),
-    /// `WRIT n`: C goes to a register of the selected block of 16.
+    /// `WRIT n`: writes C to a register of the selected block of 16.
     Write(BlockRegister),
-    /// `READ n`: a register of the selected block of 16 goes to C.
+    /// `READ n`: copies a register of the selected block of 16 to C.
     Read(ReadRegister),
-    /// `CON hhh`: a word that stands for nothing that can be executed.
+    /// `CON hhh`: a word that is no instruction.
     Constant(UnassignedWord),
 
-    /// `NOP`: goes on with the next word.
+    /// `NOP`: does nothing.
     Nop,
     /// `WROM`: writes a word of a page.
     WriteRom,
-    /// `ENBANK1` to `ENBANK4`: chooses a bank of the page.
+    /// `ENBANK1` to `ENBANK4`: makes a bank of the page the active bank.
     EnableBank(Bank),
     /// `ST=0`: clears the status bits 0 to 7.
     ClearStatusByte,
     /// `CLRKEY`: clears the key flag.
     ClearKeyFlag,
-    /// `?KEY`: whether the key flag is set.
+    /// `?KEY`: sets the carry if the key flag is set.
     TestKeyFlag,
     /// `R=R-1`: moves the active pointer down one place.
     DecrementPointer,
@@ -57,110 +57,110 @@ pub enum Row {
     Transfer(RegisterTransfer),
     /// `XQ->GO`: drops the newest return address.
     DropReturn,
-    /// `POWOFF`: the processor goes to sleep.
+    /// `POWOFF`: puts the processor to sleep.
     PowerOff,
     /// `SLCT P` and `SLCT Q`: makes a pointer the active one.
     SelectPointer(Pointer),
-    /// `?P=Q`: whether both pointers are at one place.
+    /// `?P=Q`: sets the carry if both pointers are at the same place.
     TestPointersEqual,
-    /// `?LLD`: whether the battery is low.
+    /// `?LLD`: sets the carry if the battery is low.
     TestLowBattery,
     /// `CLRABC`: clears A, B and C.
     ClearRegisters,
-    /// `GOTO ADR`: goes to the address in C.
+    /// `GOTO ADR`: jumps to the address in C.
     GoToAddress,
-    /// `C=KEY`: the code of the key goes to C.
+    /// `C=KEY`: copies the code of the key to C.
     ReadKey,
-    /// `SETHEX`: arithmetic in base 16 from here on.
+    /// `SETHEX`: selects base 16 for arithmetic.
     SetHexadecimal,
-    /// `SETDEC`: arithmetic in base 10 from here on.
+    /// `SETDEC`: selects base 10 for arithmetic.
     SetDecimal,
     /// `DISOFF`: turns the display off.
     DisplayOff,
-    /// `DISTOG`: turns the display on where it is off, and off where it is on.
+    /// `DISTOG`: turns the display on if it is off, and off if it is on.
     ToggleDisplay,
-    /// `?C RTN` and `?NC RTN`: returns where the carry is as the condition says.
+    /// `?C RTN` and `?NC RTN`: returns if the carry meets the condition.
     ReturnIf(Condition),
-    /// `RTN`: goes on at the newest return address, which is taken off.
+    /// `RTN`: returns to the newest return address and removes it.
     Return,
-    /// `LDI hhh`: the word that follows goes to places 2 to 0 of C.
+    /// `LDI hhh`: copies the word that follows to places 2 to 0 of C.
     LoadImmediate,
-    /// `PUSH ADR`: the address in C becomes the newest return address.
+    /// `PUSH ADR`: makes the address in C the newest return address.
     PushAddress,
-    /// `POP ADR`: the newest return address goes to C, and is taken off.
+    /// `POP ADR`: copies the newest return address to C and removes it.
     PopAddress,
-    /// `GOTO KEY`: goes to an address whose low byte is the code of the key.
+    /// `GOTO KEY`: jumps to an address whose low byte is the code of the key.
     GoToKey,
     /// `RAM SLCT`: selects a register of the memory.
     SelectRegister,
-    /// `WRIT DATA`: C goes to the selected register.
+    /// `WRIT DATA`: writes C to the selected register.
     WriteData,
-    /// `READ DATA`: the selected register goes to C.
+    /// `READ DATA`: copies the selected register to C.
     ReadData,
-    /// `FETCH S&X`: a word of a page goes to places 2 to 0 of C.
+    /// `FETCH S&X`: copies a word of a page to places 2 to 0 of C.
     FetchWord,
-    /// `C=C OR A`: joins C and A bit by bit.
+    /// `C=C OR A`: combines C and A bit by bit with or.
     Or,
-    /// `C=C AND A`: meets C and A bit by bit.
+    /// `C=C AND A`: combines C and A bit by bit with and.
     And,
     /// `PRPH SLCT`: selects a peripheral.
     SelectPeripheral,
 }
 
-/// At which carry a jump or a return is taken.
+/// The carry at which a jump or a return is taken.
 #[derive(Clone, Copy, Debug, PartialEq, Eq)]
 pub enum Condition {
-    /// `NC`: where there is no carry.
+    /// `NC`: it is taken if the carry is clear.
     NoCarry,
-    /// `C`: where there is a carry.
+    /// `C`: it is taken if the carry is set.
     Carry,
 }
 
-/// A bank of a page.
+/// A bank of a page, as the words that activate it name it.
 #[derive(Clone, Copy, Debug, PartialEq, Eq)]
 pub enum Bank {
-    /// `ENBANK1`.
+    /// The first bank, of `ENBANK1`.
     First,
-    /// `ENBANK2`.
+    /// The second bank, of `ENBANK2`.
     Second,
-    /// `ENBANK3`.
+    /// The third bank, of `ENBANK3`.
     Third,
-    /// `ENBANK4`.
+    /// The fourth bank, of `ENBANK4`.
     Fourth,
 }
 
-/// A copy from a register to another, or an exchange of two: C with the registers G, M and N and with the low byte of the
-/// status bits, or that byte with the register T.
+/// A copy from one register to another, or an exchange of two registers: of C and G, M, N or the low byte of the status bits, or of
+/// that byte and T.
 #[derive(Clone, Copy, Debug, PartialEq, Eq)]
 pub enum RegisterTransfer {
-    /// `G=C`.
+    /// `G=C`: copies a byte of C to G.
     CToG,
-    /// `C=G`.
+    /// `C=G`: copies G to a byte of C.
     GToC,
-    /// `C<>G`.
+    /// `C<>G`: exchanges G and a byte of C.
     ExchangeCG,
-    /// `M=C`.
+    /// `M=C`: copies C to M.
     CToM,
-    /// `C=M`.
+    /// `C=M`: copies M to C.
     MToC,
-    /// `C<>M`.
+    /// `C<>M`: exchanges C and M.
     ExchangeCM,
-    /// `N=C`.
+    /// `N=C`: copies C to N.
     CToN,
-    /// `C=N`.
+    /// `C=N`: copies N to C.
     NToC,
-    /// `C<>N`.
+    /// `C<>N`: exchanges C and N.
     ExchangeCN,
-    /// `T=ST`.
+    /// `T=ST`: copies the status bits 0 to 7 to T.
     StatusToT,
-    /// `ST=T`.
+    /// `ST=T`: copies T to the status bits 0 to 7.
     TToStatus,
-    /// `ST<>T`.
+    /// `ST<>T`: exchanges T and the status bits 0 to 7.
     ExchangeStatusT,
-    /// `ST=C`.
+    /// `ST=C`: copies the low byte of C to the status bits 0 to 7.
     CToStatus,
-    /// `C=ST`.
+    /// `C=ST`: copies the status bits 0 to 7 to the low byte of C.
     StatusToC,
-    /// `C<>ST`.
+    /// `C<>ST`: exchanges the status bits 0 to 7 and the low byte of C.
     ExchangeCStatus,
 }

@@ -4,30 +4,31 @@ ghost use Rattle.std.specs.Prelude.{◌≡◌};
 use crate::rom_word::Word;
 use crate::rows::Condition;
 
-/// What a jump by address does where it is taken.
+/// The kind of a jump by address.
 #[derive(Clone, Copy, Debug, PartialEq, Eq)]
 pub enum LongJumpKind {
-    /// `XQ`: goes there, with the address after the two words as the newest return address.
+    /// `XQ`: jumps, and makes the address after the two words the newest return address.
     Execute,
-    /// `GO`: goes there.
+    /// `GO`: jumps.
     Go,
 }
 
-/// What the second word of a jump by address says. Each word can be one: its low two bits are the condition and the kind.
+/// The meaning of the second word of a jump by address. Every word can be a second word: its two low bits are the condition and the
+/// kind.
 #[derive(Clone, Copy, Debug, PartialEq, Eq)]
 pub struct SecondWord {
-    /// At which carry the jump is taken: the carry before its first word.
+    /// The carry at which the jump is taken: the carry before the first word of the jump.
     pub condition: Condition,
-    /// What the jump does.
+    /// The kind of the jump.
     pub kind: LongJumpKind,
-    /// The high byte of the address.
+    /// The high byte of the jump target.
     pub high_byte: u8,
 }
 
 impl SecondWord {
     ghost use Rattle.h41_words.specs.SecondWord.{second_of, second_number_of};
 
-    /// What a word says as a second word.
+    /// Returns the meaning of a word as a second word.
     pub fn of(word: Word) -> Self
         ensures { result ≡ second_of word }
     {
@@ -45,7 +46,7 @@ impl SecondWord {
         }
     }
 
-    /// The word that says this.
+    /// Returns the word that has this meaning as a second word.
     pub fn word(self) -> Word
         ensures { result ≡ second_number_of self }
     {

@@ -1,4 +1,4 @@
-//! The table of the words: from a word to its row, and back.
+//! The table of the words: from a word to its row, and from a row to its word.
 ghost use Rattle.std.specs.Prelude.{◌≡◌, ◌%◌, ◌/◌, ◌<◌, ◌⊎◌, IfSome, IfNone};
 ghost use Rattle.h41_words.specs.Counts.{word_count, place_count};
 ghost use Rattle.h41_words.specs.private.MappedColumns.{IsMappedColumn};
@@ -13,8 +13,8 @@ use crate::rows::{Bank, Condition, RegisterTransfer, Row};
 use crate::unassigned::UnassignedWord;
 use h41_fields::{Field, Pointer};
 
-/// The single words, column by column: each number once, beside its row. Both directions are written from this list:
-/// `$write` is the macro that writes one of them, and `$with` what it writes it with.
+/// The single words, column by column, each number with its row. The code for both directions is generated from this list: `$write`
+/// is the macro that generates one of them, and `$with` its arguments.
 macro_rules! single_words {
     ($write:ident $with:tt) => {
         $write! { $with Row
@@ -87,7 +87,7 @@ macro_rules! single_words {
     };
 }
 
-/// The operations of arithmetic words: each number once, beside its operation.
+/// The operations of arithmetic words, each number with its operation.
 macro_rules! operations {
     ($write:ident $with:tt) => {
         $write! { $with Operation
@@ -129,7 +129,7 @@ macro_rules! operations {
     };
 }
 
-/// The fields of arithmetic words: each number once, beside its field.
+/// The fields of arithmetic words, each number with its field.
 macro_rules! fields {
     ($write:ident $with:tt) => {
         $write! { $with Field
@@ -147,7 +147,7 @@ macro_rules! fields {
     };
 }
 
-/// The mapped column: each line that means a number, beside that number. Lines 7 and 15 mean none.
+/// The mapped column: each line that means a number, with this number. Lines 7 and 15 mean none.
 macro_rules! mapped_column {
     ($write:ident $with:tt) => {
         $write! { $with
@@ -169,7 +169,7 @@ macro_rules! mapped_column {
     };
 }
 
-/// Writes the match from a number to the name beside it in one part of a list, and what another number gives.
+/// Generates the match from a number to its name in one part of a list; any other number has the given value.
 macro_rules! name_beside {
     ((all $($with:tt)*) $kind:ident all $part:tt) => { match_number!($kind $part $($with)*) };
     ((column_00 $($with:tt)*) $kind:ident column_00 $part:tt $($more:tt)*) => { match_number!($kind $part $($with)*) };
@@ -181,7 +181,7 @@ macro_rules! name_beside {
     ($with:tt $kind:ident $other:ident $part:tt $($more:tt)*) => { name_beside!($with $kind $($more)*) };
 }
 
-/// Writes the match of `name_beside` over its part of the list.
+/// Generates the match of `name_beside` for one part of a list.
 macro_rules! match_number {
     (
         $kind:ident { $($number:literal => $name:ident $(($operand:path))?,)* }
@@ -194,7 +194,7 @@ macro_rules! match_number {
     };
 }
 
-/// Writes the match from each name of a list to the number beside it, and what another name gives.
+/// Generates the match from each name of a list to its number; any other name has the given value.
 macro_rules! number_beside {
     (
         (of $value:expr $(, else $other:expr)?) $kind:ident
@@ -207,7 +207,7 @@ macro_rules! number_beside {
     };
 }
 
-/// Writes the match from a line to the number that it means, if any.
+/// Generates the match from a line to the number that it means, if any.
 macro_rules! number_of_line {
     ((of $value:expr) $($line:literal => $meant:literal,)*) => {
         match $value {
@@ -217,7 +217,7 @@ macro_rules! number_of_line {
     };
 }
 
-/// Writes the match from a number that a line means to that line.
+/// Generates the match from a number to the line that means it.
 macro_rules! line_of_number {
     ((of $value:expr) $($line:literal => $meant:literal,)*) => {
         match $value {
@@ -227,7 +227,7 @@ macro_rules! line_of_number {
     };
 }
 
-/// The row of a word.
+/// Returns the row of a word.
 #[inline(always)]
 pub fn row(word: Word) -> Row
     ensures row { result ≡ spec.row_of word }
@@ -243,7 +243,7 @@ pub fn row(word: Word) -> Row
     }
 }
 
-/// The row of a jump, long or short: a word whose lowest bit is 1.
+/// Returns the row of a jump, long or short: a word whose lowest bit is 1.
 #[tactic(auto, unfolding(crate::specs::WordTable::number_of))]
 #[inline(always)]
 fn jump(word: Word) -> Row
@@ -259,7 +259,7 @@ fn jump(word: Word) -> Row
     }
 }
 
-/// The operation with this number, 0 to 31.
+/// Returns the operation with a number from 0 to 31.
 #[inline(always)]
 fn operation(number: u16) -> Operation
     requires { number < 32 }
@@ -268,7 +268,7 @@ fn operation(number: u16) -> Operation
     operations!(name_beside (all of number, else unreachable!()))
 }
 
-/// The field with this number, 0 to 7.
+/// Returns the field with a number from 0 to 7.
 #[inline(always)]
 fn field(number: u16) -> Field
     requires { number < 8 }
@@ -277,7 +277,7 @@ fn field(number: u16) -> Field
     fields!(name_beside (all of number, else unreachable!()))
 }
 
-/// The row of a short jump.
+/// Returns the row of a short jump.
 #[tactic(auto, unfolding(crate::specs::WordTable::number_of))]
 #[inline(always)]
 fn short_jump(word: Word) -> Row
@@ -289,7 +289,7 @@ fn short_jump(word: Word) -> Row
     Row::ShortJump(condition(number / 4 % 2), displacement(number / 8))
 }
 
-/// The condition with this bit.
+/// Returns the condition that a bit, 0 or 1, encodes.
 #[inline(always)]
 fn condition(bit: u16) -> Condition
     requires { bit < 2 }
@@ -302,7 +302,7 @@ fn condition(bit: u16) -> Condition
     }
 }
 
-/// The displacement with these bits, 0 to 127.
+/// Returns the displacement that seven bits, 0 to 127, encode. Values from 64 on are negative.
 #[inline(always)]
 fn displacement(bits: u16) -> Displacement
     requires { bits < 128 }
@@ -313,7 +313,7 @@ fn displacement(bits: u16) -> Displacement
     Displacement::new(words as i8)
 }
 
-/// The row of a word whose low two bits are 00.
+/// Returns the row of a word whose two low bits are 00.
 #[tactic(auto, unfolding(crate::specs::WordTable::number_of))]
 #[inline(always)]
 fn miscellaneous(word: Word) -> Row
@@ -339,7 +339,7 @@ fn miscellaneous(word: Word) -> Row
     }
 }
 
-/// The number that a line, 0 to 15, of a mapped column means, 0 to 13; the lines 7 and 15 mean none.
+/// Returns the number, 0 to 13, that a line, 0 to 15, of a mapped column means. Returns `None` for lines 7 and 15.
 #[inline(always)]
 fn meant_by(line: u8) -> Option<u8>
     requires { line < 16 }
@@ -350,7 +350,7 @@ fn meant_by(line: u8) -> Option<u8>
     mapped_column!(number_of_line (of line))
 }
 
-/// The row of a word of a mapped column where its line means a number, 0 to 13.
+/// Returns the row of a word of a mapped column whose line means a number from 0 to 13.
 #[tactic(auto, unfolding(crate::specs::WordTable::number_of))]
 #[inline(always)]
 fn mapped(word: Word, meant: u8) -> Row
@@ -370,7 +370,7 @@ fn mapped(word: Word, meant: u8) -> Row
     }
 }
 
-/// The row of a word of a mapped column where its line, 7 or 15, means no number.
+/// Returns the row of a word of a mapped column whose line, 7 or 15, means no number.
 #[tactic(auto, unfolding(crate::specs::WordTable::number_of))]
 #[inline(always)]
 fn unmapped(word: Word) -> Row
@@ -382,7 +382,7 @@ fn unmapped(word: Word) -> Row
     single_words!(name_beside (unmapped of word.number(), else Row::Constant(UnassignedWord::new(word))))
 }
 
-/// The row of a word whose low six bits are 00.
+/// Returns the row of a word whose six low bits are 00.
 #[tactic(auto, unfolding(crate::specs::WordTable::number_of))]
 #[inline(always)]
 fn column_00(word: Word) -> Row
@@ -393,7 +393,7 @@ fn column_00(word: Word) -> Row
     single_words!(name_beside (column_00 of word.number(), else Row::Constant(UnassignedWord::new(word))))
 }
 
-/// The row of a word whose low six bits are 18.
+/// Returns the row of a word whose six low bits are 18.
 #[tactic(auto, unfolding(crate::specs::WordTable::number_of))]
 #[inline(always)]
 fn column_18(word: Word) -> Row
@@ -404,7 +404,7 @@ fn column_18(word: Word) -> Row
     single_words!(name_beside (column_18 of word.number(), else Row::Constant(UnassignedWord::new(word))))
 }
 
-/// The row of a word whose low six bits are 20.
+/// Returns the row of a word whose six low bits are 20.
 #[tactic(auto, unfolding(crate::specs::WordTable::number_of))]
 #[inline(always)]
 fn column_20(word: Word) -> Row
@@ -415,7 +415,7 @@ fn column_20(word: Word) -> Row
     single_words!(name_beside (column_20 of word.number(), else unreachable!()))
 }
 
-/// The row of a word whose low six bits are 30.
+/// Returns the row of a word whose six low bits are 30.
 #[tactic(auto, unfolding(crate::specs::WordTable::number_of))]
 #[inline(always)]
 fn column_30(word: Word) -> Row
@@ -426,7 +426,7 @@ fn column_30(word: Word) -> Row
     single_words!(name_beside (column_30 of word.number(), else Row::Constant(UnassignedWord::new(word))))
 }
 
-/// The row of a word whose low six bits are 38.
+/// Returns the row of a word whose six low bits are 38.
 #[tactic(auto, unfolding(crate::specs::WordTable::number_of))]
 #[inline(always)]
 fn column_38(word: Word) -> Row
@@ -439,14 +439,14 @@ fn column_38(word: Word) -> Row
     single_words!(name_beside (column_38 of number, else Row::Read(ReadRegister::new(line))))
 }
 
-/// The word of a row.
+/// Returns the word of a row.
 pub fn word(row: Row) -> Word
     ensures { result ≡ spec.number_of row }
 {
     Word::of(number(row))
 }
 
-/// The number of a row's word.
+/// Returns the number of a row's word.
 #[tactic(auto, unfolding(crate::specs::WordTable::number_of))]
 fn number(row: Row) -> u16
     ensures value { result ≡ spec.number_of row }
@@ -474,7 +474,7 @@ fn number(row: Row) -> u16
     }
 }
 
-/// The word of a line, 0 to 15, and a column, the low six bits.
+/// Returns the number of the word in a line, 0 to 15, and a column, which is the six low bits.
 fn at(line: u8, column: u16) -> u16
     requires line { line < 16 }
     requires column { column < 64 }
@@ -484,7 +484,7 @@ fn at(line: u8, column: u16) -> u16
     u16::from(line) * 64 + column
 }
 
-/// The line of a mapped column that means a number, 0 to 13.
+/// Returns the line of a mapped column that means a number from 0 to 13.
 fn line_of(meant: u8) -> u8
     requires { meant < place_count }
     ensures value { result ≡ spec.mapped_line meant }
@@ -493,7 +493,7 @@ fn line_of(meant: u8) -> u8
     mapped_column!(line_of_number (of meant))
 }
 
-/// The bits of a displacement, 0 to 127: those from 64 on stand for the negative ones.
+/// Returns the seven bits of a displacement, 0 to 127. Those from 64 on encode the negative displacements.
 #[tactic(auto, using(crate::proofs::Displacements::bits_backward, crate::proofs::Displacements::bits_forward))]
 fn displacement_bits(displacement: Displacement) -> u16
     ensures value { result ≡ spec.displacement_bits displacement }
@@ -504,7 +504,7 @@ fn displacement_bits(displacement: Displacement) -> u16
     if words < 0 { 128 - size } else { size }
 }
 
-/// Bit 2 of a jump on a condition.
+/// Returns the bit that encodes a condition, bit 2 of a short jump.
 fn condition_bit(condition: Condition) -> u16
     ensures value { result ≡ spec.condition_bit condition }
     ensures bound { result < 2 }
@@ -515,7 +515,7 @@ fn condition_bit(condition: Condition) -> u16
     }
 }
 
-/// The number of an operation, 0 to 31.
+/// Returns the number of an operation, 0 to 31.
 fn operation_number(operation: Operation) -> u16
     ensures value { result ≡ spec.operation_number operation }
     ensures bound { result < 32 }
@@ -523,7 +523,7 @@ fn operation_number(operation: Operation) -> u16
     operations!(number_beside (of operation))
 }
 
-/// The number of a field, 0 to 7.
+/// Returns the number of a field, 0 to 7.
 fn field_number(field: Field) -> u16
     ensures value { result ≡ spec.field_number field }
     ensures bound { result < 8 }
@@ -531,7 +531,7 @@ fn field_number(field: Field) -> u16
     fields!(number_beside (of field))
 }
 
-/// How many words an instruction takes that begins with this word, 1 or 2. A long jump and `LDI` take two.
+/// Returns the number of words, 1 or 2, of an instruction that begins with this word. A jump by address and `LDI` have two.
 pub fn length(word: Word) -> u16
     ensures { result ≡ spec.length_of word }
 {

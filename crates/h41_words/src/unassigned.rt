@@ -1,11 +1,11 @@
-//! The words that stand for no instruction.
+//! The words that are no instruction.
 ghost use Rattle.std.specs.Prelude.{◌≡◌, ℕ, ◌<◌, Contains};
 ghost use Rattle.h41_words.specs.Unassigned.{unassigned_words};
 
 use crate::rom_word::Word;
 use std::marker::Model;
 
-/// A word that stands for no instruction.
+/// A word that is no instruction.
 #[derive(Clone, Copy, Debug, PartialEq, Eq)]
 pub struct UnassignedWord {
     word: Word,
@@ -22,7 +22,7 @@ impl Model for UnassignedWord {
 }
 
 impl UnassignedWord {
-    /// The unassigned word that this word is.
+    /// Returns a word that is in the list of unassigned words as an unassigned word.
     pub(crate) fn new(word: Word) -> Self
         requires { Contains unassigned_words word }
         ensures { result ≡ word }
@@ -30,7 +30,7 @@ impl UnassignedWord {
         UnassignedWord { word }
     }
 
-    /// The word itself.
+    /// Returns the word itself.
     pub fn word(self) -> Word
         ensures value { result ≡ self }
         ensures unassigned { Contains unassigned_words result }

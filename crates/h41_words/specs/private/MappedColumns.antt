@@ -1,7 +1,7 @@
--- What the code asks of a word before it looks its line up.
+-- What the code requires of a word before it looks up its line.
 use Rattle.std.specs.Prelude.{◌≡◌, ◌⊎◌, ℕ}
 
--- which columns are mapped
+-- The columns that are mapped.
 abbrev pub IsMappedColumn : ℕ → Type 0
 IsMappedColumn column =
     (column ≡ 0x04)

@@ -5,7 +5,7 @@ use Rattle.h41_arith.specs.private.DigitOperations.{rule_of}
 use Rattle.h41_arith.proofs.Carries.{CarriedTo}
 use Rattle.h41_arith.proofs.sums.DigitOperation.over_places.Given as goal
 
--- the rule holds up to the place, and the places outside are those of a register of zeros
+-- The rule holds up to the place, and the places outside are those of a register of zeros.
 abbrev pub invariant-loop-place : goal.invariant-loop-place
 invariant-loop-place l = record {
   carried : CarriedTo (rule_of l.self 10) l.x l.y (carry_digit l.fn.carry_in) l.fn.lo l.place l.digits (carry_digit l.carry);

@@ -13,7 +13,7 @@ same_columns a b (piece ∷ rest) same =
 regroup : (a b c d : List ℕ) → ((a ++ b) ++ c) ++ d ≡ a ++ ((b ++ c) ++ d)
 regroup a b c d = simp append_assoc
 
--- a line with its columns is written, and the next piece stands behind it
+-- A line with its columns is written, and the next instruction follows at the next address.
 pub next_line : (written before after whole : List ℕ) (address length : ℕ) (piece : Piece) (all left : List Piece) → address < 0x10000
     → all ≡ piece ∷ left → written ++ columns_of address all ≡ whole → before ≡ written ++ columns_text address piece
     → after ≡ before ++ piece_line piece → length ≡ piece_length piece

@@ -1,5 +1,5 @@
--- The listing of words: they are cut into instructions, and each is told on a line of its own. The
--- texts are those of this project's table of mnemonics, and so is the form of a line.
+-- The listing of words: they are cut into instructions, and each is written on a line of its own.
+-- The texts and the form of a line are those of this project's table of mnemonics.
 use Rattle.std.specs.Prelude.{◌≡◌, ℕ, ◌+◌, ◌%◌, List, [], ◌∷◌, ◌++◌, flat_map, Option, Some, None}
 use Rattle.std.specs.Prelude.{String, codes, string_bytes, ◌==◌, if◌then◌else◌}
 use Rattle.h41_digits.specs.Register.{hexadecimal_text}
@@ -7,15 +7,16 @@ use Rattle.h41_words.specs.Mnemonics.{row_text, instruction_text}
 use Rattle.h41_words.specs.WordTable.{row_of, length_of}
 use Rattle.h41_dis.specs.declared.cut.Piece.{Piece}
 
--- a piece of one word, and one of two
+-- An instruction of one word.
 abbrev pub piece_of_one : ℕ → Piece
 piece_of_one first = record { first = first; second = None }
 
+-- An instruction of two words.
 abbrev pub with_second : ℕ → ℕ → Piece
 with_second first second = record { first = first; second = Some second }
 
--- the pieces of words, from the front: two words where the first has length 2 and another follows
--- it, else one
+-- The instructions of words, from the first word on: two words if the first has length 2 and
+-- another word follows, otherwise one.
 abbrev pub pieces : List ℕ → List Piece
 pieces [] = []
 pieces (first ∷ []) = piece_of_one first ∷ []
@@ -23,57 +24,59 @@ pieces (first ∷ second ∷ rest) =
     if length_of first == 2 then with_second first second ∷ pieces rest
     else piece_of_one first ∷ pieces (second ∷ rest)
 
--- the text of an instruction: its row's. A word that begins an instruction of two words, but has
--- none behind it, is CON.
+-- The text of an instruction is that of its row. A first word of two without its second word is
+-- CON.
 abbrev pub piece_text : ℕ → Option ℕ → List ℕ
 piece_text first None = row_text (row_of first)
 piece_text first (Some second) = instruction_text (row_of first) second
 
--- its line
+-- The line of an instruction: its text and a line end.
 abbrev pub piece_line : Piece → List ℕ
 piece_line piece = piece_text piece.first piece.second ++ codes "\n"
 
--- a line for each of them
+-- The lines of instructions, one after the other.
 abbrev pub lines_of : List Piece → List ℕ
 lines_of pieces = flat_map piece_line pieces
 
--- the lines of words: which address the first stands at changes nothing, since a jump tells its
--- address or its displacement
+-- The text of words, a line for each instruction. It does not depend on the address of the first
+-- word, since the text of a jump contains its target address or its displacement.
 abbrev pub spell : List ℕ → List ℕ
 spell words = lines_of (pieces words)
 
--- how many words a piece has
+-- The number of words of an instruction.
 abbrev pub piece_length : Piece → ℕ
 piece_length piece = elim piece.second [ None ↦ 1 | Some second ↦ 2 ]
 
--- what a second word adds to the first: a blank and its number, or blanks in their place
+-- The second word in the column of words: a space and its number, or four spaces if there is none.
 abbrev pub second_column : Option ℕ → List ℕ
 second_column None = codes "    "
 second_column (Some second) = codes " " ++ hexadecimal_text 3 second
 
--- the words of a piece, which fill seven places
+-- The words of an instruction in a column of seven characters.
 abbrev pub words_column : Piece → List ℕ
 words_column piece = hexadecimal_text 3 piece.first ++ second_column piece.second
 
--- the columns before its line: the address, and the words, with two blanks after each
+-- The columns before the text of an instruction: its address and its words, each followed by two
+-- spaces.
 abbrev pub columns_text : ℕ → Piece → List ℕ
 columns_text address piece =
     hexadecimal_text 4 address ++ codes "  " ++ words_column piece ++ codes "  "
 
--- a text has gained the line of an instruction, with its columns
+-- The line of an instruction, with its columns, was appended to a text.
 abbrev pub GainsLine : {Z : Type 0} → ℕ → Piece → String Z → String Z → Type 0
 GainsLine address piece old new =
     string_bytes new ≡ (string_bytes old ++ columns_text address piece) ++ piece_line piece
 
--- a line with its columns; an address has 16 bits
+-- A line with its columns. An address has 16 bits, so it is taken modulo 10000 hexadecimal.
 abbrev pub columns_line : ℕ → Piece → List ℕ
 columns_line address piece = columns_text (address % 0x10000) piece ++ piece_line piece
 
--- these lines, where the first piece stands at this address
+-- The lines of instructions with their columns; the first instruction is at the given address.
 abbrev pub columns_of : ℕ → List Piece → List ℕ
 columns_of address [] = []
 columns_of address (piece ∷ rest) =
     columns_line address piece ++ columns_of (address + piece_length piece) rest
 
+-- The listing of words whose first one is at the origin.
 abbrev pub listing_text : List ℕ → ℕ → List ℕ
 listing_text words origin = columns_of origin (pieces words)

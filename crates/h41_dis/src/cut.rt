@@ -1,23 +1,23 @@
-//! The instructions that words are cut into.
+//! Cuts words into instructions.
 
 ghost use Rattle.std.specs.Iterator.{YieldsFirst, item_count};
 ghost use Rattle.std.specs.Prelude.{◌≡◌};
 
 use h41_words::{Word, length};
 
-/// An instruction: a word, and the word behind it where it takes two.
+/// An instruction: its first word, and its second word if it has two.
 #[derive(Clone, Copy)]
 pub struct Piece {
-    /// The word that it begins with.
+    /// The first word of the instruction.
     pub first: Word,
-    /// The word behind that, where the instruction takes two and the words do not end before it.
+    /// The second word, if the instruction has two and the words do not end before it.
     pub second: Option<Word>,
 }
 
 impl Piece {
     ghost use Rattle.h41_dis.specs.Spelling.{piece_length};
 
-    /// How many words it has: 1 or 2.
+    /// Returns the number of words of the instruction, 1 or 2.
     pub fn length(&self) -> u16
         ensures { result ≡ piece_length self.now }
     {
@@ -28,15 +28,15 @@ impl Piece {
     }
 }
 
-/// The instructions that are left of words, one at a time from the front.
+/// An iterator over the instructions that words contain, from the first on.
 #[derive(Drop)]
 pub struct Pieces<'a> {
-    /// The words from the next instruction on.
+    /// The words that are not read yet, from the next instruction on.
     pub rest: &'a [Word],
 }
 
 impl<'a> Pieces<'a> {
-    /// All instructions of words.
+    /// Returns an iterator over all instructions of words.
     pub fn new(words: &'a [Word]) -> Self
         ensures { result.rest.now ≡ words.now }
     {

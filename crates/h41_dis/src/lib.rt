@@ -1,4 +1,4 @@
-//! The lister: the text of the HP-41's words, an instruction a line. Mnemonics are this project's table.
+//! The disassembler: the text of the HP-41's words, one instruction a line, with this project's table of mnemonics.
 #![tactic(auto)]
 
 mod cut;

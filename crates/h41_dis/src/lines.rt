@@ -1,4 +1,4 @@
-//! The lines of words.
+//! The lines of a listing.
 
 ghost use Rattle.std.specs.Prelude.{◌≡◌, ◌+◌, ◌%◌, ◌≤◌, ◌<◌, ◌++◌, IfOk, length};
 ghost use Rattle.std.specs.String.{string_bytes};
@@ -12,11 +12,11 @@ use arrayvec::ArrayString;
 use h41_words::Word;
 use std::alloc::{AllocError, Global};
 
-/// The most bytes of a line: 15 of columns, 14 of an instruction, and its end.
+/// The greatest length of a line in bytes: 15 for the columns, 14 for the instruction, and 1 for the line end.
 const LINE: usize = 30;
 
-/// The text of words: a line for each instruction, with its end. The address of the first word changes nothing, since a
-/// jump tells its address or its displacement. Refuses only memory.
+/// Returns the text of words: a line, with its line end, for each instruction. The address of the first word has no effect, since
+/// the text of a jump contains its target address or its displacement. The only error is `AllocError`, if allocation fails.
 pub fn disassemble(alloc: Global, words: &[Word], _origin: u16) -> Result<String, AllocError>
     ensures { IfOk result (λ text. string_bytes text ≡ spell words.now) }
 {
@@ -27,7 +27,8 @@ pub fn disassemble(alloc: Global, words: &[Word], _origin: u16) -> Result<String
     Ok(text)
 }
 
-/// The same with columns before each line: the address of the instruction, modulo 65,536, and its words. Refuses only memory.
+/// Returns the listing of words: a line for each instruction, which begins with two columns, the address of the instruction (modulo
+/// 65,536) and its words. `origin` is the address of the first word. The only error is `AllocError`, if allocation fails.
 pub fn listing(alloc: Global, words: &[Word], origin: u16) -> Result<String, AllocError>
     ensures { IfOk result (λ text. string_bytes text ≡ listing_text words.now origin) }
 {
@@ -40,7 +41,7 @@ pub fn listing(alloc: Global, words: &[Word], origin: u16) -> Result<String, All
     Ok(text)
 }
 
-/// Appends the line of an instruction.
+/// Appends the line of an instruction to a text.
 #[inline]
 fn push_line(text: &mut String, piece: Piece) -> Result<(), AllocError>
     ensures { IfOk result (λ _. string_bytes text.new ≡ string_bytes text.old ++ piece_line piece) }
@@ -51,7 +52,7 @@ fn push_line(text: &mut String, piece: Piece) -> Result<(), AllocError>
     text.push_str(line.as_str())
 }
 
-/// Appends the line of an instruction at an address, with its columns.
+/// Appends the line of an instruction at an address, with its columns, to a text.
 #[inline]
 fn push_columns_line(text: &mut String, address: u16, piece: Piece) -> Result<(), AllocError>
     ensures { IfOk result (λ _. GainsLine address piece text.old text.new) }
@@ -64,8 +65,8 @@ fn push_columns_line(text: &mut String, address: u16, piece: Piece) -> Result<()
     text.push_str(line.as_str())
 }
 
-/// Appends the columns before the text of an instruction at an address: the address, two blanks, the words of seven
-/// places, and two blanks.
+/// Appends the columns before the text of an instruction: its address, two spaces, its words in a column of seven characters, and
+/// two spaces.
 #[inline]
 fn push_columns(columns: &mut ArrayString<LINE>, address: u16, piece: Piece)
     requires { array_string_len columns.old ≡ 0 }
@@ -79,7 +80,7 @@ fn push_columns(columns: &mut ArrayString<LINE>, address: u16, piece: Piece)
     columns.push_str("  ");
 }
 
-/// Appends a second word behind a blank, or blanks in their place.
+/// Appends a space and the second word of an instruction, or four spaces if it has none.
 #[inline]
 fn push_second_column(columns: &mut ArrayString<LINE>, second: Option<Word>)
     requires { array_string_len columns.old ≤ 9 }

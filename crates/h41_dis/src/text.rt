@@ -15,12 +15,12 @@ use h41_words::{Displacement, Row, SecondWord, Word, row, word};
 
 mod names;
 
-/// The most bytes of an instruction's text.
+/// The capacity of the text of an instruction, in bytes.
 const TEXT: usize = 32;
 
-/// The text of an instruction, in upper case: its mnemonic, and its operand where it takes one. `second` is the word behind
-/// the first, which only an instruction of two words reads. `CON hhh` is a word that stands for no instruction, and one that
-/// begins an instruction of two words and has no second.
+/// Returns the text of an instruction in upper case: its mnemonic, followed by its operand if it has one. `second` is the word
+/// after `first`; it is used only if the instruction has two words. The text is `CON hhh` for a word that is no instruction, and
+/// for the first word of an instruction of two words if `second` is `None`.
 pub fn instruction(first: Word, second: Option<Word>) -> ArrayString<TEXT>
     ensures { result.bytes ≡ piece_text first second }
 {
@@ -29,7 +29,7 @@ pub fn instruction(first: Word, second: Option<Word>) -> ArrayString<TEXT>
     text
 }
 
-/// Appends the text of an instruction.
+/// Appends the text of an instruction, at most 14 bytes.
 pub(crate) fn push_instruction<const N: usize>(
     text: &mut ArrayString<N>,
     first: Word,
@@ -51,7 +51,7 @@ pub(crate) fn push_instruction<const N: usize>(
     }
 }
 
-/// Appends a jump by address.
+/// Appends the text of a jump by address.
 #[inline]
 fn push_long_jump<const N: usize>(text: &mut ArrayString<N>, low_byte: u8, second: SecondWord)
     requires { array_string_len text.old + 14 ≤ N }
@@ -66,7 +66,7 @@ fn push_long_jump<const N: usize>(text: &mut ArrayString<N>, low_byte: u8, secon
     );
 }
 
-/// Appends the four digits of an address.
+/// Appends the four hexadecimal digits of an address.
 #[inline]
 pub(crate) fn push_address<const N: usize>(text: &mut ArrayString<N>, address: u16)
     requires { array_string_len text.old + 4 ≤ N }
@@ -77,7 +77,7 @@ pub(crate) fn push_address<const N: usize>(text: &mut ArrayString<N>, address: u
 }
 
 #[tactic(auto, using(crate::proofs::Short::mnemonic_short))]
-/// Appends a row of one word.
+/// Appends the text of a row of one word.
 #[inline]
 fn push_row<const N: usize>(text: &mut ArrayString<N>, row: Row)
     requires { array_string_len text.old + 14 ≤ N }
@@ -89,7 +89,7 @@ fn push_row<const N: usize>(text: &mut ArrayString<N>, row: Row)
 }
 
 #[tactic(auto, unfolding(h41_words::specs::WordTable::number_of))]
-/// Appends the operand of a row of one word, behind a blank, where it has one.
+/// Appends a space and the operand of a row of one word, or nothing if the row has no operand.
 #[inline]
 fn push_operand<const N: usize>(text: &mut ArrayString<N>, row: Row)
     requires { array_string_len text.old + 4 ≤ N }
@@ -118,7 +118,7 @@ fn push_operand<const N: usize>(text: &mut ArrayString<N>, row: Row)
     push_decimal(text, number);
 }
 
-/// Appends a blank and a decimal number.
+/// Appends a space and a decimal number from 0 to 15.
 #[inline]
 fn push_decimal<const N: usize>(text: &mut ArrayString<N>, number: u8)
     requires room { array_string_len text.old + 4 ≤ N }
@@ -133,7 +133,7 @@ fn push_decimal<const N: usize>(text: &mut ArrayString<N>, number: u8)
     text.push_str(glyph_text(number % 10));
 }
 
-/// Appends a blank and a displacement: its sign and two hexadecimal digits.
+/// Appends a space and a displacement: its sign and two hexadecimal digits.
 #[inline]
 fn push_displacement<const N: usize>(text: &mut ArrayString<N>, displacement: Displacement)
     requires { array_string_len text.old + 4 ≤ N }
@@ -146,7 +146,7 @@ fn push_displacement<const N: usize>(text: &mut ArrayString<N>, displacement: Di
     push_byte_digits(text, words.unsigned_abs());
 }
 
-/// Appends the three digits of a word.
+/// Appends the three hexadecimal digits of a word.
 #[inline]
 pub(crate) fn push_word<const N: usize>(text: &mut ArrayString<N>, word: Word)
     requires { array_string_len text.old + 3 ≤ N }

@@ -7,7 +7,7 @@ use Rattle.std.proofs.lemmas.List.FromFn.{get_or-map-range_with_len, length-map-
 use Rattle.h41_ram.specs.RegisterMap.{zeros}
 use Rattle.h41_ram.specs.RegisterMapLaws.{AlphaIsRead, AlphaKeepsOthers, AlphaKeepsLeftOfP}
 
--- the four registers behind a write of all of them
+-- The four registers after a write of all of them.
 module _ (status : List (List ℕ)) (m n o p : List ℕ) (size : length status ≡ 16) where
   abbrev pub after_m : List (List ℕ)
   after_m = set status 5 m
@@ -49,11 +49,11 @@ module _ (status : List (List ℕ)) (m n o p : List ℕ) (size : length status �
       get_or-set_other after_o 8 5 p zeros (apart 5 8 (omega arith)) ∙ get_or-set_other after_n 7 5 o zeros (apart 5 7 (omega arith))
       ∙ get_or-set_other after_m 6 5 n zeros (apart 5 6 (omega arith)) ∙ get_or-set_same status 5 m zeros (omega (arith, size))
 
--- a byte is its two digits
+-- A byte is its two digits.
 halves : (byte : ℕ) → byte / 16 * 16 + byte % 16 ≡ byte
 halves byte = omega arith
 
--- a list of 24 is that of its elements
+-- A list of 24 is that of its elements.
 listed : (text : List ℕ) → length text ≡ 24 → map (λ i. get_or text i 0) (range_with_len 0 24) ≡ text
 listed text size =
     ext_get_or 0 (map (λ i. get_or text i 0) (range_with_len 0 24)) text (length-map-range_with_len (λ i. get_or text i 0) 0 24 ∙ sym size)
@@ -70,7 +70,7 @@ alpha_of-with_alpha memory text size long =
     )
     (simp halves (listed text long))
 
--- no other register changes
+-- Writing ALPHA changes no other register.
 other_status : (status : List (List ℕ)) (m n o p : List ℕ) (address : ℕ) → (address < 5) ⊎ (8 < address)
     → get_or (set (set (set (set status 5 m) 6 n) 7 o) 8 p) address zeros ≡ get_or status address zeros
 other_status status m n o p address (inl low) =
@@ -90,6 +90,6 @@ alpha_keeps_others memory text address apart =
     if nat_lt address 16 then register else if nat_lt address 192 then zeros else get_or memory.main (address - 192) zeros)
     (other_status memory.status _ _ _ _ address apart)
 
--- and P keeps its left four bytes
+-- Writing ALPHA does not change the left four bytes of P.
 pub alpha_keeps_left_of_p : AlphaKeepsLeftOfP
 alpha_keeps_left_of_p memory text size = rw (reads_p memory.status _ _ _ _ size) (simp get_or-drop)

@@ -11,7 +11,7 @@ use Rattle.h41_digits.proofs.Packed.{bits_of_places, digits_of-value, get-digits
 use Rattle.h41_digits.proofs.Values.{value-below}
 use Rattle.h41_ram.specs.RegisterMap.{digit_with, with_bit}
 
--- the bit's weight is added to a digit that is without it
+-- The bit's weight is added to a digit that is without it.
 set_bit_is_digit : (digit k : ℕ) → digit < 16 → k < 4 → digit - digit / 2 ^ k % 2 * 2 ^ k + 2 ^ k < 16
 set_bit_is_digit digit zero small four = omega arith
 set_bit_is_digit digit (suc zero) small four = omega arith
@@ -23,7 +23,7 @@ digit_with_is_digit : (digit k : ℕ) (on : Bool) → digit < 16 → k < 4 → d
 digit_with_is_digit digit k true small four = set_bit_is_digit digit k small four
 digit_with_is_digit digit k false small four = omega arith
 
--- a bit of a digit is one of each number with that digit as its last
+-- A bit of a digit is one of each number with that digit as its last.
 bit_of_last : (n k : ℕ) → k < 4 → n / 2 ^ k % 2 ≡ n % 16 / 2 ^ k % 2
 bit_of_last n zero four = omega arith
 bit_of_last n (suc zero) four = omega arith
@@ -31,7 +31,7 @@ bit_of_last n (suc (suc zero)) four = omega arith
 bit_of_last n (suc (suc (suc zero))) four = omega arith
 bit_of_last n (suc (suc (suc (suc k)))) four = absurd (omega arith)
 
--- what a bit weighs in the number of a register
+-- What a bit weighs in the number of a register.
 weight_of_bit : (bit : ℕ) → 2 ^ bit ≡ 16 ^ (bit / 4) * 2 ^ (bit % 4)
 weight_of_bit bit =
     ap (λ n. 2 ^ n) (let e : bit ≡ 4 * (bit / 4) + bit % 4 = omega arith in e) ∙ pow-add 2 (4 * (bit / 4)) (bit % 4)
@@ -48,7 +48,7 @@ bit_read digits bit register small =
     ap (λ weight. word / weight % 2) (weight_of_bit bit) ∙ ap (λ n. n % 2) (sym (div-div-eq-div-mul word (16 ^ place) (2 ^ k)))
     ∙ bit_of_last (word / 16 ^ place) k (omega arith) ∙ ap (λ d. d / 2 ^ k % 2) (sym digit)
 
--- a digit with another bit, in terms of the bit that it had
+-- A digit with another bit, in terms of the bit that it had.
 kept_part : (digit k : ℕ) → k < 4 → digit / 2 ^ k % 2 * 2 ^ k ≤ digit
 kept_part digit zero four = omega arith
 kept_part digit (suc zero) four = omega arith
@@ -60,7 +60,7 @@ digit_changed : (digit k : ℕ) (on : Bool) → k < 4 → digit_with digit (2 ^ 
 digit_changed digit k true four = omega (arith, kept_part digit k four)
 digit_changed digit k false four = omega (arith, kept_part digit k four)
 
--- the same change, in the number and in its digit
+-- The same change, in the number and in its digit.
 same_change : (new set word digit other was is k weight bit : ℕ) → set + digit * weight ≡ word + other * weight
     → other + was * k ≡ digit + is * k → bit ≡ weight * k → new + was * bit ≡ word + is * bit → set ≡ new
 same_change new set word digit other was is k weight bit in_digits in_digit weighs in_word =
@@ -68,7 +68,7 @@ same_change new set word digit other was is k weight bit in_digits in_digit weig
     let changed : new + was * (weight * k) ≡ word + is * (weight * k) = rw weighs at in_word in
     omega (arith, whole, changed, in_digits)
 
--- the register of a word in which one bit is changed
+-- The register of a word in which one bit is changed.
 bit_changed : (digits : List ℕ) (bit new : ℕ) (on : Bool) → IsRegister 14 digits → bit < 56
     → new + value digits / 2 ^ bit % 2 * 2 ^ bit ≡ value digits + bool_byte on * 2 ^ bit
     → (value (with_bit digits bit on) ≡ new) × IsRegister 14 (with_bit digits bit on)
@@ -86,7 +86,7 @@ bit_changed digits bit new on register small changed =
       set-register 14 digits place (digit_with digit (2 ^ k) on) register (digit_with_is_digit digit k on is_digit (omega arith)),
     )
 
--- a word with one bit put in
+-- A word with one bit put in.
 abbrev pub put_bit : ℕ → ℕ → Bool → ℕ
 put_bit word bit on = bit_or (bit_and word (2 ^ 64 - 1 - 1 * 2 ^ bit % 2 ^ 64)) (bool_byte on * 2 ^ bit % 2 ^ 64)
 

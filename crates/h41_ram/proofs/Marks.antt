@@ -1,4 +1,4 @@
--- A write of all registers of main memory keeps the mark, and what a kept mark promises adds up.
+-- A write of all registers of main memory keeps the promise about the dirty flag, and calls in turn keep it.
 use Rattle.std.proofs.Common.{◌≡◌, ℕ, ◌+◌, ◌-◌, ◌<◌, ◌≤◌, true, false, List, length, get_or, refl, sym, ap, arith, ◌∙◌, rules}
 use Rattle.std.proofs.Common.{if◌then◌else◌}
 use Rattle.std.specs.Prelude.{nat_lt, IsFalse}
@@ -8,7 +8,7 @@ use Rattle.h41_ram.specs.RegisterMap.{RegisterMap, zeros, register_at, curtain_o
 use Rattle.h41_ram.specs.MarkLaws.{MarkIsKeptInTurn, MarkStays}
 use Rattle.h41_ram.specs.RamState.{RamState, KeepsMark, SameProgram, has_main_program, with_main_written}
 
--- the registers behind main memory
+-- The registers after main memory.
 past : (main : List (List ℕ)) (address : ℕ) → 192 + length main ≤ address → get_or main (address - 192) zeros ≡ zeros
 past main address behind = get_or_past main (address - 192) zeros (omega (arith, behind))
 
@@ -16,7 +16,7 @@ behind_top : (memory : RegisterMap) (address : ℕ) → has_main_program memory 
     → address < curtain_of memory → 192 ≤ address → 192 + length memory.main ≤ address
 behind_top memory address none from below above = grind (arith, nat_tests)
 
--- a register of the program that a write of main memory does not reach
+-- A register of the program that a write of main memory does not reach.
 same_at : (memory : RegisterMap) (main : List (List ℕ)) (address : ℕ) → length memory.main ≡ length main
     → has_main_program memory ≡ false → end_of memory ≤ address → address < curtain_of memory
     → register_at memory address ≡ register_at (record memory { main = main }) address
@@ -42,7 +42,7 @@ main_keeps ram main size = record {
   };
 }
 
--- a mark that is clear behind two calls was clear between them
+-- A dirty flag that is clear after two calls was clear between them.
 clear_between : (middle new : RamState) → KeepsMark middle new → IsFalse new.touched → IsFalse middle.touched
 clear_between middle new second off = search rules
 
@@ -57,7 +57,7 @@ same_in_turn memory between other first second = record {
       ∙ second.program address (omega (arith, end, from)) (omega (arith, curtain, below));
 }
 
--- calls in turn
+-- Calls in turn keep the promise.
 pub in_turn : MarkIsKeptInTurn
 in_turn old middle new first second = record {
   set = λ was. second.set (first.set was);

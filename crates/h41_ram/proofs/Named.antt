@@ -1,4 +1,4 @@
--- Registers by their names and numbers: what was written is read, and the others stay.
+-- Registers by their names and numbers: what was written is read, and the others do not change.
 use Rattle.std.proofs.Common.{◌≡◌, ◌≢◌, ℕ, ◌+◌, ◌-◌, ◌<◌, ◌≤◌, true, false, List, length, Some, if◌then◌else◌, get_or, set, get_or-set_same}
 use Rattle.std.proofs.Common.{get_or-set_other, length-set, refl, sym, ap, arith, ◌∙◌}
 use Rattle.std.specs.Prelude.{nat_lt, nat_le, ◌&&◌, ◌==◌}
@@ -13,7 +13,7 @@ use Rattle.h41_ram.specs.NamedRegisters.{size_of, data_address, data_of}
 use Rattle.h41_ram.specs.declared.status.StatusRegister.{StatusRegister}
 use Rattle.h41_ram.specs.declared.status.StatusRegister.TheVariants as names
 
--- the register at an address below 16
+-- The register at an address below 16.
 name_at : ℕ → StatusRegister
 name_at address =
     if address == 0 then names.T else if address == 1 then names.Z else if address == 2 then names.Y else if address == 3 then names.X
@@ -62,7 +62,7 @@ inside names.C = omega arith
 inside names.D = omega arith
 inside names.E = omega arith
 
--- a write and a read at addresses of status registers
+-- A write and a read at addresses of status registers.
 pub written_below : (memory : RegisterMap) (address : ℕ) (register : List ℕ) → address < 16
     → with_register memory address register ≡ record memory { status = set memory.status address register }
 written_below memory address register below =
@@ -92,7 +92,7 @@ others_stay memory name other register different =
     ∙ get_or-set_other memory.status (address_of name) (address_of other) register zeros (apart name other different)
     ∙ sym (read_below memory (address_of other) (inside other))
 
--- what sound memory is
+-- The facts about sound memory.
 pub record Sound (memory : RegisterMap) : Type 0 where
   pub end : 192 ≤ end_of memory
   pub below : end_of memory < curtain_of memory
@@ -117,7 +117,7 @@ sound_parts memory sound =
       top = leb-true (curtain_of memory) (top_of memory) third.1;
     }
 
--- a write and a read at addresses of main memory
+-- A write and a read at addresses of main memory.
 written_above : (memory : RegisterMap) (address : ℕ) (register : List ℕ) → 192 ≤ address
     → with_register memory address register ≡ record memory { main = set memory.main (address - 192) register }
 written_above memory address register above =
@@ -137,7 +137,7 @@ read_above memory address above =
     low
     ∙ ap (λ test. if test then zeros else get_or memory.main (address - 192) zeros) gap
 
--- memory with another register in main memory
+-- Memory with another register in main memory.
 abbrev changed : RegisterMap → ℕ → List ℕ → RegisterMap
 changed memory address register = record memory { main = set memory.main (address - 192) register }
 

@@ -9,7 +9,7 @@ use Rattle.h41_digits.proofs.Packed.{digits_of-value}
 use Rattle.h41_digits.proofs.Values.{value-below}
 use Rattle.h41_ram.specs.RegisterMap.{three_digits, with_three_places}
 
--- the places that are read
+-- The places that are read.
 three_places : (place hi : ℕ) → hi ≡ place + 2 → hi + 1 - place ≡ 3
 three_places place hi is = omega arith
 
@@ -31,7 +31,7 @@ three_digits_read digits place hi is =
       get_or-drop place digits 2 0,
     )
 
--- digits that are written one by one
+-- digits that are written one by one.
 set_three : (place : ℕ) (digits : List ℕ) (a b c : ℕ) → place + 3 ≤ length digits
     → take place digits ++ (a ∷ b ∷ c ∷ drop (place + 3) digits) ≡ set (set (set digits place a) (place + 1) b) (place + 2) c
 set_three zero [] a b c inside = absurd (omega (arith, inside))
@@ -45,7 +45,7 @@ set_three (suc place) (x ∷ digits) a b c inside =
     let third : suc place + 3 ≡ suc (place + 3) = omega arith in
     rw (first, second, third) (ap (λ rest. x ∷ rest) (set_three place digits a b c (omega (arith, inside))))
 
--- what stands at the places that were written
+-- The number at the places that were written.
 three_of : (digits : List ℕ) (place number : ℕ) → IsRegister 14 digits → place < 12 → value (take 3 (drop place digits)) ≡ number
     → take 3 (drop place digits) ≡ digits_of 3 number
 three_of digits place number register inside held =
@@ -63,7 +63,7 @@ last_of_three number small = omega arith
 digits_of_three : (number : ℕ) → number < 4096 → digits_of 3 number ≡ number % 16 ∷ number / 16 % 16 ∷ number / 256 ∷ []
 digits_of_three number small = ap (λ last. number % 16 ∷ number / 16 % 16 ∷ last ∷ []) (last_of_three number small)
 
--- a register with a number of three digits is the one in which they are written one by one
+-- A register with a number of three digits is the one in which they are written one by one.
 pub three_digits_written : (new old : List ℕ) (place hi number : ℕ) → hi ≡ place + 2 → place < 12 → number < 4096 → IsRegister 14 old
     → IsRegister 14 new → value (take (hi + 1 - place) (drop place new)) ≡ number → take place new ≡ take place old
     → drop (hi + 1) new ≡ drop (hi + 1) old → new ≡ with_three_places old place number
@@ -79,7 +79,7 @@ three_digits_written new old place hi number is inside small was register held b
     sym parts
     ∙ rw (below, middle, high, rest) (set_three place old (number % 16) (number / 16 % 16) (number / 256) (omega (arith, was.size)))
 
--- they hold less than 1000 hexadecimal
+-- They hold less than 1000 hexadecimal.
 pub three_digits_fit : (digits : List ℕ) (place hi : ℕ) → IsRegister 14 digits → hi ≡ place + 2 → place < 12
     → value (take (hi + 1 - place) (drop place digits)) < 4096
 three_digits_fit digits place hi register is inside =

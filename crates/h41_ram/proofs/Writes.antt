@@ -1,4 +1,4 @@
--- A write of one register keeps the mark.
+-- A write of one register keeps the promise about the dirty flag.
 use Rattle.std.proofs.Common.{◌≡◌, ◌≢◌, ℕ, ◌+◌, ◌-◌, ◌<◌, ◌≤◌, true, false, Bool, List, length, refl, sym, arith, ap, ◌∙◌, rules, inl, inr}
 use Rattle.std.proofs.Common.{get_or, get_or-set_other, get_or-set_same, length-set}
 use Rattle.std.specs.Prelude.{IsFalse, IsTrue, slice_set, nat_lt, nat_le, ◌&&◌}
@@ -13,7 +13,7 @@ use Rattle.h41_ram.specs.declared.parts.Parts.{Parts}
 use Rattle.h41_ram.specs.private.KeptParts.{AreKept, with_touched, is_ordered, main_register}
 use Rattle.h41_ram.specs.RamState.{RamState, KeepsMark, exists_at, sets_mark, with_written, with_flag_written}
 
--- a write that sets no mark changes no register of the program, and none to the mark's account
+-- A write that does not set the dirty flag changes no register of the program.
 same_length : (memory : RegisterMap) (address : ℕ) (register : List ℕ)
     → length memory.main ≡ length (with_register memory address register).main
 same_length memory address register = search rules
@@ -61,7 +61,7 @@ written_keeps ram address register = record {
       };
 }
 
--- a write into a status register other than c, as the code makes it
+-- A write into a status register other than c, as the code makes it.
 status_tests : (memory : RegisterMap) (address : ℕ) → address < 16 → address ≢ 13
     → sets_mark memory address ≡ (nat_le (end_of memory) address && nat_lt address (curtain_of memory))
 status_tests memory address below other = grind (arith, nat_tests)
@@ -77,17 +77,17 @@ status_written ram memory parts after address index register seen same below oth
     let apart : address ≢ 13 = λ equal. other (same ∙ equal) in
     rw (← seen, same, is, curtain, end, status_tests memory address at apart, written_below memory address register at) (search rules)
 
--- one between these and main memory
+-- A write at an address between the status registers and main memory changes nothing.
 pub nothing_written : (ram : RamState) (address index : ℕ) (register : List ℕ) → index ≡ address → 16 ≤ index → index < 192
     → ram ≡ with_written ram address register
 nothing_written ram address index register same above below = grind (arith, nat_tests)
 
--- a status register is the same whatever is read where it has none
+-- A status register does not depend on the value that is read for an address without a register.
 pub read_status : (memory : RegisterMap) (address : ℕ) (spare : List ℕ) → length memory.status ≡ 16 → address < 16
     → get_or memory.status address spare ≡ get_or memory.status address zeros
 read_status memory address spare size inside = get_or_default memory.status address spare zeros (omega (arith, size, inside))
 
--- a flag
+-- A flag.
 pub flag_written : (ram : RamState) (memory : RegisterMap) (parts after : Parts) (flag : ℕ) (on : Bool) (register spare : List ℕ)
     → record { registers = memory; touched = parts.touched } ≡ ram → length memory.status ≡ 16
     → parts.curtain ≡ curtain_of memory → parts.end ≡ end_of memory
@@ -100,7 +100,7 @@ flag_written ram memory parts after flag on register spare seen size curtain end
     (status_written (record { registers = memory; touched = parts.touched }) memory parts after 14 14 _ refl refl (omega arith)
     (λ equal. absurd (omega (arith, equal))) curtain end is)
 
--- one in main memory leaves the parts as they are, or ends them anew
+-- A write in main memory leaves the parts as they are, or determines anew whether memory is sound.
 put_memory : (count : ℕ) (memory : RegisterMap) (index : ℕ) (register : List ℕ) → IsMemory count memory
     → IsMemory count (record memory { main = slice_set memory.main index register })
 put_memory count memory index register is = record {
@@ -156,14 +156,14 @@ put_at_end count memory parts after from index register (is, kept) read same ins
 ordered_above : (c : List ℕ) (top end : ℕ) → end ≡ three_digits c 0 → is_ordered c top ≡ true → 16 ≤ end
 ordered_above c top end same ordered = grind (arith, nat_tests)
 
--- where memory is sound the end is above the status registers
+-- In sound memory, the end is above the status registers.
 pub end_above : (count : ℕ) (memory : RegisterMap) (parts : Parts) → IsMemory count memory × AreKept memory parts → parts.sound ≡ true
     → 16 ≤ parts.end
 end_above count memory parts (is, kept) sound =
     let first = and_parts parts.ordered (is_final_end (main_register memory.main (end_of memory))) (sym kept.sound ∙ sound) in
     ordered_above (c_of memory) (top_of memory) parts.end kept.end (sym kept.ordered ∙ first.0)
 
--- and a write into one of these other than c keeps the parts
+-- A write to a status register other than c keeps the parts.
 pub status_kept : (count : ℕ) (memory : RegisterMap) (parts after : Parts) (index address : ℕ) (register : List ℕ)
     → IsMemory count memory × AreKept memory parts → index ≢ 13
     → after ≡ with_touched parts (nat_le parts.end address && nat_lt address parts.curtain)

@@ -1,14 +1,14 @@
-//! ALPHA's 24 bytes, in the status registers P, O, N and M.
+//! The 24 bytes of ALPHA, which are stored in the status registers P, O, N and M.
 
 ghost use Rattle.std.specs.Prelude.{◌≡◌, ◌+◌, ◌<◌, ◌≤◌, ◌++◌, drop, [], ◌∷◌};
 ghost use Rattle.h41_ram.specs.RegisterMap.{bytes_of, digits_from, seven_from};
 
 use h41_digits::Reg;
 
-/// How many bytes ALPHA has.
+/// The number of bytes of ALPHA.
 pub const ALPHA_LENGTH: usize = 24;
 
-/// The text in the right three bytes of P and in O, N and M, the leftmost byte first.
+/// Returns the bytes of ALPHA, the leftmost first: the right three bytes of P, and all bytes of O, N and M.
 pub fn text(p: Reg, o: Reg, n: Reg, m: Reg) -> [u8; ALPHA_LENGTH]
     ensures { result ≡ drop 4 (bytes_of p) ++ bytes_of o ++ bytes_of n ++ bytes_of m }
 {
@@ -22,7 +22,7 @@ pub fn text(p: Reg, o: Reg, n: Reg, m: Reg) -> [u8; ALPHA_LENGTH]
     ]
 }
 
-/// The seven bytes of a register, the leftmost first.
+/// Returns the seven bytes of a register, the leftmost first.
 fn bytes(register: Reg) -> [u8; 7]
     ensures { result ≡ bytes_of register }
 {
@@ -37,7 +37,7 @@ fn bytes(register: Reg) -> [u8; 7]
     ]
 }
 
-/// P with the text's first three bytes in its right three; its left four stay.
+/// Returns P with the first three bytes of the text in its right three bytes. Its left four bytes do not change.
 pub fn first_bytes(p: Reg, text: [u8; ALPHA_LENGTH]) -> Reg
     ensures { result ≡ digits_from text (0 ∷ 1 ∷ 2 ∷ []) ++ drop 6 p }
 {
@@ -46,7 +46,7 @@ pub fn first_bytes(p: Reg, text: [u8; ALPHA_LENGTH]) -> Reg
         .with_byte(0, text[2])
 }
 
-/// The register with seven bytes of the text, from its byte `first` on.
+/// Returns a register that contains seven bytes of the text, from byte `first`, 0 to 17, on. The first of them is leftmost.
 pub fn seven_bytes(text: [u8; ALPHA_LENGTH], first: usize) -> Reg
     requires { first ≤ 17 }
     ensures { result ≡ digits_from text (seven_from first) }

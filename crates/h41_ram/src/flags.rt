@@ -1,50 +1,51 @@
-//! The numbers of the flags that mean something to the calculator itself, for `Ram::flag` and `Ram::set_flag`. What they mean is
-//! told by the HP-41C Owner's Handbook.
+//! The numbers of the flags that the calculator itself uses, for `Ram::flag` and `Ram::set_flag`. Their meanings are those of the
+//! HP-41C Owner's Handbook.
 
-/// Numeric data input: set when a number is typed.
+/// Flag 22, numeric data input: it is set when a number is typed.
 pub const NUMBER_ENTRY: usize = 22;
 
-/// ALPHA data input: set when a letter is typed into ALPHA.
+/// Flag 23, ALPHA data input: it is set when a letter is typed into ALPHA.
 pub const ALPHA_ENTRY: usize = 23;
 
-/// Range error ignore: a result that is out of range is the greatest number with its sign, and no fault.
+/// Flag 24, range error ignore: while it is set, a result that is out of range becomes the greatest number with its sign, without
+/// an error.
 pub const RANGE_IGNORE: usize = 24;
 
-/// Error ignore: the next fault clears this flag, and the program goes on.
+/// Flag 25, error ignore: if it is set, the next error clears it, and the program continues.
 pub const ERROR_IGNORE: usize = 25;
 
-/// Audio enable: the calculator sounds its tones.
+/// Flag 26, audio enable: while it is set, the calculator sounds its tones.
 pub const AUDIO_ENABLE: usize = 26;
 
-/// Decimal point: the radix mark is the point, else the comma.
+/// Flag 28, decimal point: the radix mark is the point if it is set, otherwise the comma.
 pub const DECIMAL_POINT: usize = 28;
 
-/// Digit grouping: the digits before the radix mark are parted by threes.
+/// Flag 29, digit grouping: while it is set, the digits before the radix mark are separated into groups of three.
 pub const DIGIT_GROUPING: usize = 29;
 
-/// The bit of weight 8 in the display digit, the number of digits that FIX, SCI or ENG was given.
+/// Flag 36: the bit of weight 8 of the display digit, which is the operand of the last FIX, SCI or ENG.
 pub const DIGITS_8: usize = 36;
 
-/// Its bit of weight 4.
+/// Flag 37: the bit of weight 4 of the display digit.
 pub const DIGITS_4: usize = 37;
 
-/// Its bit of weight 2.
+/// Flag 38: the bit of weight 2 of the display digit.
 pub const DIGITS_2: usize = 38;
 
-/// Its bit of weight 1.
+/// Flag 39: the bit of weight 1 of the display digit.
 pub const DIGITS_1: usize = 39;
 
-/// Numbers are shown in FIX. With neither this flag nor `ENGINEERING` they are shown in SCI.
+/// Flag 40: numbers are shown in FIX. If neither this flag nor `ENGINEERING` is set, they are shown in SCI.
 pub const FIXED: usize = 40;
 
-/// Numbers are shown in ENG.
+/// Flag 41: numbers are shown in ENG.
 pub const ENGINEERING: usize = 41;
 
-/// Angles are in grads. With neither this flag nor `RADIANS` they are in degrees.
+/// Flag 42: angles are in grads. If neither this flag nor `RADIANS` is set, they are in degrees.
 pub const GRADS: usize = 42;
 
-/// Angles are in radians.
+/// Flag 43: angles are in radians.
 pub const RADIANS: usize = 43;
 
-/// ALPHA mode: ALPHA is shown, and keys write letters.
+/// Flag 48, ALPHA mode: ALPHA is shown, and keys type letters.
 pub const ALPHA_MODE: usize = 48;

@@ -1,4 +1,4 @@
-//! Laws of memory: each is the contract of a function with nothing to do.
+//! Laws of memory. Each law is the contract of a function with an empty body.
 
 ghost use Rattle.std.specs.Prelude.{◌≡◌};
 ghost use Rattle.h41_ram.specs.MarkLaws.{MarkIsKeptInTurn, MarkStays};
@@ -15,27 +15,27 @@ use crate::flags::{
     RANGE_IGNORE,
 };
 
-/// A register is read as it was written, where its address exists.
+/// States that a register is read as it was written if its address exists.
 pub fn read_after_write()
     ensures { ReadsWhatWasWritten }
 {}
 
-/// A write changes no other address.
+/// States that a write changes no other address.
 pub fn write_keeps_other_addresses()
     ensures { KeepsOtherAddresses }
 {}
 
-/// A flag is read as it was set or cleared.
+/// States that a flag is read as it was last set or cleared.
 pub fn flag_is_read()
     ensures { FlagIsRead }
 {}
 
-/// No other flag changes with it.
+/// States that writing a flag changes no other flag.
 pub fn other_flags_stay()
     ensures { OtherFlagsStay }
 {}
 
-/// A flag's name stands for one number, in the code and in definitions.
+/// States that each constant of the module `flags` has the number of the flag with this name in the definitions.
 pub fn names_of_flags_agree()
     ensures number_entry { NUMBER_ENTRY ≡ named.number_entry }
     ensures alpha_entry { ALPHA_ENTRY ≡ named.alpha_entry }
@@ -55,36 +55,37 @@ pub fn names_of_flags_agree()
     ensures alpha_mode { ALPHA_MODE ≡ named.alpha_mode }
 {}
 
-/// ALPHA is read as it was written.
+/// States that ALPHA is read as it was written.
 pub fn alpha_is_read()
     ensures { AlphaIsRead }
 {}
 
-/// All else stays: no register but M, N, O and P changes with ALPHA, and the left four bytes of P don't.
+/// States that writing ALPHA changes no register other than M, N, O and P, and not the left four bytes of P.
 pub fn all_but_alpha_stays()
     ensures others { AlphaKeepsOthers }
     ensures left { AlphaKeepsLeftOfP }
 {}
 
-/// Each status register is read by its name as it was written, and the others stay.
+/// States that a status register is read by its name as it was written, and that the write changes no other status register.
 pub fn status_is_read()
     ensures read { StatusIsRead }
     ensures others { OtherStatusStays }
 {}
 
-/// In memory that is sound each data register is read by its number as it was written, the others stay, and it stays sound.
+/// States that in sound memory a data register is read by its number as it was written, that the write changes no other data
+/// register, and that memory remains sound.
 pub fn data_are_read()
     ensures read { DataIsRead }
     ensures others { OtherDataStay }
     ensures sound { DataKeepSound }
 {}
 
-/// The start state is sound, for every size of memory.
+/// States that the start state is sound for every size of memory, 64 to 320 registers.
 pub fn start_is_sound()
     ensures { StartIsSound }
 {}
 
-/// A memory that is left as it was keeps its mark, and so do calls in turn that keep it.
+/// States that the promise about the dirty flag holds if nothing is written, and for two calls in turn if it holds for each.
 pub fn mark_is_kept()
     ensures stays { MarkStays }
     ensures turn { MarkIsKeptInTurn }

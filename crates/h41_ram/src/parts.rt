@@ -1,4 +1,4 @@
-//! What register c and the register of .END. say of memory, kept so that no line reads them anew.
+//! What register c and the register of .END. determine about memory. It is stored, so that program lines need not compute it again.
 
 ghost use Rattle.std.specs.Prelude.{◌≡◌, ◌<◌, ◌≤◌, ◌&&◌, false, true, nat_le, nat_lt};
 ghost use Rattle.h41_ram.specs.RegisterMap as spec;
@@ -7,26 +7,27 @@ ghost use Rattle.h41_ram.specs.private.KeptParts as kept;
 use crate::ram::{MAIN_START, bit};
 use h41_digits::Reg;
 
-/// The constant in register c by which memory is known to be sound.
+/// The constant in register c that is part of the test for sound memory.
 const SOUND: u16 = 0x169;
 
-/// The parts of memory.
+/// The parts of memory, as register c and the register of .END. determine them, and the dirty flag of the program.
 #[derive(Clone, Copy, Debug, PartialEq, Eq)]
 pub struct Parts {
     /// The curtain: the address of data register R00, 000 to FFF.
     pub curtain: u16,
-    /// The address of the register that holds .END., 000 to FFF.
+    /// The address of the register that contains .END., 000 to FFF.
     pub end: u16,
-    /// Whether register c holds the constant 169, and 0C0 ≤ end < curtain ≤ top.
+    /// Whether register c contains the constant 169, and 0C0 ≤ end < curtain ≤ top.
     pub ordered: bool,
-    /// Whether memory is sound: .END. stands at the end too.
+    /// Whether memory is sound: `ordered` is true, and the register at `end` contains .END.
     pub sound: bool,
-    /// Whether a register of the program was written since the mark was cleared.
+    /// The dirty flag: whether a register of the program was written since the flag was cleared.
     pub touched: bool,
 }
 
 impl Parts {
-    /// As a register c has them that was written, where main memory ends before an address; not sound as yet.
+    /// Returns the parts that a newly written register c determines. `top` is the first address after main memory. The dirty flag
+    /// is set; `sound` is false until `ended_by` determines it.
     pub fn of(c: Reg, top: usize) -> Self
         ensures curtain { result.curtain ≡ spec.three_digits c 3 }
         ensures end { result.end ≡ spec.three_digits c 0 }
@@ -47,7 +48,7 @@ impl Parts {
         }
     }
 
-    /// Sets the mark where an address is from the end to below the curtain.
+    /// Sets the dirty flag if an address is one from the end up to, but not including, the curtain.
     #[inline(always)]
     pub fn touch(&mut self, address: u16)
         ensures { self.new ≡ kept.with_touched self.old
@@ -58,7 +59,8 @@ impl Parts {
         }
     }
 
-    /// The same of a status register. Where memory is sound the end is above these, and nothing is asked for.
+    /// Sets the dirty flag as `touch` does, for the address of a status register. In sound memory nothing needs to be compared,
+    /// since the end is above these addresses.
     #[inline(always)]
     pub fn touch_status(&mut self, address: u16)
         requires status { address < 16 }
@@ -71,7 +73,8 @@ impl Parts {
         }
     }
 
-    /// Sets the mark where a register of main memory, which ends before an address, is from the end to below the curtain.
+    /// Sets the dirty flag if any register of main memory is one from the end up to, but not including, the curtain. `top` is the
+    /// first address after main memory.
     pub fn touch_main(&mut self, top: usize)
         ensures { self.new ≡ kept.with_touched self.old
             (nat_lt self.old.end self.old.curtain && nat_lt self.old.end top
@@ -83,14 +86,14 @@ impl Parts {
         }
     }
 
-    /// Clears the mark.
+    /// Clears the dirty flag.
     pub fn clear_mark(&mut self)
         ensures { self.new ≡ record self.old { touched = false } }
     {
         self.touched = false;
     }
 
-    /// The same where this register stands at the end.
+    /// Returns the parts with `sound` as the register at the end determines it.
     pub fn ended_by(self, register: Reg) -> Self
         ensures { result ≡ record self { sound = self.ordered && spec.is_final_end register } }
     {
@@ -101,7 +104,7 @@ impl Parts {
     }
 }
 
-/// The number of three digits, from a place up.
+/// Returns the number that three digits of a register form, from a place upwards.
 fn three_digits(register: Reg, place: usize) -> u16
     requires { place < 12 }
     ensures { result ≡ spec.three_digits register place }
@@ -109,7 +112,7 @@ fn three_digits(register: Reg, place: usize) -> u16
     register.number(place, place + 2) as u16
 }
 
-/// Whether a register's last three bytes are an END with the mark .END. .
+/// Returns whether the last three bytes of a register are an END that is the .END. of memory.
 fn is_final_end(register: Reg) -> bool
     ensures { result ≡ spec.is_final_end register }
 {

@@ -1,4 +1,4 @@
-//! The registers, and what the calculator reads in its status registers: flags, ALPHA, the parts of memory.
+//! The registers, and what the calculator stores in its status registers: flags, ALPHA and the parts of memory.
 
 ghost use Rattle.std.specs.Prelude.{◌≡◌, ◌<◌, ◌≤◌, ◌&&◌, ◌||◌, false, true, length, nat_le, nat_lt};
 ghost use Rattle.std.specs.Prelude.{slice_set};
@@ -15,34 +15,39 @@ use crate::status::StatusRegister;
 use h41_digits::Reg;
 use std::marker::Model;
 
-/// How many status registers there are: T Z Y X L M N O P Q append a b c d e, at the addresses 000 to 00F.
+/// The number of status registers: T Z Y X L M N O P Q append a b c d e, at the addresses 000 to 00F.
 pub const STATUS_REGISTERS: usize = 16;
 
-/// The address of the first register of main memory.
+/// The address of the first register of main memory, 0C0.
 pub const MAIN_START: usize = 0x0C0;
 
-/// The addresses of the status registers that hold ALPHA, the addresses of the parts of memory, and the flags.
+/// The address of status register M, which contains the last seven bytes of ALPHA.
 const M: usize = StatusRegister::M as usize;
 
+/// The address of status register N, which contains bytes of ALPHA.
 const N: usize = StatusRegister::N as usize;
 
+/// The address of status register O, which contains bytes of ALPHA.
 const O: usize = StatusRegister::O as usize;
 
+/// The address of status register P, whose right three bytes are the first of ALPHA.
 const P: usize = StatusRegister::P as usize;
 
+/// The address of status register c, which contains the addresses of the parts of memory.
 const C: usize = StatusRegister::C as usize;
 
+/// The address of status register d, which contains the flags.
 const D: usize = StatusRegister::D as usize;
 
 /// The number of the flag that is the lowest bit of register d.
 const LAST_FLAG: usize = 55;
 
-/// The memory of the calculator, with `REGS` registers, 64 to 320, in main memory.
+/// The memory of a calculator with `REGS` registers of main memory, 64 to 320.
 #[derive(Debug, Drop)]
 pub struct Ram<const REGS: usize> {
     status: [Reg; STATUS_REGISTERS],
     main: [Reg; REGS],
-    /// What register c and the register of .END. say, kept from one write to them to the next, and the mark of the program.
+    /// What register c and the register of .END. determine, updated with each write to them, and the dirty flag of the program.
     parts: Parts,
 }
 
@@ -63,8 +68,9 @@ impl<const REGS: usize> Model for Ram<REGS> {
 }
 
 impl<const REGS: usize> Ram<REGS> {
-    /// The memory at the start (this project's choice): all zero but for c and d and an empty program; 100 data registers,
-    /// or 17 where main memory has not more than 100 registers; flags 26, 28 and 29 set, the display in FIX 4.
+    /// Returns the memory at the start (this project's choice): all registers are zero except c, d and that of .END., which is the
+    /// whole program. There are 100 data registers, or 17 if main memory has at most 100 registers. Flags 26, 28 and 29 are set,
+    /// and the display is in FIX 4.
     pub fn new() -> Self
         requires at_least { 64 ≤ REGS }
         requires at_most { REGS ≤ 320 }
@@ -81,7 +87,7 @@ impl<const REGS: usize> Ram<REGS> {
         Ram::holding(&status, &main)
     }
 
-    /// The memory with these registers; the mark is set.
+    /// Returns the memory with these registers. Its dirty flag is set.
     fn holding(status: &[Reg; STATUS_REGISTERS], main: &[Reg; REGS]) -> Self
         requires at_least { 64 ≤ REGS }
         requires at_most { REGS ≤ 320 }
@@ -97,7 +103,7 @@ impl<const REGS: usize> Ram<REGS> {
         }
     }
 
-    /// The memory; the one at the start is left in its place.
+    /// Returns the memory, and leaves the memory at the start in its place.
     pub fn take(&mut self) -> Self
         ensures taken { result ≡ self.old }
         ensures left { self.new ≡ state.start_state REGS }
@@ -112,7 +118,7 @@ impl<const REGS: usize> Ram<REGS> {
         taken
     }
 
-    /// The register at an address. An address that does not exist reads zero (this project's choice).
+    /// Returns the register at an address. An address that does not exist reads as zero (this project's choice).
     #[inline(always)]
     pub fn read(&self, address: u16) -> Reg
         ensures { result ≡ spec.register_at self.now.registers address }
@@ -125,7 +131,7 @@ impl<const REGS: usize> Ram<REGS> {
         }
     }
 
-    /// The register at an address of main memory.
+    /// Returns the register at an address of main memory, which must exist.
     #[inline(always)]
     pub fn read_main(&self, address: u16) -> Reg
         requires from { spec.main_start ≤ address }
@@ -135,7 +141,7 @@ impl<const REGS: usize> Ram<REGS> {
         self.main[usize::from(address) - MAIN_START]
     }
 
-    /// Writes the register at an address. An address that does not exist takes no write (this project's choice).
+    /// Writes the register at an address. A write to an address that does not exist is ignored (this project's choice).
     #[inline(always)]
     pub fn write(&mut self, address: u16, register: Reg)
         ensures written { self.new ≡ state.with_written self.old address register }
@@ -152,7 +158,7 @@ impl<const REGS: usize> Ram<REGS> {
         }
     }
 
-    /// Writes register c, and with it the parts of memory.
+    /// Writes register c, and updates the parts of memory.
     #[inline(never)]
     fn write_c(&mut self, c: Reg)
         ensures { self.new ≡ state.with_written self.old spec.c_address c }
@@ -162,7 +168,8 @@ impl<const REGS: usize> Ram<REGS> {
         self.status[C] = c;
     }
 
-    /// Writes the register of main memory at an address, if there is one; that at the end tells whether memory is sound.
+    /// Writes the register of main memory at an address, if there is one. If it is the register at the end, it determines whether
+    /// memory is sound.
     #[inline(always)]
     fn write_main(&mut self, address: u16, register: Reg)
         requires { spec.main_start ≤ address }
@@ -175,7 +182,8 @@ impl<const REGS: usize> Ram<REGS> {
         self.put_main(index, register);
     }
 
-    /// Puts a register into main memory, by its place there, if there is one; that at the end tells whether memory is sound.
+    /// Writes the register of main memory with an index, if there is one. If it is the register at the end, it determines whether
+    /// memory is sound.
     #[inline(always)]
     fn put_main(&mut self, index: usize, register: Reg)
         requires { index < 65536 }
@@ -193,8 +201,8 @@ impl<const REGS: usize> Ram<REGS> {
         }
     }
 
-    /// Whether a register of the program may have changed since `clear_touched`: register c, or one from that of .END. to below
-    /// the curtain (this project's own).
+    /// Returns the dirty flag: whether a register of the program may have changed since `clear_touched`. These registers are c, and
+    /// those from that of .END. up to, but not including, the curtain. The flag is this project's own.
     #[inline(always)]
     pub fn program_touched(&self) -> bool
         ensures { result ≡ self.now.touched }
@@ -203,14 +211,14 @@ impl<const REGS: usize> Ram<REGS> {
         parts.touched
     }
 
-    /// Clears the mark of `program_touched`.
+    /// Clears the dirty flag of `program_touched`.
     pub fn clear_touched(&mut self)
         ensures { self.new ≡ record self.old { touched = false } }
     {
         self.parts.clear_mark();
     }
 
-    /// The status register at an address from 0 to 15.
+    /// Returns the status register at an address from 0 to 15.
     pub fn status(&self, n: usize) -> Reg
         requires { n < 16 }
         ensures { result ≡ spec.register_at self.now.registers n }
@@ -218,14 +226,14 @@ impl<const REGS: usize> Ram<REGS> {
         self.status[n]
     }
 
-    /// A status register, by its name.
+    /// Returns a status register by its name.
     pub fn status_register(&self, name: StatusRegister) -> Reg
         ensures { result ≡ named.status_of self.now.registers name }
     {
         self.read(name.address())
     }
 
-    /// Writes a status register, by its name.
+    /// Writes a status register by its name.
     pub fn set_status_register(&mut self, name: StatusRegister, register: Reg)
         ensures written { self.new ≡ state.with_written self.old (spec.address_of name) register }
         ensures mark { KeepsMark self.old self.new }
@@ -233,7 +241,7 @@ impl<const REGS: usize> Ram<REGS> {
         self.write(name.address(), register);
     }
 
-    /// How many data registers there are: those from the curtain up to the top of memory.
+    /// Returns the number of data registers, 0 to 512: those from the curtain up to the top of memory.
     pub fn size(&self) -> u16
         ensures value { result ≡ named.size_of self.now.registers }
         ensures bound { result ≤ 512 }
@@ -241,7 +249,7 @@ impl<const REGS: usize> Ram<REGS> {
         (MAIN_START + REGS).saturating_sub(usize::from(self.curtain())) as u16
     }
 
-    /// The data register with a number, from R00 at the curtain on, or nothing where there is none.
+    /// Returns the data register with a number, or `None` if there is none. R00 is at the curtain.
     pub fn data(&self, n: u16) -> Option<Reg>
         ensures { result ≡ named.data_of self.now.registers n }
     {
@@ -252,7 +260,7 @@ impl<const REGS: usize> Ram<REGS> {
         }
     }
 
-    /// A flag, 0 to 55: bit 55 - `flag` of register d.
+    /// Returns whether a flag, 0 to 55, is set. It is bit 55 - `flag` of register d.
     pub fn flag(&self, flag: usize) -> bool
         requires { flag < 56 }
         ensures { result ≡ spec.flag_of self.now.registers flag }
@@ -260,7 +268,7 @@ impl<const REGS: usize> Ram<REGS> {
         bit(self.status[D], LAST_FLAG - flag)
     }
 
-    /// Sets or clears a flag, 0 to 55; all else stays.
+    /// Sets or clears a flag, 0 to 55. No other flag changes.
     pub fn set_flag(&mut self, flag: usize, on: bool)
         requires { flag < 56 }
         ensures written { self.new ≡ state.with_flag_written self.old flag on }
@@ -270,7 +278,7 @@ impl<const REGS: usize> Ram<REGS> {
         self.status[D] = with_bit(self.status[D], LAST_FLAG - flag, on);
     }
 
-    /// ALPHA's 24 bytes, the leftmost first; leading ones that are 0 are not shown.
+    /// Returns the 24 bytes of ALPHA, the leftmost first. Leading bytes that are 0 are not shown by the calculator.
     pub fn alpha(&self) -> [u8; ALPHA_LENGTH]
         ensures { result ≡ spec.alpha_of self.now.registers }
     {
@@ -282,7 +290,7 @@ impl<const REGS: usize> Ram<REGS> {
         )
     }
 
-    /// Writes ALPHA's 24 bytes, the leftmost first; the left four bytes of P stay.
+    /// Writes the 24 bytes of ALPHA, the leftmost first. The left four bytes of P do not change.
     pub fn set_alpha(&mut self, text: [u8; ALPHA_LENGTH])
         ensures written { self.new ≡ state.with_alpha_written self.old text }
         ensures mark { KeepsMark self.old self.new }
@@ -298,7 +306,7 @@ impl<const REGS: usize> Ram<REGS> {
         self.status[P] = alpha::first_bytes(p, text);
     }
 
-    /// The registers of main memory, in the order of their addresses.
+    /// Returns the registers of main memory in the order of their addresses.
     pub fn main_memory(&self) -> [Reg; REGS]
         ensures { result ≡ self.now.registers.main }
     {
@@ -317,7 +325,7 @@ impl<const REGS: usize> Ram<REGS> {
         self.main = main;
     }
 
-    /// The curtain: the address of data register R00, 000 to FFF, from register c.
+    /// Returns the curtain: the address of data register R00, 000 to FFF, as register c contains it.
     #[inline(always)]
     pub fn curtain(&self) -> u16
         ensures value { result ≡ spec.curtain_of self.now.registers }
@@ -327,7 +335,7 @@ impl<const REGS: usize> Ram<REGS> {
         parts.curtain
     }
 
-    /// The address of the register that holds .END., 000 to FFF, from register c.
+    /// Returns the address of the register that contains .END., 000 to FFF, as register c contains it.
     #[inline(always)]
     pub fn end_register(&self) -> u16
         ensures { result ≡ spec.end_of self.now.registers }
@@ -336,8 +344,8 @@ impl<const REGS: usize> Ram<REGS> {
         parts.end
     }
 
-    /// Whether memory is sound (this project's choice): c holds the constant 169, 0C0 ≤ end < curtain ≤ top, and the last
-    /// three bytes of the end's register are .END. .
+    /// Returns whether memory is sound (this project's choice): c contains the constant 169, 0C0 ≤ end < curtain ≤ top, and the
+    /// last three bytes of the register at the end are .END.
     pub fn is_sound(&self) -> bool
         ensures { result ≡ spec.is_sound self.now.registers }
     {
@@ -346,7 +354,7 @@ impl<const REGS: usize> Ram<REGS> {
     }
 }
 
-/// The register of main memory at an address; where it has none, zero.
+/// Returns the register of main memory at an address, or zero if it has none there.
 #[inline(always)]
 fn main_register<const REGS: usize>(main: &[Reg; REGS], address: u16) -> Reg
     ensures { result ≡ kept.main_register main.now address }
@@ -359,7 +367,7 @@ fn main_register<const REGS: usize>(main: &[Reg; REGS], address: u16) -> Reg
     }
 }
 
-/// One bit of a register, 0 to 55 from the right.
+/// Returns whether a bit of a register, 0 to 55, is set. Bit 0 is the rightmost.
 pub fn bit(register: Reg, bit: usize) -> bool
     requires { bit < 56 }
     ensures { result ≡ spec.bit_of register bit }
@@ -367,7 +375,7 @@ pub fn bit(register: Reg, bit: usize) -> bool
     register.to_u64() >> bit & 1 == 1
 }
 
-/// The register with one bit, 0 to 55 from the right, set or clear.
+/// Returns a copy of a register in which one bit, 0 to 55, is set or cleared. Bit 0 is the rightmost.
 fn with_bit(register: Reg, bit: usize, on: bool) -> Reg
     requires { bit < 56 }
     ensures { result ≡ spec.with_bit register bit on }

@@ -5,10 +5,11 @@ ghost use Rattle.h41_ram.specs.RegisterMap as spec;
 
 use h41_digits::Reg;
 
-/// How far behind the curtain the statistics registers begin.
+/// The distance from the curtain to the first statistics register.
 const STATISTICS: u16 = 11;
 
-/// Register c, where the curtain is at this address: the statistics registers, 169, the curtain and the end below it.
+/// Returns register c at the start for a curtain at this address: the address of the statistics registers, the constant 169, the
+/// curtain, and the end directly below it.
 pub fn start_c(curtain: u16) -> Reg
     requires above { 0 < curtain }
     requires below { curtain < 1024 }
@@ -20,7 +21,7 @@ pub fn start_c(curtain: u16) -> Reg
     with_three_digits(c, 11, curtain + STATISTICS)
 }
 
-/// The register with the digits of a number, from a place up.
+/// Returns a copy of a register with the three digits of a number, from a place upwards.
 fn with_three_digits(register: Reg, place: usize, number: u16) -> Reg
     requires place { place < 12 }
     requires number { number < 4096 }
@@ -29,7 +30,7 @@ fn with_three_digits(register: Reg, place: usize, number: u16) -> Reg
     register.with_number(place, place + 2, u64::from(number))
 }
 
-/// Register d: flags 26, 28, 29, 37 and 40 are set.
+/// Returns register d at the start: flags 26, 28, 29, 37 and 40 are set.
 pub fn start_d() -> Reg
     ensures { result ≡ spec.start_d }
 {
@@ -39,7 +40,7 @@ pub fn start_d() -> Reg
         .with_byte(1, 0x80)
 }
 
-/// A program of .END. alone: C0 00 20 in the last three bytes.
+/// Returns the register of an empty program, which is .END. alone: C0 00 20 in the last three bytes.
 pub fn empty_program() -> Reg
     ensures { result ≡ spec.empty_program }
 {

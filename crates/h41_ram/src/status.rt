@@ -3,45 +3,45 @@
 ghost use Rattle.std.specs.Prelude.{◌≡◌, ◌<◌};
 ghost use Rattle.h41_ram.specs.RegisterMap as spec;
 
-/// A status register, by its name. T, Z, Y and X are the stack, L is LAST X.
+/// A status register. T, Z, Y and X are the stack, and L is LAST X.
 #[derive(Clone, Copy, Debug, PartialEq, Eq)]
 pub enum StatusRegister {
-    /// 000.
+    /// At 000: stack register T.
     T,
-    /// 001.
+    /// At 001: stack register Z.
     Z,
-    /// 002.
+    /// At 002: stack register Y.
     Y,
-    /// 003.
+    /// At 003: stack register X.
     X,
-    /// 004.
+    /// At 004: LAST X.
     L,
-    /// 005: ALPHA's last seven bytes.
+    /// At 005: the last seven bytes of ALPHA.
     M,
-    /// 006: the seven bytes of ALPHA before those.
+    /// At 006: the seven bytes of ALPHA before those of M.
     N,
-    /// 007: the seven before those.
+    /// At 007: the seven bytes of ALPHA before those of N.
     O,
-    /// 008: its right three bytes are ALPHA's first three.
+    /// At 008: its right three bytes are the first three of ALPHA.
     P,
-    /// 009.
+    /// At 009: register Q.
     Q,
-    /// 00A: the register that HP calls by the sign of append.
+    /// At 00A: the register whose name in HP's documents is the append sign.
     Append,
-    /// 00B.
+    /// At 00B: register a.
     A,
-    /// 00C.
+    /// At 00C: register b.
     B,
-    /// 00D: the addresses of the parts of memory.
+    /// At 00D: register c, which contains the addresses of the parts of memory.
     C,
-    /// 00E: the flags.
+    /// At 00E: register d, which contains the flags.
     D,
-    /// 00F.
+    /// At 00F: register e.
     E,
 }
 
 impl StatusRegister {
-    /// Its address, 000 to 00F.
+    /// Returns the address of the status register, 000 to 00F.
     pub fn address(self) -> u16
         ensures value { result ≡ spec.address_of self }
         ensures bound { result < 16 }

@@ -1,4 +1,4 @@
-//! The names that instructions are written with.
+//! The names in the texts of instructions.
 
 ghost use Rattle.std.specs.Prelude.{◌≡◌, ◌≤◌, length};
 ghost use Rattle.h41_words.specs.Mnemonics as spec;
@@ -6,7 +6,8 @@ ghost use Rattle.h41_words.specs.Mnemonics as spec;
 use h41_fields::{Field, Pointer};
 use h41_words::{Bank, Condition, LongJumpKind, Operation, RegisterTransfer, Row};
 
-/// The mnemonic of a row of one word; the first word of two, and a word that stands for no instruction, is `CON`.
+/// Returns the mnemonic of a row of one word. It is `CON` for the first word of an instruction of two words, and for a word that is
+/// no instruction.
 pub(crate) fn mnemonic(row: &Row) -> &'static str
     ensures { result.now ≡ spec.mnemonic row.now }
 {
@@ -59,7 +60,7 @@ pub(crate) fn mnemonic(row: &Row) -> &'static str
     }
 }
 
-/// The name of an operation.
+/// Returns the name of an operation.
 fn operation_name(operation: Operation) -> &'static str
     ensures { result.now ≡ spec.operation_text operation }
 {
@@ -99,7 +100,7 @@ fn operation_name(operation: Operation) -> &'static str
     }
 }
 
-/// The name of a field.
+/// Returns the name of a field, at most three characters.
 pub(crate) fn field_name(field: Field) -> &'static str
     ensures text { result.now ≡ spec.field_text field }
     ensures short { length result.now ≤ 3 }
@@ -116,7 +117,7 @@ pub(crate) fn field_name(field: Field) -> &'static str
     }
 }
 
-/// The name of a copy or an exchange of registers.
+/// Returns the name of a copy or an exchange of registers.
 fn transfer_name(transfer: RegisterTransfer) -> &'static str
     ensures { result.now ≡ spec.transfer_text transfer }
 {
@@ -139,7 +140,7 @@ fn transfer_name(transfer: RegisterTransfer) -> &'static str
     }
 }
 
-/// The name of a jump by a displacement.
+/// Returns the name of a jump by a displacement.
 fn short_jump_name(condition: Condition) -> &'static str
     ensures { result.now ≡ spec.short_jump_text condition }
 {
@@ -149,7 +150,7 @@ fn short_jump_name(condition: Condition) -> &'static str
     }
 }
 
-/// The name of a jump by address.
+/// Returns the name of a jump by address, at most six characters.
 pub(crate) fn long_jump_name(condition: Condition, kind: LongJumpKind) -> &'static str
     ensures text { result.now ≡ spec.long_jump_text condition kind }
     ensures short { length result.now ≤ 6 }
@@ -162,7 +163,7 @@ pub(crate) fn long_jump_name(condition: Condition, kind: LongJumpKind) -> &'stat
     }
 }
 
-/// The name of the choice of a bank.
+/// Returns the name of the word that activates a bank.
 fn bank_name(bank: Bank) -> &'static str
     ensures { result.now ≡ spec.bank_text bank }
 {
@@ -174,7 +175,7 @@ fn bank_name(bank: Bank) -> &'static str
     }
 }
 
-/// The name of the choice of a pointer.
+/// Returns the name of the word that selects a pointer.
 fn selection_name(pointer: Pointer) -> &'static str
     ensures { result.now ≡ spec.selection_text pointer }
 {
@@ -184,7 +185,7 @@ fn selection_name(pointer: Pointer) -> &'static str
     }
 }
 
-/// The name of a return at a carry.
+/// Returns the name of a return with a condition.
 fn return_name(condition: Condition) -> &'static str
     ensures { result.now ≡ spec.return_text condition }
 {

@@ -4,7 +4,7 @@ use Rattle.h41_ram.specs.RamState.{RamState}
 use Rattle.h41_ram.proofs.Writes.{read_status}
 use Rattle.h41_ram.proofs.ram.Ram.alpha.Goals as goal
 
--- ALPHA is of these registers, whatever is read where there are none
+-- ALPHA consists of these registers, whatever is read for an address without a register.
 alpha_seen : (memory seen : RegisterMap) (text p o n m : List ℕ) → memory ≡ seen → length memory.status ≡ 16
     → text ≡ drop 4 (bytes_of (get_or memory.status 8 p)) ++ bytes_of (get_or memory.status 7 o)
     ++ bytes_of (get_or memory.status 6 n) ++ bytes_of (get_or memory.status 5 m)

@@ -9,14 +9,14 @@ use Rattle.h41_ram.proofs.AlphaTexts.{alpha_keeps_others}
 use Rattle.h41_ram.proofs.Writes.{read_status, end_above, status_kept}
 use Rattle.h41_ram.proofs.ram.Ram.set_alpha.Goals as goal
 
--- the mark behind a write at an address
+-- The dirty flag after a write at an address.
 abbrev touched_at : Parts → ℕ → Parts
 touched_at parts address = with_touched parts (nat_le parts.end address && nat_lt address parts.curtain)
 
 in_turn : (t a b c d : Bool) → (((t || a) || b) || c) || d ≡ t || (a || (b || (c || (d || false))))
 in_turn t a b c d = search rules
 
--- M, N, O and P with the text's bytes, and the mark
+-- M, N, O and P with the text's bytes, and the dirty flag.
 alpha_set : (ram : RamState) (memory : RegisterMap) (parts one two three four : Parts) (text m n o p spare : List ℕ)
     → record { registers = memory; touched = parts.touched } ≡ ram → length memory.status ≡ 16
     → parts.curtain ≡ curtain_of memory → parts.end ≡ end_of memory
@@ -31,7 +31,7 @@ alpha_set ram memory parts one two three four text m n o p spare seen size curta
     rw (← seen, is_4, is_3, is_2, is_1, is_m, is_n, is_o, is_p, read_status memory 8 spare size (omega arith), curtain, end)
     (rw (in_turn _ _ _ _ _) refl)
 
--- the parts stay
+-- The parts do not change.
 not_c : (n : ℕ) → n < 13 → n ≢ 13
 not_c n below = λ equal. absurd (omega (arith, below, equal))
 
@@ -52,7 +52,7 @@ still_above : (parts after : Parts) (address : ℕ) → (parts.sound ≡ true �
     → after.sound ≡ true → 16 ≤ after.end
 still_above parts after address above made = rw made above
 
--- the program has none of the four
+-- None of the four registers belongs to the program.
 none_of_four : (end curtain at : ℕ) (touched : Bool)
     → touched || ((nat_le end 5 && nat_lt 5 curtain) || ((nat_le end 6 && nat_lt 6 curtain) || ((nat_le end 7 && nat_lt 7 curtain)
     || ((nat_le end 8 && nat_lt 8 curtain) || false)))) ≡ false

@@ -1,4 +1,4 @@
--- The addresses of labels: which names have one, and that lines without a fault of their own are ready to be spelled.
+-- The addresses of labels: the names that have one, and that lines without an error of their own are ready to be spelled.
 use Rattle.std.proofs.Common.{◌≡◌, ℕ, ◌+◌, ◌<◌, if◌then◌else◌, List, [], ◌∷◌, ◌++◌, refl, ap, ◌∙◌, IfSome, Some, None, Option, inl, inr}
 use Rattle.std.proofs.Common.{is_some, bytes_eq}
 use Rattle.std.specs.List.{cons_option, list_any}
@@ -12,7 +12,7 @@ use Rattle.h41_asm.specs.SourceLines.{SourceLine, labels_of}
 use Rattle.h41_asm.proofs.Faultless.{AreFaultless, IsNew, new_before}
 use Rattle.h41_asm.proofs.Walks.{address_from}
 
--- the names with an address are those that label a line
+-- The names with an address are those that label a line.
 with_name : (name : List ℕ) (label : Option (List ℕ)) (found : Option ℕ) (names : List (List ℕ)) (address : ℕ)
     → is_some found ≡ list_any (bytes_eq name) names
     → is_some (if has_label name label then Some address else found) ≡ list_any (bytes_eq name) (cons_option label names)
@@ -27,7 +27,7 @@ named (line ∷ rest) address name =
     with_name name line.label (address_from (address + line_length line) rest name)
     (labels_of rest) address (named rest (address + line_length line) name)
 
--- no label of faultless lines is past the addresses
+-- No label of lines without an error is after the last address.
 low_with : (name : List ℕ) (label : Option (List ℕ)) (found : Option ℕ) (address : ℕ) → IfSome label (λ own. address < address_count)
     → IfSome found (λ a. a < address_count) → IfSome (if has_label name label then Some address else found) (λ a. a < address_count)
 low_with name None found address low others = others
@@ -41,7 +41,7 @@ labels_low (line ∷ rest) earlier address name fits =
     low_with name line.label (address_from (address + line_length line) rest name) address fits.0.low
     (labels_low rest (earlier ++ line ∷ []) (address + line_length line) name fits.1)
 
--- a new label is its line's address
+-- A new label is its line's address.
 label_here : (labels others : Labels) (earlier : List SourceLine) (address : ℕ) (label : Option (List ℕ)) → IfSome label (IsNew earlier)
     → ((name : List ℕ) → IsNew earlier name → labels name ≡ (if has_label name label then Some address else others name))
     → IfSome label (λ name. labels name ≡ Some address)
@@ -49,7 +49,7 @@ label_here labels others earlier address None new same = tt
 label_here labels others earlier address (Some own) new same =
     same own new ∙ ap (λ here. if here then Some address else others own) (nat_list_eq_equiv.refl own)
 
--- faultless lines are ready where their new names have the addresses of their lines
+-- Lines without an error are ready if their new names have the addresses of their lines.
 pub ready : (labels : Labels) (rest earlier : List SourceLine) (address : ℕ) → AreFaultless earlier address rest
     → ((name : List ℕ) → IsNew earlier name → labels name ≡ address_from address rest name) → IsReady labels address rest
 ready labels [] earlier address fits same = tt

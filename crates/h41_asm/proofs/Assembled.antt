@@ -1,4 +1,4 @@
--- A source at an origin has words, or a first fault, and never both.
+-- A source at an origin has words or a first error, and never both.
 use Rattle.std.proofs.Common.{◌≡◌, ℕ, suc, ◌+◌, ◌<◌, ◌≤◌, ℤ, pos, ◌+ℤ◌, ◌-ℤ◌, Bool, true, false, not, List, [], ◌∷◌, ◌++◌, length, refl}
 use Rattle.std.proofs.Common.{sym, ap, ◌∙◌, subst, IfSome, IsOk, Some, None, Option, Ok, Err, Result, inl, inr, is_some, bytes_eq, arith}
 use Rattle.std.proofs.Common.{length-append}
@@ -30,7 +30,7 @@ use Rattle.h41_asm.proofs.Faultless.{AreFaultless, IsNew, at_no_line, faultless,
 use Rattle.h41_asm.proofs.Found.{not_then_some, or_none, unfound}
 use Rattle.h41_asm.proofs.Walks.{address_from, addresses_of, own_faults, own_faults_of, reference_faults, reference_faults_of}
 
--- what ready lines spell ends within the addresses
+-- What ready lines spell ends within the addresses.
 spelled_within : (labels : Labels) (rest : List SourceLine) (address : ℕ) (words : List ℕ) → address ≤ address_count
     → IsReady labels address rest → LinesSpell labels address rest words → address + length words ≤ address_count
 spelled_within labels [] address words low ready spelled = omega (arith, ap length spelled)
@@ -41,7 +41,7 @@ spelled_within labels (line ∷ rest) address words low ready spelled =
     (subst (λ (n : ℕ). LinesSpell labels (address + n) rest spelled.1) long spelled.4) in
     omega (arith, behind, long, ap length spelled.2, length-append spelled.0 spelled.1)
 
--- the words of faultless lines under their labels are those of the source
+-- The words of lines without an error, with their labels, are those of the source.
 assembles : (labels : Labels) (source : List ℕ) (origin : ℕ) (words : List ℕ) → origin ≤ address_count
     → own_faults 1 origin [] (source_lines source) ≡ None → ((name : List ℕ) → labels name ≡ address_from origin (source_lines source) name)
     → LinesSpell labels origin (source_lines source) words → Assembles source origin words
@@ -66,7 +66,7 @@ assembles labels source origin words low none same spelled =
       );
     }
 
--- the first fault, as the walks find it
+-- The first error, as the walks over the lines find it.
 fault_by_walks : (source : List ℕ) (origin : ℕ) → let all = source_lines source in
     assembly_fault source origin ≡ option_or (own_faults 1 origin [] all) (reference_faults (address_from origin all) 1 origin all)
 fault_by_walks source origin =
@@ -77,7 +77,7 @@ fault_by_walks source origin =
     ∙ ap (option_or (own_faults 1 origin [] all))
     (reference_faults_of (label_address lines) origin all ∙ ap (λ (labels : Labels). reference_faults labels 1 origin all) these)
 
--- and where no line has one of its own
+-- The first error if no line has an error of its own.
 fault_of_references : (labels : Labels) (source : List ℕ) (origin : ℕ) → own_faults 1 origin [] (source_lines source) ≡ None
     → ((name : List ℕ) → labels name ≡ address_from origin (source_lines source) name)
     → assembly_fault source origin ≡ reference_faults labels 1 origin (source_lines source)
@@ -87,7 +87,7 @@ fault_of_references labels source origin none same =
     fault_by_walks source origin ∙ ap (λ own. option_or own (reference_faults (address_from origin all) 1 origin all)) none
     ∙ ap (λ (labels : Labels). reference_faults labels 1 origin all) these
 
--- it is the first one of references, where the table has the labels of the lines
+-- It is the first error of a reference, if the table has the labels of the lines.
 pub fault_by_labels : (labels : Labels) (source : List ℕ) (origin : ℕ) → let lines = numbered_lines origin (source_lines source) in
     first_fault own_fault_at lines ≡ None → ((name : List ℕ) → labels name ≡ label_address lines name)
     → assembly_fault source origin ≡ first_fault (reference_fault_at labels) lines
@@ -97,7 +97,7 @@ fault_by_labels labels source origin none same =
     ap (λ own. option_or own (first_fault (reference_fault_at (label_address lines)) lines)) none
     ∙ ap (λ (labels : Labels). first_fault (reference_fault_at labels) lines) these
 
--- lines of which none has a fault of its own are ready where the labels are theirs, and what they spell is what the source does
+-- Lines that have no errors of their own are ready if the labels are theirs, and the source spells what they spell.
 pub ready_by : (labels : Labels) (source : List ℕ) (origin : ℕ) → let lines = numbered_lines origin (source_lines source) in
     first_fault own_fault_at lines ≡ None → ((name : List ℕ) → labels name ≡ label_address lines name)
     → IsReady labels origin (source_lines source)
@@ -115,7 +115,7 @@ assembles_by labels source origin words low none same spelled =
     assembles labels source origin words low (sym (own_faults_of origin all) ∙ none)
     (λ name. same name ∙ addresses_of origin all name) spelled
 
--- what is spelled has no fault of references
+-- Lines that spell words have no error of a reference.
 no_reach_fault : (address target : ℕ) (displacement : ℤ) → IsDisplacement address target displacement
     → is_in_reach (pos target -ℤ pos address) ≡ true
 no_reach_fault address target displacement by =
@@ -146,7 +146,7 @@ no_reference_faults labels (line ∷ rest) number address words spelled =
     (no_reference_faults labels rest (suc number) (address + line_length line) spelled.1
     (subst (λ (n : ℕ). LinesSpell labels (address + n) rest spelled.1) long spelled.4))
 
--- nor has a line of it a fault of its own
+-- A line that spells words has no error of its own.
 was_read : (labels : Labels) (address : ℕ) (read : Result Statement SourceFault) (own : List ℕ) → SpellsRead labels address read own
     → IsOk read
 was_read labels address (Ok said) own spelled = refl
@@ -181,7 +181,7 @@ all_new : (names : List (List ℕ)) → AllByRecursion (IsNew []) names
 all_new [] = tt
 all_new (name ∷ names) = (refl, all_new names)
 
--- a source that spells words has no fault
+-- A source that spells words has no error.
 pub no_fault : (source : List ℕ) (origin : ℕ) (words : List ℕ) → Assembles source origin words → assembly_fault source origin ≡ None
 no_fault source origin words assembled =
     let labels = assembled.placed.0 in
@@ -193,7 +193,7 @@ no_fault source origin words assembled =
     fault_of_references labels source origin own (labels_agree labels source origin words by)
     ∙ no_reference_faults labels (source_lines source) 1 origin words by.spelled
 
--- without a fault of references, ready lines spell words
+-- Without an error of a reference, ready lines spell words.
 spelled_long : (found : Option ℕ) → missing_fault found ≡ None → (target : ℕ) × (found ≡ Some target)
 spelled_long None none = absurd (none-some NoLabel (sym none))
 spelled_long (Some target) none = (target, refl)
@@ -251,7 +251,7 @@ spelled_lines labels (line ∷ rest) number address ready none =
       ),
     )
 
--- a source without a fault spells words
+-- A source without an error spells words.
 pub some_words : (source : List ℕ) (origin : ℕ) → origin ≤ address_count → assembly_fault source origin ≡ None
     → (words : List ℕ) × Assembles source origin words
 some_words source origin low none =
@@ -262,7 +262,7 @@ some_words source origin low none =
     let spelled = spelled_lines labels all 1 origin (ready labels all [] origin fits (λ name new. refl)) parts.1 in
     (spelled.0, assembles labels source origin spelled.0 low parts.0 (λ name. refl) spelled.1)
 
--- and one list of words
+-- A source spells only one list of words.
 pub one_words : (source : List ℕ) (origin : ℕ) (one other : List ℕ) → Assembles source origin one → Assembles source origin other
     → one ≡ other
 one_words source origin one other first second =
@@ -273,14 +273,14 @@ one_words source origin one other first second =
     (subst (λ (labels : Labels). LinesSpell labels origin all one) here first.placed.1.spelled)
     (subst (λ (labels : Labels). LinesSpell labels origin all other) there second.placed.1.spelled)
 
--- one of the two holds
+-- A source has words, or it has a first error.
 pub one_holds : HasWordsOrFault
 one_holds source origin low = elim (cases_Bool (is_some (assembly_fault source origin))) [
   | inl some ↦ inr some
   | inr none ↦ inl (some_words source origin (omega arith) (unfound (assembly_fault source origin) none))
 ]
 
--- and never both
+-- A source never has both.
 pub no_fault_of_words : NeverBoth
 no_fault_of_words source origin words some =
     let no : true ≡ false = sym some ∙ ap is_some (no_fault source origin words.0 words.1) in cc

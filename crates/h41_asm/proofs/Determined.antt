@@ -1,4 +1,4 @@
--- Lines spell one list of words under labels, and the labels that lines spell by are those of their lines.
+-- With given labels, lines spell one list of words, and the labels with which lines spell are those of the lines.
 use Rattle.std.proofs.Common.{◌≡◌, ℕ, ◌+◌, ℤ, pos, ◌+ℤ◌, true, false, List, [], ◌∷◌, ◌++◌, length, refl, sym, ap, ◌∙◌, subst, IfSome, Some}
 use Rattle.std.proofs.Common.{None, Option, Ok, Err, Result, inl, inr, is_some, bytes_eq, arith}
 use Rattle.std.specs.Cmp.Lexicographic.{nat_list_eq_equiv}
@@ -21,17 +21,17 @@ use Rattle.h41_asm.proofs.Found.{unfound}
 use Rattle.h41_asm.proofs.Spelling.{length-spelled}
 use Rattle.h41_asm.proofs.Walks.{address_from}
 
--- a line spells as many words as it takes
+-- A line spells as many words as it takes.
 pub length-line : (labels : Labels) (address : ℕ) (read : Result Statement SourceFault) (own : List ℕ) → SpellsRead labels address read own
     → length own ≡ read_length read
 length-line labels address (Ok said) own spelled = length-spelled labels address said own spelled
 length-line labels address (Err fault) own spelled = absurd spelled
 
--- one displacement leads from an address to another
+-- Only one displacement leads from one address to another.
 one_displacement : (from to : ℕ) (one other : ℤ) → pos to ≡ pos from +ℤ one → pos to ≡ pos from +ℤ other → one ≡ other
 one_displacement from to one other first second = omega (arith, ints)
 
--- a statement spells one list of words
+-- A statement spells one list of words.
 spells_once : (labels : Labels) (address : ℕ) (said : Statement) (one other : List ℕ) → StatementSpells labels address said one
     → StatementSpells labels address said other → one ≡ other
 spells_once labels address (Words words) one other first second = first ∙ sym second
@@ -63,13 +63,13 @@ lines_spell_once labels (line ∷ rest) address one other first second =
     let others : first.1 ≡ second.1 = lines_spell_once labels rest (address + length second.0) first.1 second.1 behind second.4 in
     first.2 ∙ ap (λ words. words ++ first.1) own ∙ ap (λ words. second.0 ++ words) others ∙ sym second.2
 
--- the label of a line that has it is the line's address
+-- The label of a line that has it is the line's address.
 labelled_here : (labels : Labels) (address : ℕ) (name : List ℕ) (label : Option (List ℕ)) → has_label name label ≡ true
     → IfSome label (λ own. labels own ≡ Some address) → labels name ≡ Some address
 labelled_here labels address name None here own = let no : false ≡ true = here in cc
 labelled_here labels address name (Some label) here own = ap labels ((bytes_eq-Decides name label).0 here) ∙ own
 
--- what is the address of a label's line is its address
+-- The address of the line of a label is the address of the label.
 pub labelled_at : (labels : Labels) (rest : List SourceLine) (address : ℕ) (words name : List ℕ) (found : ℕ)
     → LinesSpell labels address rest words → address_from address rest name ≡ Some found → labels name ≡ Some found
 labelled_at labels [] address words name found spelled at = absurd (none-some found at)
@@ -84,7 +84,7 @@ labelled_at labels (line ∷ rest) address words name found spelled at = elim (c
       (subst (λ (n : ℕ). LinesSpell labels (address + n) rest spelled.1) long spelled.4) behind
 ]
 
--- so the labels by which a source is spelled are those of its lines
+-- So the labels with which a source is spelled are those of its lines.
 pub labels_agree : (labels : Labels) (source : List ℕ) (origin : ℕ) (words : List ℕ) → AssemblesBy labels source origin words
     → (name : List ℕ) → labels name ≡ address_from origin (source_lines source) name
 labels_agree labels source origin words assembled name = by (address_from origin (source_lines source) name) refl

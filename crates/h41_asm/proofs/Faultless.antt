@@ -1,4 +1,4 @@
--- Lines without a fault of their own, and the names that label them.
+-- Lines without an error of their own, and their labels.
 use Rattle.std.proofs.Common.{◌≡◌, ℕ, suc, ◌+◌, ◌<◌, ◌≤◌, true, false, ◌&&◌, List, [], ◌∷◌, ◌++◌, refl, sym, ◌∙◌, IfSome, Some, None}
 use Rattle.std.proofs.Common.{Option, Ok, Err, Result, IsOk, arith, is_some, nat_le, nat_lt, bytes_eq}
 use Rattle.std.specs.Bool.{then_some}
@@ -19,11 +19,11 @@ use Rattle.h41_asm.specs.Statements.{Statement, reading_of}
 use Rattle.h41_asm.proofs.Found.{both_false, or_none, not_then_some}
 use Rattle.h41_asm.proofs.Walks.{own_faults}
 
--- no line of some has this label
+-- No line of the list has this label.
 abbrev pub IsNew : List SourceLine → List ℕ → Type 0
 IsNew earlier name = list_any (λ line. has_label name line.label) earlier ≡ false
 
--- a line that can be read, whose label is new and within the addresses, and that ends within them
+-- A line that can be read, whose label is new and within the addresses, and which ends within them.
 pub record IsFaultless (earlier : List SourceLine) (address : ℕ) (line : SourceLine) : Type 0 where
   pub readable : IsOk (reading_of line.code)
   pub new : IfSome line.label (IsNew earlier)
@@ -35,7 +35,7 @@ AreFaultless earlier address [] = Unit {0}
 AreFaultless earlier address (line ∷ rest) =
     IsFaultless earlier address line × AreFaultless (earlier ++ line ∷ []) (address + line_length line) rest
 
--- a line's fault and its facts
+-- The error of a line, and the facts that follow from there being none.
 readable_from : (read : Result Statement SourceFault) → result_err read ≡ None → IsOk read
 readable_from (Ok said) none = refl
 readable_from (Err fault) none = let no : Some fault ≡ None = none in cc
@@ -89,7 +89,7 @@ none_line earlier address line fits =
     )
     refl
 
--- and those of all
+-- The errors of all lines.
 pub at_no_line : (number : ℕ) (fault : Option SourceFault) → at_line number fault ≡ None → fault ≡ None
 at_no_line number None none = refl
 at_no_line number (Some fault) none = absurd (none-some (fault, number) (sym none))
@@ -110,7 +110,7 @@ no_own_faults number address earlier [] fits = refl
 no_own_faults number address earlier (line ∷ rest) fits =
     rw (none_line earlier address line fits.0) (no_own_faults (suc number) (address + line_length line) (earlier ++ line ∷ []) rest fits.1)
 
--- names that are new after a line were so before it, and are none of its label
+-- A name that is new after a line was new before it, and is not its label.
 pub new_before : (earlier : List SourceLine) (line : SourceLine) (name : List ℕ) → IsNew (earlier ++ line ∷ []) name
     → IsNew earlier name × (has_label name line.label ≡ false)
 new_before earlier line name new =
@@ -136,7 +136,7 @@ all_after : (earlier : List SourceLine) (line : SourceLine) (names : List (List 
 all_after earlier line [] new other = tt
 all_after earlier line (name ∷ names) new other = (new_after earlier line name new.0 other.0, all_after earlier line names new.1 other.1)
 
--- names that a label is not one of, either way round
+-- Names that a label is not one of, either way round.
 turned : (own : List ℕ) (names : List (List ℕ)) → AllByRecursion (λ name. bytes_eq name own ≡ false) names
     → AllByRecursion (λ name. bytes_eq own name ≡ false) names
 turned own [] other = tt
@@ -151,7 +151,7 @@ no_names : IsDistinct {K = List ℕ} bytes_eq []
 unfolding IsDistinct
 no_names = tt
 
--- the names of a label and of the lines behind it
+-- The names of a label and of the lines after it.
 with_names : (earlier : List SourceLine) (label : Option (List ℕ)) (names : List (List ℕ)) → IfSome label (IsNew earlier)
     → AllByRecursion (IsNew earlier) names → AllByRecursion (λ name. has_label name label ≡ false) names → IsDistinct bytes_eq names
     → AllByRecursion (IsNew earlier) (cons_option label names) × IsDistinct bytes_eq (cons_option label names)
@@ -159,7 +159,7 @@ with_names earlier None names new others apart distinct = (others, distinct)
 with_names earlier (Some own) names new others apart distinct =
     ((new, others), IsDistinct-cons bytes_eq own names (turned own names apart) distinct)
 
--- the names that label faultless lines are new and distinct
+-- The labels of lines without an error are new and distinct.
 pub names_distinct : (earlier rest : List SourceLine) (address : ℕ) → AreFaultless earlier address rest
     → AllByRecursion (IsNew earlier) (labels_of rest) × IsDistinct bytes_eq (labels_of rest)
 names_distinct earlier [] address fits = (tt, no_names)
@@ -172,7 +172,7 @@ all_apart : (names : List (List ℕ)) → AllByRecursion (λ name. has_label nam
 all_apart [] = tt
 all_apart (name ∷ names) = (refl, all_apart names)
 
--- and back
+-- The names without the first label.
 without_names : (earlier : List SourceLine) (label : Option (List ℕ)) (names : List (List ℕ))
     → AllByRecursion (IsNew earlier) (cons_option label names) → IsDistinct bytes_eq (cons_option label names)
     → IfSome label (IsNew earlier)

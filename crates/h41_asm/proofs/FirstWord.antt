@@ -16,18 +16,18 @@ is_word word = nat_lt 0 (length word)
 abbrev words_of_parts : List (List ℕ) → List (List ℕ)
 words_of_parts parts = filter is_word parts
 
--- a blank at the front parts nothing
+-- A space or tab at the start separates nothing.
 words_of-blank : (byte : ℕ) (line : List ℕ) → is_blank byte ≡ true → words_of (byte ∷ line) ≡ words_of line
 words_of-blank byte line blank = elim (or_cases (byte == 32) (byte == 9) blank) [
   | inl space ↦ rw (eqb-true byte 32 space) refl
   | inr tab ↦ rw (eqb-true byte 9 tab) refl
 ]
 
--- a comment at the front is all
+-- A comment at the start leaves no words.
 words_of-comment : (byte : ℕ) (line : List ℕ) → (byte == 59) ≡ true → words_of (byte ∷ line) ≡ []
 words_of-comment byte line comment = rw (eqb-true byte 59 comment) refl
 
--- the words begin at the first byte that is no blank
+-- The words begin at the first byte that is no separator.
 words_of-from_start : (line : List ℕ) → words_of line ≡ words_of (drop (position_or_len (λ byte. not (is_blank byte)) line) line)
 words_of-from_start [] = refl
 words_of-from_start (byte ∷ line) = elim (cases_Bool (is_blank byte)) [
@@ -40,11 +40,11 @@ words_of-none line e =
     let end = position_none (λ byte. not (is_blank byte)) line e in
     words_of-from_start line ∙ ap words_of (drop_all _ line (omega arith))
 
--- what a part ends before, and whether a byte does that
+-- What a part ends before, and whether a byte is such a byte.
 abbrev ends : Bool → ℕ → Bool
 ends quoted byte = not quoted && (is_blank byte || byte == 59)
 
--- the parts behind the first
+-- The parts after the first.
 abbrev parts_behind : List ℕ → List (List ℕ)
 parts_behind [] = []
 parts_behind (byte ∷ rest) = if byte == 59 then [] else parts_from false rest
@@ -59,7 +59,7 @@ parts_end byte rest stop = elim (or_cases (is_blank byte) (byte == 59) stop) [
   | inr comment ↦ rw (eqb-true byte 59 comment) refl
 ]
 
--- the first part is as long as it says
+-- The first part is as long as it says.
 parts_from-first : (quoted : Bool) (line : List ℕ)
     → parts_from quoted line ≡ take (part_length quoted line) line ∷ parts_behind (drop (part_length quoted line) line)
 parts_from-first quoted [] = refl
@@ -71,7 +71,7 @@ parts_from-first false (byte ∷ rest) = elim (cases_Bool (is_blank byte || byte
       rw (goes, neither.1, neither.0) (ap (onto_first byte) (parts_from-first (quoted_after false byte) rest))
 ]
 
--- and nothing of a part is left behind it
+-- Nothing of a part is left after its length.
 part_length-behind : (quoted : Bool) (line : List ℕ) → part_length false (drop (part_length quoted line) line) ≡ 0
 part_length-behind quoted [] = refl
 part_length-behind true (byte ∷ rest) = part_length-behind (quoted_after true byte) rest
@@ -80,7 +80,7 @@ part_length-behind false (byte ∷ rest) = elim (cases_Bool (is_blank byte || by
   | inr goes ↦ rw goes (part_length-behind (quoted_after false byte) rest)
 ]
 
--- where no part begins, the words are those of the parts behind
+-- If no part begins, the words are those of the parts after it.
 words_behind : (line : List ℕ) → part_length false line ≡ 0 → words_of_parts (parts_behind line) ≡ words_of line
 words_behind [] none = refl
 words_behind (byte ∷ rest) none = elim (cases_Bool (is_blank byte || byte == 59)) [
@@ -88,7 +88,7 @@ words_behind (byte ∷ rest) none = elim (cases_Bool (is_blank byte || byte == 5
   | inr goes ↦ let one : suc (part_length (quoted_after false byte) rest) ≡ 0 = rw goes at none in absurd (omega (arith, one))
 ]
 
--- a line that begins with a word
+-- A line that begins with a word.
 words_of-front : (line : List ℕ) (n : ℕ) → n ≡ part_length false line → n ≤ length line → 0 < n
     → words_of line ≡ take n line ∷ words_of (drop n line)
 words_of-front line n here within some =
@@ -100,7 +100,7 @@ words_of-front line n here within some =
     (words_of_parts (parts_behind (drop n line))) word
     ∙ ap (λ words. take n line ∷ words) (words_behind (drop n line) none)
 
--- the first word, and the words after it
+-- The first word, and the words after it.
 pub words_of-first : (line : List ℕ) (start n : ℕ) → Some start ≡ position (λ byte. not (is_blank byte)) line
     → n ≡ part_length false (drop start line) → n ≤ length (drop start line) → 0 < n
     → words_of line ≡ take n (drop start line) ∷ words_of (drop n (drop start line))
@@ -108,7 +108,7 @@ words_of-first line start n e here within some =
     let at = position_some (λ byte. not (is_blank byte)) line start e in
     words_of-from_start line ∙ ap (λ (k : ℕ). words_of (drop k line)) (sym at.0) ∙ words_of-front (drop start line) n here within some
 
--- where the first byte that is no blank begins no word, it begins a comment
+-- If the first byte that is no separator begins no word, it begins a comment.
 only_comment : (line : List ℕ) → 0 < length line → not (is_blank (get_or line 0 0)) ≡ true → part_length false line ≡ 0 → words_of line ≡ []
 only_comment [] some first none = absurd (omega arith)
 only_comment (byte ∷ rest) some first none = elim (cases_Bool (is_blank byte || byte == 59)) [

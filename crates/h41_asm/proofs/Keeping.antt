@@ -1,4 +1,4 @@
--- What is kept of the lines that have words: the faults and the words of these are those of all lines.
+-- What is stored of the lines that have words: the errors and the words of these lines are those of all lines.
 use Rattle.std.proofs.Common.{◌≡◌, ℕ, suc, ◌+◌, ◌≤◌, true, false, ◌==◌, List, [], ◌∷◌, ◌++◌, length, drop, refl, sym, ap, ◌∙◌, subst}
 use Rattle.std.proofs.Common.{append_assoc, arith, add-one, IsOk, None, Option, Ok, Err, Result, inl, inr}
 use Rattle.std.specs.Borrow.{Bor}
@@ -22,7 +22,7 @@ use Rattle.h41_asm.specs.Statements.{Statement, Words, OutOfReach, LongJumpTo, S
 use Rattle.h41_asm.proofs.Determined.{length-line}
 use Rattle.h41_asm.proofs.Walks.{reference_faults}
 
--- what has no words has no fault of a reference, and spells nothing
+-- A statement without words has no error of a reference, and spells nothing.
 no_words-no_fault : (labels : Labels) (address : ℕ) (said : Result Statement SourceFault) → read_length said ≡ 0
     → read_fault labels address said ≡ None
 no_words-no_fault labels address (Ok (Words words)) none = refl
@@ -45,7 +45,7 @@ no_words-spells_none labels address (Ok (ShortJumpTo condition name)) ok none = 
 no_words-spells_none labels address (Ok (EntryAt bits name)) ok none = absurd (omega (arith, none))
 no_words-spells_none labels address (Err fault) ok none = let no : false ≡ true = ok in cc
 
--- the faults of lines
+-- The errors of lines.
 faults_with : (labels : Labels) (number address : ℕ) (said : Result Statement SourceFault) (rest : List Said)
     → said_faults labels address (with_words number said ++ rest)
     ≡ option_or (at_line number (read_fault labels address said)) (said_faults labels (address + read_length said) rest)
@@ -66,7 +66,7 @@ faults_said labels number address (line ∷ rest) =
     ap (option_or (at_line number (read_fault labels address said))) (faults_said labels (suc number) (address + read_length said) rest)
     ∙ sym (faults_with labels number address said (said_from (suc number) rest))
 
--- whether they are ready
+-- Whether lines are ready.
 ready_with : (number address : ℕ) (said : Result Statement SourceFault) (rest : List Said) → IsOk said
     → address + read_length said ≤ address_count → AreReady (address + read_length said) rest
     → AreReady address (with_words number said ++ rest)
@@ -87,7 +87,7 @@ ready_said labels number address (line ∷ rest) ready =
     ready_with number address said (said_from (suc number) rest) ready.0 ready.1
     (ready_said labels (suc number) (address + read_length said) rest ready.3)
 
--- and the words
+-- The words of lines.
 spelled_with : (labels : Labels) (number address : ℕ) (said : Result Statement SourceFault) (rest : List Said) (words : List ℕ) → IsOk said
     → SaidSpell labels address (with_words number said ++ rest) words → SaidSpell labels address ((number, said) ∷ rest) words
 spelled_with labels number address said rest words ok spelled =
@@ -115,7 +115,7 @@ spelled_said labels number address (line ∷ rest) words ready spelled =
       subst (λ (n : ℕ). LinesSpell labels (address + n) rest apart.1) (sym long) others,
     )
 
--- the words with those of one more
+-- The words with those of one more.
 pub spelled_next : (labels : Labels) (address : ℕ) (said : Said) (statement : Statement) (rest : List Said) (before after others : List ℕ)
     → Ok statement ≡ said.1 → SpellsNext labels address statement before after → SaidSpell labels (address + read_length said.1) rest others
     → (more : List ℕ) × (after ++ others ≡ before ++ more) × SaidSpell labels address (said ∷ rest) more
@@ -126,7 +126,7 @@ spelled_next labels address said statement rest before after others read next sp
       (own, others, refl, subst (λ r. SpellsRead labels address r own) read next.spelled, spelled),
     )
 
--- the faults behind what has none
+-- The errors after a line that has none.
 pub faults_next : (labels : Labels) (address : ℕ) (said : Said) (statement : Statement) (rest : List Said) → Ok statement ≡ said.1
     → reference_fault labels address statement ≡ None
     → said_faults labels (address + read_length said.1) rest ≡ said_faults labels address (said ∷ rest)
@@ -134,7 +134,7 @@ faults_next labels address said statement rest read none =
     let own : read_fault labels address said.1 ≡ None = sym (ap (read_fault labels address) read) ∙ none in
     sym (ap (λ fault. option_or (at_line said.0 fault) (said_faults labels (address + read_length said.1) rest)) own)
 
--- what was kept of lines and of more lines
+-- What was stored of lines and of more lines.
 said_of_both : (lines more : List KeptLine) (names others : List (Bor (List ℕ))) → length names ≡ length lines
     → kept_said (lines ++ more) (names ++ others) ≡ kept_said lines names ++ kept_said more others
 said_of_both [] more [] others same = refl
@@ -143,7 +143,7 @@ said_of_both (line ∷ lines) more [] others same = absurd (omega (arith, same))
 said_of_both (line ∷ lines) more (name ∷ names) others same =
     ap (λ said. (line.number, Ok (in_form line.form name.now)) ∷ said) (said_of_both lines more names others (omega (arith, same)))
 
--- what is kept of a line is what it says
+-- What is stored of a line is its meaning.
 said_of_line : (number : ℕ) (statement : code.Statement)
     → kept_said (kept_lines number statement) (kept_names statement) ≡ with_words number (Ok (in_code statement))
 said_of_line number statement =
@@ -159,7 +159,7 @@ length_of_line number statement =
       | inr some ↦ rw some refl
     ]
 
--- what is kept with one more line
+-- What is stored after one more line.
 pub kept_next : (number : ℕ) (statement : code.Statement) (line : SourceLine) (rest : List SourceLine) (lines : List KeptLine)
     (names : List (Bor (List ℕ))) → length names ≡ length lines → Ok (in_code statement) ≡ reading_of line.code
     → kept_said (lines ++ kept_lines number statement) (names ++ kept_names statement) ++ said_from (number + 1) rest
@@ -172,14 +172,14 @@ kept_next number statement line rest lines names same read =
     ∙ append_assoc (kept_said lines names) (with_words number (reading_of line.code)) (said_from (number + 1) rest)
     ∙ rw add-one refl
 
--- the line at a place is the first of those that are left
+-- The line at a place is the first of those that are left.
 pub said_at : (lines : List KeptLine) (names : List (Bor (List ℕ))) (i : ℕ) (line : KeptLine) (name : Bor (List ℕ))
     → drop i lines ≡ line ∷ drop (i + 1) lines → drop i names ≡ name ∷ drop (i + 1) names
     → kept_said (drop i lines) (drop i names)
     ≡ (line.number, Ok (in_form line.form name.now)) ∷ kept_said (drop (i + 1) lines) (drop (i + 1) names)
 said_at lines names i line name first_line first_name = rw (first_line, first_name) refl
 
--- a fault of the first line is the first of all
+-- An error of the first line is the first error of all.
 pub refused_first : (found : Option SourceFault) (error : SpellError) (number : ℕ) (others : FaultOnLine) → IsFault found error
     → IsRefusal (option_or (at_line number found) others) (refusal_of error number)
 refused_first found (spell_errors.Fault fault) number others is = rw is refl

@@ -1,4 +1,4 @@
--- The line of a text that begins at a place.
+-- The line of a text that begins at a position.
 use Rattle.std.proofs.Common.{◌≡◌, ℕ, ◌+◌, ◌<◌, ◌==◌, List, ◌∷◌, length, length-drop, take, drop, Some, None, sym, ◌∙◌, ap, arith}
 use Rattle.std.specs.List.{position}
 use Rattle.std.specs.Str.Lines.{strip_carriage_return}

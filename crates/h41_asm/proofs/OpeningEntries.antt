@@ -46,11 +46,11 @@ transfer_sound transfer =
     single (transfer_text transfer) (Transfer transfer) (number_of (Transfer transfer))
     (λ others. refl) (λ others. refl) (λ others. refl) refl
 
--- the code's tables
+-- The code's tables.
 abbrev pub entries : List TableEntry
 entries = map (λ opening. (opening.0.now, opening.1)) OPENINGS
 
--- what holds of a first one and of the others
+-- What holds of a first one and of the others.
 infixr 20 ◌&◌
 ◌&◌ : {A B : Type 0} → A → B → A × B
 first & others = (first, others)
@@ -155,7 +155,7 @@ entries_sound =
     & (λ others. refl)
     & tt
 
--- whether the words that it tells are words
+-- Whether the words of an entry are numbers of words.
 abbrev tells : Opening → Bool
 tells (Single number) = nat_lt number word_count
 tells (Data number numbered) = nat_lt number word_count

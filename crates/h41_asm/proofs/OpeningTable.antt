@@ -22,7 +22,8 @@ use Rattle.h41_asm.specs.Statements.{statement_by}
 use Rattle.h41_asm.specs.Statements.{taken_among, takers, takes_address}
 use Rattle.h41_asm.specs.private.Openings.{OpensAs, without_operand, at_carry, pair}
 
--- what words say by the single mnemonic that they are, by the one that they begin with, and by whether they begin with a single
+-- The meaning of words by the mnemonic without operand that they are, by the mnemonic with which they begin, and by whether they begin with
+-- one without operand.
 abbrev answer : Option Row → Option (Result Statement SourceFault) → Bool → Result Statement SourceFault
 answer (Some row) statement_by begun = Ok (one_word row)
 answer None (Some read) begun = read
@@ -36,14 +37,14 @@ answered first others (Some row) statement_by begun found_is taken_is begun_is =
 answered first others None (Some read) begun found_is taken_is begun_is = rw (found_is, taken_is) refl
 answered first others None None begun found_is taken_is begun_is = rw (found_is, taken_is, begun_is) refl
 
--- an entry that is found where a test passes, and else what is found behind it
+-- An entry that is found if a test passes, otherwise the entry that is found after it.
 abbrev if_found : {T : Type 0} → Bool → List ℕ → T → Option (List ℕ × T) → Option (List ℕ × T)
 if_found test name value other = cond test (Some (name, value)) other
 
 abbrev row_of : Option (List ℕ × Row) → Option Row
 row_of found = option_map (λ single. single.1) found
 
--- the words behind an instruction that takes none, by whether there are any
+-- The words after an instruction without an operand, by whether there are any.
 abbrev alone_if : ℕ → Bool → Result Statement SourceFault
 alone_if number none = if none then Ok (Words (number ∷ [])) else Err BadOperand
 
@@ -51,7 +52,7 @@ alone_is : (number : ℕ) (others : List (List ℕ)) → alone_if number (length
 alone_is number [] = refl
 alone_is number (word ∷ others) = rw (eqb-suc-zero (length others)) refl
 
--- an instruction that is its first word alone
+-- An instruction that is its first word alone.
 single_answer : (none : Bool) (name : List ℕ) (row : Row)
     → answer (row_of (if_found none name row None)) None true ≡ alone_if (number_of row) none
 single_answer true name row = refl
@@ -65,7 +66,7 @@ single name row number found statement_by begun numbered others =
     answered name others _ _ _ (found others) (statement_by others) (begun others) ∙ single_answer (length others == 0) name row
     ∙ ap (λ (n : ℕ). alone_if n (length others == 0)) numbered ∙ alone_is number others
 
--- an instruction of two words
+-- An instruction of two words.
 pair_answer : (same none : Bool) (name : List ℕ) (row : Row)
     → answer (row_of (if_found ((same && true) && none) name row None)) None ((same && true) || false)
     ≡ (if same then alone_if (number_of row) none else Err BadLine)
@@ -118,7 +119,7 @@ fetch_sound [] = refl
 fetch_sound (second ∷ others) =
     pair_reads (codes "FETCH") (codes "S&X") (codes "FETCH S&X") FetchWord (λ second others. (refl, refl, refl)) second others
 
--- one of two instructions of two words
+-- One of two instructions of two words.
 either_answer : (same next none : Bool) (name next_name : List ℕ) (row next_row : Row)
     → answer (row_of (if_found ((same && true) && none) name row (if_found ((next && true) && none) next_name next_row None)))
     None ((same && true) || ((next && true) || false))
@@ -166,7 +167,7 @@ goto_sound (second ∷ others) =
     ∙ either_answer address key (length others == 0) (codes "GOTO ADR") (codes "GOTO KEY") GoToAddress GoToKey
     ∙ both_alone_is address key (number_of GoToAddress) (number_of GoToKey) others
 
--- C=C OR A and C=C AND A
+-- C=C OR A and C=C AND A.
 logic_none : (same next : Bool) (name next_name : List ℕ) (row next_row : Row)
     → answer (row_of (if_found ((same && false) && true) name row (if_found ((next && false) && true) next_name next_row None)))
     None ((same && false) || ((next && false) || false))
@@ -226,7 +227,7 @@ logic_sound (second ∷ third ∷ others) =
     ∙ logic_answer o n a none (codes "C=C OR A") (codes "C=C AND A") Or And
     ∙ logic_alone o n a (number_of Or) (number_of And) others
 
--- READ and WRIT
+-- READ and WRIT.
 data_answer : (whole : Bool) (name : List ℕ) (row : Row) (read : Result Statement SourceFault) (begun : Bool)
     → answer (row_of (if_found whole name row None)) (Some read) begun ≡ (if whole then Ok (Words (number_of row ∷ [])) else read)
 data_answer true name row read begun = refl
@@ -252,7 +253,7 @@ write_sound (second ∷ others) =
     ∙ data_answer whole (codes "WRIT DATA") WriteData (statement_by (takes_numbered numbers.Write) (second ∷ others))
     (is_begun singles (codes "WRIT" ∷ second ∷ others))
 
--- returns and jumps by address
+-- Returns and jumps by address.
 jump_answer : (execute go : Bool) (says : List ℕ × Taking → Result Statement SourceFault) (name next_name : List ℕ) (takes next : Taking)
     → answer None (option_map says (if_found (execute && true) name takes (if_found (go && true) next_name next None))) false
     ≡ both_alone execute go (says (name, takes)) (says (next_name, next))

@@ -1,4 +1,4 @@
--- What a table of first words gives for a word, and that a word that is not in it begins nothing.
+-- The result of a table of first words for a word, and that a word that is not in the table begins nothing.
 use Rattle.std.proofs.Common.{◌≡◌, ℕ, ◌<◌, Bool, true, false, List, [], ◌∷◌, length, Some, None, refl, sym, ◌∙◌, inl, inr, bytes_eq}
 use Rattle.std.proofs.Common.{slice_index, slice_index_or, subst}
 use Rattle.std.specs.Prelude.{find}
@@ -12,11 +12,11 @@ use Rattle.h41_asm.specs.SourceLines.{words_of}
 use Rattle.h41_asm.specs.Statements.{begins, is_whole, singles, takers}
 use Rattle.h41_asm.specs.private.Openings.{TableEntry, IsTable, OpensAs, TellsWords, entries_in, hash_of, place_count}
 
--- the word of the entry to which a word's hash leads
+-- The word of the entry to which a word's hash leads.
 abbrev pub slot : List TableEntry → List ℕ → TableEntry → List ℕ → List ℕ
 slot entries places other word = (slice_index_or entries (slice_index places (hash_of word)) other).0
 
--- whether the hash of a mnemonic's first word leads to it
+-- Whether the hash of a mnemonic's first word leads to it.
 abbrev pub leads_home : List TableEntry → List ℕ → TableEntry → List (List ℕ) → Bool
 leads_home entries places other [] = false
 leads_home entries places other (part ∷ parts) = bytes_eq part (slot entries places other part)
@@ -46,7 +46,7 @@ module _ (entries : List TableEntry) (places : List ℕ) (other : TableEntry) (w
   unbegun [] others home = let no : false ≡ true = home in cc
   unbegun (part ∷ parts) others home = rw (unlike part home) refl
 
-  -- so words that begin with it begin with no mnemonic whose first word is in its place
+  -- So words that begin with it begin with no mnemonic whose first word is in its place.
   abbrev homes : {T : Type 0} → List (List ℕ × T) → Bool
   homes some = list_all (λ entry. is_placed entries places other entry.0) some
 
@@ -78,7 +78,7 @@ module _ (entries : List TableEntry) (places : List ℕ) (other : TableEntry) (w
       let begun = none_begun singles others at_singles in
       rw (whole, statement_by, begun) refl
 
--- the entry to which a word's hash leads in the code's table
+-- The entry to which a word's hash leads in the code's table.
 module _ (openings : List (Bor (List ℕ) × Opening)) (places word : List ℕ) (place : ℕ)
     (d : Bor (List ℕ) × Opening) (table : IsTable (entries_in openings) places)
     (near : hash_of word < place_count) (here : place ≡ slice_index places (hash_of word)) where

@@ -1,4 +1,4 @@
--- The first pass: what its loop keeps over the lines.
+-- The first pass: the facts that its loop keeps over the lines.
 use Rattle.std.proofs.Common.{◌≡◌, ℕ, suc, ◌+◌, ◌≤◌, Bool, false, ◌&&◌, ◌||◌, List, [], ◌∷◌, ◌++◌, refl, sym, ap, ◌∙◌, Some, None, Option}
 use Rattle.std.proofs.Common.{is_some, add-one, nat_le, bytes_eq, inl, inr, if◌then◌else◌}
 use Rattle.std.specs.Bool.{then_some}
@@ -21,8 +21,8 @@ use Rattle.h41_asm.specs.Statements.{reading_of}
 use Rattle.h41_asm.proofs.Found.{both_false, not_then_some, or_none, or_nothing, unfound}
 use Rattle.h41_asm.proofs.Walks.{address_from, addresses_of, own_faults, own_faults_of}
 
--- the lines before some are placed: these are faultless, the names that label them have an address, and with the labels of those
--- that are left the addresses are those of all
+-- The lines before some others are placed: they have no errors, their labels have addresses, and with the labels of the lines that are left
+-- the addresses are those of all lines.
 pub record IsPlaced (labels : Labels) (all : List SourceLine) (origin number address : ℕ) (rest : List SourceLine) : Type 0 where
   pub earlier : List SourceLine
   pub faults : own_faults number address earlier rest ≡ first_fault own_fault_at (numbered_lines origin all)
@@ -39,14 +39,14 @@ placed_none labels all origin none = record {
   addresses = λ name. ap (λ found. option_or found (address_from origin all name)) (none name) ∙ sym (addresses_of origin all name);
 }
 
--- a name stands twice by the table where it does by the lines before
+-- A label is in the table twice exactly if it is in the lines before twice.
 held_twice : (labels : Labels) (earlier : List SourceLine)
     → ((name : List ℕ) → is_some (labels name) ≡ list_any (λ line. has_label name line.label) earlier) → (label : Option (List ℕ))
     → is_held labels label ≡ is_labelled_twice earlier label
 held_twice labels earlier known None = refl
 held_twice labels earlier known (Some name) = known name
 
--- the names of the lines with one more
+-- The labels of the lines with one more line.
 known_next : (labels : Labels) (earlier : List SourceLine) (address : ℕ)
     → ((name : List ℕ) → is_some (labels name) ≡ list_any (λ line. has_label name line.label) earlier)
     → (label : Option (List ℕ)) (name : List ℕ)
@@ -60,7 +60,7 @@ known_next labels earlier address known (Some own) name =
       | inr other ↦ rw (turned, other) (known name ∙ sym (or-false (list_any (λ line. has_label name line.label) earlier)))
     ]
 
--- the addresses with one more
+-- The addresses with one more label.
 addresses_next : (labels : Labels) (address : ℕ) (behind : Labels) (label : Option (List ℕ)) → is_held labels label ≡ false
     → (name : List ℕ)
     → option_or (with_label labels label address name) (behind name)
@@ -75,7 +75,7 @@ addresses_next labels address behind (Some own) none name =
       | inr other ↦ rw (turned, other) refl
     ]
 
--- a line without a fault ends within the addresses
+-- A line without an error ends within the addresses.
 pub placed_within : (twice : Bool) (address : ℕ) (line : SourceLine) → own_fault twice address line ≡ None
     → address + line_length line ≤ address_count
 placed_within twice address line none =
@@ -86,7 +86,7 @@ placed_within twice address line none =
     (not_then_some (is_past address line.label (line_length line)) TooLong long.1) in
     ltb-false address_count (address + line_length line) both.1
 
--- and the next lines stand behind it
+-- The next lines are after it.
 pub placed_next : (labels after : Labels) (all : List SourceLine) (origin number address : ℕ) (line : SourceLine) (rest : List SourceLine)
     → IsPlaced labels all origin number address (line ∷ rest) → own_fault (is_held labels line.label) address line ≡ None
     → ((name : List ℕ) → after name ≡ with_label labels line.label address name)
@@ -112,7 +112,7 @@ placed_next labels after all origin number address line rest placed none added =
           ∙ placed.addresses name;
     }
 
--- where none are left, the addresses are those of all
+-- If no lines are left, the addresses are those of all lines.
 pub placed_all : (labels : Labels) (all : List SourceLine) (origin number address : ℕ) → IsPlaced labels all origin number address []
     → (name : List ℕ) → labels name ≡ label_address (numbered_lines origin all) name
 placed_all labels all origin number address placed name = sym (or_nothing (labels name)) ∙ placed.addresses name

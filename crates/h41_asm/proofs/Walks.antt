@@ -1,5 +1,5 @@
--- The faults of lines and the addresses of labels as walks over the lines, as the code goes: each carries the number and the
--- address of the next line. They are the faults and the addresses of the numbered lines.
+-- The errors of lines and the addresses of labels as walks over the lines, as the code performs them: each walk carries the number and the
+-- address of the next line. They are the errors and the addresses of the numbered lines.
 use Rattle.std.proofs.Common.{◌≡◌, ℕ, suc, ◌+◌, if◌then◌else◌, List, [], ◌∷◌, ◌++◌, length, refl, ap, ◌∙◌, Some, None, Option, inl, inr}
 use Rattle.std.proofs.Common.{append_assoc, length-append, arith, map, slice_get, filter_map}
 use Rattle.std.specs.List.{cons_option, enumerate_from, sum_by}
@@ -15,27 +15,28 @@ use Rattle.h41_asm.specs.Placing.{Labels}
 use Rattle.h41_asm.specs.SourceLines.{SourceLine}
 use Rattle.h41_asm.specs.Statements.{reading_of}
 
--- the first fault that lines have whatever the labels are, where the first has this number and address and these are before it
+-- The first error that does not depend on the addresses of labels; the first line has this number and address, and these lines are before
+-- it.
 abbrev pub own_faults : ℕ → ℕ → List SourceLine → List SourceLine → FaultOnLine
 own_faults number address earlier [] = None
 own_faults number address earlier (line ∷ rest) =
     option_or (at_line number (own_fault (is_labelled_twice earlier line.label) address line))
     (own_faults (suc number) (address + line_length line) (earlier ++ line ∷ []) rest)
 
--- the first fault of their references
+-- The first error of the references of lines.
 abbrev pub reference_faults : Labels → ℕ → ℕ → List SourceLine → FaultOnLine
 reference_faults labels number address [] = None
 reference_faults labels number address (line ∷ rest) =
     option_or (at_line number (read_fault labels address (reading_of line.code)))
     (reference_faults labels (suc number) (address + line_length line) rest)
 
--- the address of the first line with a label
+-- The address of the first line with a label.
 abbrev pub address_from : ℕ → List SourceLine → Labels
 address_from address [] name = None
 address_from address (line ∷ rest) name =
     if has_label name line.label then Some address else address_from (address + line_length line) rest name
 
--- the lines behind some, each with its number and address
+-- The lines after others, each with its number and address.
 abbrev numbered_behind : ℕ → List SourceLine → List SourceLine → List NumberedSourceLine
 numbered_behind origin earlier rest =
     map (λ entry. line_at_place origin (earlier ++ rest) entry.0 entry.1) (enumerate_from (length earlier) rest)
@@ -49,7 +50,7 @@ next_behind : (origin : ℕ) (earlier : List SourceLine) (line : SourceLine) (re
 next_behind origin earlier line rest =
     rw (append_assoc earlier (line ∷ []) rest, length-append earlier (line ∷ []), take-append_seam earlier (line ∷ rest)) refl
 
--- where the next line stands
+-- The address of the next line.
 abbrev StandsAt : ℕ → List SourceLine → ℕ → ℕ → Type 0
 StandsAt origin earlier number address = (number ≡ length earlier + 1) × (address ≡ origin + sum_by line_length earlier)
 
@@ -63,7 +64,7 @@ stands_next origin earlier line number address stands =
 stands_first : (origin : ℕ) → StandsAt origin [] 1 origin
 stands_first origin = (refl, omega arith)
 
--- the faults of lines, and the first of them
+-- The errors of lines, and the first of them.
 abbrev told : (NumberedSourceLine → Option SourceFault) → List NumberedSourceLine → List (SourceFault × ℕ)
 told fault all = filter_map (λ at. at_line at.number (fault at)) all
 
@@ -115,7 +116,7 @@ addresses_behind origin (line ∷ rest) earlier number address name stands =
       | inr other ↦ rw other others
     ]
 
--- the walks over all lines
+-- The walks over all lines.
 pub own_faults_of : (origin : ℕ) (all : List SourceLine) → first_fault own_fault_at (numbered_lines origin all) ≡ own_faults 1 origin [] all
 own_faults_of origin all = own_behind origin all [] 1 origin (stands_first origin)
 

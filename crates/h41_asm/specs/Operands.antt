@@ -1,5 +1,5 @@
--- The operands of a source: which words are one, and what it is. Hexadecimal digits may be of
--- either case, decimal numbers have no leading zeros. The language is this project's own.
+-- The operands of a source: which words are an operand, and its value. Hexadecimal digits may be of
+-- either case; decimal numbers have no leading zeros. The language is this project's own.
 use Rattle.std.specs.Prelude.{ℕ, ◌-◌, ℤ, pos, negsuc, Bool, ◌&&◌, List, [], ◌∷◌, length, take, drop}
 use Rattle.std.specs.Prelude.{nat_lt, nat_le, ◌==◌, not, if◌then◌else◌, Option, Some, None}
 use Rattle.std.specs.Prelude.{bytes_eq, slice_index}
@@ -11,55 +11,58 @@ use Rattle.h41_words.specs.Counts.{word_count}
 use Rattle.h41_words.specs.Mnemonics.{field_text}
 use Rattle.h41_words.specs.Listing.{fields}
 
--- a number of just so many hexadecimal digits
+-- A number of exactly this many hexadecimal digits.
 abbrev pub hexadecimal_in : ℕ → List ℕ → Option ℕ
 hexadecimal_in count word = hexadecimal count count word
 
--- an address: four digits
+-- An address: four digits.
 abbrev pub address_in : List ℕ → Option ℕ
 address_in word = hexadecimal_in 4 word
 
--- a word of a ROM, which has ten bits: three digits, up to 3FF
+-- A number that is a word of a ROM: it has ten bits, up to 3FF.
 abbrev pub rom_word : Option ℕ → Option ℕ
 rom_word None = None
 rom_word (Some number) = if nat_lt number word_count then Some number else None
 
+-- A word of a ROM: three digits, up to 3FF.
 abbrev pub word_in : List ℕ → Option ℕ
 word_in word = rom_word (hexadecimal_in 3 word)
 
--- a displacement: '+' or '-' and two digits, where a zero is '+00' alone
+-- A displacement forward, from the number of its two digits.
 abbrev pub forward_by : Option ℕ → Option ℤ
 forward_by None = None
 forward_by (Some size) = Some (pos size)
 
+-- A displacement backward, from the number of its two digits; it is not zero.
 abbrev pub backward_by : Option ℕ → Option ℤ
 backward_by None = None
 backward_by (Some size) = if size == 0 then None else Some (negsuc (size - 1))
 
+-- A displacement: '+' or '-' and two digits. Zero is '+00' alone.
 abbrev pub displacement_in : List ℕ → Option ℤ
 displacement_in [] = None
 displacement_in (sign ∷ digits) =
     if sign == 43 then forward_by (hexadecimal_in 2 digits)
     else (if sign == 45 then backward_by (hexadecimal_in 2 digits) else None)
 
--- a decimal number: one of so many from the least on
+-- A decimal number: one of this many numbers from the least on.
 abbrev pub number_in : ℕ → ℕ → List ℕ → Option ℕ
 number_in least count word =
     find (λ number. bytes_eq word (decimal number)) (range_with_len least count)
 
--- a field, by its name
+-- A field, by its name.
 abbrev pub field_in : List ℕ → Option Field
 field_in word = find (λ field. bytes_eq word (field_text field)) fields
 
--- what a text can have: 20 to 5F but '"'
+-- A byte that a text can contain: 20 to 5F except '"'.
 abbrev pub is_text_byte : ℕ → Bool
 is_text_byte byte = nat_le 0x20 byte && (nat_le byte 0x5F && not (byte == 34))
 
--- a text: one to eleven of these
+-- A text: one to eleven of these bytes.
 abbrev pub is_text : List ℕ → Bool
 is_text text = nat_lt 0 (length text) && (nat_le (length text) 11 && list_all is_text_byte text)
 
--- the text of a word: between two '"'
+-- The text of a word: it is between two '"'.
 abbrev pub text_in : List ℕ → Option (List ℕ)
 text_in word =
     let text = take (length word - 2) (drop 1 word) in

@@ -1,4 +1,4 @@
-//! From lines to words, in two passes: first the addresses of the labels, then the words.
+//! Assembles the lines of a source in two passes: the first determines the addresses of the labels, the second the words.
 
 ghost use Rattle.std.specs.Prelude.{◌≡◌, ℕ, ◌-ℤ◌, pos, ◌<◌, ◌≤◌, ◌++◌, [], ◌∷◌, None, Some, IfOk};
 ghost use Rattle.std.specs.Prelude.{IfErr, List, OnOk, length};
@@ -24,15 +24,15 @@ use h41_words::{Condition, Displacement, LongJumpKind, Row, Word, word};
 use indexmap::IndexMap;
 use std::alloc::{AllocError, Global};
 
-/// How many addresses there are.
+/// The number of addresses.
 const ADDRESSES: u32 = 0x10000;
 
-/// The addresses of the labels, in the order of their lines.
+/// The addresses of the labels, in the order of their source lines.
 type Labels<'a> = IndexMap<&'a [u8], u16>;
 
-/// The words that a source spells, the first of them at the origin. A refusal is the first fault: lines that cannot be read,
-/// labels that stand twice and words past FFFF (30, 31, 32, 35) by lines, and then references (33, 34) by lines; or 21, where no
-/// memory is left.
+/// Returns the words of a source; the address of the first is `origin`. An error reports the first error of the source: first, by
+/// lines, BadLine (30), BadOperand (31), LabelTwice (32) and TooLong (35), which do not depend on the addresses of labels; then, by
+/// lines, the errors of references, NoLabel (33) and TooFar (34). OutOfMemory (21) is returned if allocation fails.
 pub fn assemble(alloc: Global, text: &[u8], origin: u16) -> Result<Vec<Word>, AssembleError>
     ensures words { IfOk result (λ words. Assembles text.now origin words.items) }
     ensures ok { OnOk result (assembly_fault text.now origin ≡ None) }
@@ -45,8 +45,8 @@ pub fn assemble(alloc: Global, text: &[u8], origin: u16) -> Result<Vec<Word>, As
     spell(alloc, origin, &labels, &lines, &names)
 }
 
-/// Notes the addresses of the labels of a source, and keeps what its lines with words say, where nothing was before; or refuses
-/// the first fault that a line has whatever the labels are.
+/// Records the addresses of the labels of a source, and stores the statements of the source lines that have words, in tables that
+/// are empty before. Returns the first error of a source line that does not depend on the addresses of labels.
 #[inline(always)]
 fn place<'a>(
     labels: &mut Labels<'a>,
@@ -81,7 +81,7 @@ fn place<'a>(
     Ok(())
 }
 
-/// Notes the label of a line at an address, and answers what the line says.
+/// Records the label of a source line at an address, and returns the statement of the line.
 #[inline(always)]
 fn place_line<'a>(
     labels: &mut Labels<'a>,
@@ -113,7 +113,7 @@ fn place_line<'a>(
     Ok(statement)
 }
 
-/// Notes the address of a label, and answers whether it had one.
+/// Records the address of a label, and returns whether it already had one.
 #[inline(always)]
 fn note<'a>(labels: &mut Labels<'a>, name: &'a [u8], address: u32) -> Result<bool, AllocError>
     requires { address < address_count }
@@ -124,7 +124,7 @@ fn note<'a>(labels: &mut Labels<'a>, name: &'a [u8], address: u32) -> Result<boo
     Ok(before.is_some())
 }
 
-/// Whether a label has an address.
+/// Returns whether a label already has an address. It is false if there is no label.
 #[inline(always)]
 fn is_held(labels: &Labels<'_>, label: Option<&[u8]>) -> bool
     ensures { result ≡ is_held_in labels.now label.entry }
@@ -135,7 +135,7 @@ fn is_held(labels: &Labels<'_>, label: Option<&[u8]>) -> bool
     }
 }
 
-/// Whether a label at an address, or one of so many words from there on, is past the last address.
+/// Returns whether a label at an address, or one of `length` words from this address on, is after the last address, FFFF.
 #[inline(always)]
 fn is_too_long(address: u32, label: Option<&[u8]>, length: usize) -> bool
     requires { address ≤ address_count }
@@ -144,7 +144,7 @@ fn is_too_long(address: u32, label: Option<&[u8]>, length: usize) -> bool
     (label.is_some() && ADDRESSES <= address) || length > (ADDRESSES - address) as usize
 }
 
-/// The words of the lines of a source that can be read and placed, or the first fault of a reference.
+/// Returns the words of the stored source lines, or the first error of a reference.
 fn spell(
     alloc: Global,
     origin: u16,
@@ -199,7 +199,7 @@ fn push_statement(
     }
 }
 
-/// Appends the words of a jump to a label.
+/// Appends the two words of a jump by address to a label.
 #[inline(always)]
 fn push_long_jump(
     words: &mut Vec<Word>,
@@ -218,7 +218,7 @@ fn push_long_jump(
     push_two(words, first, second)
 }
 
-/// Appends the word of a short jump at an address to a label.
+/// Appends the word of a short jump, at an address, to a label.
 #[inline(always)]
 fn push_short_jump(
     words: &mut Vec<Word>,
@@ -239,7 +239,7 @@ fn push_short_jump(
     push_one(words, word)
 }
 
-/// Appends the words of a function that begins at a label.
+/// Appends the two words of the table entry of a function that begins at a label.
 #[inline(always)]
 fn push_entry(
     words: &mut Vec<Word>,
@@ -277,7 +277,7 @@ fn push_two(words: &mut Vec<Word>, first: Word, second: Word) -> Result<(), Spel
     Ok(())
 }
 
-/// The address of a label.
+/// Returns the address of a label, or NoLabel (33) if it has none.
 #[inline(always)]
 fn label_address(labels: &Labels<'_>, name: &[u8]) -> Result<u16, SourceFault>
     ensures { result ≡ ok_or (labels_in labels.now name.now) SourceFault.NoLabel }
@@ -288,7 +288,7 @@ fn label_address(labels: &Labels<'_>, name: &[u8]) -> Result<u16, SourceFault>
     }
 }
 
-/// How far it is from an address to another.
+/// Returns the number of words from one address to another; it is negative if the second is smaller.
 #[inline(always)]
 fn distance(from: u32, to: u16) -> i32
     requires { from ≤ address_count }
@@ -297,7 +297,7 @@ fn distance(from: u32, to: u16) -> i32
     i32::from(to) - from as i32
 }
 
-/// The word of a short jump by a displacement.
+/// Returns the word of a short jump by a displacement, or TooFar (34) if the displacement is not from -64 to 63.
 #[inline(always)]
 fn short_jump(condition: Condition, displacement: i32) -> Result<Word, SourceFault>
     ensures { result ≡ jump_word condition displacement }

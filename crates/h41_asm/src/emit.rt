@@ -1,4 +1,4 @@
-//! The words of the directives: names, and entries of functions.
+//! The words of directives: names and table entries of functions.
 
 ghost use Rattle.std.specs.Prelude.{◌≡◌, ◌%◌, ◌<◌, [], ◌∷◌, ◌++◌, map, reverse, OnOk};
 ghost use Rattle.h41_words.specs.Counts.{word_count};
@@ -10,7 +10,8 @@ use crate::table::EntryKind;
 use h41_words::Word;
 use std::alloc::AllocError;
 
-/// The two words of a function's entry: its place in its page, and above its highest digit the bits of its kind.
+/// Returns the two words of a function's table entry: the position of the function in its page. The first word has its highest
+/// digit and the bits of the kind of function.
 pub(crate) fn entry_words(kind: EntryKind, address: u16) -> (Word, Word)
     ensures { result.0 ∷ result.1 ∷ [] ≡ words_of_entry (entry_bits kind) address }
 {
@@ -22,7 +23,7 @@ pub(crate) fn entry_words(kind: EntryKind, address: u16) -> (Word, Word)
     (rom_word(bits + place / 0x100), rom_word(place % 0x100))
 }
 
-/// Appends the words of a name: the last character first, with bit 7.
+/// Appends the words of a name: the last character first, with bit 7 set.
 pub(crate) fn push_name(words: &mut Vec<Word>, text: &[u8]) -> Result<(), AllocError>
     ensures { OnOk result (words.new.items ≡ words.old.items ++ name_words text.now) }
 {
@@ -33,7 +34,7 @@ pub(crate) fn push_name(words: &mut Vec<Word>, text: &[u8]) -> Result<(), AllocE
     Ok(())
 }
 
-/// Appends the codes of characters, the last first.
+/// Appends the codes of characters, the last first. A code is the character modulo 64.
 fn push_codes(words: &mut Vec<Word>, text: &[u8]) -> Result<(), AllocError>
     ensures { OnOk result (words.new.items ≡ words.old.items ++ backward_words text.now) }
 {
@@ -43,7 +44,7 @@ fn push_codes(words: &mut Vec<Word>, text: &[u8]) -> Result<(), AllocError>
     Ok(())
 }
 
-/// The word with this number.
+/// Returns the word with a number from 000 to 3FF.
 pub(crate) fn rom_word(number: u16) -> Word
     requires { number < word_count }
     ensures { result ≡ number }

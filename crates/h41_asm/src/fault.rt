@@ -1,4 +1,4 @@
-//! Why a source is refused.
+//! The errors of a source.
 
 ghost use Rattle.std.specs.Prelude.{◌≡◌};
 ghost use Rattle.h41_asm.specs.declared.fault.AssembleError.TheVariants.{OutOfMemory};
@@ -7,41 +7,42 @@ ghost use Rattle.h41_asm.specs.declared.fault.SpellError.TheVariants as spell_er
 use std::alloc::{AllocError, AllocFailed};
 use thiserror::Error;
 
-/// What is wrong with a line. The numbers and names are this project's own.
+/// The error of a source line. The numbers and names are this project's own.
 #[derive(Clone, Copy, Debug, PartialEq, Eq, Error)]
 pub enum SourceFault {
-    /// 30: the label, or the mnemonic or directive, cannot be read.
+    /// BadLine (30): the label, or the mnemonic or directive, cannot be read.
     #[error("no line of a source")]
     BadLine,
-    /// 31: a known mnemonic or directive with an operand missing, too many, or not one that it takes.
+    /// BadOperand (31): the mnemonic or directive is known, but an operand is missing, or there are too many, or it does not take
+    /// this one.
     #[error("an operand is missing, one too many, or none that is taken")]
     BadOperand,
-    /// 32: an earlier line has the same label.
+    /// LabelTwice (32): an earlier source line has the same label.
     #[error("an earlier line has the label")]
     LabelTwice,
-    /// 33: no line has the label that is referred to.
+    /// NoLabel (33): no source line has the label to which this line refers.
     #[error("no line has the label")]
     NoLabel,
-    /// 34: a short jump does not reach so far.
+    /// TooFar (34): the target is outside the range of a short jump, -64 to 63 words.
     #[error("the jump does not reach so far")]
     TooFar,
-    /// 35: a word or a label is past FFFF.
+    /// TooLong (35): a word or a label is after the last address, FFFF.
     #[error("past FFFF")]
     TooLong,
 }
 
-/// Why a source gave no words.
+/// The reason why a source has no words.
 #[derive(Clone, Copy, Debug, PartialEq, Eq, Error)]
 pub enum AssembleError {
-    /// A line has a fault. Lines are counted from 1.
+    /// A source line has an error. Lines are counted from 1.
     #[error("line {line}: {fault}")]
     Line {
-        /// What is wrong with it.
+        /// The error.
         fault: SourceFault,
-        /// Its number.
+        /// The number of the source line.
         line: usize,
     },
-    /// 21: no memory is left.
+    /// OutOfMemory (21): allocation failed.
     #[error("out of memory")]
     OutOfMemory,
 }
@@ -62,19 +63,19 @@ impl<T: Drop> From<AllocFailed<T>> for AssembleError {
     }
 }
 
-/// Why a statement gave no words.
+/// The reason why a statement has no words.
 #[derive(Clone, Copy)]
 pub(crate) enum SpellError {
-    /// What is wrong with it.
+    /// The error of the statement.
     Fault(SourceFault),
-    /// 21: no memory is left.
+    /// OutOfMemory (21): allocation failed.
     OutOfMemory,
 }
 
 impl SpellError {
     ghost use Rattle.h41_asm.specs.Refusals.{refusal_of};
 
-    /// The same of the line with this number.
+    /// Returns this error as the error of the source line with a number.
     pub(crate) fn at_line(self, line: usize) -> AssembleError
         ensures { result ≡ refusal_of self line }
     {

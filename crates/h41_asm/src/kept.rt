@@ -1,4 +1,4 @@
-//! What the first pass keeps of the lines that have words, so that the second reads no line again.
+//! What the first pass stores of the source lines that have words, so that the second pass need not read them again.
 
 ghost use Rattle.std.specs.Prelude.{◌≡◌, ◌++◌, OnOk};
 ghost use Rattle.h41_asm.specs.private.KeptLines.{kept_lines, kept_names};
@@ -6,16 +6,17 @@ ghost use Rattle.h41_asm.specs.private.KeptLines.{kept_lines, kept_names};
 use crate::statement::{Form, Statement};
 use std::alloc::AllocError;
 
-/// A line that has words.
+/// A source line that has words.
 #[derive(Clone, Copy)]
 pub(crate) struct KeptLine {
-    /// Its number.
+    /// The number of the source line.
     pub number: usize,
-    /// Where its words come from.
+    /// The form of its statement, which determines its words.
     pub form: Form,
 }
 
-/// Keeps what the line with this number says, and the name in it beside that; a line without words is not kept.
+/// Appends the form and the name of a statement, with the number of its source line, to the stored lines and names. A statement
+/// without words is not stored.
 #[inline(always)]
 pub(crate) fn keep<'a>(
     lines: &mut Vec<KeptLine>,

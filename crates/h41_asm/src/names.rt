@@ -1,4 +1,4 @@
-//! Names of addresses: labels, and references to them.
+//! Names of addresses: labels, and references to labels.
 
 ghost use Rattle.std.specs.Prelude.{◌≡◌};
 ghost use Rattle.std.specs.List.{list_all};
@@ -6,31 +6,31 @@ ghost use Rattle.std.specs.Option.{option_map};
 ghost use Rattle.h41_asm.specs.SourceLines.{is_letter, is_name, is_name_byte, label_in};
 ghost use Rattle.h41_asm.specs.SourceLines.{reference_in};
 
-/// The most bytes behind the first letter of a name.
+/// The greatest number of bytes after the first letter of a name.
 const MOST_BEHIND: usize = 11;
 
-/// A letter, of either case.
+/// Returns whether a byte is a letter, of either case.
 fn is_letter(byte: u8) -> bool
     ensures { result ≡ is_letter byte }
 {
     matches!(byte, b'A'..=b'Z' | b'a'..=b'z')
 }
 
-/// A byte that a name can have behind its first letter.
+/// Returns whether a byte can follow the first letter of a name.
 fn is_name_byte(byte: u8) -> bool
     ensures { result ≡ is_name_byte byte }
 {
     is_letter(byte) || matches!(byte, b'0'..=b'9' | b'_')
 }
 
-/// Whether all these bytes can stand behind the first letter of a name.
+/// Returns whether all bytes can follow the first letter of a name.
 fn are_name_bytes(bytes: &[u8]) -> bool
     ensures { result ≡ list_all is_name_byte bytes.now }
 {
     bytes.iter().all(|byte| is_name_byte(*byte))
 }
 
-/// A name: a letter, and up to eleven letters, digits or `_`.
+/// Returns whether a word is a name: a letter, and up to eleven letters, digits or `_`.
 fn is_name(word: &[u8]) -> bool
     ensures { result ≡ is_name word.now }
 {
@@ -42,7 +42,7 @@ fn is_name(word: &[u8]) -> bool
     }
 }
 
-/// The name of a word `name:`.
+/// Returns the name in a word `name:`, or `None` for any other word.
 #[inline(always)]
 pub(crate) fn label_in(word: &[u8]) -> Option<&[u8]>
     ensures { option_map (λ name. name.now) result ≡ label_in word.now }
@@ -55,7 +55,7 @@ pub(crate) fn label_in(word: &[u8]) -> Option<&[u8]>
     }
 }
 
-/// The name of a word `:name`.
+/// Returns the name in a word `:name`, or `None` for any other word.
 #[inline(always)]
 pub(crate) fn reference_in(word: &[u8]) -> Option<&[u8]>
     ensures { option_map (λ name. name.now) result ≡ reference_in word.now }

@@ -1,4 +1,4 @@
-//! Finding what a line's first word begins.
+//! Finds what the first word of a source line begins.
 
 ghost use Rattle.std.specs.Prelude.{◌≡◌, ◌<◌, IfSome};
 ghost use Rattle.h41_asm.specs.private.Openings.{IsTable, OpensAs, TellsWords, entries_in, hash_of};
@@ -7,7 +7,7 @@ ghost use Rattle.h41_asm.specs.private.Openings.{place_count};
 use crate::table::{OPENINGS, Opening, PLACES};
 use h41_lines::hashes::word_hash;
 
-/// What a line's first word begins, or nothing where it is no mnemonic's and no directive's.
+/// Returns what the first word of a source line begins, or `None` if no mnemonic and no directive begins with it.
 #[inline(always)]
 pub(crate) fn opening_of(first: &[u8]) -> Option<Opening>
     ensures value { OpensAs first.now result }
@@ -16,7 +16,7 @@ pub(crate) fn opening_of(first: &[u8]) -> Option<Opening>
     opening_among(&OPENINGS, &PLACES, first)
 }
 
-/// What a first word begins, by a table.
+/// Returns what a first word begins, from a table of first words and their positions.
 #[inline(always)]
 fn opening_among(openings: &[(&str, Opening)], places: &[u8], first: &[u8]) -> Option<Opening>
     requires { IsTable (entries_in openings.now) places.now }
@@ -31,7 +31,7 @@ fn opening_among(openings: &[(&str, Opening)], places: &[u8], first: &[u8]) -> O
     }
 }
 
-/// The hash of a word, by which it is found among the openings.
+/// Returns the hash of a word, by which it is found among the first words.
 #[inline(always)]
 fn hash_of(word: &[u8]) -> usize
     ensures value { result ≡ hash_of word.now }

@@ -1,4 +1,4 @@
-//! The operands of a line.
+//! Reads the operands of a source line.
 
 ghost use Rattle.std.specs.Prelude.{◌≡◌, ◌<◌, ◌≤◌, ◌+◌, bytes_eq};
 ghost use Rattle.std.specs.Fmt.{decimal};
@@ -10,10 +10,10 @@ use h41_fields::Field;
 use h41_lines::numbers::hexadecimal;
 use h41_words::Word;
 
-/// The most characters of a text.
+/// The greatest number of characters of a text.
 const MOST_CHARACTERS: usize = 11;
 
-/// A word of a ROM: three digits, up to 3FF.
+/// Returns the word of a ROM that three hexadecimal digits up to 3FF form, or `None`.
 pub(crate) fn word_in(word: &[u8]) -> Option<Word>
     ensures { result ≡ spec.word_in word.now }
 {
@@ -21,14 +21,14 @@ pub(crate) fn word_in(word: &[u8]) -> Option<Word>
     Word::new(number)
 }
 
-/// An address: four digits.
+/// Returns the address that four hexadecimal digits form, or `None`.
 pub(crate) fn address_in(word: &[u8]) -> Option<u16>
     ensures { result ≡ spec.address_in word.now }
 {
     hexadecimal(4, 4, word)
 }
 
-/// A displacement: its sign and two digits. Zero is `+00` alone.
+/// Returns the displacement that a sign and two hexadecimal digits form, or `None`. Zero is written `+00`; `-00` is not accepted.
 pub(crate) fn displacement_in(word: &[u8]) -> Option<i16>
     ensures { result ≡ spec.displacement_in word.now }
 {
@@ -39,7 +39,7 @@ pub(crate) fn displacement_in(word: &[u8]) -> Option<i16>
     }
 }
 
-/// A displacement forward, by its two digits.
+/// Returns the displacement forward that two digits form.
 fn forward(digits: &[u8]) -> Option<i16>
     ensures { result ≡ spec.forward_by (spec.hexadecimal_in 2 digits.now) }
 {
@@ -47,7 +47,7 @@ fn forward(digits: &[u8]) -> Option<i16>
     Some(size as i16)
 }
 
-/// A displacement backward, by its two digits, which are not both zero.
+/// Returns the displacement backward that two digits form, or `None` if both are zero.
 fn backward(digits: &[u8]) -> Option<i16>
     ensures { result ≡ spec.backward_by (spec.hexadecimal_in 2 digits.now) }
 {
@@ -59,7 +59,7 @@ fn backward(digits: &[u8]) -> Option<i16>
     }
 }
 
-/// A decimal number without leading zeros: one of `count` numbers from `least` on, below 16.
+/// Returns the decimal number without leading zeros that a word is, if it is one of `count` numbers from `least` on, all below 16.
 pub(crate) fn number_in(least: u8, count: u8, word: &[u8]) -> Option<u8>
     requires { least + count ≤ 16 }
     ensures { result ≡ spec.number_in least count word.now }
@@ -67,7 +67,7 @@ pub(crate) fn number_in(least: u8, count: u8, word: &[u8]) -> Option<u8>
     (least..least + count).find(|number| is_decimal(*number, word))
 }
 
-/// Whether a word is this decimal number, which is below 16.
+/// Returns whether a word is this decimal number, which is below 16.
 fn is_decimal(number: u8, word: &[u8]) -> bool
     requires { number < 16 }
     ensures { result ≡ bytes_eq word.now (decimal number) }
@@ -79,7 +79,7 @@ fn is_decimal(number: u8, word: &[u8]) -> bool
     }
 }
 
-/// A field, by its name.
+/// Returns the field with a name, or `None`.
 pub(crate) fn field_in(word: &[u8]) -> Option<Field>
     ensures { result ≡ spec.field_in word.now }
 {
@@ -96,7 +96,7 @@ pub(crate) fn field_in(word: &[u8]) -> Option<Field>
     }
 }
 
-/// The text of a word between two quotes: 1 to 11 characters from 20 to 5F but the quote.
+/// Returns the text in a word between two quotes, or `None`. A text has 1 to 11 characters from 20 to 5F except the quote.
 pub(crate) fn text_in(word: &[u8]) -> Option<&[u8]>
     ensures { option_map (λ text. text.now) result ≡ spec.text_in word.now }
 {
@@ -106,21 +106,21 @@ pub(crate) fn text_in(word: &[u8]) -> Option<&[u8]>
     }
 }
 
-/// A text: one to eleven characters.
+/// Returns whether bytes are a text: 1 to 11 characters.
 fn is_text(text: &[u8]) -> bool
     ensures { result ≡ spec.is_text text.now }
 {
     !text.is_empty() && text.len() <= MOST_CHARACTERS && are_text_bytes(text)
 }
 
-/// Whether all these bytes are characters of a text.
+/// Returns whether all bytes are characters of a text.
 fn are_text_bytes(bytes: &[u8]) -> bool
     ensures { result ≡ list_all spec.is_text_byte bytes.now }
 {
     bytes.iter().all(|byte| is_text_byte(*byte))
 }
 
-/// A character of a text.
+/// Returns whether a byte is a character of a text: 20 to 5F, except the quote.
 fn is_text_byte(byte: u8) -> bool
     ensures { result ≡ spec.is_text_byte byte }
 {

@@ -1,4 +1,4 @@
-//! A line of a source: its label, and the words behind that.
+//! A source line: its label, and the words after the label.
 
 ghost use Rattle.std.specs.Prelude.{◌≡◌, ◌<◌, ◌≤◌, ◌∷◌, drop, length};
 ghost use Rattle.h41_asm.specs.private.CodeStatements.{in_line};
@@ -9,18 +9,18 @@ use crate::words::SourceWords;
 use h41_ends::line_end;
 use h41_lines::lines::without_return;
 
-/// A line of a source.
+/// A source line.
 #[derive(Clone, Copy)]
 pub(crate) struct SourceLine<'a> {
-    /// The name that it is labelled with.
+    /// The label of the line, if it has one.
     pub label: Option<&'a [u8]>,
-    /// The first word behind the label.
+    /// The first word after the label.
     pub first: Option<&'a [u8]>,
-    /// The words behind that.
+    /// The words after the first word.
     pub others: SourceWords<'a>,
 }
 
-/// The line that some bytes are.
+/// Returns the label and the words of a source line.
 #[inline(always)]
 pub(crate) fn read_line(line: &[u8]) -> SourceLine<'_>
     ensures { in_line result ≡ line_of (words_of line.now) }
@@ -47,7 +47,7 @@ pub(crate) fn read_line(line: &[u8]) -> SourceLine<'_>
     }
 }
 
-/// The line of a text that begins at a place, and where the next one begins.
+/// Returns the line of a text that begins at a position, and the position at which the next line begins.
 #[inline(always)]
 pub(crate) fn line_at(text: &[u8], start: usize) -> (&[u8], usize)
     requires { start < length text.now }

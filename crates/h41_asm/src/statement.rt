@@ -1,4 +1,4 @@
-//! What a line says behind its label.
+//! Reads the statement of a source line, which follows its label.
 
 ghost use Rattle.std.specs.Prelude.{◌≡◌, ◌+◌, ◌≤◌, ◌==◌, [], ◌∷◌, bytes_eq, codes, length};
 ghost use Rattle.std.specs.Option.{ok_or, option_map};
@@ -28,25 +28,25 @@ use h41_words::{
     Row, SecondWord, StatusBit, Word, word,
 };
 
-/// What a line says: words, some by an address that a label stands for.
+/// The statement of a source line: its words, some of which depend on the address of a label.
 #[derive(Clone, Copy)]
 pub(crate) struct Statement<'a> {
-    /// Which words.
+    /// The form, which determines the words.
     pub form: Form,
-    /// The name that they come from, if they come from one: that of a label, or the text of a `NAME`.
+    /// The name that the form needs: a label, or the text of a `NAME`. It is empty if the form needs none.
     pub name: &'a [u8],
 }
 
-/// Where the words of a statement come from.
+/// The form of a statement.
 #[derive(Clone, Copy)]
 pub(crate) enum Form {
     /// No words.
     Nothing,
-    /// An instruction of one word, or a word as a number.
+    /// An instruction of one word, or a word that is written as a number.
     One(Word),
     /// An instruction of two words.
     Two(Word, Word),
-    /// The words of the name.
+    /// The words of the text of a `NAME`.
     Name,
     /// A short jump by a displacement that no word has.
     OutOfReach,
@@ -54,12 +54,12 @@ pub(crate) enum Form {
     LongJumpTo(Condition, LongJumpKind),
     /// A short jump to the label.
     ShortJumpTo(Condition),
-    /// The two words of a function that begins at the label.
+    /// The two words of the table entry of a function that begins at the label.
     EntryAt(EntryKind),
 }
 
 impl Form {
-    /// A statement without a name.
+    /// Returns the statement of this form without a name.
     #[inline(always)]
     fn alone<'a>(self) -> Statement<'a>
         ensures { in_code result ≡ in_form self [] }
@@ -70,7 +70,7 @@ impl Form {
         }
     }
 
-    /// A statement with this name.
+    /// Returns the statement of this form with a name.
     #[inline(always)]
     pub(crate) fn with(self, name: &[u8]) -> Statement<'_>
         ensures { in_code result ≡ in_form self name.now }
@@ -80,7 +80,7 @@ impl Form {
 }
 
 impl Statement<'_> {
-    /// How many words it takes, 0 to 11.
+    /// Returns the number of words of the statement, 0 to 11.
     #[inline(always)]
     pub(crate) fn length(&self) -> usize
         ensures { result ≡ spec.statement_length (in_code self.now) }
@@ -94,7 +94,7 @@ impl Statement<'_> {
     }
 }
 
-/// What the words behind a line's label say, or why they cannot be read.
+/// Returns the statement that the words after a line's label form, or BadLine (30) or BadOperand (31).
 #[inline(always)]
 pub(crate) fn read(line: SourceLine<'_>) -> Result<Statement<'_>, SourceFault>
     ensures { read_in_code result ≡ spec.reading_of (in_line line.entry).code }
@@ -105,7 +105,7 @@ pub(crate) fn read(line: SourceLine<'_>) -> Result<Statement<'_>, SourceFault>
     }
 }
 
-/// What a first word says with those behind it.
+/// Returns the statement that a first word and the words after it form, or an error.
 #[inline(always)]
 fn read_from<'a>(first: &[u8], others: SourceWords<'a>) -> Result<Statement<'a>, SourceFault>
     ensures { read_in_code result ≡ spec.reading_of (first.now ∷ words_of others.entry.rest.now) }
@@ -116,7 +116,7 @@ fn read_from<'a>(first: &[u8], others: SourceWords<'a>) -> Result<Statement<'a>,
     }
 }
 
-/// What the words behind a known one say.
+/// Returns the statement that a known first word and the words after it form, or an error.
 #[inline(always)]
 fn opened(opening: Opening, others: SourceWords<'_>) -> Result<Statement<'_>, SourceFault>
     requires { openings.TellsWords opening }
@@ -141,7 +141,7 @@ fn opened(opening: Opening, others: SourceWords<'_>) -> Result<Statement<'_>, So
     }
 }
 
-/// An instruction behind which no word stands.
+/// Returns the statement of an instruction without an operand. BadOperand (31) is returned if any word follows.
 #[inline(always)]
 fn alone(instruction: Word, others: SourceWords<'_>) -> Result<Statement<'_>, SourceFault>
     ensures { Reads (openings.without_operand instruction) others.entry result }
@@ -153,7 +153,8 @@ fn alone(instruction: Word, others: SourceWords<'_>) -> Result<Statement<'_>, So
     }
 }
 
-/// An instruction behind which `DATA` stands, or one with a number.
+/// Returns the statement of an instruction that is followed by `DATA`, or of the instruction that begins with the same word and
+/// takes a number.
 fn data_or(
     instruction: Word,
     numbered: Numbered,
@@ -168,7 +169,7 @@ fn data_or(
     }
 }
 
-/// Whether words are `DATA` alone.
+/// Returns whether words are `DATA` alone.
 fn is_data(words: SourceWords<'_>) -> bool
     ensures { result ≡ spec.is_whole (words_of words.entry.rest.now) (codes "DATA") }
 {
@@ -179,7 +180,8 @@ fn is_data(words: SourceWords<'_>) -> bool
     }
 }
 
-/// An instruction whose second word is this.
+/// Returns the statement of an instruction whose mnemonic has this second word. BadLine (30) is returned if the second word is
+/// another.
 fn pair<'a>(name: &str, row: Row, others: SourceWords<'a>) -> Result<Statement<'a>, SourceFault>
     ensures { ReadsSecond (openings.pair name.now (number_of row)) others.entry result }
 {
@@ -192,7 +194,8 @@ fn pair<'a>(name: &str, row: Row, others: SourceWords<'a>) -> Result<Statement<'
     }
 }
 
-/// One of two instructions, by the second word.
+/// Returns the statement of one of two instructions, which the second word selects. BadLine (30) is returned if the second word is
+/// another.
 fn either<'a>(
     name: &str,
     row: Row,
@@ -215,7 +218,7 @@ fn either<'a>(
     }
 }
 
-/// `C=C OR A` or `C=C AND A`.
+/// Returns the statement of `C=C OR A` or `C=C AND A`, or an error.
 fn logic(others: SourceWords<'_>) -> Result<Statement<'_>, SourceFault>
     ensures { ReadsSecond openings.logic others.entry result }
 {
@@ -230,7 +233,7 @@ fn logic(others: SourceWords<'_>) -> Result<Statement<'_>, SourceFault>
     }
 }
 
-/// A return where the carry is as the condition says, or a jump by address.
+/// Returns the statement of a return or a jump by address with a condition, or an error.
 fn at_carry(condition: Condition, others: SourceWords<'_>) -> Result<Statement<'_>, SourceFault>
     ensures { ReadsSecond (openings.at_carry condition) others.entry result }
 {
@@ -247,7 +250,7 @@ fn at_carry(condition: Condition, others: SourceWords<'_>) -> Result<Statement<'
     }
 }
 
-/// Whether a word is this text.
+/// Returns whether a word is this text.
 #[inline(always)]
 fn is(word: &[u8], text: &str) -> bool
     ensures { result ≡ bytes_eq word.now text.now }
@@ -255,7 +258,7 @@ fn is(word: &[u8], text: &str) -> bool
     word == text.as_bytes()
 }
 
-/// Whether no word is left.
+/// Returns whether no word is left.
 #[inline(always)]
 fn is_nothing(words: SourceWords<'_>) -> bool
     ensures { result ≡ (length (words_of words.entry.rest.now) == 0) }
@@ -264,7 +267,8 @@ fn is_nothing(words: SourceWords<'_>) -> bool
     words.next().is_none()
 }
 
-/// The one operand behind a mnemonic.
+/// Returns the statement of a mnemonic that takes one operand. BadOperand (31) is returned if it is followed by no word or by
+/// several.
 #[inline(always)]
 fn taken(taking: Taking, operands: SourceWords<'_>) -> Result<Statement<'_>, SourceFault>
     ensures { read_in_code result ≡ taken_operand taking operands.entry.rest }
@@ -276,7 +280,8 @@ fn taken(taking: Taking, operands: SourceWords<'_>) -> Result<Statement<'_>, Sou
     }
 }
 
-/// What an only operand says with its mnemonic, or that it is none that this takes.
+/// Returns the statement of a mnemonic with its only operand. BadOperand (31) is returned if the mnemonic does not take this
+/// operand.
 fn take_only(taking: Taking, operand: &[u8]) -> Result<Statement<'_>, SourceFault>
     ensures { read_in_code result ≡ ok_or (takes_in_code taking operand.now) BadOperand }
 {
@@ -286,7 +291,7 @@ fn take_only(taking: Taking, operand: &[u8]) -> Result<Statement<'_>, SourceFaul
     }
 }
 
-/// What an operand says with its mnemonic, where that takes it.
+/// Returns the statement of a mnemonic with an operand, or `None` if the mnemonic does not take it.
 #[inline(always)]
 fn take(taking: Taking, operand: &[u8]) -> Option<Statement<'_>>
     ensures { found_in_code result ≡ takes_in_code taking operand.now }
@@ -318,7 +323,7 @@ fn take(taking: Taking, operand: &[u8]) -> Option<Statement<'_>>
     }
 }
 
-/// An instruction whose operand is a number.
+/// Returns the statement of an instruction with a number as its operand, or `None`.
 fn take_number(numbered: Numbered, operand: &[u8]) -> Option<Statement<'_>>
     ensures { found_in_code result ≡ takes_numbered numbered operand.now }
 {
@@ -326,7 +331,7 @@ fn take_number(numbered: Numbered, operand: &[u8]) -> Option<Statement<'_>>
     Some(Form::One(word(row)).alone())
 }
 
-/// The row of an instruction whose operand is a number.
+/// Returns the row of an instruction with a number as its operand, or `None`.
 fn numbered_row(numbered: Numbered, operand: &[u8]) -> Option<Row>
     ensures { option_map spec.one_word result ≡ takes_numbered numbered operand.now }
 {
@@ -343,21 +348,21 @@ fn numbered_row(numbered: Numbered, operand: &[u8]) -> Option<Row>
     })
 }
 
-/// A status bit, by its number.
+/// Returns the status bit with the number that an operand is, 0 to 13, or `None`.
 fn status_bit_in(operand: &[u8]) -> Option<StatusBit>
     ensures { result ≡ number_in 0 status_bit_count operand.now }
 {
     Some(StatusBit::new(number_in(0, 14, operand)?))
 }
 
-/// A place of a register, by its number.
+/// Returns the place of a register with the number that an operand is, 0 to 13, or `None`.
 fn place_in(operand: &[u8]) -> Option<DigitPlace>
     ensures { result ≡ number_in 0 place_count operand.now }
 {
     Some(DigitPlace::new(number_in(0, 14, operand)?))
 }
 
-/// A jump to an address, or to a label.
+/// Returns the statement of a jump to an address or to a label, or `None`.
 fn take_address(condition: Condition, kind: LongJumpKind, operand: &[u8]) -> Option<Statement<'_>>
     ensures { found_in_code result ≡ spec.takes_address condition kind operand.now }
 {
@@ -373,7 +378,7 @@ fn take_address(condition: Condition, kind: LongJumpKind, operand: &[u8]) -> Opt
     }
 }
 
-/// The two words of a jump to an address.
+/// Returns the two words of a jump to an address.
 pub(crate) fn long_jump_words(
     condition: Condition,
     kind: LongJumpKind,
@@ -389,7 +394,7 @@ pub(crate) fn long_jump_words(
     (word(Row::LongJump((address % 256) as u8)), second.word())
 }
 
-/// A short jump by a displacement, or to a label.
+/// Returns the statement of a short jump by a displacement or to a label, or `None`.
 fn take_displacement(condition: Condition, operand: &[u8]) -> Option<Statement<'_>>
     ensures { found_in_code result ≡ spec.takes_displacement condition operand.now }
 {
@@ -402,7 +407,7 @@ fn take_displacement(condition: Condition, operand: &[u8]) -> Option<Statement<'
     }
 }
 
-/// A short jump by a displacement.
+/// Returns the statement of a short jump by a displacement. It has no word if the displacement is not from -64 to 63.
 pub(crate) fn short_jump_by<'a>(condition: Condition, displacement: i16) -> Statement<'a>
     ensures { in_code result ≡ spec.short_jump_by condition displacement }
 {

@@ -1,68 +1,68 @@
-//! The first words of mnemonics, and the directives, each beside what it begins.
+//! The first words of mnemonics, and the directives, each with what it begins.
 
 use h41_words::{Condition, LongJumpKind, Operation};
 
-/// What a mnemonic or a directive takes as its one operand.
+/// The operand that a mnemonic or a directive takes.
 #[derive(Clone, Copy)]
 pub(crate) enum Taking {
-    /// A field to work on.
+    /// A field, for an operation on it.
     Field(Operation),
     /// A number.
     Number(Numbered),
-    /// `LDI hhh`.
+    /// `LDI hhh`: a word of three hexadecimal digits.
     Immediate,
-    /// `CON hhh`.
+    /// `CON hhh`: a word of three hexadecimal digits.
     Constant,
     /// An address of four digits, or a label.
     LongJump(Condition, LongJumpKind),
     /// A displacement, or a label.
     ShortJump(Condition),
-    /// `NAME "text"`.
+    /// `NAME "text"`: a text in quotes.
     Name,
-    /// `ENTRY :name` and `FOCAL :name`.
+    /// `ENTRY :name` and `FOCAL :name`: a label.
     Entry(EntryKind),
 }
 
-/// What a function of a module is.
+/// The kind of a function of a module.
 #[derive(Clone, Copy)]
 pub(crate) enum EntryKind {
-    /// Microcode.
+    /// A function in microcode.
     Microcode,
     /// A keystroke program.
     Keystroke,
 }
 
-/// The instructions whose operand is a number.
+/// An instruction that takes a number.
 #[derive(Clone, Copy)]
 pub(crate) enum Numbered {
-    /// `CLRF n`.
+    /// `CLRF n`: 0 to 13.
     ClearStatus,
-    /// `SETF n`.
+    /// `SETF n`: 0 to 13.
     SetStatus,
-    /// `?FSET n`.
+    /// `?FSET n`: 0 to 13.
     TestStatus,
-    /// `?R= n`.
+    /// `?R= n`: 0 to 13.
     TestPointer,
-    /// `R= n`.
+    /// `R= n`: 0 to 13.
     SetPointer,
-    /// `RCR n`.
+    /// `RCR n`: 0 to 13.
     RotateRight,
-    /// `LD@R n`.
+    /// `LD@R n`: 0 to 15.
     LoadDigit,
-    /// `WRIT n`.
+    /// `WRIT n`: 0 to 15.
     Write,
-    /// `READ n`.
+    /// `READ n`: 1 to 15.
     Read,
 }
 
-/// What the first word of a mnemonic, or a directive, begins. A word of a ROM is told by its number.
+/// What the first word of a mnemonic, or a directive, begins. Words of a ROM are given by their numbers.
 #[derive(Clone, Copy)]
 pub(crate) enum Opening {
-    /// An instruction that has no operand, with its word.
+    /// An instruction without an operand, and the number of its word.
     Single(u16),
     /// An instruction or a directive with an operand.
     Taker(Taking),
-    /// An instruction with `DATA` behind it, with its word, or with a number.
+    /// An instruction that is followed by `DATA`, with the number of its word, or else one that takes a number.
     Data(u16, Numbered),
     /// `PUSH ADR`.
     Push,
@@ -80,11 +80,11 @@ pub(crate) enum Opening {
     GoTo,
     /// `C=C OR A` and `C=C AND A`.
     Logic,
-    /// `?C RTN` and the like: a return, or a jump by address.
+    /// `?C RTN` and the like: a return or a jump by address, with a condition.
     If(Condition),
 }
 
-/// The first words of mnemonics and the directives, each beside what it begins.
+/// The first words of mnemonics, and the directives, each with what it begins.
 pub(crate) static OPENINGS: [(&str, Opening); 95] = [
     ("NOP", Opening::Single(0x000)),
     ("WROM", Opening::Single(0x040)),
@@ -243,7 +243,7 @@ pub(crate) static OPENINGS: [(&str, Opening); 95] = [
     ("FOCAL", Opening::Taker(Taking::Entry(EntryKind::Keystroke))),
 ];
 
-/// Where in `OPENINGS` the word with each hash stands; where none of them has it, any place.
+/// The index in `OPENINGS` of the word with each hash. For a hash that no word has, the index has no meaning.
 pub(crate) static PLACES: [u8; 256] = [
     0, 16, 0, 0, 60, 0, 75, 0, 0, 0, 0, 53, 0, 0, 14, 0, 90, 50, 0, 0, 0, 0, 61, 5, 7, 89, 0, 0,
     62, 0, 0, 0, 0, 0, 0, 0, 0, 0, 84, 0, 0, 38, 73, 0, 0, 71, 0, 0, 31, 0, 0, 0, 0, 0, 15, 0, 51,

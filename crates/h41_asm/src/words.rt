@@ -1,4 +1,4 @@
-//! The words of a line.
+//! The words of a source line.
 
 ghost use Rattle.std.specs.Iterator.{YieldsFirstRef, item_count};
 ghost use Rattle.std.specs.Prelude.{◌≡◌, ◌≤◌, ◌==◌, ◌||◌, false, not, length};
@@ -6,15 +6,16 @@ ghost use Rattle.h41_asm.specs.SourceLines.{is_blank, part_length, words_of};
 
 use h41_lines::words::word_start;
 
-/// The words that are left of a line. Blanks and tabs outside quotes part them, and a `;` outside quotes begins a comment.
+/// An iterator over the words of a source line. Spaces and tabs outside quotes separate words, and a `;` outside quotes begins a
+/// comment.
 #[derive(Clone, Copy)]
 pub struct SourceWords<'a> {
-    /// The bytes that are left of the line, which begin outside quotes.
+    /// The part of the line that is not read yet. It begins outside quotes.
     pub rest: &'a [u8],
 }
 
 impl<'a> SourceWords<'a> {
-    /// All words of a line.
+    /// Returns an iterator over all words of a source line.
     #[inline(always)]
     pub fn new(line: &'a [u8]) -> Self
         ensures { result.rest.now ≡ line.now }
@@ -43,7 +44,7 @@ impl<'a> Iterator for SourceWords<'a> {
     }
 }
 
-/// How many bytes of a line stand before its first blank, or before its comment, outside quotes.
+/// Returns the number of bytes of a line before its first space, tab or `;` outside quotes.
 #[inline(always)]
 fn word_end(line: &[u8]) -> usize
     ensures value { result ≡ part_length false line.now }
@@ -63,7 +64,7 @@ fn word_end(line: &[u8]) -> usize
     line.len()
 }
 
-/// The bytes that end a word, or begin or end quotes: a blank, a tab, a quote and a `;`.
+/// A 1 for each byte that ends a word or begins or ends quotes: a space, a tab, a quote and a `;`.
 #[rattlefmt::skip]
 const ENDS: [u8; 256] = [
     0, 0, 0, 0, 0, 0, 0, 0, 0, 1, 0, 0, 0, 0, 0, 0,
@@ -84,7 +85,7 @@ const ENDS: [u8; 256] = [
     0, 0, 0, 0, 0, 0, 0, 0, 0, 0, 0, 0, 0, 0, 0, 0,
 ];
 
-/// Whether a byte of a word is just that: it neither ends the word nor begins or ends quotes.
+/// Returns whether a byte is an ordinary byte of a word: it neither ends the word nor begins or ends quotes.
 #[inline(always)]
 fn is_within(byte: u8) -> bool
     ensures { result ≡ not (is_blank byte || byte == 59 || byte == 34) }

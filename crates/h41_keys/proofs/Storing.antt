@@ -42,12 +42,12 @@ use Rattle.h41_keys.specs.declared.prompt.Typed.TheVariants as typed
 use Rattle.h41_keys.specs.declared.prompt_step.PromptStep.{PromptStep}
 use Rattle.h41_keys.specs.declared.prompt_step.PromptStep.TheVariants as steps
 
--- a fact of two things holds of the one that is chosen
+-- A fact of two things holds of the one that is chosen.
 chosen : {A : Type 0} (P : A → Type 0) (b : Bool) (one other : A) → P one → P other → P (if b then one else other)
 chosen P true one other first second = first
 chosen P false one other first second = second
 
--- THE LINES OF PROMPTS
+-- The lines of prompts.
 abbrev Storable : Line → Type 0
 Storable line = IsTrue (is_storable line)
 
@@ -79,7 +79,7 @@ named function (letter ∷ []) =
     (naming (prompt_row function).lines (letter ∷ []))
 named function (letter ∷ second ∷ rest) = naming (prompt_row function).lines (letter ∷ second ∷ rest)
 
--- PROMPTS. What a key makes of one is no line, or one that can be stored
+-- Prompts: the effect of a key is no line, or a line that can be stored.
 abbrev Types : Option PromptStep → Type 0
 Types (Some (steps.Types line)) = Storable line
 Types other = ⊤
@@ -157,7 +157,7 @@ prompt_step prompt typed.Point shift key = with_point_typed prompt (row_of key).
 prompt_step prompt (typed.Name name) shift key =
     with_name_typed prompt name shift (row_of key).plain (row_of key).letter (row_of key).shifted_letter
 
--- KEYS. What they store can be stored
+-- Keys: what they store can be stored.
 abbrev Stores : Pressed → Type 0
 Stores pressed = StoresLine pressed.action
 
@@ -168,7 +168,7 @@ line_typed input false line storable = tt
 function_typed : (input : Input) (function : Function) → Stores (press.function_typed input function)
 function_typed input function = line_typed input input.program_mode _ refl
 
--- numbers
+-- Numbers.
 number_begun : (input : Input) (program_mode : Bool) (text : List Character) → Stores (press.number_begun input program_mode text)
 number_begun input true text = refl
 number_begun input false text = tt
@@ -203,7 +203,7 @@ back_pressed : (input : Input) (entry : TypedEntry) → Stores (press.back_press
 back_pressed input (entries.Number text) = number_becomes input text (without_last text)
 back_pressed input other = press_of_clear input input.program_mode
 
--- texts
+-- Texts.
 letter_typed : (input : Input) (program_mode : Bool) (entry : TypedEntry) (letter : ℕ)
     → Stores (press.letter_typed input program_mode entry letter)
 letter_typed input false entries.Append letter = tt
@@ -227,7 +227,7 @@ run_pressed : (input : Input) (program_mode : Bool) → Stores (press.run_presse
 run_pressed input true = function_typed input _
 run_pressed input false = tt
 
--- a key that is accepted stores such a line, or none
+-- A key that is accepted stores such a line, or none.
 abbrev IfPressed : Option Pressed → Type 0
 IfPressed pressed = IfSome pressed Stores
 
@@ -271,7 +271,7 @@ while_in_microcode : (input : Input) (meaning : Meaning) → IfPressed (press.wh
 while_in_microcode input meanings.Nothing = tt
 while_in_microcode input other = tt
 
--- a key that is left stores what it did
+-- An accepted key stores the same line if it is checked for pages.
 held_in_page : (deletes_nothing puts_end : Bool) (pressed : Option Pressed) → IfPressed pressed
     → IfPressed (press.held_in_page deletes_nothing puts_end pressed)
 held_in_page deletes_nothing puts_end (Some pressed) stores =
@@ -290,7 +290,7 @@ presses_store input key modes.Idle flags =
 presses_store input key modes.Run flags = while_running input (row_of key).plain
 presses_store input key modes.Micro flags = while_in_microcode input (row_of key).plain
 
--- an accepted key's action stores such a line, or none
+-- An accepted key's action stores such a line, or none.
 pub accepted_stores : (before : Input) (key : Key) (mode : Activity) (flags : Flags) (action : Action) (after : Input)
     → press.Accepts before key mode flags action after → StoresLine action
 accepted_stores before key mode flags action after accepted = subst IfPressed accepted (presses_store before key mode flags)

@@ -1,4 +1,4 @@
--- Prompts: what each function takes for its parameter, and how the display shows what is typed of
+-- Prompts: what each function takes as its parameter, and how the display shows the typed part of
 -- it.
 use Rattle.std.specs.Prelude.{ℕ, ◌+◌, ◌-◌, nat_le, Bool, true, false, ◌&&◌, ◌==◌, List, [], ◌∷◌}
 use Rattle.std.specs.Prelude.{◌++◌, Option, Some, None, if◌then◌else◌, codes}
@@ -22,11 +22,11 @@ use Rattle.h41_keys.specs.declared.prompt.PromptRow.{PromptRow}
 use Rattle.h41_keys.specs.declared.prompt.Typed.{Typed}
 use Rattle.h41_keys.specs.declared.prompt.Typed.TheVariants as typed
 
--- Rows of the table, by what a function works on: its lines, how many digits its parameter has
--- (after IND, all have two), whether IND can stand in front of it, whether it works on registers,
+-- The rows of the table, by what a function works on. A row has its lines, the number of digits of
+-- its parameter (after IND, always two), whether IND can precede it, whether it works on registers,
 -- so that those of the stack can be named without IND, and whether it takes a name.
 
--- on registers
+-- The row of a function on registers.
 abbrev pub register : ParameterFunction → PromptRow
 register function =
     record {
@@ -37,7 +37,7 @@ register function =
       named = false;
     }
 
--- on flags
+-- The row of a function on flags.
 abbrev pub flag : ParameterFunction → PromptRow
 flag function =
     record {
@@ -48,7 +48,7 @@ flag function =
       named = false;
     }
 
--- on a number of digits
+-- The row of a function whose parameter is a number of display digits.
 abbrev pub format : ParameterFunction → PromptRow
 format function =
     record {
@@ -59,7 +59,7 @@ format function =
       named = false;
     }
 
--- to labels
+-- The row of a function that goes to a label or executes it.
 abbrev pub branch_row : Branch → PromptRow
 branch_row branch =
     record {
@@ -70,7 +70,7 @@ branch_row branch =
       named = true;
     }
 
--- the table
+-- The table: the row of each function.
 abbrev pub prompt_row : PromptFunction → PromptRow
 prompt_row prompts.Execute = branch_row branches.Execute
 prompt_row prompts.GoTo = branch_row branches.GoTo
@@ -99,25 +99,26 @@ prompt_row prompts.Fixed = format functions.Fixed
 prompt_row prompts.Scientific = format functions.Scientific
 prompt_row prompts.Engineering = format functions.Engineering
 
--- its name is that of its lines, as a listing has it
+-- The name of the lines, as in a listing.
 abbrev pub lines_name : PromptLines → List ℕ
 lines_name (Parameter function) = parameter_function_name function
 lines_name (Branching branch) = branch_name branch
 
+-- The name of a function in a prompt: that of its lines.
 abbrev pub prompt_name : PromptFunction → List ℕ
 prompt_name function = lines_name (prompt_row function).lines
 
--- how many digits the parameter has
+-- The number of digits of the parameter.
 abbrev pub digits_wanted : PromptFunction → Bool → ℕ
 digits_wanted function true = 2
 digits_wanted function false = (prompt_row function).digits
 
--- whether the point names a register of the stack
+-- Whether the decimal point begins the name of a stack register.
 abbrev pub takes_stack : PromptFunction → Bool → Bool
 takes_stack function true = true
 takes_stack function false = (prompt_row function).registers
 
--- the line of a function and a parameter, in its shortest spelling
+-- The line with a parameter, in its shortest form.
 abbrev pub line_with : PromptLines → Bool → ℕ → Line
 line_with (Parameter function) false parameter =
     canonical_line (lines.WithOperand function (Direct parameter))
@@ -127,31 +128,33 @@ line_with (Branching branch) false parameter =
     canonical_line (lines.BranchTo branch 0 false parameter)
 line_with (Branching branch) true parameter = lines.BranchIndirect branch parameter
 
+-- The line of a function with a parameter.
 abbrev pub parameter_line : PromptFunction → Bool → ℕ → Line
 parameter_line function indirect parameter =
     line_with (prompt_row function).lines indirect parameter
 
--- one letter A to J is a label of its program, which has a number: A is 102
+-- Whether a letter is A to J: it is then a local label.
 abbrev pub is_local_letter : ℕ → Bool
 is_local_letter letter = nat_le 0x41 letter && nat_le letter 0x4A
 
+-- The number of a local label: A is 102.
 abbrev pub local_label : ℕ → ℕ
 local_label letter = 102 + (letter - 0x41)
 
--- other names stand in the line; of functions with a parameter LBL alone has one
+-- The line with any other name. Of the functions with a parameter, only LBL has one.
 abbrev pub line_naming : PromptLines → List ℕ → Line
 line_naming (Parameter function) name = lines.GlobalLabel 0 0 name
 line_naming (Branching branches.GoTo) name = lines.Named namings.GoToName name
 line_naming (Branching branches.Execute) name = lines.Named namings.ExecuteName name
 
--- the line of a function and a name
+-- The line of a function with a name.
 abbrev pub name_line : PromptFunction → List ℕ → Line
 name_line function (letter ∷ []) =
     if is_local_letter letter then parameter_line function false (local_label letter)
     else line_naming (prompt_row function).lines (letter ∷ [])
 name_line function name = line_naming (prompt_row function).lines name
 
--- the letter of a register of the stack, and its number
+-- The number of the stack register with a letter.
 abbrev pub stack_register : ℕ → Option ℕ
 stack_register letter =
     if letter == 0x54 then Some 112
@@ -161,7 +164,7 @@ stack_register letter =
     else if letter == 0x4C then Some 116
     else None
 
--- what is typed of the parameter, as the display shows it
+-- The typed part of the parameter, as the display shows it.
 abbrev pub typed_text : PromptFunction → Bool → Typed → List ℕ
 typed_text function indirect typed.Nothing =
     if digits_wanted function indirect == 1 then codes " _" else codes " __"
@@ -170,7 +173,7 @@ typed_text function indirect typed.Stack = codes " ST _"
 typed_text function indirect typed.Point = codes " ._"
 typed_text function indirect (typed.Name name) = 0x20 ∷ 0x22 ∷ (name ++ 0x5F ∷ [])
 
--- a prompt as the display shows it
+-- A prompt, as the display shows it.
 abbrev pub prompt_text : Prompt → List ℕ
 prompt_text prompt =
     prompt_name prompt.function

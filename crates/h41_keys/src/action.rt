@@ -1,50 +1,51 @@
-//! What a key has the calculator do.
+//! The actions that keys cause.
 use h41_codes::{Line, Number};
 
-/// What a key has the calculator do, beyond what every accepted key does: it tells its code, sets the key flag and turns the
-/// display on, and where nothing runs it takes away a message.
+/// The action that a key causes. In addition, every accepted key makes its code readable, sets the key flag and turns the display
+/// on, and if nothing runs it removes a message.
 #[derive(Clone, Copy, Debug, PartialEq, Eq)]
 pub enum Action {
     /// Nothing more.
     Nothing,
-    /// The program that runs stops.
+    /// The running program stops.
     Stop,
     /// The program runs.
     Run,
-    /// `SST`: the next line is carried out, or in program mode the one behind the shown line is shown.
+    /// `SST`: the next program line is executed, or in program mode the line after the shown one is shown.
     Step,
-    /// `BST`: back to the line before.
+    /// `BST`: the program line before the shown one is shown.
     StepBack,
-    /// A line was typed, and is carried out.
+    /// A line was typed, and is executed.
     CarryOut(Line),
-    /// In program mode a line was typed or begun: it is inserted behind the shown one, in front of it where that is an END,
-    /// and first at line 00.
+    /// In program mode, a line was typed or begun. It is inserted after the shown line; before it if that is an END; and as the
+    /// first line if line 00 is shown.
     Insert(Line),
-    /// In program mode more of the shown line was typed, or some of it taken back: this takes its place.
+    /// In program mode, more of the shown line was typed, or part of it was deleted. The shown line is replaced by this one.
     Replace(Line),
-    /// In program mode the shown line goes; at line 00 and at `.END.` nothing does.
+    /// In program mode, the shown line is deleted. Line 00 and `.END.` are never deleted.
     Delete,
-    /// A number was begun: it comes into X, and flag 22 is set.
+    /// A number was begun. It is entered into X, and flag 22 is set.
     BeginNumber(Number),
-    /// The number in X has become this one.
+    /// The number in X is replaced by this one.
     ChangeNumber(Number),
-    /// The number's last character was taken, by BACK or by CHS on a sign alone: X is zero, and the stack does not lift.
+    /// The last character of the number was deleted, by BACK or by CHS on a sign alone. X becomes zero, and stack lift is disabled.
     EndNumber,
-    /// Flag 48 changes: ALPHA is shown and written, or no longer.
+    /// Flag 48 is toggled: ALPHA mode begins or ends.
     ToggleAlpha,
-    /// A letter, by its byte, is the first of ALPHA, which is cleared; flag 23 is set.
+    /// ALPHA is cleared, and this letter, given as its byte, is its first. Flag 23 is set.
     BeginText(u8),
-    /// A letter, by its byte, is appended to ALPHA; flag 23 is set.
+    /// This letter, given as its byte, is appended to ALPHA. Flag 23 is set.
     AddLetter(u8),
-    /// ALPHA's last character goes, where it has one.
+    /// The last character of ALPHA is deleted, if it has one.
     TakeLetter,
     /// ALPHA is cleared.
     ClearAlpha,
-    /// `GTO . .`: to the end of program memory, where a new program begins.
+    /// `GTO . .`: the position moves to the end of program memory. A new program begins there.
     GoToEnd,
 }
 
-/// 18: the key has no meaning in this state of the keyboard, or would change lines while a page's is shown in program mode.
+/// KeyNotHeld (18): the bench does not support this key in this state of the keyboard, or the key would change lines in program
+/// mode while a line of a page is shown.
 #[derive(Clone, Copy, Debug, PartialEq, Eq, thiserror::Error)]
 #[error("the key has no meaning here")]
 pub struct KeyNotHeld;

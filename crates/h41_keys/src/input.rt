@@ -1,4 +1,4 @@
-//! What the keyboard keeps from key to key.
+//! The state of the keyboard between keys.
 use crate::action::Action;
 use crate::prompt::Prompt;
 use h41_codes::{Number, Text};
@@ -6,24 +6,24 @@ use h41_codes::{Number, Text};
 /// A number or a text that is being typed.
 #[derive(Clone, Copy, Debug, PartialEq, Eq)]
 pub enum TypedEntry {
-    /// None.
+    /// Neither a number nor a text is being typed.
     Nothing,
-    /// A number: its characters so far.
+    /// A number, with its characters so far.
     Number(Number),
-    /// A text for ALPHA that is to be appended, no letter yet.
+    /// A text that will be appended to ALPHA, before its first letter.
     Append,
-    /// A text for ALPHA of which a letter was typed.
+    /// A text for ALPHA, after its first letter.
     Letters,
-    /// In program mode, a line with a text: its characters so far. One that is appended begins with 7F.
+    /// In program mode, a text line with its characters so far. If the line appends to ALPHA, they begin with 7F.
     TextLine(Text<15>),
 }
 
-/// What the keyboard keeps from key to key.
+/// The state of the keyboard between keys.
 #[derive(Clone, Copy, Debug, PartialEq, Eq)]
 pub struct Input {
     /// Whether `SHIFT` was pressed for the next key.
     pub shift: bool,
-    /// Whether lines are stored in place of being carried out.
+    /// Whether the keyboard is in program mode, in which lines are stored instead of being executed.
     pub program_mode: bool,
     /// The number or text that is being typed.
     pub entry: TypedEntry,
@@ -31,10 +31,10 @@ pub struct Input {
     pub prompt: Option<Prompt>,
 }
 
-/// What the calculator does.
+/// What the calculator is doing.
 #[derive(Clone, Copy, Debug, PartialEq, Eq)]
 pub enum Activity {
-    /// Nothing: it waits for keys.
+    /// It waits for keys.
     Idle,
     /// It runs a program.
     Run,
@@ -42,37 +42,37 @@ pub enum Activity {
     Micro,
 }
 
-/// Where the shown line stands, by what keys can do there in program mode.
+/// The place of the shown line, as far as it determines what keys can do in program mode.
 #[derive(Clone, Copy, Debug, PartialEq, Eq)]
 pub enum Place {
-    /// In program memory, where keys insert, replace and delete lines.
+    /// The line is in program memory. Keys insert, replace and delete lines.
     Memory,
-    /// In a page, where they change none.
+    /// The line is in a page. Keys change no lines there.
     Page {
-        /// Whether BACK would change nothing there either: line 00 is shown, or `.END.`.
+        /// Whether BACK would change nothing in memory either: the shown line is line 00 or `.END.`.
         deletes_nothing: bool,
-        /// Whether `GTO . .` would put an END into program memory.
+        /// Whether `GTO . .` would insert an END into program memory.
         puts_end: bool,
     },
 }
 
-/// What else of the calculator decides what a key means.
+/// The other parts of the calculator's state that determine the meaning of a key.
 #[derive(Clone, Copy, Debug, PartialEq, Eq)]
 pub struct Flags {
-    /// Flag 48: letters are written.
+    /// Flag 48: ALPHA mode, in which keys type letters.
     pub alpha: bool,
     /// Whether a message is shown.
     pub message: bool,
-    /// Where the shown line stands; it counts in program mode alone.
+    /// The place of the shown line. It is used in program mode only.
     pub place: Place,
 }
 
-/// What a key that is accepted leads to.
+/// The result of an accepted key.
 #[derive(Clone, Copy, Debug, PartialEq, Eq)]
 pub struct Pressed {
-    /// What the calculator does.
+    /// The action of the calculator.
     pub action: Action,
-    /// What the keyboard keeps.
+    /// The new state of the keyboard.
     pub input: Input,
 }
 
@@ -80,7 +80,7 @@ impl Input {
     ghost use Rattle.std.specs.Prelude.{◌≡◌};
     ghost use Rattle.h41_keys.specs.KeyPress.{start};
 
-    /// The start: SHIFT and program mode off, nothing typed.
+    /// Returns the state at the start: SHIFT and program mode are off, and nothing is typed.
     pub fn new() -> Self
         ensures { result ≡ start }
     {

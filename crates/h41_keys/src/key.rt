@@ -1,7 +1,7 @@
-//! The keys.
+//! The keys of the keyboard.
 use h41_codes::Character;
 
-/// The keys, row by row.
+/// The keys, row by row, in the order of the enum.
 const KEYS: [Key; 39] = [
     Key::On,
     Key::User,
@@ -44,100 +44,100 @@ const KEYS: [Key; 39] = [
     Key::RunStop,
 ];
 
-/// Their names, in the same order, as decks spell what is printed on them.
+/// The names of the keys in the same order, as decks spell the text that is printed on them.
 static KEY_NAMES: [&str; 39] = [
     "ON", "USER", "PRGM", "ALPHA", "SIGMA+", "1/X", "SQRT", "LOG", "LN", "X<>Y", "RDN", "SIN",
     "COS", "TAN", "SHIFT", "XEQ", "STO", "RCL", "SST", "ENTER", "CHS", "EEX", "BACK", "-", "7",
     "8", "9", "+", "4", "5", "6", "*", "1", "2", "3", "/", "0", ".", "R/S",
 ];
 
-/// Their codes, in the same order: a digit for the row, one for the column.
+/// The codes of the keys in the same order: a hexadecimal digit for the row, and one for the column.
 static KEY_CODES: [u8; 39] = [
     0x01, 0x02, 0x03, 0x04, 0x11, 0x12, 0x13, 0x14, 0x15, 0x21, 0x22, 0x23, 0x24, 0x25, 0x31, 0x32,
     0x33, 0x34, 0x35, 0x41, 0x42, 0x43, 0x44, 0x51, 0x52, 0x53, 0x54, 0x61, 0x62, 0x63, 0x64, 0x71,
     0x72, 0x73, 0x74, 0x81, 0x82, 0x83, 0x84,
 ];
 
-/// A key, by what is printed on it, as decks spell it.
+/// A key, named after the text that is printed on it. Each comment has its name in decks.
 #[derive(Clone, Copy, Debug, PartialEq, Eq)]
 pub enum Key {
-    /// `ON`.
+    /// `ON`, at row 0, column 1. The bench does not support this key.
     On,
-    /// `USER`.
+    /// `USER`, at row 0, column 2. The bench does not support this key.
     User,
-    /// `PRGM`.
+    /// `PRGM`, at row 0, column 3.
     Program,
-    /// `ALPHA`.
+    /// `ALPHA`, at row 0, column 4.
     Alpha,
-    /// `SIGMA+`.
+    /// `SIGMA+`, at row 1, column 1.
     SigmaPlus,
-    /// `1/X`.
+    /// `1/X`, at row 1, column 2.
     Reciprocal,
-    /// `SQRT`.
+    /// `SQRT`, at row 1, column 3.
     SquareRoot,
-    /// `LOG`.
+    /// `LOG`, at row 1, column 4.
     CommonLogarithm,
-    /// `LN`.
+    /// `LN`, at row 1, column 5.
     NaturalLogarithm,
-    /// `X<>Y`.
+    /// `X<>Y`, at row 2, column 1.
     ExchangeXY,
-    /// `RDN`.
+    /// `RDN`, at row 2, column 2.
     RollDown,
-    /// `SIN`.
+    /// `SIN`, at row 2, column 3.
     Sine,
-    /// `COS`.
+    /// `COS`, at row 2, column 4.
     Cosine,
-    /// `TAN`.
+    /// `TAN`, at row 2, column 5.
     Tangent,
-    /// `SHIFT`.
+    /// `SHIFT`, at row 3, column 1.
     Shift,
-    /// `XEQ`.
+    /// `XEQ`, at row 3, column 2.
     Execute,
-    /// `STO`.
+    /// `STO`, at row 3, column 3.
     Store,
-    /// `RCL`.
+    /// `RCL`, at row 3, column 4.
     Recall,
-    /// `SST`.
+    /// `SST`, at row 3, column 5.
     SingleStep,
-    /// `ENTER`.
+    /// `ENTER`, at row 4, column 1.
     Enter,
-    /// `CHS`.
+    /// `CHS`, at row 4, column 2.
     ChangeSign,
-    /// `EEX`.
+    /// `EEX`, at row 4, column 3.
     EnterExponent,
-    /// `BACK`.
+    /// `BACK`, at row 4, column 4.
     Back,
-    /// `-`.
+    /// `-`, at row 5, column 1.
     Minus,
-    /// `7`.
+    /// `7`, at row 5, column 2.
     Seven,
-    /// `8`.
+    /// `8`, at row 5, column 3.
     Eight,
-    /// `9`.
+    /// `9`, at row 5, column 4.
     Nine,
-    /// `+`.
+    /// `+`, at row 6, column 1.
     Plus,
-    /// `4`.
+    /// `4`, at row 6, column 2.
     Four,
-    /// `5`.
+    /// `5`, at row 6, column 3.
     Five,
-    /// `6`.
+    /// `6`, at row 6, column 4.
     Six,
-    /// `*`.
+    /// `*`, at row 7, column 1.
     Times,
-    /// `1`.
+    /// `1`, at row 7, column 2.
     One,
-    /// `2`.
+    /// `2`, at row 7, column 3.
     Two,
-    /// `3`.
+    /// `3`, at row 7, column 4.
     Three,
-    /// `/`.
+    /// `/`, at row 8, column 1.
     Divide,
-    /// `0`.
+    /// `0`, at row 8, column 2.
     Zero,
-    /// `.`.
+    /// `.`, at row 8, column 3.
     Point,
-    /// `R/S`.
+    /// `R/S`, at row 8, column 4.
     RunStop,
 }
 
@@ -145,14 +145,14 @@ impl Key {
     ghost use Rattle.std.specs.Prelude.{◌≡◌};
     ghost use Rattle.h41_keys.specs.Keyboard.{code_of, first_named, key_named, name_of};
 
-    /// The key of a name, exactly as decks spell it, or nothing where there is none.
+    /// Returns the key with a name, exactly as decks spell it, or `None` if there is none.
     pub fn named(name: &[u8]) -> Option<Key>
         ensures { result ≡ key_named name.now }
     {
         Self::first_named(&KEYS, name)
     }
 
-    /// The first of the keys that has a name.
+    /// Returns the first key of a list that has a name, or `None` if there is none.
     fn first_named(keys: &[Key], name: &[u8]) -> Option<Key>
         ensures { result ≡ first_named keys.now name.now }
     {
@@ -164,14 +164,14 @@ impl Key {
         None
     }
 
-    /// Its name, as decks spell what is printed on it.
+    /// Returns the name of the key, as decks spell the text that is printed on it.
     pub fn name(self) -> &'static str
         ensures { result.now ≡ name_of self }
     {
         KEY_NAMES[self as usize]
     }
 
-    /// Its code, which microcode reads: a digit for its row, one for its column.
+    /// Returns the code of the key, which microcode reads: a hexadecimal digit for its row, and one for its column.
     pub fn code(self) -> u8
         ensures { result ≡ code_of self }
     {
@@ -182,36 +182,36 @@ impl Key {
 /// A decimal digit.
 #[derive(Clone, Copy, Debug, PartialEq, Eq)]
 pub enum Digit {
-    /// `0`.
+    /// The digit 0.
     Zero,
-    /// `1`.
+    /// The digit 1.
     One,
-    /// `2`.
+    /// The digit 2.
     Two,
-    /// `3`.
+    /// The digit 3.
     Three,
-    /// `4`.
+    /// The digit 4.
     Four,
-    /// `5`.
+    /// The digit 5.
     Five,
-    /// `6`.
+    /// The digit 6.
     Six,
-    /// `7`.
+    /// The digit 7.
     Seven,
-    /// `8`.
+    /// The digit 8.
     Eight,
-    /// `9`.
+    /// The digit 9.
     Nine,
 }
 
-/// Their texts, in the same order.
+/// The texts of the digits, in the same order.
 static DIGIT_TEXTS: [&str; 10] = ["0", "1", "2", "3", "4", "5", "6", "7", "8", "9"];
 
 impl Digit {
     ghost use Rattle.std.specs.Prelude.{◌≡◌, ◌<◌, ◌+◌, ◌∷◌, []};
     ghost use Rattle.h41_keys.specs.NumberTyping.{character_of, value_of};
 
-    /// Its value, 0 to 9.
+    /// Returns the value of the digit, 0 to 9.
     pub fn value(self) -> u8
         ensures value { result ≡ value_of self }
         ensures bound { result < 10 }
@@ -219,14 +219,14 @@ impl Digit {
         self as u8
     }
 
-    /// Its text, of one character.
+    /// Returns the text of the digit, one character.
     pub(crate) fn text(self) -> &'static str
         ensures { result.now ≡ (0x30 + value_of self) ∷ [] }
     {
         DIGIT_TEXTS[self as usize]
     }
 
-    /// The character of a number that it is.
+    /// Returns the digit as a character of a number line.
     pub fn character(self) -> Character
         ensures { result ≡ character_of self }
     {

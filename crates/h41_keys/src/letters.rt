@@ -4,7 +4,7 @@ ghost use Rattle.h41_keys.specs.NumberTyping as spec;
 
 use h41_codes::Text;
 
-/// A text with a letter more, or nothing where it has no room for one.
+/// Returns a text with one more letter, or `None` if it already has `MOST` letters.
 pub(crate) fn with_letter<const MOST: usize>(text: &[u8], letter: u8) -> Option<Text<MOST>>
     requires { MOST < 16 }
     ensures room { IsSome result ↔ (length text.now < MOST) }
@@ -20,7 +20,7 @@ pub(crate) fn with_letter<const MOST: usize>(text: &[u8], letter: u8) -> Option<
     Text::new(&cells[..count + 1])
 }
 
-/// A text without its last letter.
+/// Returns a text without its last letter. An empty text remains empty.
 pub(crate) fn without_last<const MOST: usize>(text: &[u8]) -> Text<MOST>
     requires { length text.now ≤ MOST }
     ensures { result ≡ spec.without_last text.now }

@@ -1,5 +1,5 @@
-//! The keyboard of the HP-41: what each key means in each state. Memory, stack and program are the calculator's: a key
-//! answers an action that is carried out there.
+//! The keyboard of the HP-41: the meaning of each key in each state. Memory, stack and program belong to the calculator: a key
+//! results in an action, which the calculator performs.
 #![tactic(auto)]
 
 mod action;

@@ -1,4 +1,4 @@
-//! What a key means, before the state of the keyboard is looked at.
+//! The meanings of keys, before the state of the keyboard is considered.
 ghost use Rattle.std.specs.Prelude.{◌≡◌};
 ghost use Rattle.h41_keys.specs.Keyboard as spec;
 
@@ -6,46 +6,46 @@ use crate::key::{Digit, Key};
 use crate::prompt::PromptFunction;
 use h41_codes::Function;
 
-/// What a key means.
+/// The meaning of a key.
 #[derive(Clone, Copy, Debug, PartialEq, Eq)]
 pub enum Meaning {
-    /// Nothing: the key is refused.
+    /// None: the key is refused.
     Nothing,
     /// `SHIFT`: the next key has its shifted meaning.
     Shift,
-    /// `ALPHA`: letters are written, or no longer.
+    /// `ALPHA`: ALPHA mode begins or ends.
     Alpha,
-    /// `PRGM`: lines are stored, or no longer.
+    /// `PRGM`: program mode begins or ends.
     Program,
-    /// `SST`: one line is carried out, or shown.
+    /// `SST`: one program line is executed, or shown.
     Step,
-    /// `BST`: back to the line before.
+    /// `BST`: the program line before the shown one is shown.
     StepBack,
     /// `R/S`: the program runs, or stops.
     RunStop,
-    /// `BACK`: what was typed last is taken back.
+    /// `BACK`: the last typed character is deleted.
     Back,
-    /// `BACK` where letters are written.
+    /// `BACK` in ALPHA mode: the last letter is deleted.
     LetterBack,
     /// A digit of a number.
     Digit(Digit),
-    /// The point of a number.
+    /// The decimal point of a number.
     Point,
-    /// `EEX`: the exponent of a number.
+    /// `EEX`: the exponent of a number begins.
     Exponent,
-    /// `CHS`: the sign of a number.
+    /// `CHS`: the sign of a number changes.
     Sign,
     /// A function without a parameter.
     Function(Function),
     /// A function that asks for its parameter.
     Ask(PromptFunction),
-    /// A letter, by its byte.
+    /// A letter, given as its byte.
     Letter(u8),
-    /// The letters to come are added to what ALPHA holds.
+    /// The letters that follow are appended to ALPHA.
     Append,
 }
 
-/// What a key means, by whether letters are written and whether SHIFT came before.
+/// Returns the meaning of a key, depending on ALPHA mode and on whether SHIFT was pressed before it.
 pub(crate) fn meaning_of(key: Key, letters: bool, shift: bool) -> Meaning
     ensures { result ≡ spec.meaning_of key letters shift }
 {
@@ -57,7 +57,7 @@ pub(crate) fn meaning_of(key: Key, letters: bool, shift: bool) -> Meaning
     }
 }
 
-/// What a key means alone.
+/// Returns the meaning of a key outside ALPHA mode, without SHIFT.
 pub(crate) fn plain(key: Key) -> Meaning
     ensures { result ≡ (spec.row_of key).plain }
 {
@@ -103,7 +103,7 @@ pub(crate) fn plain(key: Key) -> Meaning
     }
 }
 
-/// What a key means after SHIFT.
+/// Returns the meaning of a key outside ALPHA mode, after SHIFT.
 fn shifted(key: Key) -> Meaning
     ensures { result ≡ (spec.row_of key).shifted }
 {
@@ -147,7 +147,7 @@ fn shifted(key: Key) -> Meaning
     }
 }
 
-/// What a key means where letters are written.
+/// Returns the meaning of a key in ALPHA mode, without SHIFT.
 pub(crate) fn letter(key: Key) -> Meaning
     ensures { result ≡ (spec.row_of key).letter }
 {
@@ -192,7 +192,7 @@ pub(crate) fn letter(key: Key) -> Meaning
     }
 }
 
-/// What a key means after SHIFT where letters are written.
+/// Returns the meaning of a key in ALPHA mode, after SHIFT.
 pub(crate) fn shifted_letter(key: Key) -> Meaning
     ensures { result ≡ (spec.row_of key).shifted_letter }
 {

@@ -1,4 +1,4 @@
-//! Numbers that are typed, character by character.
+//! Numbers that are typed character by character.
 ghost use Rattle.std.specs.Prelude.{◌≡◌, ◌+◌, ◌≤◌, ◌++◌, ◌∷◌, length, filter, IsTrue};
 ghost use Rattle.std.specs.List.{list_any};
 ghost use Rattle.h41_codes.specs.Counts.{number_most};
@@ -13,7 +13,7 @@ use crate::key::Digit;
 use crate::typing::{does, ended, typing};
 use h41_codes::{Character, Line, NUMBER_MOST, Number, exponent_place};
 
-/// A digit.
+/// Returns the result of a digit key.
 pub(crate) fn digit_typed(input: Input, digit: Digit) -> Pressed
     ensures { result ≡ press.number_typed input (λ text. spec.with_digit text digit) }
 {
@@ -26,7 +26,7 @@ pub(crate) fn digit_typed(input: Input, digit: Digit) -> Pressed
     }
 }
 
-/// The point.
+/// Returns the result of the key of the decimal point.
 pub(crate) fn point_typed(input: Input) -> Pressed
     ensures { result ≡ press.number_typed input spec.with_point }
 {
@@ -39,7 +39,7 @@ pub(crate) fn point_typed(input: Input) -> Pressed
     }
 }
 
-/// EEX.
+/// Returns the result of EEX.
 pub(crate) fn exponent_typed(input: Input) -> Pressed
     ensures { result ≡ press.number_typed input spec.with_exponent }
 {
@@ -54,7 +54,7 @@ pub(crate) fn exponent_typed(input: Input) -> Pressed
     }
 }
 
-/// CHS, where a number is being typed.
+/// Returns the result of CHS while a number is being typed.
 pub(crate) fn sign_turned(input: Input) -> Pressed
     ensures { result ≡ press.number_typed input spec.with_sign_turned }
 {
@@ -87,7 +87,7 @@ pub(crate) fn sign_turned(input: Input) -> Pressed
     }
 }
 
-/// BACK, where a number is being typed.
+/// Returns the result of BACK while a number is being typed.
 pub(crate) fn shortened(input: Input, number: &Number) -> Pressed
     ensures { result ≡ press.number_becomes input number.now (spec.without_last number.now) }
 {
@@ -95,7 +95,7 @@ pub(crate) fn shortened(input: Input, number: &Number) -> Pressed
     becomes(input, text, &text[..text.len() - 1])
 }
 
-/// What was typed of a number.
+/// Returns the characters of the number that is being typed, or none if no number is being typed.
 fn characters(entry: &TypedEntry) -> &[Character]
     ensures text { result.now ≡ press.number_in entry.now }
     ensures bound { length result.now ≤ number_most }
@@ -106,7 +106,7 @@ fn characters(entry: &TypedEntry) -> &[Character]
     }
 }
 
-/// A number to which more is added.
+/// Returns the result of appending characters to a number.
 fn grown(input: Input, text: &[Character], more: &[Character]) -> Pressed
     requires text { length text.now ≤ number_most }
     requires more { length more.now ≤ number_most }
@@ -115,7 +115,8 @@ fn grown(input: Input, text: &[Character], more: &[Character]) -> Pressed
     spliced(input, text, text, more, &[])
 }
 
-/// A number that is put together from three parts.
+/// Returns the result of replacing a number by three parts, one after the other. If they are too long together, the number does not
+/// change.
 fn spliced(
     input: Input,
     text: &[Character],
@@ -141,7 +142,7 @@ fn spliced(
     becomes(input, text, &cells[..count])
 }
 
-/// A number whose text becomes another: begun, changed, ended or left as it is.
+/// Returns the result of a change of a number's text: the number begins, changes, ends, or remains as it is.
 fn becomes(input: Input, before: &[Character], after: &[Character]) -> Pressed
     requires { length after.now ≤ number_most }
     ensures { result ≡ press.number_becomes input before.now after.now }
@@ -160,7 +161,7 @@ fn becomes(input: Input, before: &[Character], after: &[Character]) -> Pressed
     }
 }
 
-/// A number begins.
+/// Returns the result of the first character of a number.
 fn number_begun(input: Input, number: Number) -> Pressed
     ensures { result ≡ press.number_begun input input.program_mode number }
 {
@@ -172,7 +173,7 @@ fn number_begun(input: Input, number: Number) -> Pressed
     does(action, typing(input, TypedEntry::Number(number)))
 }
 
-/// A number changes.
+/// Returns the result of a change of a number.
 fn number_changed(input: Input, number: Number) -> Pressed
     ensures { result ≡ press.number_changed input input.program_mode number }
 {
@@ -184,7 +185,7 @@ fn number_changed(input: Input, number: Number) -> Pressed
     does(action, typing(input, TypedEntry::Number(number)))
 }
 
-/// A number's last character was taken back.
+/// Returns the result of deleting the last character of a number.
 fn number_ended(input: Input) -> Pressed
     ensures { result ≡ press.number_ended input input.program_mode }
 {
@@ -195,7 +196,7 @@ fn number_ended(input: Input) -> Pressed
     }
 }
 
-/// Whether a number has room for a digit more.
+/// Returns whether a number has room for one more digit: a mantissa has at most ten, an exponent two.
 fn has_room(text: &[Character]) -> bool
     ensures { result ≡ spec.has_room text.now }
 {
@@ -207,7 +208,7 @@ fn has_room(text: &[Character]) -> bool
     }
 }
 
-/// How many digits a text has.
+/// Returns the number of digits in a text.
 fn count_of_digits(text: &[Character]) -> usize
     ensures { result ≡ spec.count_of_digits text.now }
 {
@@ -220,7 +221,7 @@ fn count_of_digits(text: &[Character]) -> usize
     count
 }
 
-/// Whether a text has a point.
+/// Returns whether a text has a decimal point.
 fn has_point(text: &[Character]) -> bool
     ensures { result ≡ list_any is_point text.now }
 {
@@ -232,7 +233,7 @@ fn has_point(text: &[Character]) -> bool
     false
 }
 
-/// Whether a part begins with its sign.
+/// Returns whether a part of a number begins with its sign.
 fn begins_with_minus(part: &[Character]) -> bool
     ensures value { result ≡ spec.begins_with_minus part.now }
     ensures some { IsTrue result → 1 ≤ length part.now }
@@ -240,7 +241,7 @@ fn begins_with_minus(part: &[Character]) -> bool
     !part.is_empty() && part[0].is_minus()
 }
 
-/// Whether a character is a digit.
+/// Returns whether a character is a digit.
 fn is_digit(character: Character) -> bool
     ensures { result ≡ spec.is_digit character }
 {

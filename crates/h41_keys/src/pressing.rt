@@ -1,4 +1,4 @@
-//! What a key does in each state of the keyboard.
+//! The effect of a key in each state of the keyboard.
 ghost use Rattle.std.specs.Prelude.{◌≡◌, None, IfOk, OnErr};
 ghost use Rattle.h41_keys.specs.Keyboard.{row_of};
 ghost use Rattle.h41_keys.specs.KeyPress as spec;
@@ -16,9 +16,10 @@ use crate::text::{append_pressed, letter_taken, letter_typed};
 use crate::typing::{does, ended, function_typed, line_typed, typing, without_number};
 use h41_codes::{Function, Number};
 
-/// Presses a key: what the calculator has to do, or 18 where the key has no meaning, or in program mode would insert, replace or
-/// delete a line, or put an END, while a page's line is shown. A key that is refused, here or later by the calculator, changes nothing: a caller that may still
-/// refuse it keeps the input from before.
+/// Presses a key and returns the action that the calculator has to perform. Returns KeyNotHeld (18) if the bench does not support
+/// the key in this state, or if in program mode it would insert, replace or delete a line, or insert an END, while a line of a page
+/// is shown. A refused key must change nothing: here `input` does not change, and a caller whose calculator refuses the action
+/// later has to restore the input from before.
 pub fn press(
     input: &mut Input,
     key: Key,
@@ -39,7 +40,7 @@ pub fn press(
     }
 }
 
-/// What a key leads to.
+/// Returns the result of a key, or `None` if it is refused.
 fn pressed(input: Input, key: Key, mode: Activity, flags: Flags) -> Option<Pressed>
     ensures { result ≡ spec.presses input key mode flags }
 {
@@ -53,7 +54,7 @@ fn pressed(input: Input, key: Key, mode: Activity, flags: Flags) -> Option<Press
     }
 }
 
-/// A key where a program runs.
+/// Returns the result of a key while a program runs.
 fn while_running(input: Input, meaning: Meaning) -> Option<Pressed>
     ensures { result ≡ spec.while_running input meaning }
 {
@@ -64,7 +65,7 @@ fn while_running(input: Input, meaning: Meaning) -> Option<Pressed>
     }
 }
 
-/// A key where a function in microcode runs.
+/// Returns the result of a key while a function in microcode runs.
 fn while_in_microcode(input: Input, meaning: Meaning) -> Option<Pressed>
     ensures { result ≡ spec.while_in_microcode input meaning }
 {
@@ -74,7 +75,7 @@ fn while_in_microcode(input: Input, meaning: Meaning) -> Option<Pressed>
     }
 }
 
-/// What a key leads to where nothing runs, by where the shown line stands.
+/// Returns the result of a key if nothing runs, depending on the place of the shown line.
 fn held_at(place: Place, program_mode: bool, pressed: Option<Pressed>) -> Option<Pressed>
     ensures { result ≡ spec.held_at place program_mode pressed }
 {
@@ -94,7 +95,7 @@ fn held_at(place: Place, program_mode: bool, pressed: Option<Pressed>) -> Option
     }
 }
 
-/// Whether an action is held in program mode where the shown line is one of a page.
+/// Returns whether an action is supported in program mode while a line of a page is shown.
 fn is_held(deletes_nothing: bool, puts_end: bool, action: Action) -> bool
     ensures { result ≡ spec.is_held deletes_nothing puts_end action }
 {
@@ -106,7 +107,7 @@ fn is_held(deletes_nothing: bool, puts_end: bool, action: Action) -> bool
     }
 }
 
-/// A key where nothing runs, as in memory.
+/// Returns the result of a key if nothing runs and the shown line is in program memory.
 fn idle(input: Input, key: Key, flags: Flags) -> Option<Pressed>
     ensures { result ≡ spec.press_in_idle input key flags }
 {
@@ -120,7 +121,7 @@ fn idle(input: Input, key: Key, flags: Flags) -> Option<Pressed>
     }
 }
 
-/// A key where a prompt is open.
+/// Returns the result of a key while a prompt is open.
 fn in_prompt(input: Input, prompt: Prompt, key: Key) -> Option<Pressed>
     ensures { result ≡ spec.in_prompt input prompt key }
 {
@@ -131,7 +132,7 @@ fn in_prompt(input: Input, prompt: Prompt, key: Key) -> Option<Pressed>
     }
 }
 
-/// What becomes of the keyboard with a prompt.
+/// Returns the result of a step of a prompt.
 fn stepped(input: Input, step: Option<PromptStep>) -> Option<Pressed>
     ensures { result ≡ spec.press_of_step input step }
 {
@@ -151,7 +152,7 @@ fn stepped(input: Input, step: Option<PromptStep>) -> Option<Pressed>
     }
 }
 
-/// The prompt has ended.
+/// Returns the state of the keyboard after its prompt ended.
 fn prompt_ended(input: Input) -> Input
     ensures { result ≡ spec.prompt_ended input }
 {
@@ -162,7 +163,7 @@ fn prompt_ended(input: Input) -> Input
     }
 }
 
-/// A key where no prompt is open, by what it means.
+/// Returns the result of a key with a meaning while no prompt is open.
 fn acts(input: Input, meaning: Meaning) -> Option<Pressed>
     ensures { result ≡ spec.acts input meaning }
 {
@@ -187,7 +188,7 @@ fn acts(input: Input, meaning: Meaning) -> Option<Pressed>
     })
 }
 
-/// SHIFT.
+/// Returns the state of the keyboard after SHIFT, which turns the shift on or off.
 fn shifted(input: Input) -> Input
     ensures { result ≡ spec.with_shift_turned input }
 {
@@ -197,7 +198,7 @@ fn shifted(input: Input) -> Input
     }
 }
 
-/// PRGM.
+/// Returns the state of the keyboard after PRGM.
 fn program_mode_turned(input: Input) -> Input
     ensures { result ≡ spec.program_mode_turned input }
 {
@@ -207,7 +208,7 @@ fn program_mode_turned(input: Input) -> Input
     }
 }
 
-/// A prompt opens.
+/// Returns the state of the keyboard after a prompt opened.
 fn asking(input: Input, function: PromptFunction) -> Input
     ensures { result ≡ spec.with_prompt input function }
 {
@@ -221,7 +222,7 @@ fn asking(input: Input, function: PromptFunction) -> Input
     }
 }
 
-/// R/S.
+/// Returns the result of R/S.
 fn run_pressed(input: Input) -> Pressed
     ensures { result ≡ spec.run_pressed input input.program_mode }
 {
@@ -232,7 +233,7 @@ fn run_pressed(input: Input) -> Pressed
     }
 }
 
-/// CHS.
+/// Returns the result of CHS.
 fn sign_pressed(input: Input) -> Pressed
     ensures { result ≡ spec.sign_pressed input input.entry }
 {
@@ -242,7 +243,7 @@ fn sign_pressed(input: Input) -> Pressed
     }
 }
 
-/// BACK.
+/// Returns the result of BACK.
 fn back_pressed(input: Input) -> Pressed
     ensures { result ≡ spec.back_pressed input input.entry }
 {
@@ -253,7 +254,7 @@ fn back_pressed(input: Input) -> Pressed
     }
 }
 
-/// BACK where no number is being typed.
+/// Returns the result of BACK while no number is being typed.
 fn clearing(input: Input) -> Pressed
     ensures { result ≡ spec.press_of_clear input input.program_mode }
 {

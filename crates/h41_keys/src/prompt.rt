@@ -1,4 +1,4 @@
-//! Prompts: a function that waits for its parameter.
+//! Prompts: functions that wait for their parameter.
 ghost use Rattle.std.specs.Prelude.{◌≡◌, ◌≤◌, ◌+◌, ◌++◌, length};
 ghost use Rattle.arrayvec.specs.ArrayVec.{array_vec_len};
 ghost use Rattle.h41_keys.specs.Prompts as spec;
@@ -10,105 +10,105 @@ use h41_codes::{
 };
 use h41_text::{branch_name, parameter_function_name};
 
-/// The most characters of a name that is typed.
+/// The greatest number of characters of a name that is typed.
 pub const NAME_MOST: usize = 7;
 
-/// The label A: the letters follow one another.
+/// The number of the local label A. The other letters follow it.
 const FIRST_LETTER: u8 = 102;
 
-/// The most characters of a prompt's text: `ASTO IND "ABCDEFG_`.
+/// The greatest number of characters of a prompt's text, as in `ASTO IND "ABCDEFG_`.
 pub const PROMPT_CAPACITY: usize = 18;
 
 /// A function that asks for its parameter.
 #[derive(Clone, Copy, Debug, PartialEq, Eq)]
 pub enum PromptFunction {
-    /// `XEQ`.
+    /// `XEQ`: executes a label.
     Execute,
-    /// `STO`.
+    /// `STO`: stores X in a register.
     Store,
-    /// `ST+`.
+    /// `ST+`: adds X to a register.
     StoreAdd,
-    /// `ST-`.
+    /// `ST-`: subtracts X from a register.
     StoreSubtract,
-    /// `ST*`.
+    /// `ST*`: multiplies a register by X.
     StoreMultiply,
-    /// `ST/`.
+    /// `ST/`: divides a register by X.
     StoreDivide,
-    /// `RCL`.
+    /// `RCL`: recalls a register.
     Recall,
-    /// `LBL`.
+    /// `LBL`: a label.
     Label,
-    /// `GTO`.
+    /// `GTO`: goes to a label.
     GoTo,
-    /// `ISG`.
+    /// `ISG`: increments a counter in a register, and skips a line if it is greater.
     IncrementSkip,
-    /// `SF`.
+    /// `SF`: sets a flag.
     SetFlag,
-    /// `CF`.
+    /// `CF`: clears a flag.
     ClearFlag,
-    /// `FS?`.
+    /// `FS?`: tests whether a flag is set.
     TestSet,
-    /// `VIEW`.
+    /// `VIEW`: shows a register.
     View,
-    /// `ASTO`.
+    /// `ASTO`: stores characters of ALPHA in a register.
     StoreAlpha,
-    /// `ARCL`.
+    /// `ARCL`: appends a register to ALPHA.
     RecallAlpha,
-    /// `FIX`.
+    /// `FIX`: selects the fixed format of the display.
     Fixed,
-    /// `SCI`.
+    /// `SCI`: selects the scientific format of the display.
     Scientific,
-    /// `ENG`.
+    /// `ENG`: selects the engineering format of the display.
     Engineering,
 }
 
-/// The lines that a prompt leads to.
+/// The lines that can result from a prompt.
 #[derive(Clone, Copy)]
 pub(crate) enum PromptLines {
-    /// Those of a function with a parameter.
+    /// Lines of a function with a parameter.
     Parameter(ParameterFunction),
-    /// Those that go to labels, or execute them.
+    /// Lines that go to labels or execute them.
     Branching(Branch),
 }
 
-/// What the table of prompts says of a function.
+/// A row of the table of prompts.
 #[derive(Clone, Copy)]
 pub(crate) struct PromptRow {
-    /// Its lines, which have its name.
+    /// The lines of the function, which begin with its name.
     pub(crate) lines: PromptLines,
-    /// How many digits its parameter has; after IND, all have two.
+    /// The number of digits of the parameter. After IND, it is always two.
     pub(crate) digits: u8,
-    /// Whether IND can stand in front of its parameter.
+    /// Whether IND can precede the parameter.
     pub(crate) indirect: bool,
-    /// Whether it works on registers, so that those of the stack can be named without IND.
+    /// Whether the function works on registers, so that those of the stack can be named without IND.
     pub(crate) registers: bool,
-    /// Whether it takes a name.
+    /// Whether the function takes a name.
     pub(crate) named: bool,
 }
 
-/// What is typed of a parameter.
+/// The part of a parameter that is typed.
 #[derive(Clone, Copy, Debug, PartialEq, Eq)]
 pub enum Typed {
     /// Nothing yet.
     Nothing,
     /// The first of two digits.
     Digit(Digit),
-    /// The point: a register of the stack comes.
+    /// The decimal point, after which the letter of a stack register follows.
     Stack,
-    /// The point of `GTO .`: one more leads to the end of program memory.
+    /// The point of `GTO .`. Another point goes to the end of program memory.
     Point,
-    /// A name, at most 7 characters so far.
+    /// A name, with at most 7 characters so far.
     Name(Text<NAME_MOST>),
 }
 
-/// A function that waits for its parameter, and what is typed of it.
+/// A function that waits for its parameter, and the part of the parameter that is typed.
 #[derive(Clone, Copy, Debug, PartialEq, Eq)]
 pub struct Prompt {
     /// The function.
     pub function: PromptFunction,
-    /// Whether the parameter is the one whose number a register holds: `IND`.
+    /// Whether the parameter is indirect (`IND`): its value is in the given register.
     pub indirect: bool,
-    /// What is typed.
+    /// The part of the parameter that is typed.
     pub typed: Typed,
 }
 
@@ -117,7 +117,7 @@ impl PromptFunction {
     ghost use Rattle.h41_codes.specs.Counts.{parameter_count};
     ghost use Rattle.h41_keys.specs.Prompts.{name_line, parameter_line, prompt_name, prompt_row};
 
-    /// Its row of the table of prompts.
+    /// Returns the function's row of the table of prompts.
     pub(crate) fn row(self) -> PromptRow
         ensures { result ≡ prompt_row self }
     {
@@ -150,7 +150,7 @@ impl PromptFunction {
         }
     }
 
-    /// Its name, as the display shows it: that of its lines.
+    /// Returns the function's name as the display shows it, at most four characters.
     pub fn name(self) -> &'static str
         ensures text { result.now ≡ prompt_name self }
         ensures bound { length result.now ≤ 4 }
@@ -158,7 +158,7 @@ impl PromptFunction {
         self.row().lines.name()
     }
 
-    /// Its line with a parameter.
+    /// Returns the function's line with a parameter.
     pub(crate) fn parameter_line(self, indirect: bool, parameter: u8) -> Line
         requires { parameter < parameter_count }
         ensures { result ≡ parameter_line self indirect parameter }
@@ -168,7 +168,7 @@ impl PromptFunction {
             .with_parameter(indirect, Parameter::new(parameter))
     }
 
-    /// Its line with a name.
+    /// Returns the function's line with a name.
     pub(crate) fn name_line(self, name: &[u8]) -> Line
         requires { length name.now ≤ NAME_MOST }
         ensures { result ≡ name_line self name.now }
@@ -190,7 +190,7 @@ impl PromptRow {
     ghost use Rattle.std.specs.Prelude.{◌≡◌};
     ghost use Rattle.h41_keys.specs.Prompts as spec;
 
-    /// The row of a function on registers.
+    /// Returns the row of a function on registers.
     fn register(function: ParameterFunction) -> Self
         ensures { result ≡ spec.register function }
     {
@@ -203,7 +203,7 @@ impl PromptRow {
         }
     }
 
-    /// The row of a function on flags.
+    /// Returns the row of a function on flags.
     fn flag(function: ParameterFunction) -> Self
         ensures { result ≡ spec.flag function }
     {
@@ -216,7 +216,7 @@ impl PromptRow {
         }
     }
 
-    /// The row of a function on a number of digits.
+    /// Returns the row of a function whose parameter is a number of display digits.
     fn format(function: ParameterFunction) -> Self
         ensures { result ≡ spec.format function }
     {
@@ -229,7 +229,7 @@ impl PromptRow {
         }
     }
 
-    /// The row of going or executing.
+    /// Returns the row of a function that goes to a label or executes it.
     fn branching(branch: Branch) -> Self
         ensures { result ≡ spec.branch_row branch }
     {
@@ -247,7 +247,7 @@ impl PromptLines {
     ghost use Rattle.std.specs.Prelude.{◌≡◌, ◌≤◌, length};
     ghost use Rattle.h41_keys.specs.Prompts.{line_naming, line_with, lines_name};
 
-    /// The name that they begin with.
+    /// Returns the name with which the lines begin.
     fn name(self) -> &'static str
         ensures text { result.now ≡ lines_name self }
         ensures bound { length result.now ≤ 4 }
@@ -258,7 +258,7 @@ impl PromptLines {
         }
     }
 
-    /// The line with a parameter, in its shortest spelling.
+    /// Returns the line with a parameter, in its shortest form.
     fn with_parameter(self, indirect: bool, parameter: Parameter) -> Line
         ensures { result ≡ line_with self indirect parameter }
     {
@@ -276,7 +276,7 @@ impl PromptLines {
         }
     }
 
-    /// The line with a name that is no letter of a local label. Of functions with a parameter LBL alone has one.
+    /// Returns the line with a name other than the letter of a local label. Of the functions with a parameter, only LBL has one.
     fn with_name(self, name: &[u8]) -> Line
         requires { length name.now ≤ NAME_MOST }
         ensures { result ≡ line_naming self name.now }
@@ -293,7 +293,7 @@ impl PromptLines {
     }
 }
 
-/// A text of these characters, of which there are few enough.
+/// Returns a text of characters, of which there are at most `MOST`.
 fn text<const MOST: usize>(characters: &[u8]) -> Text<MOST>
     requires { length characters.now ≤ MOST }
     ensures { result ≡ characters.now }
@@ -304,7 +304,7 @@ fn text<const MOST: usize>(characters: &[u8]) -> Text<MOST>
     }
 }
 
-/// Whether a letter is one of A to J, which local labels have.
+/// Returns whether a letter is one of A to J, which local labels have.
 fn is_local_letter(letter: u8) -> bool
     ensures { result ≡ spec.is_local_letter letter }
 {
@@ -316,7 +316,7 @@ impl Prompt {
     ghost use Rattle.std.specs.Prelude.{codes};
     ghost use Rattle.h41_keys.specs.Prompts.{prompt_text, digits_wanted, typed_text};
 
-    /// How many digits the parameter has.
+    /// Returns the number of digits of the parameter, 1 or 2.
     pub(crate) fn digits(&self) -> u8
         ensures { result ≡ digits_wanted self.now.function self.now.indirect }
     {
@@ -327,7 +327,7 @@ impl Prompt {
         }
     }
 
-    /// Its text in the display, as `STO IND 1_`.
+    /// Returns the text of the prompt in the display, for example `STO IND 1_`.
     pub fn text(&self) -> ArrayVec<u8, PROMPT_CAPACITY>
         ensures { result.items ≡ prompt_text self.now }
     {
@@ -343,7 +343,7 @@ impl Prompt {
         text
     }
 
-    /// What its text has in front of what is typed, and that; `_` follows.
+    /// Returns the text of the prompt before the typed part of the parameter, and this part; `_` follows them.
     fn typed_parts(&self) -> (&str, &[u8])
         ensures parts { typed_text self.now.function self.now.indirect self.now.typed
             ≡ result.0.now ++ result.1.now ++ codes "_" }
@@ -360,7 +360,7 @@ impl Prompt {
     }
 }
 
-/// Puts more behind a text, which has room for it.
+/// Appends bytes to a text that has room for them.
 fn push(text: &mut ArrayVec<u8, PROMPT_CAPACITY>, more: &[u8])
     requires { array_vec_len text.old + length more.now ≤ PROMPT_CAPACITY }
     ensures items { text.new.items ≡ text.old.items ++ more.now }

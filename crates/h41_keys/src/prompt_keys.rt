@@ -1,4 +1,4 @@
-//! What each key makes of a prompt.
+//! The effect of each key on a prompt.
 ghost use Rattle.std.specs.Prelude.{◌≡◌, ◌<◌, ◌≤◌, [], length, IfSome};
 ghost use Rattle.h41_codes.specs.Counts.{parameter_count};
 ghost use Rattle.h41_keys.specs.Keyboard.{row_of};
@@ -12,7 +12,7 @@ use crate::prompt::{NAME_MOST, Prompt, PromptFunction, Typed};
 use crate::prompt_step::PromptStep;
 use h41_codes::{Function, Text};
 
-/// What a key makes of a prompt, or nothing where it is refused.
+/// Returns the effect of a key on a prompt, or `None` if the key is refused.
 pub(crate) fn prompt_step(prompt: Prompt, shift: bool, key: Key) -> Option<PromptStep>
     ensures { result ≡ spec.prompt_step prompt prompt.typed shift key }
 {
@@ -26,14 +26,14 @@ pub(crate) fn prompt_step(prompt: Prompt, shift: bool, key: Key) -> Option<Promp
     }
 }
 
-/// The prompt goes on with this much typed.
+/// Returns the prompt with this part of the parameter typed.
 fn goes_on(prompt: Prompt, typed: Typed) -> Option<PromptStep>
     ensures { result ≡ spec.goes_on prompt typed }
 {
     Some(PromptStep::Becomes(Prompt { typed, ..prompt }))
 }
 
-/// The parameter is whole.
+/// Returns the line with a complete parameter.
 fn ends_with(prompt: Prompt, parameter: u8) -> Option<PromptStep>
     requires { parameter < parameter_count }
     ensures { result ≡ spec.ends_with prompt parameter }
@@ -41,7 +41,7 @@ fn ends_with(prompt: Prompt, parameter: u8) -> Option<PromptStep>
     Some(PromptStep::Types(prompt.function.parameter_line(prompt.indirect, parameter)))
 }
 
-/// IND comes, or goes.
+/// Returns the prompt after IND was added or removed.
 fn turns_indirect(prompt: Prompt) -> Option<PromptStep>
     ensures { result ≡ spec.turns_indirect prompt }
 {
@@ -51,7 +51,7 @@ fn turns_indirect(prompt: Prompt) -> Option<PromptStep>
     }))
 }
 
-/// A key where nothing is typed yet.
+/// Returns the effect of a key while nothing is typed yet.
 fn with_nothing(prompt: Prompt, meaning: Meaning) -> Option<PromptStep>
     ensures { result ≡ spec.with_nothing prompt meaning }
 {
@@ -78,7 +78,7 @@ fn with_nothing(prompt: Prompt, meaning: Meaning) -> Option<PromptStep>
     }
 }
 
-/// A name without a letter.
+/// Returns an empty name.
 fn no_name() -> Text<NAME_MOST>
     ensures { result ≡ [] }
 {
@@ -88,7 +88,7 @@ fn no_name() -> Text<NAME_MOST>
     }
 }
 
-/// The first digit.
+/// Returns the effect of the first digit.
 fn first_digit(prompt: Prompt, digit: Digit) -> Option<PromptStep>
     ensures { result ≡ spec.first_digit prompt digit }
 {
@@ -99,7 +99,7 @@ fn first_digit(prompt: Prompt, digit: Digit) -> Option<PromptStep>
     }
 }
 
-/// The point in front of all.
+/// Returns the effect of the decimal point as the first key.
 fn first_point(prompt: Prompt) -> Option<PromptStep>
     ensures { result ≡ spec.first_point prompt }
 {
@@ -112,7 +112,7 @@ fn first_point(prompt: Prompt) -> Option<PromptStep>
     }
 }
 
-/// The function that a sign makes of STO, or nothing for another function.
+/// Returns the function that the key + - * or / selects after STO, or `None` for any other function.
 fn combining(function: Function) -> Option<PromptFunction>
     ensures { result ≡ spec.combined_function function }
 {
@@ -125,7 +125,7 @@ fn combining(function: Function) -> Option<PromptFunction>
     }
 }
 
-/// A sign behind a bare STO.
+/// Returns the effect of + - * or / after STO without IND.
 fn combined(prompt: Prompt, sign: Option<PromptFunction>) -> Option<PromptStep>
     ensures { result ≡ spec.step_combined prompt sign }
 {
@@ -141,7 +141,7 @@ fn combined(prompt: Prompt, sign: Option<PromptFunction>) -> Option<PromptStep>
     }
 }
 
-/// A key where the first of two digits is typed.
+/// Returns the effect of a key after the first of two digits.
 fn with_digit_typed(prompt: Prompt, first: Digit, meaning: Meaning) -> Option<PromptStep>
     ensures { result ≡ spec.with_digit_typed prompt first meaning }
 {
@@ -159,7 +159,7 @@ fn with_digit_typed(prompt: Prompt, first: Digit, meaning: Meaning) -> Option<Pr
     }
 }
 
-/// A key where the point is typed, and a register of the stack comes.
+/// Returns the effect of a key after the decimal point: the letter of a stack register is expected.
 fn with_stack_typed(prompt: Prompt, key: Key) -> Option<PromptStep>
     ensures { result ≡ spec.with_stack_typed prompt (row_of key).plain (row_of key).letter }
 {
@@ -176,7 +176,7 @@ fn with_stack_typed(prompt: Prompt, key: Key) -> Option<PromptStep>
     }
 }
 
-/// A key with a letter where the point is typed.
+/// Returns the effect of a key with a letter after the decimal point.
 fn lettered(prompt: Prompt, meaning: Meaning) -> Option<PromptStep>
     ensures { result ≡ spec.step_by_letter prompt meaning }
 {
@@ -189,7 +189,7 @@ fn lettered(prompt: Prompt, meaning: Meaning) -> Option<PromptStep>
     }
 }
 
-/// The number of the stack's register with this letter.
+/// Returns the number of the stack register with a letter, or `None` if there is none.
 fn stack_parameter(letter: u8) -> Option<u8>
     ensures value { result ≡ stack_register letter }
     ensures bound { IfSome result (λ parameter. parameter < parameter_count) }
@@ -204,7 +204,7 @@ fn stack_parameter(letter: u8) -> Option<u8>
     }
 }
 
-/// A key where the point of `GTO .` is typed.
+/// Returns the effect of a key after `GTO .`.
 fn with_point_typed(prompt: Prompt, meaning: Meaning) -> Option<PromptStep>
     ensures { result ≡ spec.with_point_typed prompt meaning }
 {
@@ -215,7 +215,7 @@ fn with_point_typed(prompt: Prompt, meaning: Meaning) -> Option<PromptStep>
     }
 }
 
-/// A key where a name is typed.
+/// Returns the effect of a key while a name is typed.
 fn with_name_typed(prompt: Prompt, name: &[u8], shift: bool, key: Key) -> Option<PromptStep>
     requires { length name.now ≤ NAME_MOST }
     ensures { result ≡ spec.in_name prompt name.now shift (row_of key) }
@@ -228,7 +228,7 @@ fn with_name_typed(prompt: Prompt, name: &[u8], shift: bool, key: Key) -> Option
     }
 }
 
-/// A letter more of a name.
+/// Returns the effect of one more letter of a name.
 fn name_letter(prompt: Prompt, name: &[u8], meaning: Meaning) -> Option<PromptStep>
     ensures { result ≡ spec.name_letter prompt name.now meaning }
 {
@@ -241,7 +241,7 @@ fn name_letter(prompt: Prompt, name: &[u8], meaning: Meaning) -> Option<PromptSt
     }
 }
 
-/// The end of a name.
+/// Returns the effect of ALPHA, which ends a name.
 fn name_ended(prompt: Prompt, name: &[u8]) -> Option<PromptStep>
     requires { length name.now ≤ NAME_MOST }
     ensures { result ≡ spec.name_ended prompt name.now }
@@ -253,7 +253,7 @@ fn name_ended(prompt: Prompt, name: &[u8]) -> Option<PromptStep>
     }
 }
 
-/// A letter less of a name.
+/// Returns the effect of BACK on a name.
 fn name_shortened(prompt: Prompt, name: &[u8]) -> Option<PromptStep>
     requires { length name.now ≤ NAME_MOST }
     ensures { result ≡ spec.name_shortened prompt name.now }

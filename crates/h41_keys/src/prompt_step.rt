@@ -1,16 +1,16 @@
-//! What a key makes of a prompt.
+//! The effect of a key on a prompt.
 use crate::prompt::Prompt;
 use h41_codes::Line;
 
-/// What a key makes of a prompt.
+/// The effect of a key on a prompt.
 #[derive(Clone, Copy, Debug, PartialEq, Eq)]
 pub enum PromptStep {
-    /// It goes on like this.
+    /// The prompt remains open, in this state.
     Becomes(Prompt),
-    /// It ends, and nothing was typed.
+    /// The prompt ends, and nothing was typed.
     Cancels,
-    /// It ends: this line was typed.
+    /// The prompt ends, and this line was typed.
     Types(Line),
-    /// It ends: `GTO . .` was typed.
+    /// The prompt ends, and `GTO . .` was typed.
     GoesToEnd,
 }

@@ -10,10 +10,10 @@ use crate::letters::{with_letter, without_last};
 use crate::typing::{does, ended, typing};
 use h41_codes::{Line, Text};
 
-/// The append sign: a line with it in front adds the rest to what ALPHA holds.
+/// The append sign: a text line that begins with it appends its other characters to ALPHA.
 const APPEND: u8 = 0x7F;
 
-/// A letter.
+/// Returns the result of a letter key.
 pub(crate) fn letter_typed(input: Input, letter: u8) -> Pressed
     ensures { result ≡ press.letter_typed input input.program_mode input.entry letter }
 {
@@ -28,7 +28,7 @@ pub(crate) fn letter_typed(input: Input, letter: u8) -> Pressed
     }
 }
 
-/// A letter in program mode.
+/// Returns the result of a letter key in program mode.
 fn letter_of_line(input: Input, letter: u8) -> Pressed
     ensures { result ≡ press.letter_typed input true input.entry letter }
 {
@@ -43,7 +43,7 @@ fn letter_of_line(input: Input, letter: u8) -> Pressed
     }
 }
 
-/// A line with a text begins.
+/// Returns the result of beginning a text line.
 fn line_begun(input: Input, letters: &[u8]) -> Pressed
     requires { length letters.now ≤ text_most }
     ensures { result ≡ press.text_line input press.inserts letters.now }
@@ -57,7 +57,7 @@ fn line_begun(input: Input, letters: &[u8]) -> Pressed
     }
 }
 
-/// A line with a text changes.
+/// Returns the result of changing a text line.
 fn line_changed(input: Input, text: Text<15>) -> Pressed
     ensures { result ≡ press.changed_line input text }
 {
@@ -67,7 +67,7 @@ fn line_changed(input: Input, text: Text<15>) -> Pressed
     )
 }
 
-/// BACK where letters are written.
+/// Returns the result of BACK in ALPHA mode.
 pub(crate) fn letter_taken(input: Input) -> Pressed
     ensures { result ≡ press.letter_taken input input.program_mode input.entry }
 {
@@ -80,7 +80,7 @@ pub(crate) fn letter_taken(input: Input) -> Pressed
     }
 }
 
-/// BACK where letters are written, in program mode.
+/// Returns the result of BACK in ALPHA mode and program mode.
 fn letter_taken_of_line(input: Input) -> Pressed
     ensures { result ≡ press.letter_taken input true input.entry }
 {
@@ -91,7 +91,7 @@ fn letter_taken_of_line(input: Input) -> Pressed
     }
 }
 
-/// A line with a text loses its last letter.
+/// Returns the result of deleting the last letter of a text line.
 fn shortened(input: Input, text: &[u8]) -> Pressed
     requires { length text.now ≤ text_most }
     ensures { result ≡ press.text_shortened input (typed.without_last text.now) }
@@ -104,7 +104,7 @@ fn shortened(input: Input, text: &[u8]) -> Pressed
     }
 }
 
-/// Whether a line has a letter, the append sign apart.
+/// Returns whether a text line has a letter other than the append sign.
 fn has_letter(text: &[u8]) -> bool
     ensures { result ≡ press.has_letter text.now }
 {
@@ -115,7 +115,7 @@ fn has_letter(text: &[u8]) -> bool
     }
 }
 
-/// SHIFT XEQ where letters are written.
+/// Returns the result of SHIFT XEQ in ALPHA mode.
 pub(crate) fn append_pressed(input: Input) -> Pressed
     ensures { result ≡ press.append_pressed input input.program_mode input.entry }
 {

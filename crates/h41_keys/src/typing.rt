@@ -1,4 +1,4 @@
-//! What accepted keys have in common.
+//! Common parts of the results of accepted keys.
 ghost use Rattle.std.specs.Prelude.{◌≡◌};
 ghost use Rattle.h41_keys.specs.KeyPress as press;
 
@@ -6,14 +6,14 @@ use crate::action::Action;
 use crate::input::{Input, Pressed, TypedEntry};
 use h41_codes::{Function, Line};
 
-/// An accepted key.
+/// Returns the result of an accepted key with this action and this state of the keyboard.
 pub(crate) fn does(action: Action, input: Input) -> Pressed
     ensures { result ≡ press.does action input }
 {
     Pressed { action, input }
 }
 
-/// SHIFT is used up, and this is being typed.
+/// Returns the state of the keyboard with SHIFT off and this being typed.
 pub(crate) fn typing(input: Input, entry: TypedEntry) -> Input
     ensures { result ≡ press.with_entry input entry }
 {
@@ -24,14 +24,14 @@ pub(crate) fn typing(input: Input, entry: TypedEntry) -> Input
     }
 }
 
-/// SHIFT is used up, and nothing is being typed any more.
+/// Returns the state of the keyboard with SHIFT off and nothing being typed.
 pub(crate) fn ended(input: Input) -> Input
     ensures { result ≡ press.without_entry input }
 {
     typing(input, TypedEntry::Nothing)
 }
 
-/// What is being typed, but for a number.
+/// Returns what is being typed, or nothing if it is a number.
 pub(crate) fn without_number(entry: TypedEntry) -> TypedEntry
     ensures { result ≡ press.without_number entry }
 {
@@ -41,7 +41,7 @@ pub(crate) fn without_number(entry: TypedEntry) -> TypedEntry
     }
 }
 
-/// A line was typed.
+/// Returns the result of typing a line: in program mode it is inserted, otherwise it is executed.
 pub(crate) fn line_typed(input: Input, line: Line) -> Pressed
     ensures { result ≡ press.line_typed input line }
 {
@@ -55,7 +55,7 @@ pub(crate) fn line_typed(input: Input, line: Line) -> Pressed
     }
 }
 
-/// A function was typed.
+/// Returns the result of typing a function without a parameter.
 pub(crate) fn function_typed(input: Input, function: Function) -> Pressed
     ensures { result ≡ press.function_typed input function }
 {

@@ -1,5 +1,5 @@
--- What the code keeps of the lines that have words: it is what these lines say. It only connects
--- the code with the definitions of assembly.
+-- What the code stores of the lines that have words, which is the meaning of these lines. It only
+-- connects the code with the definitions of assembly.
 use Rattle.std.specs.Prelude.{◌≡◌, ℕ, suc, ◌+◌, ◌≤◌, List, [], ◌∷◌, ◌++◌, map, ◌==◌, if◌then◌else◌}
 use Rattle.std.specs.Prelude.{IsOk, None, Result, Ok, Vec, length}
 use Rattle.std.specs.Borrow.{Bor}
@@ -18,53 +18,56 @@ use Rattle.h41_asm.specs.Placing.{Labels, SpellsRead}
 use Rattle.h41_asm.specs.SourceLines.{SourceLine, source_lines}
 use Rattle.h41_asm.specs.Statements.{Statement, reading_of, statement_length}
 
--- what a line says, with its number
+-- What was read of a line, and its number.
 abbrev pub Said : Type 0
 Said = ℕ × Result Statement SourceFault
 
--- what was kept of lines, with the name in each
+-- The meaning of the stored lines, with the name of each.
 abbrev pub kept_said : List KeptLine → List (Bor (List ℕ)) → List Said
 kept_said lines names =
     map (λ kept. (kept.0.number, Ok (in_form kept.0.form kept.1.now))) (zip lines names)
 
--- what the lines say that have words, where the first line has this number
+-- A line as it was read, with its number, if it has words.
 abbrev pub with_words : ℕ → Result Statement SourceFault → List Said
 with_words number said = if read_length said == 0 then [] else (number, said) ∷ []
 
+-- What was read of the lines that have words; the first line has this number.
 abbrev pub said_from : ℕ → List SourceLine → List Said
 said_from number [] = []
 said_from number (line ∷ rest) =
     with_words number (reading_of line.code) ++ said_from (suc number) rest
 
--- this is kept of the lines of a source
+-- These lines and names are stored for a source.
 pub record KeepsLines (text : List ℕ)
     (lines : List KeptLine) (names : List (Bor (List ℕ))) : Type 0 where
   pub length : length names ≡ length lines
   pub said : kept_said lines names ≡ said_from 1 (source_lines text)
 
--- what is kept of a line
+-- The lines that are stored for a statement: one if it has words.
 abbrev pub kept_lines : ℕ → code.Statement → List KeptLine
 kept_lines number statement =
     if statement_length (in_code statement) == 0 then []
     else record { number = number; form = statement.form } ∷ []
 
+-- The names that are stored for a statement: one if it has words.
 abbrev pub kept_names : code.Statement → List (Bor (List ℕ))
 kept_names statement =
     if statement_length (in_code statement) == 0 then [] else statement.name ∷ []
 
--- the first fault of a reference in what lines say from an address on
+-- The first error of a reference in lines that begin at an address.
 abbrev pub said_faults : Labels → ℕ → List Said → FaultOnLine
 said_faults labels address [] = None
 said_faults labels address (said ∷ rest) =
     option_or (at_line said.0 (read_fault labels address said.1))
     (said_faults labels (address + read_length said.1) rest)
 
+-- The first error of a reference in stored lines, by a table of labels.
 abbrev pub first_fault_by : {S : Type 0} → Table S → ℕ → List KeptLine → List (Bor (List ℕ))
     → FaultOnLine
 first_fault_by table origin lines names =
     said_faults (labels_in table) origin (kept_said lines names)
 
--- all could be read, and end within the addresses
+-- All lines could be read and end within the addresses.
 abbrev pub AreReady : ℕ → List Said → Type 0
 AreReady address [] = Unit {0}
 AreReady address (said ∷ rest) =
@@ -72,10 +75,11 @@ AreReady address (said ∷ rest) =
     × (address + read_length said.1 ≤ address_count)
     × AreReady (address + read_length said.1) rest
 
+-- All stored lines are ready: they end within the addresses.
 abbrev pub AreReadyFrom : ℕ → List KeptLine → List (Bor (List ℕ)) → Type 0
 AreReadyFrom origin lines names = AreReady origin (kept_said lines names)
 
--- and they spell these words, each its own
+-- The lines spell these words, each line its own.
 abbrev pub SaidSpell : Labels → ℕ → List Said → List ℕ → Type 0
 SaidSpell labels address [] words = words ≡ []
 SaidSpell labels address (said ∷ rest) words =
@@ -85,11 +89,12 @@ SaidSpell labels address (said ∷ rest) words =
     × SpellsRead labels address said.1 own
     × SaidSpell labels (address + read_length said.1) rest others
 
+-- The stored lines spell these words, by a table of labels.
 abbrev pub SpellsBy : {S : Type 0} → Table S → ℕ → List KeptLine → List (Bor (List ℕ))
     → Vec ℕ Global → Type 0
 SpellsBy table origin lines names words =
     SaidSpell (labels_in table) origin (kept_said lines names) words.items
 
--- a line of the code says what a statement of the code does
+-- A line of the code has the meaning of a statement of the code.
 abbrev pub Says : code.Statement → code_lines.SourceLine → Type 0
 Says statement line = Ok (in_code statement) ≡ reading_of (in_line line).code

@@ -1,5 +1,5 @@
--- The code's table of first words, and what the words behind one of these say. It only connects the
--- code with `reading`.
+-- The code's table of first words, and the statements of the words after each of them. It only
+-- connects the code with `reading_of`.
 use Rattle.std.specs.Prelude.{◌≡◌, ℕ, ◌<◌, if◌then◌else◌, false, bytes_eq, codes, length, map}
 use Rattle.std.specs.Prelude.{slice_index, slice_index_or, All, List, [], ◌∷◌, Option, Some, None}
 use Rattle.std.specs.Prelude.{Result, Ok, Err}
@@ -22,51 +22,55 @@ use Rattle.h41_asm.specs.SourceLines.{words_of}
 use Rattle.h41_asm.specs.Statements.{Statement, Words, Taking, is_whole, reading_of, statement_by}
 use Rattle.h41_asm.specs.Statements.{takes_address}
 
--- the words behind an instruction that takes none, by its word
+-- The statement of an instruction without an operand: no word may follow it.
 abbrev pub without_operand : ℕ → List (List ℕ) → Result Statement SourceFault
 without_operand number [] = Ok (Words (number ∷ []))
 without_operand number (word ∷ others) = Err BadOperand
 
--- behind READ and WRIT: DATA, or an operand
+-- The statement of READ and WRIT, after which DATA or an operand follows.
 abbrev pub data_or : ℕ → Taking → List (List ℕ) → Result Statement SourceFault
 data_or number takes words =
     if is_whole words (codes "DATA") then Ok (Words (number ∷ [])) else statement_by takes words
 
--- behind a word and its second one
+-- The statement by a rule for the second word and the words after it.
 abbrev pub by_second : (List ℕ → List (List ℕ) → Result Statement SourceFault) → List (List ℕ)
     → Result Statement SourceFault
 by_second says [] = Err BadLine
 by_second says (second ∷ others) = says second others
 
--- what the code read of the words behind an opening, by a rule for them, or by one for the second
--- word and those behind it
+-- The code read the words after a first word as a rule for these words says.
 abbrev pub Reads : (List (List ℕ) → Result Statement SourceFault) → rests.SourceWords
     → Result code.Statement SourceFault → Type 0
 Reads says others read = read_in_code read ≡ says (words_of others.rest.now)
 
+-- The code read the words after a first word as a rule for the second word and those after it says.
 abbrev pub ReadsSecond : (List ℕ → List (List ℕ) → Result Statement SourceFault) → rests.SourceWords
     → Result code.Statement SourceFault → Type 0
 ReadsSecond says others read = Reads (by_second says) others read
 
+-- An instruction whose mnemonic has this second word.
 abbrev pub pair : List ℕ → ℕ → List ℕ → List (List ℕ) → Result Statement SourceFault
 pair name number second others = if bytes_eq second name then without_operand number others else Err
     BadLine
 
--- the first of two that the second word is
+-- One of two instructions, which the second word selects.
 abbrev pub one_of_two : List ℕ → ℕ → List ℕ → ℕ → List ℕ → List (List ℕ)
     → Result Statement SourceFault
 one_of_two name number other_name other second others =
     if bytes_eq second name then without_operand number others else pair other_name other second
     others
 
+-- An instruction whose mnemonic ends in A.
 abbrev pub then_a : ℕ → List (List ℕ) → Result Statement SourceFault
 then_a number words = by_second (pair (codes "A") number) words
 
+-- The instructions C=C OR A and C=C AND A.
 abbrev pub logic : List ℕ → List (List ℕ) → Result Statement SourceFault
 logic second others =
     if bytes_eq second (codes "OR") then then_a (number_of rows.Or) others
     else (if bytes_eq second (codes "AND") then then_a (number_of rows.And) others else Err BadLine)
 
+-- The returns and jumps by address with a condition.
 abbrev pub at_carry : Condition → List ℕ → List (List ℕ) → Result Statement SourceFault
 at_carry condition second others =
     if bytes_eq second (codes "RTN") then without_operand (number_of (rows.ReturnIf condition))
@@ -75,7 +79,7 @@ at_carry condition second others =
     else (if bytes_eq second (codes "GO") then statement_by (takes_address condition Go) others
     else Err BadLine))
 
--- what words say behind the first
+-- The statement of the words after a first word.
 abbrev pub statement_of : table.Opening → List (List ℕ) → Result Statement SourceFault
 statement_of (openings.Single number) others = without_operand number others
 statement_of (openings.Taker takes) others = statement_by (takes_in_code takes) others
@@ -101,36 +105,40 @@ statement_of openings.GoTo others =
 statement_of openings.Logic others = by_second logic others
 statement_of (openings.If condition) others = by_second (at_carry condition) others
 
+-- The statement of the words after a first word, which may be unknown.
 abbrev pub opened_or_bad : Option table.Opening → List (List ℕ) → Result Statement SourceFault
 opened_or_bad None others = Err BadLine
 opened_or_bad (Some opening) others = statement_of opening others
 
--- the words that it tells by their numbers
+-- The numbers of words in an entry are those of words.
 abbrev pub TellsWords : table.Opening → Type 0
 TellsWords (openings.Single number) = number < word_count
 TellsWords (openings.Data number numbered) = number < word_count
 TellsWords other = Unit {0}
 
--- what a first word begins
+-- The meaning of a first word: whatever words follow it, they are read by this entry, or are a
+-- BadLine (30).
 abbrev pub OpensAs : List ℕ → Option table.Opening → Type 0
 OpensAs word found = (others : List (List ℕ)) → reading_of (word ∷ others)
     ≡ opened_or_bad found others
 
--- the hash of a word
+-- The number of hashes.
 abbrev pub place_count : ℕ
 place_count = 256
 
+-- The hash of a word.
 abbrev pub hash_of : List ℕ → ℕ
 hash_of word = word_hash 27371 15327 word
 
--- the entries of the code's table
+-- An entry of the code's table: a first word and what it begins.
 abbrev pub TableEntry : Type 0
 TableEntry = List ℕ × table.Opening
 
+-- The entries of the code's table.
 abbrev pub entries_in : List (Bor (List ℕ) × table.Opening) → List TableEntry
 entries_in openings = map (λ opening. (opening.0.now, opening.1)) openings
 
--- each entry is right, and a word that is not the entry of its own hash begins nothing
+-- Each entry is right, and a word that is not the entry of its own hash begins nothing.
 pub record IsTable (entries : List TableEntry) (places : List ℕ) : Type 0 where
   pub count : length places ≡ place_count
   pub within : (k : ℕ) → k < length places → slice_index places k < length entries

@@ -33,7 +33,7 @@ returns-clause-words c =
     (subst (λ said. SaidSpell labels c.args.origin said words.items) placed.kept.said spelled)))
     (rw (c.deref.ensures.value, c.deref-2.ensures.value) at c.spell.ensures.words)
 
--- the first fault of what is kept is that of the source
+-- The first error of the stored lines is that of the source.
 fault_of : (labels : Labels) (source : List ℕ) (origin : ℕ) (said : List Said) → said ≡ said_from 1 (source_lines source)
     → first_fault own_fault_at (numbered_lines origin (source_lines source)) ≡ None
     → ((name : List ℕ) → labels name ≡ label_address (numbered_lines origin (source_lines source)) name)

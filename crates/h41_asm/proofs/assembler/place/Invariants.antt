@@ -8,11 +8,11 @@ use Rattle.h41_asm.proofs.assembler.place.Given as goal
 abbrev pub invariant-loop-start : goal.invariant-loop-start
 invariant-loop-start l = record {
   within : l.address ≤ 65536;
-  -- their number, and how many are left
+  -- The number of lines so far, and how many are left.
   count : l.number + length (lines (drop l.start l.text)) ≤ length l.text + 1;
-  -- the lines before are placed, without a fault
+  -- The lines before are placed, without an error.
   placed : IsPlaced (labels_in l.labels) (source_lines l.text) l.origin l.number l.address (source_lines (drop l.start l.text));
-  -- and what they say is kept
+  -- What was read of them is stored.
   length : length l.names.items ≡ length l.lines.items;
   kept : kept_said l.lines.items l.names.items ++ said_from l.number (source_lines (drop l.start l.text))
       ≡ said_from 1 (source_lines l.text);

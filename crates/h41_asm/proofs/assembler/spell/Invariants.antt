@@ -5,13 +5,13 @@ use Rattle.h41_asm.proofs.assembler.spell.Given as goal
 
 abbrev pub invariant-loop-i : goal.invariant-loop-i
 invariant-loop-i l = record {
-  -- the lines that are left are ready from here on
+  -- The lines that are left are ready from here on.
   ready : AreReady l.address (kept_said (drop l.i l.lines) (drop l.i l.names));
   within : l.address ≤ 65536;
-  -- the faults are those that are left
+  -- The errors are those of the lines that are left.
   faults : said_faults (labels_in l.labels) l.address (kept_said (drop l.i l.lines) (drop l.i l.names))
       ≡ first_fault_by l.labels l.origin l.lines l.names;
-  -- and what spells these spells all, behind the words so far
+  -- Words that these lines spell follow the words so far; together they are the words of all lines.
   spelled : (others : List ℕ) → SaidSpell (labels_in l.labels) l.address (kept_said (drop l.i l.lines) (drop l.i l.names)) others
       → SaidSpell (labels_in l.labels) l.origin (kept_said l.lines l.names) (l.words.items ++ others);
 }

@@ -4,7 +4,7 @@ use Rattle.std.proofs.lemmas.List.FromFn.{get_or-map-range_with_len}
 use Rattle.h41_asm.specs.SourceLines.{is_blank}
 use Rattle.h41_asm.proofs.words.is_within.Goals as goal
 
--- the bytes that end a word, or begin or end quotes
+-- The bytes that end a word, or begin or end quotes.
 abbrev is_apart : ℕ → Bool
 is_apart byte = is_blank byte || byte == 59 || byte == 34
 

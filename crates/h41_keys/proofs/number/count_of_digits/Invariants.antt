@@ -2,7 +2,7 @@ use Rattle.std.proofs.Common.{◌≡◌, ◌+◌, ◌≤◌, length, drop, filte
 use Rattle.h41_keys.specs.NumberTyping.{is_digit}
 use Rattle.h41_keys.proofs.number.count_of_digits.Given as goal
 
--- the digits so far, and those that are left
+-- The digits so far, and those that are left.
 abbrev pub invariant-loop-character : goal.invariant-loop-character
 invariant-loop-character l =
     (l.count + length (filter is_digit (drop l.character-index l.text)) ≡ length (filter is_digit l.text)) × (l.count ≤ l.character-index)

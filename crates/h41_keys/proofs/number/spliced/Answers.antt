@@ -9,7 +9,7 @@ use Rattle.h41_keys.specs.NumberTyping.{kept_within}
 use Rattle.h41_keys.proofs.number.spliced.Goals as goal
 use borrow.Rule.Slice.PartMut.{put_mid}
 
--- cells behind the first two parts: `first` and `second` are what was written for `front` and `more`
+-- The cells after the first two parts: `first` and `second` are what was written for `front` and `more`.
 abbrev two_parts : (cells front more first second : List Character) → List Character
 two_parts cells front more first second =
     put_mid (length front) (length front + length more - length front) (first ++ drop (length front) cells) second
@@ -19,7 +19,7 @@ two_parts-length : (cells front more first second : List Character) → first �
 two_parts-length cells front more first second is1 is2 within =
     simp (length-append, length-take, length-drop) (omega (arith, ap length is1, ap length is2))
 
--- the part that is written next has its length
+-- The part that is written next has its length.
 part_length : (a n : ℕ) (cells : List Character) → a + n ≤ length cells → length (take (a + n - a) (drop a cells)) ≡ n
 part_length a n cells within = simp (length-take, length-drop) (omega arith)
 
@@ -32,7 +32,7 @@ rest_length cells front more first second n is1 is2 within =
     let same = two_parts-length cells front more first second is1 is2 (omega arith) in
     part_length (length front + length more) n (two_parts cells front more first second) (omega arith)
 
--- behind the third part the three are read
+-- After the third part, the three parts are read.
 three_parts : (cells front more rest first second third : List Character) → first ≡ front → second ≡ more → third ≡ rest
     → length front + length more + length rest ≤ length cells
     → take (length front + length more + length rest)

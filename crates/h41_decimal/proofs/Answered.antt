@@ -1,4 +1,4 @@
--- What the operations answer is determined.
+-- The results of the operations are determined.
 use Rattle.std.proofs.Common.{◌≡◌, ℕ, suc, ◌+◌, ◌*◌, ◌<◌, ◌≤◌, ⊎_elim, sym, ◌∙◌, subst, arith, Result, Ok, Err, Bool, true, false}
 use Rattle.std.proofs.Common.{MatchBool}
 use Rattle.std.specs.Prelude.{ℤ, pos, negsuc, ◌+ℤ◌, ◌-ℤ◌, ◌*ℤ◌, ◌<ℤ◌, ◌≤ℤ◌, ◌==◌, unsigned_abs}
@@ -16,7 +16,7 @@ use Rattle.h41_decimal.specs.declared.fault.DecimalFault.TheVariants.{Data}
 use Rattle.h41_decimal.specs.declared.ten.Ten.{Ten}
 use Rattle.h41_decimal.proofs.Determined.{nearest_determined}
 
--- a count of steps is determined
+-- A count of steps is determined.
 not_fewer : (step size k l : ℕ) → size < 2 * ((k + 1) * step) → 2 * (l * step) ≤ size → k < l → ⊥
 not_fewer step size k l next not_above less =
     let le : k + 1 ≤ l = omega arith in
@@ -42,7 +42,7 @@ steps_determined step number a b h k =
     let P : ℕ → Type 0 = λ t. Nearest (with_sign (sign_of number) (t * step)) 1 b in
     nearest_determined (with_sign (sign_of number) (h.steps * step)) 1 a b h.value (subst P (sym e) k.value)
 
--- a quotient
+-- The result of a division.
 quotient_either : (t : Bool) (above : ℤ) (below : ℕ) (a b : Result Ten DecimalFault)
     → MatchBool t (a ≡ Err Data) (Nearest above below a) → MatchBool t (b ≡ Err Data) (Nearest above below b) → a ≡ b
 quotient_either true above below a b h k = h ∙ sym k
@@ -52,7 +52,7 @@ pub quotient_determined : QuotientIsDetermined
 quotient_determined x y a b h k =
     quotient_either (unsigned_abs y == 0) (x *ℤ y *ℤ pos one) (unsigned_abs y * unsigned_abs y) a b h k
 
--- products with a divisor are in the order of its sign
+-- Products with a divisor are in the order of its sign.
 products_up : (a b : ℤ) (x : ℕ) → a ≤ℤ b → (a *ℤ pos x) ≤ℤ (b *ℤ pos x)
 products_up (pos m) (pos n) x h =
     let le : m ≤ n = omega (arith, ints) in
@@ -91,7 +91,7 @@ products_down (negsuc m) (negsuc n) x h =
     let f = negsuc-*ℤ-negsuc n x in
     omega (arith, ints)
 
--- of two greatest whole numbers neither is smaller
+-- Of two greatest whole numbers neither is smaller.
 no_lower_floor : (w v y x : ℤ) → IsFloor w y x → IsFloor v y x → w <ℤ v → ⊥
 no_lower_floor w v y (pos x) h k less =
     let le : (w +ℤ pos 1) ≤ℤ v = omega (arith, ints) in
@@ -118,7 +118,7 @@ rest_determined y x a b h k =
     let P : ℤ → Type 0 = λ w. Nearest (y -ℤ x *ℤ w) 1 b in
     nearest_determined (y -ℤ x *ℤ h.whole) 1 a b h.rest (subst P (sym e) k.rest)
 
--- and what a division leaves
+-- The result of a remainder.
 modulo_either : (t : Bool) (number : Ten) (y x : ℤ) (a b : Result Ten DecimalFault)
     → MatchBool t (a ≡ Ok number) (RoundsRest y x a) → MatchBool t (b ≡ Ok number) (RoundsRest y x b) → a ≡ b
 modulo_either true number y x a b h k = h ∙ sym k

@@ -1,4 +1,4 @@
--- From a cut to the rounded answer.
+-- From a cut to the rounded result.
 use Rattle.std.proofs.Common.{◌≡◌, ℕ, zero, suc, ◌+◌, ◌-◌, ◌*◌, ◌/◌, ◌^◌, ◌<◌, ◌≤◌, ⊎_elim, sym, ◌∙◌, ap, subst, arith, Result, Ok}
 use Rattle.std.specs.Prelude.{pos, negsuc}
 use Rattle.std.proofs.Math.Nat.{mul-le-mul_left, mul-le-mul_right, mul-lt-mul_of_pos_right, mul-le-mul, pow-suc, div-mul-le_self}
@@ -13,7 +13,7 @@ use Rattle.h41_decimal.specs.declared.ten.Ten.{Ten}
 use Rattle.h41_decimal.specs.declared.ten.Ten.TheVariants.{Zero}
 use Rattle.h41_decimal.proofs.Nearest.{near_at, ten_pow_pos, below_more, at_least_less}
 
--- a power of ten in two parts
+-- A power of ten in two parts.
 pub power_parts : (i j k : ℕ) → i + j ≡ k → 10 ^ i * 10 ^ j ≡ 10 ^ k
 power_parts i j k e = sym (pow-add 10 i j) ∙ ap (λ t. 10 ^ t) e
 
@@ -28,7 +28,7 @@ high_link n m ps pu p128 w parts link =
     let a : n * (pu * p128) ≡ n * ps = ap (λ t. n * t) parts in
     omega arith
 
--- the answer for what was cut to eleven digits: n ten digits whose last stands at a place are worth the rounded m
+-- The result for a size that was cut to eleven digits: n, ten digits whose last is at a place, has the same value as the rounded m.
 pub rounded_at : (sign : Sign) (v : Exact) (T m n scale place : ℕ) (answer : Result Ten DecimalFault) → IsCut v T scale
     → 10 ^ 10 ≤ T → 10 * m ≤ T + 5 → T + 5 < 10 * m + 10 → 10 ^ 9 ≤ m → IsTenDigits n
     → n * 10 ^ place ≡ m * (10 * 10 ^ scale)
@@ -56,7 +56,7 @@ rounded_at sign v T m n scale place answer cut T_size low high m_size ten link z
     })
     (cases_lt place 128)
 
--- a number cut further: its last places are dropped
+-- A number cut further: its last places are dropped.
 pub cut_further : (v : Exact) (whole part scale dropped : ℕ) → IsCut v whole scale
     → part * 10 ^ dropped ≤ whole → whole < (part + 1) * 10 ^ dropped → IsCut v part (scale + dropped)
 cut_further v whole part scale dropped cut low high =
@@ -75,7 +75,7 @@ cut_further v whole part scale dropped cut low high =
           origin o o (mul-le-mul_right origin ge) cut.below;
     }
 
--- what is at most a bound is below a larger one
+-- If something is at most a bound, it is less than a greater bound.
 pub below_of_at_most : (v : Exact) (p p' b q : ℕ) → p < p' → IsBelow v b q → IsAtMost v p q → IsBelow v p' q
 below_of_at_most (Fraction n zero) p p' b q less any at_most = absurd (omega arith)
 below_of_at_most (Fraction n (suc d)) p p' b q less any at_most =
@@ -86,7 +86,7 @@ below_of_at_most (RootOf n) p p' b q less any at_most =
     let b : p * p' < p' * p' = mul-lt-mul_of_pos_right less (omega arith) in
     omega arith
 
--- a number of which nothing was cut off has zeros behind it
+-- A number from which nothing was cut off is followed by zeros.
 pub cut_exactly : (v : Exact) (whole scale missing place : ℕ) → place + missing ≡ scale → IsCut v whole scale
     → IsAtMost v (whole * 10 ^ scale) origin → IsCut v (whole * 10 ^ missing) place
 cut_exactly v whole scale missing place places cut at_most =
@@ -100,7 +100,7 @@ cut_exactly v whole scale missing place places cut at_most =
           (omega arith) cut.below at_most;
     }
 
--- eleven digits of a number that has more: dropping the rest, a quotient by the power of ten p
+-- Eleven digits of a number that has more: dropping the rest, a quotient by the power of ten p.
 pub eleven_of_more : (whole count dropped p : ℕ) → p ≡ 10 ^ dropped → 11 + dropped ≡ count → 10 ^ count ≤ 10 * whole → whole < 10 ^ count
     → (0 < p) × (10 ^ 10 ≤ whole / p) × (whole / p < 10 ^ 11)
 eleven_of_more whole count dropped p is e least next =
@@ -109,7 +109,7 @@ eleven_of_more whole count dropped p is e least next =
     let p_pos : 0 < p = omega arith in
     (p_pos, le-div (10 ^ 10) whole p p_pos (omega arith), div_below whole p (10 ^ 11) p_pos (omega arith))
 
--- and of one that has fewer
+-- And of one that has fewer.
 pub eleven_of_fewer : (whole count missing p : ℕ) → p ≡ 10 ^ missing → count + missing ≡ 11 → 10 ^ count ≤ 10 * whole → whole < 10 ^ count
     → (10 ^ 10 ≤ whole * p) × (whole * p < 10 ^ 11)
 eleven_of_fewer whole count missing p is e least next =
@@ -121,7 +121,7 @@ eleven_of_fewer whole count missing p is e least next =
     let b : whole * p < 10 ^ count * p = mul-lt-mul_of_pos_right next p_pos in
     (omega arith, omega arith)
 
--- a number of more digits, cut to eleven
+-- A number of more digits, cut to eleven.
 pub cut_to_eleven : (v : Exact) (whole scale dropped p : ℕ) → 0 < p → p ≡ 10 ^ dropped → IsCut v whole scale
     → IsCut v (whole / p) (scale + dropped)
 cut_to_eleven v whole scale dropped p p_pos is cut =
@@ -130,7 +130,7 @@ cut_to_eleven v whole scale dropped p p_pos is cut =
     let same : whole / p * p ≡ whole / p * 10 ^ dropped = ap (λ t. whole / p * t) is in
     cut_further v whole (whole / p) scale dropped cut (omega arith) (omega arith)
 
--- and one of fewer, of which nothing was cut off, or that has eleven already
+-- And one of fewer, of which nothing was cut off, or that has eleven already.
 pub fill_to_eleven : (v : Exact) (whole scale missing place p : ℕ) → p ≡ 10 ^ missing → place + missing ≡ scale → whole * p < 10 ^ 11
     → IsCutFarEnough v whole scale → IsCut v (whole * p) place
 fill_to_eleven v whole scale missing place p is places fits far =

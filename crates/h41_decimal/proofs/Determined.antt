@@ -19,7 +19,7 @@ use Rattle.h41_decimal.specs.declared.ten.Ten.TheVariants.{Zero}
 use Rattle.h41_decimal.proofs.Nearest.{ten_pow_pos}
 use Rattle.h41_decimal.proofs.Tens.{lower_exponent}
 
--- no size is below a bound that it reaches
+-- No size is below a bound that it reaches.
 not_both : (v : Exact) (p p' q q' : ℕ) → p ≡ p' → q ≡ q' → IsBelow v p q → IsAtLeast v p' q' → ⊥
 not_both (Fraction n d) p p' q q' e f below least =
     let a : p * d ≡ p' * d = ap (λ t. t * d) e in
@@ -30,7 +30,7 @@ not_both (RootOf n) p p' q q' e f below least =
     let b : n * (q * q) ≡ n * (q' * q') = ap (λ t. n * (t * t)) f in
     omega arith
 
--- of two nearest decimals neither is smaller
+-- Of two nearest decimals neither is smaller.
 not_smaller : (v : Exact) (m a b n a' b' : ℕ) → IsTenDigits m → IsTenDigits n → IsNear v m a b → IsNear v n a' b'
     → m * (10 ^ a * 10 ^ b') < n * (10 ^ a' * 10 ^ b) → ⊥
 not_smaller v m a b n a' b' m_ten n_ten x y less =
@@ -50,7 +50,7 @@ same_size v m a b n a' b' m_ten n_ten x y =
     (cases_lt (n * (10 ^ a' * 10 ^ b)) (m * (10 ^ a * 10 ^ b'))))
     (cases_lt (m * (10 ^ a * 10 ^ b')) (n * (10 ^ a' * 10 ^ b)))
 
--- equal sizes of ten digits have one exponent
+-- Equal sizes of ten digits have one exponent.
 same_steps : (m n s t : ℕ) → IsTenDigits m → IsTenDigits n → m * (10 ^ s * 1) ≡ n * (10 ^ t * 1) → s ≡ t
 same_steps m n s t m_ten n_ten e =
     ⊎_elim
@@ -62,7 +62,7 @@ same_steps m n s t m_ten n_ten e =
     (cases_lt t s))
     (cases_lt s t)
 
--- a size in range is not one below it
+-- A size in range is not one below it.
 not_below_range : (m n s d : ℕ) → IsTenDigits m → IsTenDigits n → m * (10 ^ s * 10 ^ (d + 1)) ≡ n * (1 * 1) → ⊥
 not_below_range m n s d m_ten n_ten e =
     let p : 10 ^ (s + (d + 1)) ≡ 10 ^ s * 10 ^ (d + 1) = pow-add 10 s (d + 1) in
@@ -70,7 +70,7 @@ not_below_range m n s d m_ten n_ten e =
     let h = lower_exponent n m 0 (s + (d + 1)) n_ten.below m_ten.at_least (omega arith) in
     omega arith
 
--- what is answered in range
+-- The result if it is in range.
 in_range : (b : Bool) (z : ℤ) (x y : Result Ten DecimalFault) → MatchBool b (IsOkAnd x (λ number. units number ≡ z)) (x ≡ Err Range)
     → MatchBool b (IsOkAnd y (λ number. units number ≡ z)) (y ≡ Err Range) → x ≡ y
 in_range true z (Ok x) (Ok y) h k = ap Ok (units_injective x y (h ∙ sym k))

@@ -7,7 +7,7 @@ use Rattle.std.specs.Int.RustNames.{bit_and}
 use Rattle.h41_decimal.specs.private.PackedDigits.{decimal_of, hundreds_of}
 use Rattle.h41_decimal.proofs.PackedDigits.{digit_more, no_digit, no_digit_behind}
 
--- one byte so many times
+-- One byte so many times.
 abbrev pub repeated : ℕ → ℕ → ℕ
 repeated byte zero = 0
 repeated byte (suc count) = byte + 256 * repeated byte count
@@ -20,7 +20,7 @@ masked_more first others byte count small fits =
     ap (λ n. bit_and n (byte + 256 * repeated byte count)) turned ∙ ap (bit_and (others * 2 ^ 8 + first)) mask_turned
     ∙ and_block 8 others (repeated byte count) first byte small fits ∙ omega arith
 
--- the lower halves of so many bytes
+-- The lower halves of so many bytes.
 abbrev pub halves : ℕ → ℕ → ℕ
 halves zero bytes = 0
 halves (suc count) bytes = bytes % 16 + 256 * halves count (bytes / 256)
@@ -33,7 +33,7 @@ halves_read (suc count) bytes =
     ap (λ n. bit_and n (repeated 15 (suc count))) split ∙ masked_more (bytes % 256) (bytes / 256) 15 count (omega arith) (omega arith)
     ∙ omega (arith, low, halves_read count (bytes / 256))
 
--- sixteen for each half above 9
+-- Sixteen for each half above 9.
 abbrev pub sixteens : ℕ → ℕ → ℕ
 sixteens count bytes = bit_and (halves count bytes + repeated 6 count) (repeated 16 count)
 
@@ -45,7 +45,7 @@ sixteens_more count bytes =
     let low : bit_and first 16 ≡ first / 16 % 2 * 16 = and_pow first 4 in
     ap (λ n. bit_and n (repeated 16 (suc count))) sum ∙ masked_more first others 16 count (omega arith) (omega arith) ∙ omega (arith, low)
 
--- two digits in each of so many bytes
+-- Two digits in each of so many bytes.
 abbrev pub twice : ℕ → ℕ
 twice zero = 0
 twice (suc count) = suc (suc (twice count))
@@ -100,6 +100,6 @@ one_not_decimal (suc count) digits some =
     (cases_lt 9 (digits / 16 % 16))))
     (cases_lt 9 (digits % 16))
 
--- the test of the lower half of five bytes
+-- The test of the lower half of five bytes.
 pub tested : (bytes : ℕ) → bit_and (bit_and bytes 64677154575 + 25870861830) 68988964880 ≡ sixteens 5 bytes
 tested bytes = ap (λ n. bit_and (n + repeated 6 5) (repeated 16 5)) (halves_read 5 bytes)

@@ -9,7 +9,7 @@ use Rattle.h41_decimal.specs.private.Cut.{IsCutFarEnough}
 use Rattle.h41_decimal.proofs.Nearest.{ten_pow_pos}
 use Rattle.h41_decimal.proofs.Cuts.{cut_further, power_parts}
 
--- a fraction that is a whole number of steps
+-- A fraction that is a whole number of steps.
 pub exact_fraction : (n d whole scale : ℕ) → 0 < d → n * 10 ^ 128 ≡ (whole * 10 ^ scale) * d → IsCutFarEnough (Fraction n d) whole scale
 exact_fraction n d whole scale d_pos e =
     let p : 0 < 10 ^ scale * d = mul-pos (ten_pow_pos scale) d_pos in
@@ -18,7 +18,7 @@ exact_fraction n d whole scale d_pos e =
       whole_size = λ _. omega arith;
     }
 
--- the product of two sizes
+-- The product of two sizes.
 product_steps : (m n ps pt p108 p128 pscale : ℕ) → (ps * pt) * p128 ≡ pscale * p108
     → ((m * ps) * (n * pt)) * p128 ≡ ((m * n) * pscale) * p108
 product_steps m n ps pt p108 p128 pscale e =
@@ -33,7 +33,7 @@ cut_product m n s t =
     exact_fraction ((m * 10 ^ s) * (n * 10 ^ t)) (10 ^ 108) (m * n) (s + t + 20) (ten_pow_pos 108)
     (product_steps m n (10 ^ s) (10 ^ t) (10 ^ 108) (10 ^ 128) (10 ^ (s + t + 20)) e)
 
--- the same, where the code has the numbers under other names
+-- The same, if the code has the numbers under other names.
 pub same_cut : (v : Exact) (whole whole' scale scale' : ℕ) → whole ≡ whole' → scale ≡ scale' → IsCutFarEnough v whole' scale'
     → IsCutFarEnough v whole scale
 same_cut v whole whole' scale scale' e f cut =
@@ -41,7 +41,7 @@ same_cut v whole whole' scale scale' e f cut =
     let Q : ℕ → Type 0 = λ s. IsCutFarEnough v whole s in
     subst Q (sym f) (subst P (sym e) cut)
 
--- a number of which the last digits are dropped, where eleven stay
+-- A number of which the last digits are dropped, if eleven remain.
 pub cut_shorter : (v : Exact) (whole part scale dropped : ℕ) → part ≡ whole / 10 ^ dropped → 10 ^ 10 ≤ part
     → IsCutFarEnough v whole scale → IsCutFarEnough v part (scale + dropped)
 cut_shorter v whole part scale dropped part_is long far =
@@ -53,7 +53,7 @@ cut_shorter v whole part scale dropped part_is long far =
       whole_size = λ less. absurd (omega arith);
     }
 
--- the product of two sizes, each in two halves
+-- The product of two sizes, each in two halves.
 product_of_halves : (a b c d : ℕ)
     → a * c * 100000 + (a * d + b * c) + b * d / 100000 ≡ (a * 100000 + b) * (c * 100000 + d) / 100000
 product_of_halves a b c d =
@@ -74,7 +74,7 @@ product_is_long m n m_size n_size =
     let big : 10 ^ 9 * 10 ^ 9 ≤ m * n = mul-le-mul m_size n_size in
     le-div (10 ^ 10) (m * n) 100000 (omega arith) (omega arith)
 
--- a hundredth of the product
+-- A hundredth of the product.
 pub cut_percent : (m n s t : ℕ) → IsCutFarEnough (Fraction ((m * 10 ^ s) * (n * 10 ^ t)) (100 * 10 ^ 108)) (m * n) (s + t + 18)
 cut_percent m n s t =
     let e : (10 ^ s * 10 ^ t) * 10 ^ 128 ≡ 10 ^ (s + t + 18) * 10 ^ 110 =
@@ -83,7 +83,7 @@ cut_percent m n s t =
     exact_fraction ((m * 10 ^ s) * (n * 10 ^ t)) (100 * 10 ^ 108) (m * n) (s + t + 18) (ten_pow_pos 110)
     (product_steps m n (10 ^ s) (10 ^ t) (10 ^ 110) (10 ^ 128) (10 ^ (s + t + 18)) e)
 
--- the quotient of two sizes, cut to a whole number
+-- The quotient of two sizes, cut to a whole number.
 quotient_low : (m n q ps pt pr : ℕ) → q * n ≤ m * 10 ^ 11 → pr * pt ≡ ps * 10 ^ 225
     → (q * pr) * ((n * pt) * (n * pt)) ≤ (((m * ps) * (n * pt)) * 10 ^ 108) * 10 ^ 128
 quotient_low m n q ps pt pr low parts =
@@ -116,13 +116,13 @@ cut_quotient m n s t q r m_size n_pos n_size q_is e =
       whole_size = λ less. absurd (omega arith);
     }
 
--- a quotient in two parts
+-- A quotient in two parts.
 pub quotient_by_parts : (m n : ℕ) → 0 < n → m / n * 100 + m % n * 100 / n ≡ m * 100 / n
 quotient_by_parts m n n_pos =
     let whole : m * 100 ≡ m / n * 100 * n + m % n * 100 = omega (arith, ap (λ t. t * 100) (div-add-mod' m n)) in
     sym (ap (λ t. t / n) whole ∙ mul-add-div_right n_pos (m / n * 100) (m % n * 100))
 
--- the square root of a size, cut to a whole number
+-- The square root of a size, cut to a whole number.
 root_low : (m w ps pj pk : ℕ) → w * w ≤ m * pj → pj * (pk * pk) ≡ ps * 10 ^ 364
     → (w * pk) * (w * pk) ≤ ((m * ps) * 10 ^ 108) * (10 ^ 128 * 10 ^ 128)
 root_low m w ps pj pk low parts =
@@ -150,7 +150,7 @@ cut_root m s j w k n n_is low high w_size e =
       whole_size = λ less. absurd (omega arith);
     }
 
--- the sum of two sizes at one scale
+-- The sum of two sizes at one scale.
 sum_steps : (m n ps pt p pk : ℕ) → p * pt ≡ ps → pk ≡ pt * 10 ^ 128 → (m * ps + n * pt) * 10 ^ 128 ≡ ((m * p + n) * pk) * 1
 sum_steps m n ps pt p pk parts scale =
     let a : m * (p * pt) ≡ m * ps = ap (λ t. m * t) parts in
@@ -162,7 +162,7 @@ cut_sum m n s t apart e =
     exact_fraction (m * 10 ^ s + n * 10 ^ t) 1 (m * 10 ^ apart + n) (t + 128) (omega arith)
     (sum_steps m n (10 ^ s) (10 ^ t) (10 ^ apart) (10 ^ (t + 128)) (power_parts apart t s e) (pow-add 10 t 128))
 
--- their difference, either way
+-- Their difference, either way.
 difference_steps : (m n ps pt p pk r d : ℕ) → p * pt ≡ ps → pk ≡ pt * 10 ^ 128 → d + n ≡ m * p → r + n * pt ≡ m * ps
     → r * 10 ^ 128 ≡ (d * pk) * 1
 difference_steps m n ps pt p pk r d parts scale steps size =
@@ -192,7 +192,7 @@ cut_difference_turned m n s t apart r d e steps size =
     (difference_steps_turned m n (10 ^ s) (10 ^ t) (10 ^ apart) (10 ^ (t + 128))
     r d (power_parts apart t s e) (pow-add 10 t 128) steps size)
 
--- what a size has in the places that count, eight behind the last of one whose exponent is higher
+-- The digits of a size in the places that are used, up to eight after the last place of a size with a higher exponent.
 pub places_counted : (n s t dropped q : ℕ) → t + 8 ≤ s → dropped ≡ min (s - t - 8) 10 → q ≡ n / 10 ^ dropped → n < 10 ^ 10
     → (q * 10 ^ s ≤ (n * 10 ^ t) * 10 ^ 8) × (((n + 1) * 10 ^ t) * 10 ^ 8 ≤ (q + 1) * 10 ^ s)
 places_counted n s t dropped q apart dropped_is q_is small =

@@ -1,4 +1,4 @@
--- A number has one register.
+-- A number has only one register.
 use Rattle.std.proofs.Common.{◌≡◌, ℕ, zero, suc, ◌+◌, ◌-◌, ◌*◌, ◌^◌, ◌<◌, ◌≤◌, ◌⊎◌, ⊎_elim, inl, inr, sym, ◌∙◌, ap, refl, subst, arith}
 use Rattle.std.proofs.Common.{length, List, Option, Some, None, Bool, true, false}
 use Rattle.std.specs.Prelude.{ℤ, pos, ◌==◌, if◌then◌else◌, nat_le, nat_lt, slice_index, ◌&&◌, unsigned_abs}
@@ -19,7 +19,7 @@ use Rattle.h41_decimal.proofs.Same.{one_exponent}
 use Rattle.h41_decimal.proofs.Steps.{sign_of-signed}
 use Rattle.h41_decimal.proofs.Tens.{unsigned_abs-signed}
 
--- the first digit of a number that is read, and the rest
+-- The first digit of a number that is read, and the rest.
 record IsSplit (digit n : ℕ) (others : Option ℕ) : Type 0 where
   pub rest : ℕ
   pub rest_is : others ≡ Some rest
@@ -42,7 +42,7 @@ split : (register : List ℕ) (place count n : ℕ) → decimal_in register plac
 split register place count n h =
     split_of (nat_le (slice_index register place) 9) (slice_index register place) n (decimal_in register (place + 1) count) refl h
 
--- a number of so many digits is below the power of ten
+-- A number of so many digits is below the power of ten.
 pub below_power : (register : List ℕ) (place count n : ℕ) → decimal_in register place count ≡ Some n → n < 10 ^ count
 below_power register place zero n h = let e : 0 ≡ n = cc in omega arith
 below_power register place (suc count) n h =
@@ -53,7 +53,7 @@ below_power register place (suc count) n h =
     let p : 10 ^ suc count ≡ 10 ^ count * 10 = pow-suc 10 count in
     omega arith
 
--- registers in which the same number is read have its digits
+-- Registers in which the same number is read have its digits.
 same_digits : (x y : List ℕ) (place count n : ℕ) → decimal_in x place count ≡ Some n → decimal_in y place count ≡ Some n
     → (k : ℕ) → place ≤ k → k < place + count → slice_index x k ≡ slice_index y k
 same_digits x y place zero n h i k low high = absurd (omega arith)
@@ -75,7 +75,7 @@ same_digits x y place (suc count) n h i k low high =
     subst P e digit)
     (cases_lt place k)
 
--- the parts of a number that is held: zero is all zeros
+-- The parts of a number in a register. Zero is a register of zeros.
 record IsHeldZero (m e s : ℕ) (z : ℤ) : Type 0 where
   pub mantissa_is : m ≡ 0
   pub exponent_is : e ≡ 0
@@ -140,7 +140,7 @@ held_of (Some m) None s z h = absurd cc
 held_of None (Some e) s z h = absurd cc
 held_of None None s z h = absurd cc
 
--- the digit of a sign is determined
+-- The digit of a sign is determined.
 plus_digit : (t u : Bool) (s : ℕ) → (s == 0) ≡ t → (if t then Some Plus else if u then Some Minus else None) ≡ Some Plus → s ≡ 0
 plus_digit true u s e h = grind (arith, nat_tests)
 plus_digit false true s e h = absurd cc
@@ -155,7 +155,7 @@ same_sign : (sign : Sign) (s r : ℕ) → sign_in s ≡ Some sign → sign_in r 
 same_sign Plus s r h k = plus_digit (s == 0) (s == 9) s refl h ∙ sym (plus_digit (r == 0) (r == 9) r refl k)
 same_sign Minus s r h k = minus_digit (s == 0) (s == 9) s refl h ∙ sym (minus_digit (r == 0) (r == 9) r refl k)
 
--- and so are the digits of an exponent
+-- And so are the digits of an exponent.
 exponent_of : (t u : Bool) (e steps : ℕ) → nat_le e 99 ≡ t → nat_le 901 e ≡ u
     → (if t then Some (e + 99) else if u then Some (e - 901) else None) ≡ Some steps
     → ((e ≤ 99) × (e + 99 ≡ steps)) ⊎ ((901 ≤ e) × (steps + 901 ≡ e))
@@ -187,7 +187,7 @@ same_exponent e f steps e_below f_below h k =
     (exponent_of (nat_le f 99) (nat_le 901 f) f steps refl refl k))
     (exponent_of (nat_le e 99) (nat_le 901 e) e steps refl refl h)
 
--- so the parts of a number are
+-- So the parts of a number are.
 record AreSame (m e s n f r : ℕ) : Type 0 where
   pub mantissa : m ≡ n
   pub exponent : e ≡ f
@@ -237,7 +237,7 @@ held register z h =
     let n : number_in register ≡ Some z = sym (worth-holding_of register) ∙ ap worth h in
     held_of (decimal_in register 3 10) (decimal_in register 0 3) (slice_index register 13) z n
 
--- and with them each digit of the register
+-- And with them each digit of the register.
 same_at : (a b : List ℕ) (z : ℤ) → holding_of a ≡ Number z → holding_of b ≡ Number z → (k : ℕ) → k < 14 → slice_index a k ≡ slice_index b k
 same_at a b z a_holds b_holds k less =
     let h = held a z a_holds in

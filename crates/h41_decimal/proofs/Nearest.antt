@@ -5,7 +5,7 @@ use Rattle.std.proofs.Math.Nat.{lt_of_mul-lt-mul_right, mul-le-mul, pow-suc, one
 use Rattle.std.proofs.lemmas.Nat.{pow-add}
 use Rattle.h41_decimal.specs.NearestDecimal.{Exact, Fraction, RootOf, IsBelow, IsAtLeast, IsNear}
 
--- a larger bound is above what a smaller one is above
+-- A larger bound is above what a smaller one is above.
 pub below_more : (v : Exact) (p q p' q' : ℕ) → 0 < q → 0 < q' → p * q' ≤ p' * q → IsBelow v p q → IsBelow v p' q'
 below_more (Fraction n d) p q p' q' q_pos q'_pos le h =
     let a : (n * q) * q' < (p * d) * q' = mul-lt-mul_of_pos_right h q'_pos in
@@ -18,7 +18,7 @@ below_more (RootOf n) p q p' q' q_pos q'_pos le h =
     let c : (n * (q' * q')) * (q * q) < (p' * p') * (q * q) = omega arith in
     lt_of_mul-lt-mul_right (q * q) c
 
--- a smaller bound is reached where a larger one is
+-- A smaller bound is reached where a larger one is.
 pub at_least_less : (v : Exact) (p q p' q' : ℕ) → 0 < q → 0 < q' → p' * q ≤ p * q' → IsAtLeast v p q → IsAtLeast v p' q'
 at_least_less (Fraction n d) p q p' q' q_pos q'_pos le h =
     let a : (p * d) * q' ≤ (n * q) * q' = mul-le-mul_right q' h in
@@ -31,7 +31,7 @@ at_least_less (RootOf n) p q p' q' q_pos q'_pos le h =
     let c : (p' * p') * (q * q) ≤ (n * (q' * q')) * (q * q) = omega arith in
     le_of_mul-le-mul_right c (mul-pos q_pos q_pos)
 
--- of two powers of ten one is a multiple of the other
+-- Of two powers of ten one is a multiple of the other.
 pub record IsMultiple (large small : ℕ) : Type 0 where
   pub factor : ℕ
   pub positive : 0 < factor
@@ -63,7 +63,7 @@ powers_apart (suc i) (suc j) =
       }
     ]
 
--- a size within ten digits of a bigger power of ten is not above a size of ten digits
+-- A size within ten digits of a bigger power of ten is not above a size of ten digits.
 pub above_next : (m k X Y : ℕ) → 10 ^ 9 ≤ m → k < 10 ^ 10 → IsMultiple Y X ⊎ IsMultiple X (10 * Y) → m * X < k * Y → m * X + X ≤ k * Y
 above_next m k X Y m_size k_size (inl y) less =
     let e : k * Y ≡ X * (k * y.factor) = ap (λ t. k * t) y.product ∙ omega arith in
@@ -78,7 +78,7 @@ above_next m k X Y m_size k_size (inr x) less =
     let d : X ≡ (10 * Y) * x.factor = x.product in
     absurd (omega arith)
 
--- what is half way between the rounded size and a larger decimal is above the size that was cut
+-- The middle between the rounded size and a larger decimal is above the size that was cut.
 pub half_way_above : (T m X Y k u c : ℕ) → T + 5 < 10 * m + 10 → m * X + X ≤ k * Y → X ≡ 10 * u
     → ((T + 1) * u) * (2 * c) ≤ (m * X + k * Y) * c
 half_way_above T m X Y k u c rounded next e =
@@ -88,7 +88,7 @@ half_way_above T m X Y k u c rounded next e =
     let mx : m * (X * c) ≡ m * ((10 * u) * c) = ap (λ t. m * t) x in
     omega arith
 
--- and what is half way between it and a smaller one is not
+-- The middle between the rounded size and a smaller decimal is not above it.
 pub half_way_below : (T m X Y k u c : ℕ) → 10 ^ 10 ≤ T → 10 * m ≤ T + 5 → 10 ^ 9 ≤ m → k < 10 ^ 10 → X ≡ 10 * u
     → IsMultiple Y X ⊎ IsMultiple X (10 * Y) → k * Y < m * X
     → (m * X + k * Y) * c ≤ (T * u) * (2 * c)
@@ -113,7 +113,7 @@ half_way_below T m X Y k u c T_size rounded m_size k_size e (inr x) less =
     let mx : m * (X * c) ≡ m * ((10 * u) * c) = ap (λ t. m * t) xe in
     omega arith
 
--- the size that is answered, over the common bar: n * pu / c is m steps of the last place, 10 * ps / q
+-- The size of the result, with the common denominator: n * pu / c is m steps of the last place, 10 * ps / q.
 answered_steps : (n m pu pb ps c q : ℕ) → (n * pu) * q ≡ (m * (10 * ps)) * c → (n * (pu * pb)) * q ≡ (m * (10 * (ps * pb))) * c
 answered_steps n m pu pb ps c q link =
     let e : ((n * pu) * q) * pb ≡ ((m * (10 * ps)) * c) * pb = ap (λ t. t * pb) link in
@@ -158,8 +158,8 @@ steps_apart a b scale o =
     powers_of (suc (scale + b)) (a + o) (10 * (10 ^ scale * 10 ^ b)) (10 ^ a * 10 ^ o)
     (pow-suc 10 (scale + b) ∙ (ap (λ t. t * 10) (pow-add 10 scale b) ∙ mul_comm (10 ^ scale * 10 ^ b) 10)) (pow-add 10 a o)
 
--- The size T * 10^scale / 10^o was cut to, rounded to m in the place before the last, is nearest, where n, up and down are a
--- way to write it.
+-- The size T * 10^scale / 10^o to which a size was cut, rounded to m in the place before the last, is nearest. The numbers n, up and down
+-- are a way to write it.
 pub near_at : (v : Exact) (T m n scale up down o : ℕ) → IsAtLeast v (T * 10 ^ scale) (10 ^ o) → IsBelow v ((T + 1) * 10 ^ scale) (10 ^ o)
     → 10 ^ 10 ≤ T → 10 * m ≤ T + 5 → T + 5 < 10 * m + 10 → 10 ^ 9 ≤ m
     → (n * 10 ^ up) * 10 ^ o ≡ (m * (10 * 10 ^ scale)) * 10 ^ down → IsNear v n up down

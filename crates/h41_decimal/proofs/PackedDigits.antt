@@ -15,7 +15,7 @@ use Rattle.h41_decimal.specs.Holding.{decimal_in}
 use Rattle.h41_decimal.specs.private.PackedDigits.{decimal_of, word_of_digits}
 use Rattle.h41_decimal.proofs.Held.{below_power}
 
--- the first digit, and those behind it
+-- The first digit, and the digits after it.
 pub digit_more : (count digits : ℕ) (others : Option ℕ) → digits % 16 ≤ 9 → decimal_of count (digits / 16) ≡ others
     → decimal_of (suc count) digits ≡ option_map (λ rest. digits % 16 + 10 * rest) others
 digit_more count digits others small is =
@@ -36,7 +36,7 @@ pub no_digit_behind : (count digits : ℕ) → decimal_of count (digits / 16) �
 no_digit_behind count digits none =
     none_either (nat_le (digits % 16) 9) (λ rest. digits % 16 + 10 * rest) (decimal_of count (digits / 16)) none
 
--- digits that were packed
+-- digits that were packed.
 decimal_of-packed : (count number : ℕ) → number < 10 ^ count → decimal_of count (word_of_digits count number) ≡ Some number
 decimal_of-packed zero number small = ap Some (omega (arith, small))
 decimal_of-packed (suc count) number small =
@@ -48,7 +48,7 @@ decimal_of-packed (suc count) number small =
     (ap (decimal_of count) high ∙ decimal_of-packed count (number / 10) fewer)
     ∙ ap Some (let e : (number % 10 + 16 * rest) % 16 + 10 * (number / 10) ≡ number = omega (arith, low) in e)
 
--- two and four digits at a time
+-- Two and four digits at a time.
 packed_two_more : (count number : ℕ) → word_of_digits (suc (suc count)) number
     ≡ word_of_digits 2 (number % 100) + 256 * word_of_digits count (number / 100)
 packed_two_more count number =
@@ -79,7 +79,7 @@ pub packed_as_pairs : (number low high : ℕ) → low ≡ word_of_digits 2 (numb
 packed_as_pairs number low high low_is high_is =
     ap (λ n. n + 256 * high) low_is ∙ ap (λ n. word_of_digits 2 (number % 100) + 256 * n) high_is ∙ sym (packed_two_more 2 number)
 
--- three digits of which the first is known
+-- Three digits of which the first is known.
 pub packed_behind : (first rest low : ℕ) → first ≤ 9 → rest < 100 → low ≡ word_of_digits 2 rest → 256 * first + low
     ≡ word_of_digits 3 (100 * first + rest)
 packed_behind first rest low one two low_is =
@@ -102,7 +102,7 @@ packed_as_fours number low middle high low_is middle_is high_is =
         → all ≡ first + 65536 * others → others ≡ second + 65536 * third → low + 65536 * middle + 4294967296 * high ≡ all
     joined_parts low middle high first second third others all low_is middle_is high_is whole behind = omega arith
 
--- digits that stand alike are read alike
+-- Digits that are equal are read as equal numbers.
 moved : (x y : List ℕ) (p q count : ℕ) → ((k : ℕ) → k < count → slice_index x (p + k) ≡ slice_index y (q + k))
     → decimal_in x p count ≡ decimal_in y q count
 moved x y p q zero same = refl
@@ -123,7 +123,7 @@ behind_first digit digits count = moved (digit ∷ digits) digits 1 0 count (λ 
     let same : 0 + k ≡ k = omega arith in
     rw (next, same) refl)
 
--- the digits of a register, by their number
+-- The digits of a register, by their number.
 digits_read : (count number : ℕ) → decimal_in (digits_of count number) 0 count ≡ decimal_of count number
 digits_read zero number = refl
 digits_read (suc count) number =
@@ -158,7 +158,7 @@ pub few_digits : (register : List ℕ) (place count : ℕ) (number : Option ℕ)
 few_digits register place count (Some number) is = below_power register place count number (sym is)
 few_digits register place count None is = tt
 
--- a register in which packed digits were written
+-- A register in which packed digits were written.
 pub packed_written : (register : List ℕ) (place count number : ℕ) → IsRegister 14 register → place + count ≤ 14
     → number < 10 ^ count → value (take count (drop place register)) ≡ word_of_digits count number
     → decimal_in register place count ≡ Some number

@@ -10,7 +10,7 @@ use Rattle.std.proofs.lemmas.Bool.Decides.{nat_tests}
 use Rattle.h41_decimal.specs.Holding.{Number, Text, Other, decimal_in, holding, holding_of, number_in, worth, text_in, sign_in, steps_in}
 use Rattle.h41_decimal.specs.Holding.{parts_worth, digits_worth}
 
--- what is held is worth what the number in the register is
+-- The value of the content of a register is the value of the number in it.
 other-worth : (b : Bool) (bytes : List ℕ) → worth (if b then Text bytes else Other) ≡ None
 other-worth true bytes = refl
 other-worth false bytes = refl
@@ -22,7 +22,7 @@ worth-holding None register = other-worth (slice_index register 13 == 1) (text_i
 pub worth-holding_of : (register : List ℕ) → worth (holding_of register) ≡ number_in register
 worth-holding_of register = worth-holding (number_in register) register
 
--- digits that stay are read as they were
+-- Digits that do not change are read as before.
 pub decimal_same : (x y : List ℕ) (place count : ℕ) → ((k : ℕ) → place ≤ k → k < place + count → slice_index x k ≡ slice_index y k)
     → decimal_in x place count ≡ decimal_in y place count
 decimal_same x y place zero same = refl
@@ -32,7 +32,7 @@ decimal_same x y place (suc count) same =
     ap (λ t. if nat_le t 9 then option_map (λ rest. t + 10 * rest) (decimal_in x (place + 1) count) else None) d
     ∙ ap (λ o. if nat_le (slice_index y place) 9 then option_map (λ rest. slice_index y place + 10 * rest) o else None) r
 
--- parts that are read as those of a decimal
+-- Parts that are read as those of a decimal.
 pub parts_hold : (register : List ℕ) (m e s : ℕ) (sign : Sign) (steps : ℕ) → decimal_in register 3 10 ≡ Some m
     → decimal_in register 0 3 ≡ Some e → slice_index register 13 ≡ s → sign_in s ≡ Some sign → steps_in e ≡ Some steps → 10 ^ 9 ≤ m
     → holding_of register ≡ Number (with_sign sign (size_of m steps))

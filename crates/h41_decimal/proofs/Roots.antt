@@ -3,7 +3,7 @@ use Rattle.std.proofs.Common.{◌≡◌, ℕ, zero, suc, ◌+◌, ◌-◌, ◌*�
 use Rattle.std.proofs.Math.Nat.{mul-le-mul, pow-le-pow_right, le_of_mul-le-mul_right}
 use Rattle.std.proofs.lemmas.Bool.{cases_lt}
 
--- the root of a number of 11 or 12 digits has six
+-- The root of a number of 11 or 12 digits has six.
 pub six_digits : (n s : ℕ) → 10 ^ 10 ≤ n → n < (s + 1) * (s + 1) → 10 ^ 5 ≤ s
 six_digits n s size above =
     ⊎_elim
@@ -14,7 +14,7 @@ six_digits n s size above =
     (λ (enough : 10 ^ 5 ≤ s). enough)
     (cases_lt s (10 ^ 5))
 
--- five digits more of a root s, of what its square lacks: where they are too high, one less is not
+-- Five more digits of a root s, from what its square lacks. If they are too high, one less is not.
 pub more_below : (n s d e : ℕ) → s * s + d ≡ n → d ≤ 2 * s → 10 ^ 5 ≤ s → e * (2 * s) ≤ d * 10 ^ 5
     → n * 10 ^ 10 < (s * 10 ^ 5 + e) * (s * 10 ^ 5 + e)
     → (s * 10 ^ 5 + e - 1) * (s * 10 ^ 5 + e - 1) ≤ n * 10 ^ 10
@@ -32,7 +32,7 @@ more_below n s d (suc f) n_is few s_size low above =
         → (s * 10 ^ 5 + f) * (s * 10 ^ 5 + f) ≤ n * 10 ^ 10
     one_lower n s d f n_is s_size low square = omega arith
 
--- a number of ten digits with one or two more
+-- A number of ten digits with one or two more.
 pub filled_digits : (m s p : ℕ) → 10 ^ 9 ≤ m → m < 10 ^ 10 → p ≡ 10 ^ (2 - s % 2) → (10 ^ 10 ≤ m * p) × (m * p < 10 ^ 12)
 filled_digits m s p m_size m_below p_is =
     let some : 0 < 10 = omega arith in

@@ -1,4 +1,4 @@
--- Decimals that are worth the same are the same.
+-- Decimals with the same value are the same.
 use Rattle.std.proofs.Common.{◌≡◌, ℕ, ◌*◌, ◌^◌, ◌<◌, ◌≤◌, sym, ◌∙◌, ap, refl, subst, arith, Option, Some, None, ⊎_elim}
 use Rattle.std.specs.Prelude.{pos, unsigned_abs}
 use Rattle.std.specs.Option.{option_map}
@@ -44,7 +44,7 @@ same_parts : (x y : Magnitude) → x.mantissa ≡ y.mantissa → x.exponent ≡ 
 unfolding size_at
 same_parts x y e f = ap (λ m. size_at m x.exponent) e ∙ ap (λ k. size_at y.mantissa k) f
 
--- sizes that are worth the same have one exponent, and so the same digits
+-- Sizes with the same value have the same exponent, and so the same digits.
 pub one_exponent : (m n s t : ℕ) → 10 ^ 9 ≤ m → m < 10 ^ 10 → 10 ^ 9 ≤ n → n < 10 ^ 10 → m * 10 ^ s ≡ n * 10 ^ t → s ≡ t
 one_exponent m n s t m_least m_below n_least n_below e =
     ⊎_elim
@@ -83,7 +83,7 @@ units_injective (Nonzero s x) (Nonzero t y) e =
     let xy : x ≡ y = same_sizes x y sizes in
     cc
 
--- what a register holds of a number is that number
+-- The number that a register contains is the one that was written.
 pub option_injective : (o : Option Ten) (x : Ten) → option_map units o ≡ Some (units x) → o ≡ Some x
 option_injective None x e = cc
 option_injective (Some y) x e =

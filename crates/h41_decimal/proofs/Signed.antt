@@ -12,14 +12,14 @@ use Rattle.h41_decimal.specs.declared.sign.Sign.TheVariants.{Plus, Minus}
 use Rattle.h41_decimal.specs.declared.ten.Ten.{Ten}
 use Rattle.h41_decimal.specs.declared.ten.Ten.TheVariants.{Zero}
 
--- what holds of a size that is not zero
+-- What holds of a size that is not zero.
 pub not_zero : (A B : Type 0) (n : ℕ) → 0 < n → B → MatchBool (n == 0) A B
 not_zero A B n n_pos b =
     let f : (n == 0) ≡ false = grind (arith, nat_tests) in
     let P : Bool → Type 0 = λ t. MatchBool t A B in
     subst P (sym f) b
 
--- the nearest decimal of a size with a sign
+-- The nearest decimal of a size with a sign.
 pub nearest_of : (z : ℤ) (d : ℕ) (sign : Sign) (n : ℕ) (answer : Result Ten DecimalFault) → z ≡ with_sign sign n → 0 < n
     → IsRounded sign (Fraction n d) answer → Nearest z d answer
 nearest_of z d sign zero answer e n_pos rounded = absurd (omega arith)
@@ -30,11 +30,11 @@ nearest_of z d Minus (suc n) answer e n_pos rounded =
     let P : ℤ → Type 0 = λ t. Nearest t d answer in
     subst P (sym e) (not_zero (answer ≡ Ok Zero) (IsRounded Minus (Fraction (suc n) d) answer) (suc n) n_pos rounded)
 
--- the nearest decimal of zero
+-- The nearest decimal of zero.
 pub nearest_of_zero : (z : ℤ) (d : ℕ) (answer : Result Ten DecimalFault) → z ≡ pos 0 → answer ≡ Ok Zero → Nearest z d answer
 nearest_of_zero z d answer e zero_is = let P : ℤ → Type 0 = λ t. Nearest t d answer in subst P (sym e) zero_is
 
--- sums and differences of sizes with one sign
+-- Sums and differences of sizes with one sign.
 pub signed-add : (sign : Sign) (a b : ℕ) → with_sign sign a +ℤ with_sign sign b ≡ with_sign sign (a + b)
 signed-add Plus a b = refl
 signed-add Minus a b = omega (arith, ints)
@@ -51,7 +51,7 @@ pub signed-sub_same : (sign : Sign) (a b : ℕ) → a ≡ b → with_sign sign a
 signed-sub_same Plus a b e = omega (arith, ints)
 signed-sub_same Minus a b e = omega (arith, ints)
 
--- the size zero with any sign
+-- The size zero with any sign.
 pub signed-zero : (sign : Sign) (n : ℕ) → n ≡ 0 → with_sign sign n ≡ pos 0
 signed-zero sign zero e = zero_of sign
   where
@@ -60,7 +60,7 @@ signed-zero sign zero e = zero_of sign
     zero_of Minus = refl
 signed-zero sign (suc n) e = absurd (omega arith)
 
--- the product of two sizes with signs
+-- The product of two sizes with signs.
 pub signed-mul : (s t : Sign) (a b : ℕ) → with_sign s a *ℤ with_sign t b ≡ with_sign (product_of s t) (a * b)
 signed-mul Plus Plus a b = pos-*ℤ-pos a b
 signed-mul Plus Minus a zero = *ℤ-zero (pos a) ∙ sym (signed-zero Minus (a * 0) (omega arith))

@@ -3,7 +3,7 @@ use Rattle.std.proofs.Common.{◌≡◌, ℕ, zero, suc, ◌<◌, ◌≤◌, ⊎
 use Rattle.std.specs.Prelude.{◌&&◌}
 use Rattle.std.proofs.lemmas.Bool.{and_parts, cases_lt}
 
--- whether a test holds of each number below a limit
+-- Whether a test holds of each number below a limit.
 unfoldable pub each : (ℕ → Bool) → ℕ → Bool
 each test zero = true
 each test (suc number) = test number && each test number

@@ -30,7 +30,7 @@ use Rattle.h41_decimal.proofs.Cuts.{rounded_at}
 use Rattle.h41_decimal.proofs.Exact.{exact_fraction}
 use Rattle.h41_decimal.proofs.Signed.{not_zero, nearest_of, nearest_of_zero, signed-mul}
 
--- a size is above zero
+-- A size is above zero.
 pub size_pos : (x : Magnitude) → 0 < size x
 size_pos x =
     let m : 10 ^ 9 ≤ x.mantissa.digits = x.mantissa.at_least in
@@ -42,7 +42,7 @@ unsigned_abs-signed Plus n = refl
 unsigned_abs-signed Minus zero = refl
 unsigned_abs-signed Minus (suc n) = refl
 
--- a decimal is the answer for its own value
+-- A decimal is the result for its own value.
 own_bounded : (sign : Sign) (x : Magnitude) (steps : ℕ) → steps ≡ x.exponent.biased
     → IsBounded sign x.mantissa.digits (pos steps) (Ok (Nonzero sign x))
 own_bounded sign x steps e =
@@ -85,13 +85,13 @@ own_nearest Zero = refl
 own_nearest (Nonzero sign x) =
     nearest_of (units (Nonzero sign x)) 1 sign (size x) (Ok (Nonzero sign x)) refl (size_pos x) (own_rounded sign x)
 
--- the product, and a hundredth of it
+-- The product, and a hundredth of it.
 pub product_nearest : (s t : Sign) (x y : Magnitude) (d : ℕ) (answer : Result Ten DecimalFault)
     → IsRounded (product_of s t) (Fraction (size x * size y) d) answer → Nearest (with_sign s (size x) *ℤ with_sign t (size y)) d answer
 product_nearest s t x y d answer rounded =
     nearest_of _ d (product_of s t) (size x * size y) answer (signed-mul s t (size x) (size y)) (mul-pos (size_pos x) (size_pos y)) rounded
 
--- the quotient by what is not zero
+-- The quotient if the divisor is not zero.
 pub quotient_by : (z : ℤ) (t : Sign) (y : Magnitude) (answer : Result Ten DecimalFault)
     → Nearest (z *ℤ with_sign t (size y) *ℤ pos one) (size y * size y) answer → NearestQuotient z (with_sign t (size y)) answer
 quotient_by z t y answer nearest =
@@ -121,7 +121,7 @@ quotient_of_zero t y =
     quotient_by (pos 0) t y (Ok Zero)
     (nearest_of_zero _ (size y * size y) (Ok Zero) (ap (λ z. z *ℤ pos one) (zero-*ℤ (with_sign t (size y))) ∙ zero-*ℤ (pos one)) refl)
 
--- the square root of what is above zero, and of what is below
+-- The square root of a positive number, and of a negative one.
 pub root_nearest : (x : Magnitude) (answer : Result Ten DecimalFault) → IsRounded Plus (RootOf (size x * one)) answer
     → NearestRoot (with_sign Plus (size x)) answer
 root_nearest x answer rounded = not_zero (answer ≡ Ok Zero) _ (size x) (size_pos x) rounded
@@ -133,14 +133,14 @@ root_of_negative x = go (size x) (size_pos x)
     go zero n_pos = absurd (omega arith)
     go (suc n) n_pos = refl
 
--- the same answers, where the code has the numbers under other names
+-- The same results, if the code has the numbers under other names.
 pub nearest_along : (z z' : ℤ) (d : ℕ) (answer : Result Ten DecimalFault) → z ≡ z' → Nearest z' d answer → Nearest z d answer
 nearest_along z z' d answer e nearest = let P : ℤ → Type 0 = λ t. Nearest t d answer in subst P (sym e) nearest
 
 pub rounded_along : (s s' : Sign) (v : Exact) (answer : Result Ten DecimalFault) → s ≡ s' → IsRounded s v answer → IsRounded s' v answer
 rounded_along s s' v answer e rounded = let P : Sign → Type 0 = λ t. IsRounded t v answer in subst P e rounded
 
--- sums with zero, and in either order
+-- Sums with zero, and in either order.
 pub zero_plus : (z : ℤ) → pos 0 +ℤ z ≡ z
 zero_plus z = omega (arith, ints)
 
@@ -157,7 +157,7 @@ pub minus_same_sign : (s : Sign) (a b : ℕ) → with_sign s a +ℤ with_sign (o
 minus_same_sign Plus a b = omega (arith, ints)
 minus_same_sign Minus a b = omega (arith, ints)
 
--- two signs that are not the same
+-- Two signs that are not the same.
 pub signs_apart : (s t : Sign) → false ≡ sameb the_type s t → t ≡ opposite_of s
 signs_apart Plus Plus h = cc
 signs_apart Plus Minus h = refl
@@ -170,7 +170,7 @@ signs_same Plus Minus h = cc
 signs_same Minus Plus h = cc
 signs_same Minus Minus h = refl
 
--- the order of sizes
+-- The order of sizes.
 pub lower_exponent : (m n s t : ℕ) → m < 10 ^ 10 → 10 ^ 9 ≤ n → s < t → m * 10 ^ s < n * 10 ^ t
 lower_exponent m n s t m_size n_size less =
     let ten : 0 < 10 = omega arith in

@@ -15,7 +15,7 @@ use Rattle.h41_decimal.proofs.Signed.{signed-sub, signed-zero}
 use Rattle.h41_decimal.proofs.Steps.{sign_of-signed}
 use Rattle.h41_decimal.proofs.Tens.{unsigned_abs-signed}
 
--- the whole ones of a size: below 1, with digits on both sides of the radix mark, and from 10^10 on
+-- The whole ones of a size: below 1, with digits on both sides of the radix mark, and from 10^10 on.
 pub ones_below : (m s : ℕ) → m < 10 ^ 10 → s < 99 → HasOnes (m * 10 ^ s) 0
 ones_below m s small less =
     let ten : 0 < 10 = omega arith in
@@ -55,7 +55,7 @@ many_ones m s m_size high =
     let a : 10 ^ 9 * 10 ^ s ≤ m * 10 ^ s = mul-le-mul_right (10 ^ s) m_size in
     omega arith
 
--- a size by its whole ones and what is left
+-- A size by its whole ones and what is left.
 pub split_at_ones : (m s k p : ℕ) → p ≡ 10 ^ k → k + s ≡ 108 → m % p * 10 ^ s + m / p * 10 ^ 108 ≡ m * 10 ^ s
 split_at_ones m s k p is e =
     let q : p * 10 ^ s ≡ 10 ^ 108 = ap (λ t. t * 10 ^ s) is ∙ power_parts k s 108 e in
@@ -63,7 +63,7 @@ split_at_ones m s k p is e =
     let b : (m / p * p + m % p) * 10 ^ s ≡ m * 10 ^ s = ap (λ t. t * 10 ^ s) (div-add-mod' m p) in
     omega arith
 
--- with the sign
+-- The integer part with its sign.
 pub integer_of : (sign : Sign) (n ones : ℕ) (part : ℤ) → 0 < n → HasOnes n ones → part ≡ with_sign sign (ones * 10 ^ 108)
     → IsIntegerPart (with_sign sign n) part
 integer_of sign n ones part n_pos has e = record {
@@ -84,7 +84,7 @@ fraction_of sign n ones r fraction n_pos has sum e = record {
 pub no_fraction : (sign : Sign) (n ones : ℕ) → 0 < n → HasOnes n ones → ones * 10 ^ 108 ≡ n → IsFraction (with_sign sign n) (pos 0)
 no_fraction sign n ones n_pos has all = fraction_of sign n ones 0 (pos 0) n_pos has (omega arith) (sym (signed-zero sign 0 refl))
 
--- the digits of an integer part, where so many stand behind the radix mark
+-- The digits of an integer part, if some digits are after the radix mark.
 pub whole_digits : (m s k p q : ℕ) → p ≡ 10 ^ k → q ≡ m / 10 ^ k → k + s ≡ 108 → k ≤ 9 → 10 ^ 9 ≤ m → m < 10 ^ 10
     → (10 ^ 9 ≤ q * p) × (q * p < 10 ^ 10) × (q * p * 10 ^ s ≡ q * 10 ^ 108)
 whole_digits m s k p q p_is q_is e few m_size m_below =
@@ -100,7 +100,7 @@ whole_digits m s k p q p_is q_is e few m_size m_below =
     let whole : q * (10 ^ k * 10 ^ s) ≡ q * 10 ^ 108 = ap (λ t. q * t) w in
     (omega arith, omega arith, omega arith)
 
--- a number of up to ten digits, filled with zeros
+-- A number of up to ten digits, filled with zeros.
 pub few_digits : (count number : ℕ) → 10 ^ count ≤ 10 * number → number < 10 ^ 10 → count ≤ 10
 few_digits count number least few =
     ⊎_elim
@@ -130,7 +130,7 @@ filled_worth number missing steps p is le =
     let a : number * (p * 10 ^ (steps - missing)) ≡ number * 10 ^ steps = ap (λ t. number * t) q in
     omega arith
 
--- the parts are determined
+-- The parts are determined.
 pub ones_determined : OnesAreDetermined
 ones_determined size x y p q =
     let a = p.not_above in
@@ -147,7 +147,7 @@ pub fraction_determined : FractionIsDetermined
 fraction_determined number x y p q =
     p.rest ∙ ap (λ part. number -ℤ part) (integer_determined number p.part q.part p.integer q.integer) ∙ sym q.rest
 
--- the fraction of zero
+-- The fraction of zero.
 pub zero_fraction : IsFraction (pos 0) (pos 0)
 zero_fraction = record {
   part = pos 0;

@@ -11,38 +11,39 @@ use Rattle.h41_decimal.specs.declared.places.Places.TheVariants.{Decimals, Digit
 use Rattle.h41_decimal.specs.declared.ten.Ten.{Ten}
 use Rattle.h41_decimal.specs.declared.ten.Ten.TheVariants.{Zero, Nonzero}
 
--- x / y is x * y / (y * y), whose divisor is not negative; there is no quotient by zero
+-- The quotient x / y is written x * y / (y * y), so that its divisor is not negative. There is no
+-- quotient by zero.
 abbrev pub NearestQuotient : ℤ → ℤ → Result Ten DecimalFault → Type 0
 NearestQuotient x y answer =
     MatchBool (unsigned_abs y == 0)
     (answer ≡ Err Data)
     (Nearest (x *ℤ y *ℤ pos one) (unsigned_abs y * unsigned_abs y) answer)
 
--- the greatest whole number not above y / x, by cross products: a negative x turns them round
+-- The greatest whole number that is not above y / x, by cross multiplication, which a negative x
+-- reverses.
 abbrev pub IsFloor : ℤ → ℤ → ℤ → Type 0
 IsFloor whole y (pos x) = ((whole *ℤ pos x) ≤ℤ y) × (y <ℤ ((whole +ℤ pos 1) *ℤ pos x))
 IsFloor whole y (negsuc x) = (y ≤ℤ (whole *ℤ negsuc x)) × (((whole +ℤ pos 1) *ℤ negsuc x) <ℤ y)
 
--- the answer for y - x * floor(y / x)
+-- The result of y - x * floor(y / x).
 pub record RoundsRest (y x : ℤ) (answer : Result Ten DecimalFault) : Type 0 where
   pub whole : ℤ
   pub floor : IsFloor whole y x
   pub rest : Nearest (y -ℤ x *ℤ whole) 1 answer
 
--- and y where x is zero
+-- The result of y modulo x: y if x is zero.
 abbrev pub NearestModulo : Ten → Ten → Result Ten DecimalFault → Type 0
 NearestModulo y x answer =
     MatchBool (unsigned_abs (units x) == 0) (answer ≡ Ok y) (RoundsRest (units y) (units x) answer)
 
--- what one step of the last place is worth, in units, of which there are 10^108 in 1: so many
--- decimals, or so many digits
+-- The value of one step of the last place that rounding to decimals or digits keeps, in units, of
+-- which there are 10^108 in 1.
 abbrev pub step_of : Places → Ten → ℕ
 step_of (Decimals count) number = 10 ^ (108 - count)
 step_of (Digits count) Zero = 1
 step_of (Digits count) (Nonzero sign x) = 10 ^ (x.exponent.biased + (10 - count))
 
--- the answer for a number rounded to a whole count of steps, the nearest, a half going away from
--- zero
+-- The result of rounding a number to a multiple of a step: the nearest one, halves away from zero.
 pub record RoundsTo (step : ℕ) (number : ℤ) (answer : Result Ten DecimalFault) : Type 0 where
   pub steps : ℕ
   pub not_above : 2 * (steps * step) ≤ 2 * unsigned_abs number + step

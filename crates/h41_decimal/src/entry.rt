@@ -10,10 +10,11 @@ use crate::rounding::round_whole;
 use crate::sign::Sign;
 use crate::ten::Ten;
 
-/// The scale of a typed number with exponent -99 and no digit behind the point.
+/// The scale of a typed number with exponent -99 and no digit after the point.
 const ENTRY_SCALE: u32 = 137;
 
-/// The number of these digits, so many of them behind the point, with an exponent and a sign.
+/// Returns the number with these digits, `places` of them after the point, an exponent and a sign. If its exponent is above 99, it
+/// is the greatest number; if below -99, zero.
 pub fn typed(sign: Sign, digits: u64, places: u8, exponent: Exponent) -> Ten
     requires { places ≤ 20 }
     ensures { IsTyped sign digits places exponent result }
@@ -28,7 +29,7 @@ pub fn typed(sign: Sign, digits: u64, places: u8, exponent: Exponent) -> Ten
     }
 }
 
-/// The greatest number with a sign: 9.999999999E99.
+/// Returns the greatest number with a sign, 9.999999999E99 or its negative.
 pub fn greatest(sign: Sign) -> Ten
     ensures { units result ≡ with_sign sign greatest_size }
 {

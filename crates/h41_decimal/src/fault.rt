@@ -1,10 +1,10 @@
-//! Why an operation has no result.
+//! The errors of operations.
 
-/// Why an operation has no result.
+/// The reason why an operation has no result.
 #[derive(Clone, Copy, Debug, PartialEq, Eq)]
 pub enum DecimalFault {
-    /// There is none: a zero divisor, or the square root of a negative number. The calculator says DATA ERROR.
+    /// The result does not exist: the divisor is zero, or the root is that of a negative number. The calculator shows DATA ERROR.
     Data,
-    /// Its exponent is above 99. The calculator says OUT OF RANGE.
+    /// The exponent of the result is above 99. The calculator shows OUT OF RANGE.
     Range,
 }

@@ -1,4 +1,4 @@
-//! Laws of decimals: each is the contract of a function with next to nothing to do.
+//! Laws of decimals. Each law is the contract of a function with an empty or nearly empty body.
 
 ghost use Rattle.std.specs.Prelude.{◌≡◌, Some};
 ghost use Rattle.h41_decimal.specs.Laws.{UnitsAreInjective, NearestIsDetermined};
@@ -10,55 +10,55 @@ ghost use Rattle.h41_decimal.specs.Laws.{StepsAreDetermined, RegisterIsDetermine
 
 use crate::ten::Ten;
 
-/// Two decimals that are worth the same are the same.
+/// States that two decimals with the same value are equal.
 pub fn units_are_injective()
     ensures { UnitsAreInjective }
 {}
 
-/// The nearest decimal of a fraction is determined.
+/// States that the nearest decimal of a fraction is determined.
 pub fn nearest_is_determined()
     ensures { NearestIsDetermined }
 {}
 
-/// The nearest decimal of a square root is determined.
+/// States that the nearest decimal of a square root is determined.
 pub fn nearest_root_is_determined()
     ensures { NearestRootIsDetermined }
 {}
 
-/// The answer for a quotient is determined, and so is that for what a division leaves.
+/// States that the result of a division is determined, and so is its remainder.
 pub fn quotients_are_determined()
     ensures quotient { QuotientIsDetermined }
     ensures modulo { ModuloIsDetermined }
 {}
 
-/// The answer for a number that is rounded to steps is determined.
+/// States that the result of rounding a number to steps is determined.
 pub fn steps_are_determined()
     ensures { StepsAreDetermined }
 {}
 
-/// A value that is a decimal already is answered as it is.
+/// States that rounding a value that is already a decimal does not change it.
 pub fn decimal_is_its_nearest()
     ensures { DecimalIsItsNearest }
 {}
 
-/// The whole ones of a size are determined, and so are the integer part and the fraction of a number.
+/// States that the number of whole ones of a size is determined, and so are the integer part and the fraction of a number.
 pub fn parts_are_determined()
     ensures ones { OnesAreDetermined }
     ensures integer { IntegerPartIsDetermined }
     ensures fraction { FractionIsDetermined }
 {}
 
-/// The number that is typed is determined.
+/// States that a typed number is determined.
 pub fn typed_is_determined()
     ensures { TypedIsDetermined }
 {}
 
-/// A number has one register.
+/// States that a number has only one register.
 pub fn register_is_determined()
     ensures { RegisterIsDetermined }
 {}
 
-/// A decimal that is written to a register is read again.
+/// Writes a decimal to a register and reads it again. The result is always this decimal.
 pub fn decimal_round_trip(number: Ten) -> Option<Ten>
     ensures { result ≡ Some number }
 {

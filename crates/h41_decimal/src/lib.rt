@@ -1,4 +1,5 @@
-//! Ten-digit decimals of the HP-41, whose results are the exact ones rounded to ten digits, halves away from zero.
+//! The ten-digit decimals of the HP-41. The results of operations are the exact values, rounded to ten digits, halves away from
+//! zero.
 #![tactic(auto)]
 
 mod entry;

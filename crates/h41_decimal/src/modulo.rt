@@ -1,4 +1,4 @@
-//! What a division to a whole number leaves.
+//! The remainder of a division to a whole number.
 
 ghost use Rattle.std.specs.Prelude.{◌≡◌, ◌+◌, ◌*◌, ◌%◌, ◌^◌, ◌<◌, ◌≤◌};
 ghost use Rattle.h41_decimal.specs.Signs.{with_sign, opposite_of};
@@ -12,10 +12,10 @@ use crate::sign::Sign;
 use crate::sizes;
 use crate::ten::Ten;
 
-/// The greatest power of ten with which a number of ten digits is multiplied at once.
+/// The greatest power of ten by which a number of ten digits is multiplied in one step.
 const AT_ONCE: u32 = 9;
 
-/// What is left of a size with a sign by another.
+/// Returns the rounded remainder of dividing a size with a sign by another; it has the sign of the divisor.
 pub fn modulo(y_sign: Sign, y: Magnitude, x_sign: Sign, x: Magnitude) -> Result<Ten, DecimalFault>
     ensures { RoundsRest (with_sign y_sign (size y)) (with_sign x_sign (size x)) result }
 {
@@ -26,7 +26,7 @@ pub fn modulo(y_sign: Sign, y: Magnitude, x_sign: Sign, x: Magnitude) -> Result<
     }
 }
 
-/// What is left where both have one sign: the remainder of the sizes.
+/// Returns the rounded remainder if both have the same sign: it is the remainder of the sizes.
 fn rest_same(sign: Sign, y: Magnitude, x: Magnitude) -> Result<Ten, DecimalFault>
     ensures { RoundsRest (with_sign sign (size y)) (with_sign sign (size x)) result }
 {
@@ -40,8 +40,8 @@ fn rest_same(sign: Sign, y: Magnitude, x: Magnitude) -> Result<Ten, DecimalFault
     round_whole(sign, rest, x.steps() + UNIT_SCALE)
 }
 
-/// What is left where the divisor has this sign and the dividend the other: what the remainder of the sizes lacks of the
-/// divisor, or nothing.
+/// Returns the rounded remainder if the divisor has this sign and the dividend the other: it is the divisor minus the remainder of
+/// the sizes, or zero if that is zero.
 fn rest_apart(sign: Sign, y: Magnitude, x: Magnitude) -> Result<Ten, DecimalFault>
     ensures { RoundsRest (with_sign (opposite_of sign) (size y)) (with_sign sign (size x)) result }
 {
@@ -55,7 +55,7 @@ fn rest_apart(sign: Sign, y: Magnitude, x: Magnitude) -> Result<Ten, DecimalFaul
     round_whole(sign, x.mantissa.digits - rest, x.steps() + UNIT_SCALE)
 }
 
-/// The remainder of a number times ten to a power by ten digits.
+/// Returns the remainder of a number times a power of ten by a divisor of at most ten digits.
 fn remainder(number: u64, power: u32, divisor: u64) -> u64
     requires some { 0 < divisor }
     requires divisor { divisor < 10 ^ 10 }

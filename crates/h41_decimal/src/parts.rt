@@ -1,9 +1,9 @@
-//! The parts of a decimal that is not zero, beside its sign: its ten digits and its exponent.
+//! The parts of a decimal that is not zero, apart from its sign: its ten digits and its exponent.
 
 ghost use Rattle.std.specs.Prelude.{◌≡◌, ◌^◌, ◌<◌, ◌≤◌, ◌↔◌, ℤ, pos, ◌+ℤ◌, ◌-ℤ◌, ◌≤ℤ◌, IsSome};
 ghost use Rattle.std.specs.Prelude.{IfSome};
 
-/// Ten decimal digits, the first of them not zero: 1,000,000,000 to 9,999,999,999. The radix mark is after the first.
+/// Ten decimal digits of which the first is not zero, 1,000,000,000 to 9,999,999,999. The radix mark follows the first digit.
 #[derive(Clone, Copy, Debug, PartialEq, Eq)]
 pub struct Mantissa {
     /// The digits as a whole number.
@@ -12,16 +12,16 @@ pub struct Mantissa {
     pub ghost below: { digits < 10 ^ 10 },
 }
 
-/// A power of ten, from -99 to 99.
+/// An exponent: a power of ten from -99 to 99.
 #[derive(Clone, Copy, Debug, PartialEq, Eq)]
 pub struct Exponent {
-    /// The exponent plus 99: 0 to 198.
+    /// The exponent plus 99, 0 to 198.
     pub biased: u32,
     pub ghost in_range: { biased ≤ 198 },
 }
 
 impl Exponent {
-    /// The exponent as a number, -99 to 99.
+    /// Returns the exponent, -99 to 99.
     pub fn power(self) -> i16
         ensures { result ≡ pos self.biased -ℤ pos 99 }
     {
@@ -29,7 +29,7 @@ impl Exponent {
     }
 }
 
-/// A size above zero: ten digits and an exponent.
+/// A size greater than zero: ten digits and an exponent.
 #[derive(Clone, Copy, Debug, PartialEq, Eq)]
 pub struct Magnitude {
     /// The digits.
@@ -39,7 +39,7 @@ pub struct Magnitude {
 }
 
 impl Magnitude {
-    /// The exponent, counted from -99: 0 to 198.
+    /// Returns the exponent plus 99, 0 to 198.
     pub fn steps(self) -> u32
         ensures { result ≡ self.exponent.biased }
     {

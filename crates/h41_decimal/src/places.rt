@@ -1,11 +1,10 @@
-//! How far a number is rounded.
+//! The precision of rounding.
 
-/// How many digits a rounded number keeps.
+/// The digits that a rounded number keeps.
 #[derive(Clone, Copy, Debug, PartialEq, Eq)]
 pub enum Places {
-    /// So many after the radix mark, as FIX shows them.
+    /// The given number of digits after the radix mark, as FIX shows them.
     Decimals(u8),
-    /// So many from its first, as SCI and ENG show them. With ten or more, and with none of a number's digits dropped, it
-    /// stays as it is.
+    /// The given number of digits from the first one on, as SCI and ENG show them. A number is not changed if it is ten or more.
     Digits(u8),
 }

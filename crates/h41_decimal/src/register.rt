@@ -1,4 +1,4 @@
-//! Numbers in registers of 14 digits: the sign in place 13, the mantissa in places 12 to 3, the exponent in places 2 to 0.
+//! Numbers in registers of 14 digits: the sign is in place 13, the mantissa in places 12 to 3, the exponent in places 2 to 0.
 
 ghost use Rattle.std.specs.Prelude.{◌≡◌, ℕ, ◌+◌, ◌*◌, ◌^◌, ◌<◌, ◌≤◌, IfSome, Some, None};
 ghost use Rattle.std.specs.Prelude.{slice_index};
@@ -18,13 +18,13 @@ use h41_digits::Reg;
 /// The lower four bits of each of five bytes.
 const LOW_HALVES: u64 = 0x0F_0F0F_0F0F;
 
-/// A six in each of five bytes, with which a digit above 9 reaches 16.
+/// A six in each of five bytes. Adding it makes a digit above 9 reach 16.
 const SIXES: u64 = 0x06_0606_0606;
 
-/// Sixteen in each of five bytes.
+/// A sixteen in each of five bytes.
 const SIXTEENS: u64 = 0x10_1010_1010;
 
-/// The numbers below 100 as two decimal digits in four bits each.
+/// The two decimal digits of each number below 100, in four bits each.
 const PACKED_PAIRS: [u8; 100] = [
     0x00, 0x01, 0x02, 0x03, 0x04, 0x05, 0x06, 0x07, 0x08, 0x09, 0x10, 0x11, 0x12, 0x13, 0x14, 0x15,
     0x16, 0x17, 0x18, 0x19, 0x20, 0x21, 0x22, 0x23, 0x24, 0x25, 0x26, 0x27, 0x28, 0x29, 0x30, 0x31,
@@ -35,7 +35,7 @@ const PACKED_PAIRS: [u8; 100] = [
     0x96, 0x97, 0x98, 0x99,
 ];
 
-/// The two decimal digits that stand in each byte as a number, and 255 for a byte of which a half is above 9.
+/// The number that the two decimal digits of each byte form, or 255 if one of them is above 9.
 const UNPACKED_PAIRS: [u8; 256] = [
     0, 1, 2, 3, 4, 5, 6, 7, 8, 9, 255, 255, 255, 255, 255, 255, 10, 11, 12, 13, 14, 15, 16, 17, 18,
     19, 255, 255, 255, 255, 255, 255, 20, 21, 22, 23, 24, 25, 26, 27, 28, 29, 255, 255, 255, 255,
@@ -52,7 +52,7 @@ const UNPACKED_PAIRS: [u8; 256] = [
     255, 255, 255, 255, 255, 255,
 ];
 
-/// The number that a register holds, or nothing where it holds none. Zero is all zeros, and no other mantissa begins with a zero.
+/// Returns the number in a register, or `None` if there is none. Zero is a register of zeros; no other mantissa begins with zero.
 #[inline(always)]
 pub fn read(register: Reg) -> Option<Ten>
     ensures { option_map units result ≡ worth (holding_of register) }
@@ -71,7 +71,7 @@ pub fn read(register: Reg) -> Option<Ten>
     Some(Ten::Nonzero(sign, Magnitude { mantissa, exponent }))
 }
 
-/// The ten digits of a register's mantissa as a number, or nothing where one of them is above 9.
+/// Returns the number that the ten digits of a register's mantissa form, or `None` if one of them is above 9.
 #[inline(always)]
 fn mantissa_digits(register: Reg) -> Option<u64>
     ensures value { result ≡ decimal_in register 3 10 }
@@ -80,7 +80,7 @@ fn mantissa_digits(register: Reg) -> Option<u64>
     unpacked(register.number(3, 12))
 }
 
-/// The number of ten decimal digits in four bits each, or nothing where one of them is above 9.
+/// Returns the number that ten decimal digits in four bits each form, or `None` if one of them is above 9.
 #[inline(always)]
 fn unpacked(digits: u64) -> Option<u64>
     requires { digits < 16 ^ 10 }
@@ -94,7 +94,7 @@ fn unpacked(digits: u64) -> Option<u64>
     Some(hundreds(low + 10 * high))
 }
 
-/// The number to the base 100 whose five digits are bytes, the lowest in the lowest one.
+/// Returns the number in base 100 whose five digits are bytes. The lowest digit is in the lowest byte.
 #[inline(always)]
 fn hundreds(bytes: u64) -> u64
     requires { bytes < 256 ^ 5 }
@@ -105,7 +105,7 @@ fn hundreds(bytes: u64) -> u64
     low + 10_000 * middle + 100_000_000 * (bytes / 0x1_0000_0000)
 }
 
-/// The sign that a digit stands for.
+/// Returns the sign that a digit encodes, or `None` for any other digit.
 #[inline(always)]
 fn sign_of(digit: u8) -> Option<Sign>
     ensures { result ≡ sign_in digit }
@@ -117,7 +117,7 @@ fn sign_of(digit: u8) -> Option<Sign>
     }
 }
 
-/// The exponent that the last three digits stand for, counted from -99.
+/// Returns the exponent, plus 99, that the last three digits encode, or `None` if they encode none.
 #[inline(always)]
 fn steps(register: Reg) -> Option<u32>
     ensures value { result ≡ steps_told (decimal_in register 0 3) }
@@ -131,7 +131,7 @@ fn steps(register: Reg) -> Option<u32>
     }
 }
 
-/// The number whose two decimal digits stand in a byte, or nothing where one of them is above 9.
+/// Returns the number that the two decimal digits of a byte form, or `None` if one of them is above 9.
 #[inline(always)]
 fn unpacked_pair(byte: u8) -> Option<u8>
     ensures value { result ≡ decimal_of 2 byte }
@@ -141,7 +141,7 @@ fn unpacked_pair(byte: u8) -> Option<u8>
     if number < 100 { Some(number) } else { None }
 }
 
-/// The register that holds a number.
+/// Returns the register that contains a number.
 #[inline(always)]
 pub fn write(number: Ten) -> Reg
     ensures { holding_of result ≡ Number (units number) }
@@ -152,7 +152,7 @@ pub fn write(number: Ten) -> Reg
     }
 }
 
-/// The register that holds a size with a sign.
+/// Returns the register that contains a size with a sign.
 #[inline(always)]
 fn write_size(sign: Sign, x: Magnitude) -> Reg
     ensures { holding_of result ≡ Number (with_sign sign (size x)) }
@@ -162,7 +162,7 @@ fn write_size(sign: Sign, x: Magnitude) -> Reg
     with_mantissa.with_number(0, 2, packed_exponent(x.exponent))
 }
 
-/// Ten decimal digits in four bits each, the lowest in the lowest bits.
+/// Returns the ten decimal digits of a number in four bits each, the lowest digit in the lowest bits.
 fn packed_ten(number: u64) -> u64
     requires { number < 10 ^ 10 }
     ensures digits { result ≡ word_of_digits 10 number }
@@ -173,7 +173,7 @@ fn packed_ten(number: u64) -> u64
     low + 0x1_0000 * middle + 0x1_0000_0000 * packed_pair(number / 100_000_000)
 }
 
-/// Four decimal digits in four bits each, the lowest in the lowest bits.
+/// Returns the four decimal digits of a number in four bits each, the lowest digit in the lowest bits.
 fn packed_four(number: u64) -> u64
     requires { number < 10 ^ 4 }
     ensures digits { result ≡ word_of_digits 4 number }
@@ -182,7 +182,7 @@ fn packed_four(number: u64) -> u64
     packed_pair(number % 100) + 0x100 * packed_pair(number / 100)
 }
 
-/// Two decimal digits in four bits each, the lower one in the lower bits.
+/// Returns the two decimal digits of a number in four bits each, the lower digit in the lower bits.
 fn packed_pair(number: u64) -> u64
     requires { number < 10 ^ 2 }
     ensures digits { result ≡ word_of_digits 2 number }
@@ -191,7 +191,7 @@ fn packed_pair(number: u64) -> u64
     u64::from(PACKED_PAIRS[number as usize])
 }
 
-/// The digit that stands for a sign.
+/// Returns the digit that encodes a sign: 0 for plus, 9 for minus.
 fn sign_digit(sign: Sign) -> u8
     ensures sign { sign_in result ≡ Some sign }
     ensures digit { result < 16 }
@@ -202,7 +202,7 @@ fn sign_digit(sign: Sign) -> u8
     }
 }
 
-/// The three digits of an exponent in four bits each: those of 1000 less its size, where it is negative.
+/// Returns the three digits of an exponent in four bits each. For a negative exponent, they are those of 1000 minus its size.
 fn packed_exponent(exponent: Exponent) -> u64
     ensures digits { (digits : ℕ) × (steps_in digits ≡ Some exponent.biased) × (digits < 10 ^ 3)
         × (result ≡ word_of_digits 3 digits) }

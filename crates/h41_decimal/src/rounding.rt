@@ -1,4 +1,4 @@
-//! The one rounding that all operations share.
+//! The rounding that all operations share.
 
 ghost use Rattle.std.specs.Prelude.{◌≡◌, ℕ, ◌+◌, ◌-◌, ◌*◌, ◌/◌, ◌^◌, ◌<◌, ◌≤◌, pos};
 ghost use Rattle.h41_decimal.specs.NearestDecimal.{IsBounded};
@@ -9,10 +9,10 @@ use crate::parts::{Exponent, Magnitude, Mantissa};
 use crate::sign::Sign;
 use crate::ten::Ten;
 
-/// The scale that stands for one unit. Scales count powers of ten, so that those below a unit can be counted too.
+/// The scale of one unit. Scales count powers of ten, so that those below one unit can be counted, too.
 pub const UNIT_SCALE: u32 = 128;
 
-/// Ten to a power from 0 to 19.
+/// Returns ten to a power from 0 to 19.
 #[inline(always)]
 pub fn power_of_ten(power: u32) -> u64
     requires { power < 20 }
@@ -43,7 +43,7 @@ pub fn power_of_ten(power: u32) -> u64
     }
 }
 
-/// A number without its last digits, so many of them, 0 to 10. It divides by constants, since that is quicker.
+/// Returns a number without its last digits; the number of these is 0 to 10. It divides by constants, because that is faster.
 #[inline(always)]
 pub fn without_last(number: u64, digits: u32) -> u64
     requires { digits ≤ 10 }
@@ -65,7 +65,7 @@ pub fn without_last(number: u64, digits: u32) -> u64
     }
 }
 
-/// How many decimal digits a number has.
+/// Returns the number of decimal digits of a number greater than zero, 1 to 20.
 pub fn digit_count(number: u64) -> u32
     requires { 0 < number }
     ensures least { 10 ^ result ≤ 10 * number }
@@ -75,7 +75,7 @@ pub fn digit_count(number: u64) -> u32
     number.ilog10() + 1
 }
 
-/// The decimal of ten digits whose last stands at a scale: out of range above 99, zero below -99.
+/// Returns the decimal of ten digits, the last of which is at a scale: an error if its exponent is above 99, zero if below -99.
 #[inline(always)]
 fn bounded(sign: Sign, mantissa: Mantissa, scale: u32) -> Result<Ten, DecimalFault>
     ensures low { scale < 128 → result ≡ Ok Ten.Zero }
@@ -92,7 +92,7 @@ fn bounded(sign: Sign, mantissa: Mantissa, scale: u32) -> Result<Ten, DecimalFau
     Ok(Ten::Nonzero(sign, Magnitude { mantissa, exponent }))
 }
 
-/// The nearest decimal of a size that was cut to eleven digits, which stand at a scale.
+/// Returns the nearest decimal of a size that was cut to eleven digits at a scale.
 #[inline(always)]
 fn round_eleven_digits(sign: Sign, whole: u64, scale: u32) -> Result<Ten, DecimalFault>
     requires at_least { 10 ^ 10 ≤ whole }
@@ -109,8 +109,8 @@ fn round_eleven_digits(sign: Sign, whole: u64, scale: u32) -> Result<Ten, Decima
     }
 }
 
-/// The nearest decimal of a size above zero that was cut to a whole number at a scale. Where that has fewer than eleven
-/// digits nothing may have been cut off.
+/// Returns the nearest decimal of a size greater than zero that was cut to a whole number at a scale. If that number has fewer than
+/// eleven digits, the size must be exactly this number.
 #[inline(always)]
 pub fn round_whole(sign: Sign, whole: u64, scale: u32) -> Result<Ten, DecimalFault>
     requires positive { 0 < whole }

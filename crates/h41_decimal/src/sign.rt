@@ -6,14 +6,14 @@ ghost use Rattle.h41_decimal.specs.Signs.{opposite_of, product_of};
 /// The sign of a number that is not zero.
 #[derive(Clone, Copy, Debug, PartialEq, Eq)]
 pub enum Sign {
-    /// The number is above zero.
+    /// The number is greater than zero.
     Plus,
-    /// The number is below zero.
+    /// The number is less than zero.
     Minus,
 }
 
 impl Sign {
-    /// The other sign.
+    /// Returns the other sign.
     pub fn opposite(self) -> Self
         ensures { result ≡ opposite_of self }
     {
@@ -23,7 +23,7 @@ impl Sign {
         }
     }
 
-    /// The sign of a product or a quotient.
+    /// Returns the sign of a product or a quotient of numbers with these signs.
     pub fn times(self, other: Self) -> Self
         ensures { result ≡ product_of self other }
     {

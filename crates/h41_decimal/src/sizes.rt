@@ -15,11 +15,11 @@ use crate::sign::Sign;
 use crate::ten::Ten;
 use std::cmp::Ordering;
 
-/// How many places behind the last one of the greater of two sizes count in a sum or a difference. What the smaller one has
-/// behind these only tells whether anything is added or taken away.
+/// The number of places after the last one of the greater of two sizes that are used in a sum or a difference. From the digits of
+/// the smaller size after these, only whether they are all zero matters.
 const COUNTED: u32 = 8;
 
-/// The product of two sizes.
+/// Returns the product of two sizes, rounded, with a sign.
 #[inline(always)]
 pub fn multiply(sign: Sign, x: Magnitude, y: Magnitude) -> Result<Ten, DecimalFault>
     ensures { IsRounded sign (Fraction (size x * size y) one) result }
@@ -27,14 +27,14 @@ pub fn multiply(sign: Sign, x: Magnitude, y: Magnitude) -> Result<Ten, DecimalFa
     round_whole(sign, product_cut(x, y), x.steps() + y.steps() + 25)
 }
 
-/// A hundredth of the product of two sizes.
+/// Returns a hundredth of the product of two sizes, rounded, with a sign.
 pub fn percent(sign: Sign, x: Magnitude, y: Magnitude) -> Result<Ten, DecimalFault>
     ensures { IsRounded sign (Fraction (size x * size y) (100 * one)) result }
 {
     round_whole(sign, product_cut(x, y), x.steps() + y.steps() + 23)
 }
 
-/// The product of the digits of two sizes without its last five, by halves of five digits.
+/// Returns the product of the digits of two sizes without its last five digits, computed from halves of five digits.
 #[inline(always)]
 fn product_cut(x: Magnitude, y: Magnitude) -> u64
     ensures product { result ≡ x.mantissa.digits * y.mantissa.digits / 10 ^ 5 }
@@ -47,7 +47,7 @@ fn product_cut(x: Magnitude, y: Magnitude) -> u64
     x_high * y_high * 100_000 + (x_high * y_low + x_low * y_high) + x_low * y_low / 100_000
 }
 
-/// The quotient of two sizes.
+/// Returns the quotient of two sizes, rounded, with a sign.
 #[inline(always)]
 pub fn divide(sign: Sign, x: Magnitude, y: Magnitude) -> Result<Ten, DecimalFault>
     ensures { IsRounded sign (Fraction (size x * size y * one) (size y * size y)) result }
@@ -56,7 +56,8 @@ pub fn divide(sign: Sign, x: Magnitude, y: Magnitude) -> Result<Ten, DecimalFaul
     round_whole(sign, quotient, x.steps() + 225 - y.steps())
 }
 
-/// 10^11 times a number of up to ten digits divided by one of ten, cut to a whole number: the likely one where its product says so.
+/// Returns 10^11 times a number of up to ten digits divided by one of ten, rounded down. The probable quotient is used if its
+/// product with the divisor confirms it.
 #[inline(always)]
 fn quotient_cut(number: u64, divisor: u64) -> u64
     requires few { number < 10 ^ 10 }
@@ -74,7 +75,7 @@ fn quotient_cut(number: u64, divisor: u64) -> u64
     }
 }
 
-/// The same quotient, of which its first digits and its last two are found apart.
+/// Returns the same quotient by computing its first digits and its last two digits separately.
 #[inline(never)]
 fn quotient_by_parts(number: u64, divisor: u64) -> u64
     requires few { number < 10 ^ 10 }
@@ -86,7 +87,7 @@ fn quotient_by_parts(number: u64, divisor: u64) -> u64
     dividend / divisor * 100 + dividend % divisor * 100 / divisor
 }
 
-/// The square root of a size. It is taken of a whole number of 21 or 22 digits, at an even power of ten.
+/// Returns the square root of a size, rounded. It is computed from a whole number of 21 or 22 digits, at an even power of ten.
 pub fn root(x: Magnitude) -> Result<Ten, DecimalFault>
     ensures { IsRounded Sign.Plus (RootOf (size x * one)) result }
 {
@@ -96,7 +97,8 @@ pub fn root(x: Magnitude) -> Result<Ten, DecimalFault>
     round_whole(Sign::Plus, root, UNIT_SCALE + (steps + 98 - filled) / 2)
 }
 
-/// The square root of 10^10 times a number of 11 or 12 digits, cut to a whole number: the likely one where its square says so.
+/// Returns the square root of 10^10 times a number of 11 or 12 digits, rounded down. The probable root is used if its square
+/// confirms it.
 fn eleven_digit_root(number: u64) -> u64
     requires at_least { 10 ^ 10 ≤ number }
     requires below { number < 10 ^ 12 }
@@ -114,8 +116,8 @@ fn eleven_digit_root(number: u64) -> u64
     }
 }
 
-/// The same root: that of the number itself has six of its digits, and one step of Newton's method gives five more, at most one
-/// too high.
+/// Returns the same root. The root of the number itself gives six of its digits; one step of Newton's method gives five more, and
+/// is at most one too high.
 #[inline(never)]
 fn root_by_parts(number: u64) -> u64
     requires at_least { 10 ^ 10 ≤ number }
@@ -134,7 +136,7 @@ fn root_by_parts(number: u64) -> u64
     }
 }
 
-/// The sum of two sizes, the first of which has no lower exponent than the second.
+/// Returns the sum of two sizes, rounded, with a sign. The exponent of the first must not be lower than that of the second.
 #[inline(always)]
 pub fn add(sign: Sign, x: Magnitude, y: Magnitude) -> Result<Ten, DecimalFault>
     requires { y.exponent.biased ≤ x.exponent.biased }
@@ -151,7 +153,8 @@ pub fn add(sign: Sign, x: Magnitude, y: Magnitude) -> Result<Ten, DecimalFault>
     }
 }
 
-/// The difference of two sizes that have this sign, the first of which has no lower exponent than the second.
+/// Returns the difference of two sizes with this sign, rounded. The exponent of the first must not be lower than that of the
+/// second.
 #[inline(always)]
 pub fn subtract(sign: Sign, x: Magnitude, y: Magnitude) -> Result<Ten, DecimalFault>
     requires { y.exponent.biased ≤ x.exponent.biased }
@@ -177,7 +180,7 @@ pub fn subtract(sign: Sign, x: Magnitude, y: Magnitude) -> Result<Ten, DecimalFa
     }
 }
 
-/// Which of two sizes is greater: the one with the higher exponent, else the one with the higher digits.
+/// Compares two sizes: first their exponents, then their digits.
 pub fn compare(x: Magnitude, y: Magnitude) -> Ordering
     ensures { result ≡ int_cmp (pos (size x)) (pos (size y)) }
 {
@@ -194,7 +197,7 @@ pub fn compare(x: Magnitude, y: Magnitude) -> Ordering
     }
 }
 
-/// A size rounded to a whole count of steps of a place, which is ten to a power of units.
+/// Returns a size with a sign, rounded to a multiple of the step of a place, which is ten to this power in units.
 pub fn round_at(sign: Sign, x: Magnitude, place: u32) -> Result<Ten, DecimalFault>
     requires { place < 300 }
     ensures { RoundsTo (10 ^ place) (with_sign sign (size x)) result }

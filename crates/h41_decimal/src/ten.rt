@@ -1,4 +1,4 @@
-//! Decimals, and what is computed with them.
+//! Decimals, and the operations on them.
 
 ghost use Rattle.std.specs.Prelude.{◌≡◌, ◌*◌, ◌^◌, ◌<◌, ◌≤◌, pos, ◌+ℤ◌, ◌-ℤ◌, ◌*ℤ◌, neg_ℤ};
 ghost use Rattle.std.specs.Prelude.{unsigned_abs, IfSome, IfNone};
@@ -25,12 +25,12 @@ use std::cmp::Ordering;
 pub enum Ten {
     /// Zero, which has no sign.
     Zero,
-    /// Another number.
+    /// A number other than zero.
     Nonzero(Sign, Magnitude),
 }
 
 impl Ten {
-    /// The same size with the other sign.
+    /// Returns the number with the other sign.
     pub fn negated(self) -> Self
         ensures { units result ≡ neg_ℤ (units self) }
     {
@@ -40,7 +40,7 @@ impl Ten {
         }
     }
 
-    /// The size as a number.
+    /// Returns the absolute value of the number.
     pub fn abs(self) -> Self
         ensures { units result ≡ pos (unsigned_abs (units self)) }
     {
@@ -50,7 +50,7 @@ impl Ten {
         }
     }
 
-    /// The sign; zero's is plus.
+    /// Returns the sign of the number. The sign of zero is plus.
     pub fn sign(self) -> Sign
         ensures { result ≡ sign_of (units self) }
     {
@@ -60,7 +60,7 @@ impl Ten {
         }
     }
 
-    /// 1 or -1: 1 with the sign, so that zero's is 1.
+    /// Returns 1 with the sign of the number: 1 or -1, and 1 for zero.
     pub fn signum(self) -> Self
         ensures { units result ≡ with_sign (sign_of (units self)) one }
     {
@@ -71,15 +71,15 @@ impl Ten {
         Ten::Nonzero(self.sign(), Magnitude { mantissa, exponent })
     }
 
-    /// The greatest number with a sign, 9.999999999E99.
+    /// Returns the greatest number with a sign: 9.999999999E99 or its negative.
     pub fn greatest(sign: Sign) -> Self
         ensures { units result ≡ with_sign sign size_of_greatest }
     {
         entry::greatest(sign)
     }
 
-    /// The number of these digits, so many of them behind the point, with an exponent and a sign, as it is typed. Above
-    /// exponent 99 it is the greatest number, below -99 zero (this project's choice).
+    /// Returns the number with these digits, `places` of them after the point, an exponent and a sign, as it is typed. If its
+    /// exponent is above 99, it is the greatest number; if below -99, zero (this project's choice).
     pub fn typed(sign: Sign, digits: u64, places: u8, exponent: Exponent) -> Self
         requires { places ≤ 20 }
         ensures { IsTyped sign digits places exponent result }
@@ -87,7 +87,7 @@ impl Ten {
         entry::typed(sign, digits, places, exponent)
     }
 
-    /// The integer part: what stands before the radix mark, with the sign.
+    /// Returns the integer part of the number, with its sign: the digits before the radix mark.
     pub fn integer_part(self) -> Self
         ensures { IsIntegerPart (units self) (units result) }
     {
@@ -97,7 +97,7 @@ impl Ten {
         }
     }
 
-    /// The fraction: what stands behind the radix mark, with the sign.
+    /// Returns the fraction of the number, with its sign: the digits after the radix mark.
     pub fn fraction(self) -> Self
         ensures { IsFraction (units self) (units result) }
     {
@@ -107,7 +107,7 @@ impl Ten {
         }
     }
 
-    /// The whole ones of the size, as a number, or nothing where they are 10^10 or more.
+    /// Returns the integer part of the absolute value as a whole number, or `None` if it is 10^10 or more.
     pub fn ones(self) -> Option<u64>
         ensures ones { IfSome result (HasOnes (unsigned_abs (units self))) }
         ensures few { IfSome result (λ ones. ones < 10 ^ 10) }
@@ -119,7 +119,7 @@ impl Ten {
         }
     }
 
-    /// The number that a register holds, or nothing where it holds none.
+    /// Returns the number in a register, or `None` if there is none.
     #[inline(always)]
     pub fn from_reg(register: Reg) -> Option<Self>
         ensures { option_map units result ≡ worth (holding_of register) }
@@ -127,7 +127,7 @@ impl Ten {
         register::read(register)
     }
 
-    /// The register that holds the number.
+    /// Returns the register that contains the number.
     #[inline(always)]
     pub fn to_reg(self) -> Reg
         ensures { holding_of result ≡ Number (units self) }
@@ -135,7 +135,7 @@ impl Ten {
         register::write(self)
     }
 
-    /// The sum, rounded. Its only fault is Range.
+    /// Returns the sum, rounded. The only error is `Range`.
     #[inline(always)]
     pub fn add(self, other: Self) -> Result<Self, DecimalFault>
         ensures { Nearest (units self +ℤ units other) 1 result }
@@ -147,7 +147,7 @@ impl Ten {
         }
     }
 
-    /// The difference, rounded. Its only fault is Range.
+    /// Returns the difference, rounded. The only error is `Range`.
     #[inline(always)]
     pub fn sub(self, other: Self) -> Result<Self, DecimalFault>
         ensures { Nearest (units self -ℤ units other) 1 result }
@@ -155,7 +155,7 @@ impl Ten {
         self.add(other.negated())
     }
 
-    /// The product, rounded. Its only fault is Range.
+    /// Returns the product, rounded. The only error is `Range`.
     #[inline(always)]
     pub fn mul(self, other: Self) -> Result<Self, DecimalFault>
         ensures { Nearest (units self *ℤ units other) one result }
@@ -168,7 +168,7 @@ impl Ten {
         }
     }
 
-    /// So many percent of a number: a hundredth of the product, rounded. Its only fault is Range.
+    /// Returns this number of percent of another: a hundredth of the product, rounded. The only error is `Range`.
     pub fn percent(self, of: Self) -> Result<Self, DecimalFault>
         ensures { Nearest (units self *ℤ units of) (100 * one) result }
     {
@@ -180,7 +180,7 @@ impl Ten {
         }
     }
 
-    /// The quotient, rounded. Its faults are Data for a zero divisor, and Range.
+    /// Returns the quotient, rounded. The errors are `Data` for a zero divisor, and `Range`.
     #[inline(always)]
     pub fn div(self, other: Self) -> Result<Self, DecimalFault>
         ensures { NearestQuotient (units self) (units other) result }
@@ -194,7 +194,7 @@ impl Ten {
         }
     }
 
-    /// The square root, rounded. Its only fault is Data, for a negative number.
+    /// Returns the square root, rounded. The only error is `Data`, for a negative number.
     pub fn sqrt(self) -> Result<Self, DecimalFault>
         ensures { NearestRoot (units self) result }
     {
@@ -207,8 +207,8 @@ impl Ten {
         }
     }
 
-    /// The number modulo a divisor, rounded: `self - divisor * floor(self / divisor)`, which has the divisor's sign, and the
-    /// number itself where the divisor is zero. It answers no fault.
+    /// Returns the number modulo a divisor, rounded: `self - divisor * floor(self / divisor)`, which has the sign of the divisor.
+    /// If the divisor is zero, returns the number itself. There is no error.
     pub fn modulo(self, divisor: Self) -> Result<Self, DecimalFault>
         ensures { NearestModulo self divisor result }
     {
@@ -221,7 +221,7 @@ impl Ten {
         }
     }
 
-    /// The number rounded to so many decimals or digits, halves away from zero. Its only fault is Range.
+    /// Returns the number rounded to decimals or digits, halves away from zero. The only error is `Range`.
     pub fn round_to(self, places: Places) -> Result<Self, DecimalFault>
         ensures { RoundsTo (step_of places self) (units self) result }
     {
@@ -240,7 +240,7 @@ impl Ten {
         }
     }
 
-    /// Which of two numbers is greater.
+    /// Compares two numbers.
     pub fn cmp(self, other: Self) -> Ordering
         ensures { result ≡ int_cmp (units self) (units other) }
     {
@@ -255,7 +255,7 @@ impl Ten {
     }
 }
 
-/// Which of zero and a size with a sign is greater.
+/// Compares zero with a size with a sign.
 fn zero_against(sign: Sign, x: Magnitude) -> Ordering
     ensures { result ≡ int_cmp (pos 0) (with_sign sign (size x)) }
 {
@@ -265,7 +265,7 @@ fn zero_against(sign: Sign, x: Magnitude) -> Ordering
     }
 }
 
-/// Which of a size with a sign and zero is greater.
+/// Compares a size with a sign with zero.
 fn against_zero(sign: Sign, x: Magnitude) -> Ordering
     ensures { result ≡ int_cmp (with_sign sign (size x)) (pos 0) }
 {
@@ -275,7 +275,7 @@ fn against_zero(sign: Sign, x: Magnitude) -> Ordering
     }
 }
 
-/// Which of two sizes with signs is greater.
+/// Compares two sizes with signs.
 fn compare_signed(x_sign: Sign, x: Magnitude, y_sign: Sign, y: Magnitude) -> Ordering
     ensures { result ≡ int_cmp (with_sign x_sign (size x)) (with_sign y_sign (size y)) }
 {
@@ -287,7 +287,7 @@ fn compare_signed(x_sign: Sign, x: Magnitude, y_sign: Sign, y: Magnitude) -> Ord
     }
 }
 
-/// The sum of two sizes with signs.
+/// Returns the sum of two sizes with signs, rounded.
 #[inline(always)]
 fn add_signed(x_sign: Sign, x: Magnitude, y_sign: Sign, y: Magnitude) -> Result<Ten, DecimalFault>
     ensures { Nearest (with_sign x_sign (size x) +ℤ with_sign y_sign (size y)) 1 result }
@@ -299,7 +299,7 @@ fn add_signed(x_sign: Sign, x: Magnitude, y_sign: Sign, y: Magnitude) -> Result<
     }
 }
 
-/// The sum of two sizes with signs, the first of which has no lower exponent than the second.
+/// Returns the sum of two sizes with signs, rounded. The exponent of the first must not be lower than that of the second.
 #[inline(always)]
 fn add_smaller(x_sign: Sign, x: Magnitude, y_sign: Sign, y: Magnitude) -> Result<Ten, DecimalFault>
     requires { y.exponent.biased ≤ x.exponent.biased }

@@ -10,13 +10,13 @@ use crate::rounding::{digit_count, power_of_ten, without_last};
 use crate::sign::Sign;
 use crate::ten::Ten;
 
-/// The steps, counted from exponent -99, at which the tenth digit is worth 1.
+/// The exponent, plus 99, at which the tenth digit counts ones.
 const ONES: u32 = 108;
 
-/// The steps below which a size is below 1.
+/// The exponent, plus 99, below which a size is less than 1.
 const LEAST: u32 = 99;
 
-/// The whole ones of a size, or nothing where they are 10^10 or more.
+/// Returns the integer part of a size as a whole number, or `None` if it is 10^10 or more.
 pub fn ones(x: Magnitude) -> Option<u64>
     ensures ones { IfSome result (HasOnes (size x)) }
     ensures few { IfSome result (λ ones. ones < 10 ^ 10) }
@@ -32,7 +32,7 @@ pub fn ones(x: Magnitude) -> Option<u64>
     }
 }
 
-/// The integer part of a size with a sign: the digits in front of the radix mark stay where they are.
+/// Returns the integer part of a size with a sign: its digits before the radix mark.
 pub fn integer_part(sign: Sign, x: Magnitude) -> Ten
     ensures { IsIntegerPart (with_sign sign (size x)) (units result) }
 {
@@ -51,7 +51,7 @@ pub fn integer_part(sign: Sign, x: Magnitude) -> Ten
     Ten::Nonzero(sign, Magnitude { mantissa, exponent })
 }
 
-/// The fraction of a size with a sign.
+/// Returns the fraction of a size with a sign.
 pub fn fraction(sign: Sign, x: Magnitude) -> Ten
     ensures { IsFraction (with_sign sign (size x)) (units result) }
 {
@@ -69,7 +69,7 @@ pub fn fraction(sign: Sign, x: Magnitude) -> Ten
     decimal(sign, rest, steps)
 }
 
-/// The decimal of a whole number of up to ten digits times ten to a power, in units.
+/// Returns the decimal, with a sign, of a whole number of up to ten digits times ten to a power, in units.
 fn decimal(sign: Sign, number: u64, steps: u32) -> Ten
     requires some { 0 < number }
     requires few { number < 10 ^ 10 }

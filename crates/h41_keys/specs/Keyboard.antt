@@ -17,7 +17,8 @@ use Rattle.h41_keys.specs.declared.prompt.PromptFunction.TheVariants as prompts
 
 -- A row of the table.
 pub record KeyRow : Type 0 where
-  -- Rows are counted from the top; that of ON is 0. Columns are counted from the left; the first is 1.
+  -- Rows are counted from the top; that of ON is 0. Columns are counted from the left; the first
+  -- is 1.
   pub row : ℕ
   pub column : ℕ
   pub name : List ℕ

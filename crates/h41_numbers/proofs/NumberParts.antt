@@ -1,4 +1,4 @@
--- The parts of a number line: where the E and the point stand, and what the digits are that count.
+-- The parts of a number line: the places of the E and the point, and the digits that are used.
 use Rattle.std.proofs.Common.{◌≡◌, ℕ, suc, ◌+◌, ◌-◌, ◌<◌, ◌≤◌, Bool, true, false, not, ◌&&◌, ◌||◌, cond, List, [], ◌∷◌, length, take, drop}
 use Rattle.std.proofs.Common.{if◌then◌else◌, refl, sym, ◌∙◌, ap, subst, arith, eq-eqb, length-take, length-drop}
 use Rattle.std.specs.List.{list_any, position_or_len}
@@ -17,7 +17,7 @@ any_step : (here : Bool) (place size : ℕ) (rest : Bool) → (place < size → 
 any_step true place size rest behind within = refl
 any_step false place size rest behind within = behind (omega arith)
 
--- a mark stands in a text in which its place is
+-- If the place of a character is inside a text, the text has this character.
 any_within : (test : Character → Bool) (text : List Character) → position_or_len test text < length text → list_any test text ≡ true
 any_within test [] within = absurd (omega arith)
 any_within test (character ∷ text) within =
@@ -28,7 +28,7 @@ none_step : (here : Bool) (place size : ℕ) (rest : Bool) → (size ≤ place �
 none_step true place size rest behind past = absurd (omega arith)
 none_step false place size rest behind past = behind (omega arith)
 
--- and in no other
+-- If it is not, the text does not have it.
 none_past : (test : Character → Bool) (text : List Character) → length text ≤ position_or_len test text → list_any test text ≡ false
 none_past test [] past = refl
 none_past test (character ∷ text) past =
@@ -44,7 +44,7 @@ second_fails : (a b : Bool) (x y : List ℕ) → b ≡ false → (if a && b then
 second_fails true b x y fails = rw fails refl
 second_fails false b x y fails = refl
 
--- an E with no digit in front of it puts a 1
+-- An E with no digit before it gives a 1.
 pub mantissa_one : (text : List Character) (place : ℕ) → place ≡ position_or_len is_exponent text
     → length (take 10 (digits_in (take place text))) ≡ 0 → place < length text → mantissa_digits text ≡ 1 ∷ []
 mantissa_one text place at empty within =
@@ -54,7 +54,7 @@ mantissa_one text place at empty within =
     let none : length (digits_in (mantissa_part text)) ≡ 0 = omega (arith, length-take 10 (digits_in (mantissa_part text)), few) in
     both _ _ _ _ (eq-eqb _ _ none) (any_within is_exponent text (omega (arith, at, within)))
 
--- a digit is there
+-- A digit is there.
 pub mantissa_some : (text : List Character) (place : ℕ) → place ≡ position_or_len is_exponent text
     → 0 < length (take 10 (digits_in (take place text))) → mantissa_digits text ≡ take 10 (digits_in (take place text))
 mantissa_some text place at some =
@@ -65,7 +65,7 @@ mantissa_some text place at some =
     first_fails _ _ _ _ (ne_eqb (length (digits_in (mantissa_part text))) 0 (λ none. absurd (omega (arith, none, more))))
     ∙ sym (ap (λ (part : List Character). take 10 (digits_in part)) same)
 
--- no E is there
+-- No E is there.
 pub mantissa_alone : (text : List Character) (place : ℕ) → place ≡ position_or_len is_exponent text → length text ≤ place
     → mantissa_digits text ≡ take 10 (digits_in (take place text))
 mantissa_alone text place at past =
@@ -73,7 +73,7 @@ mantissa_alone text place at past =
     second_fails _ _ _ _ (none_past is_exponent text (omega (arith, at, past)))
     ∙ sym (ap (λ (part : List Character). take 10 (digits_in part)) same)
 
--- how many of the digits that count stand behind the point, whose place is given
+-- How many of the used digits are after the point, whose place is given.
 pub places_within : (text : List Character) (place count front : ℕ) → place ≡ position_or_len is_point text → place < length text
     → count ≤ 10 → front ≡ length (take 10 (digits_in (take place text)))
     → count - front ≡ (if list_any is_point text then count - whole_digits text else 0)
@@ -89,7 +89,7 @@ places_past text place count at past =
     let none : list_any is_point text ≡ false = none_past is_point text (omega (arith, at, past)) in
     sym (ap (λ (b : Bool). if b then count - whole_digits text else 0) none)
 
--- the number of a text from its parts
+-- The number of a text from its parts.
 pub number_is : (text part : List Character) (place : ℕ) (sign : Sign) (digits count places : ℕ) (exponent : Exponent) (number : Ten)
     → place ≡ position_or_len is_exponent text
     → sign ≡ sign_in (take place text)

@@ -5,12 +5,12 @@ use Rattle.h41_codes.specs.declared.characters.Character.{Character}
 use Rattle.h41_numbers.specs.NumberLines.{digit_of, digits_in, number_from}
 use Rattle.h41_numbers.specs.private.NumberReading.{read_count, read_number}
 
--- the digits of a text whose first character has this digit, or none
+-- The digits of a text whose first character has this digit, or none.
 pub digits_behind : (found : Option ℕ) (character : Character) (rest : List Character) → found ≡ digit_of character
     → digits_in (character ∷ rest) ≡ option_map_or (λ digit. digit ∷ digits_in rest) found (digits_in rest)
 digits_behind found character rest is = ap (λ (o : Option ℕ). option_map_or (λ digit. digit ∷ digits_in rest) o (digits_in rest)) (sym is)
 
--- one more digit counts
+-- One more digit counts.
 taken : (most count digit : ℕ) (character : Character) (rest : List Character) → Some digit ≡ digit_of character → count < most
     → take (most - count) (digits_in (character ∷ rest)) ≡ digit ∷ take (most - (count + 1)) (digits_in rest)
 taken most count digit character rest is room =
@@ -35,7 +35,7 @@ count_more most count digit more character rest is room one =
     ap (λ (n : ℕ). length (take (most - n) (digits_in rest))) one in
     omega arith
 
--- no more count
+-- No more count.
 pub number_full : (most number count : ℕ) (character : Character) (rest : List Character) → most ≤ count
     → read_number most number count rest ≡ read_number most number count (character ∷ rest)
 number_full most number count character rest full =
@@ -50,7 +50,7 @@ count_full most count character rest full =
     ap (λ (n : ℕ). count + length (take n (digits_in rest))) none
     ∙ sym (ap (λ (n : ℕ). count + length (take n (digits_in (character ∷ rest)))) none)
 
--- a character that is no digit
+-- A character that is no digit.
 pub number_none : (most number count : ℕ) (character : Character) (rest : List Character) → None ≡ digit_of character
     → read_number most number count rest ≡ read_number most number count (character ∷ rest)
 number_none most number count character rest is =

@@ -12,7 +12,7 @@ use Rattle.h41_numbers.specs.NumberLaws.{PlainTextsAreTyped, is_plain}
 use Rattle.h41_numbers.specs.NumberLines.{digits_in, mantissa_digits, number_from, sign_in, whole_digits}
 use Rattle.h41_numbers.proofs.NumberParts.{mantissa_alone, number_is}
 
--- a character that is no exponent and no sign, in front of others
+-- A character that is neither an exponent nor a sign, before others.
 record Others (exponent minus rest : Bool) : Type 0 where
   pub no_exponent : exponent ≡ false
   pub no_minus : minus ≡ false

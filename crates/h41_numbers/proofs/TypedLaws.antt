@@ -12,7 +12,7 @@ use Rattle.h41_codes.specs.NumberCharacters.{mantissa_part}
 use Rattle.h41_numbers.specs.NumberLaws.{NumbersAreDetermined}
 use Rattle.h41_numbers.specs.NumberLines.{decimal_places, mantissa_digits, number_from, sign_in}
 
--- what is typed hangs on the number of its exponent
+-- The typed number depends on the number of its exponent only.
 typed_at : (sign : Sign) (digits places : ℕ) (e f : Exponent) (number : Ten)
     → e.biased ≡ f.biased → IsTyped sign digits places e number → IsTyped sign digits places f number
 typed_at sign digits places e f number same typed =

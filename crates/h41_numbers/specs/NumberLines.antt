@@ -1,6 +1,6 @@
--- What the characters of a number line are worth. The Owner's Handbook has the rules of number
--- entry; what is said of characters that it does not have there is this project's choice. Up to the
--- first E they are the mantissa's, behind it the exponent's.
+-- The value of the characters of a number line. The rules are those of number entry in the Owner's
+-- Handbook; their extension to characters that number entry does not allow is this project's
+-- choice. The characters up to the first E are the mantissa, those after it the exponent.
 use Rattle.std.specs.Prelude.{◌≡◌, ℕ, ◌+◌, ◌-◌, ◌*◌, ◌%◌, not, ◌&&◌, List, []}
 use Rattle.std.specs.Prelude.{◌∷◌, length, take, drop, filter, ◌==◌, if◌then◌else◌, Option, Some}
 use Rattle.std.specs.Prelude.{None}
@@ -16,7 +16,7 @@ use Rattle.h41_decimal.specs.declared.sign.Sign.{Sign}
 use Rattle.h41_decimal.specs.declared.sign.Sign.TheVariants.{Plus, Minus}
 use Rattle.h41_decimal.specs.declared.ten.Ten.{Ten}
 
--- a digit's number
+-- The value of a digit.
 abbrev pub digit_of : Character → Option ℕ
 digit_of characters.Zero = Some 0
 digit_of characters.One = Some 1
@@ -30,47 +30,48 @@ digit_of characters.Eight = Some 8
 digit_of characters.Nine = Some 9
 digit_of other = None
 
--- the digits of a text, in their order
+-- The digits of a text in their order.
 abbrev pub digits_in : List Character → List ℕ
 digits_in [] = []
 digits_in (character ∷ text) =
     option_map_or (λ digit. digit ∷ digits_in text) (digit_of character) (digits_in text)
 
--- how many digits stand in front of the point
+-- The number of digits before the point.
 abbrev pub whole_digits : List Character → ℕ
 whole_digits text = length (digits_in (take_while (λ character. not (is_point character)) text))
 
--- digits as one whole number
+-- The digits as one whole number, after those of an earlier one.
 abbrev pub number_from : ℕ → List ℕ → ℕ
 number_from front [] = front
 number_from front (digit ∷ digits) = number_from (10 * front + digit) digits
 
--- the digits that count: the first ten; an E with no digit in front of it puts a 1
+-- The digits that are used: the first ten. An E with no digit before it gives a 1.
 abbrev pub mantissa_digits : List Character → List ℕ
 mantissa_digits text =
     if length (digits_in (mantissa_part text)) == 0 && list_any is_exponent text then 1 ∷ []
     else take 10 (digits_in (mantissa_part text))
 
--- how many of them stand behind the point
+-- How many of these digits are after the point.
 abbrev pub decimal_places : List Character → ℕ
 decimal_places text =
     if list_any is_point (mantissa_part text)
     then length (drop (whole_digits (mantissa_part text)) (mantissa_digits text))
     else 0
 
--- an even count of signs is plus
+-- The sign: plus if there is an even number of signs, otherwise minus.
 abbrev pub sign_in : List Character → Sign
 sign_in text = if length (filter is_minus text) % 2 == 0 then Plus else Minus
 
--- the exponent, counted from -99: its first two digits count
+-- The size of the exponent, from its first two digits.
 abbrev pub exponent_size : List Character → ℕ
 exponent_size text = number_from 0 (take 2 (digits_in (exponent_part text)))
 
+-- An exponent of this size, plus 99.
 abbrev pub biased_by : Sign → ℕ → ℕ
 biased_by Plus size = 99 + size
 biased_by Minus size = 99 - size
 
--- a number is that of a number line
+-- The number of a number line.
 pub record IsNumberOf (text : List Character) (number : Ten) : Type 0 where
   pub exponent : Exponent
   pub biased : exponent.biased ≡ biased_by (sign_in (exponent_part text)) (exponent_size text)

@@ -1,17 +1,17 @@
-//! Laws of typed numbers: each is the contract of a function with nothing to do but to call the laws it rests on.
+//! Laws of typed numbers. Each law is the contract of a function whose body only calls the laws on which it is based.
 
 ghost use Rattle.h41_numbers.specs.NumberLaws.{NumbersAreDetermined, PlainTextsAreTyped};
 
 use h41_decimal::laws::typed_is_determined;
 
-/// The characters of a number line are one number.
+/// States that a number line has only one number.
 pub fn numbers_are_determined()
     ensures { NumbersAreDetermined }
 {
     typed_is_determined();
 }
 
-/// A number line of digits and radix marks alone, ten digits at most, has the number of these digits.
+/// States that a number line of at most ten digits and radix marks alone has the number that these digits form.
 pub fn plain_texts_are_typed()
     ensures { PlainTextsAreTyped }
 {}

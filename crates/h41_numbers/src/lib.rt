@@ -1,4 +1,4 @@
-//! The number that the characters of a number line are, and the signs of what is computed exactly of two numbers.
+//! The number of a number line from its characters, and the signs of exact sums, differences and products of two numbers.
 #![tactic(auto)]
 
 pub mod laws;

@@ -11,13 +11,13 @@ ghost use Rattle.h41_numbers.specs.private.NumberReading.{places_in};
 use h41_codes::{Character, exponent_place};
 use h41_decimal::{Exponent, Sign, Ten};
 
-/// How many digits of a mantissa count.
+/// The number of digits of a mantissa that are used.
 const MANTISSA_DIGITS: u8 = 10;
 
-/// How many digits of an exponent count.
+/// The number of digits of an exponent that are used.
 const EXPONENT_DIGITS: u8 = 2;
 
-/// The exponent 0, counted from -99.
+/// The exponent 0, plus 99.
 const EXPONENT_BIAS: u32 = 99;
 
 /// Digits as one whole number, and how many they are.
@@ -30,7 +30,7 @@ struct ReadDigits {
 }
 
 impl ReadDigits {
-    /// With one more digit.
+    /// Returns the digits with one more digit.
     fn push(self, digit: u8) -> Self
         requires room { self.count < 10 }
         requires digit { digit < 10 }
@@ -43,7 +43,7 @@ impl ReadDigits {
         }
     }
 
-    /// With a character's digit, where it has one that counts.
+    /// Returns the digits with the digit of a character, if it has one and there are fewer than `most`.
     fn read(self, character: Character, most: u8) -> Self
         requires most { most ≤ 10 }
         requires within { self.count ≤ most }
@@ -64,7 +64,8 @@ impl ReadDigits {
     }
 }
 
-/// The number that the characters of a number line are.
+/// Returns the number of a number line from its characters. The rules are those of number entry in the Owner's Handbook; they are
+/// extended to characters that number entry does not allow (this project's choice).
 pub fn number_of(text: &[Character]) -> Ten
     ensures { lines.IsNumberOf text.now result }
 {
@@ -76,7 +77,7 @@ pub fn number_of(text: &[Character]) -> Ten
     Ten::typed(sign_of(mantissa), digits.number, places, exponent)
 }
 
-/// The exponent of the characters behind the E.
+/// Returns the exponent from the characters after the E.
 fn exponent_of(text: &[Character]) -> Exponent
     ensures { result.biased ≡ biased_in text.now }
 {
@@ -91,7 +92,7 @@ fn exponent_of(text: &[Character]) -> Exponent
     }
 }
 
-/// The characters behind the E, where its place is given.
+/// Returns the characters after the E, whose index is given. If there is no E, the index is the length.
 fn exponent_part(text: &[Character], end: usize) -> &[Character]
     requires { end ≡ position_or_len is_exponent text.now }
     ensures { result.now ≡ exponent_part text.now }
@@ -103,7 +104,7 @@ fn exponent_part(text: &[Character], end: usize) -> &[Character]
     }
 }
 
-/// The digits of the mantissa that count, where the place of the E is given.
+/// Returns the digits of the mantissa that are used. The index of the E is given.
 fn mantissa_digits(text: &[Character], end: usize) -> ReadDigits
     requires { end ≡ position_or_len is_exponent text.now }
     ensures number { result.number ≡ lines.number_from 0 (lines.mantissa_digits text.now) }
@@ -120,7 +121,7 @@ fn mantissa_digits(text: &[Character], end: usize) -> ReadDigits
     }
 }
 
-/// How many of the digits that count stand behind the point.
+/// Returns how many of the used digits are after the point.
 fn decimal_places(mantissa: &[Character], count: u8) -> u8
     requires { count ≤ 10 }
     ensures value { result ≡ places_in mantissa.now count }
@@ -134,7 +135,7 @@ fn decimal_places(mantissa: &[Character], count: u8) -> u8
     }
 }
 
-/// The first digits of a text, as many as count.
+/// Returns the first digits of a text, at most `most`.
 fn first_digits(text: &[Character], most: u8) -> ReadDigits
     requires { most ≤ 10 }
     ensures number { result.number ≡ lines.number_from 0 (take most (lines.digits_in text.now)) }
@@ -151,7 +152,7 @@ fn first_digits(text: &[Character], most: u8) -> ReadDigits
     digits
 }
 
-/// The sign of a text: an even count of minus signs is plus.
+/// Returns the sign of a text: plus if it has an even number of minus signs, otherwise minus.
 fn sign_of(text: &[Character]) -> Sign
     ensures { result ≡ lines.sign_in text.now }
 {
@@ -168,7 +169,7 @@ fn sign_of(text: &[Character]) -> Sign
     }
 }
 
-/// Where the first point stands, or the length where there is none.
+/// Returns the index of the first point, or the length if there is none.
 fn point_place(text: &[Character]) -> usize
     ensures place { result ≡ position_or_len is_point text.now }
     ensures bound { result ≤ length text.now }
@@ -181,7 +182,7 @@ fn point_place(text: &[Character]) -> usize
     text.len()
 }
 
-/// A digit's number.
+/// Returns the value of a digit, 0 to 9, or `None` for any other character.
 fn digit_of(character: Character) -> Option<u8>
     ensures value { result ≡ lines.digit_of character }
     ensures bound { IfSome result (λ digit. digit < 10) }

@@ -1,4 +1,4 @@
-//! The signs of what is computed exactly of two numbers.
+//! The signs of exact sums, differences and products of two numbers.
 
 ghost use Rattle.std.specs.Prelude.{◌≡◌, ◌+ℤ◌, ◌-ℤ◌, ◌*ℤ◌};
 ghost use Rattle.h41_decimal.specs.Signs.{sign_of};
@@ -7,14 +7,14 @@ ghost use Rattle.h41_decimal.specs.Units.{units};
 use h41_decimal::{Sign, Ten};
 use std::cmp::Ordering;
 
-/// The sign of a sum; zero's is plus.
+/// Returns the sign of the exact sum. The sign of zero is plus.
 pub fn sign_of_sum(first: Ten, second: Ten) -> Sign
     ensures { result ≡ sign_of (units first +ℤ units second) }
 {
     sign_of_difference(first, second.negated())
 }
 
-/// The sign of a difference; zero's is plus.
+/// Returns the sign of the exact difference. The sign of zero is plus.
 pub fn sign_of_difference(first: Ten, second: Ten) -> Sign
     ensures { result ≡ sign_of (units first -ℤ units second) }
 {
@@ -25,7 +25,7 @@ pub fn sign_of_difference(first: Ten, second: Ten) -> Sign
     }
 }
 
-/// The sign of a product; zero's is plus.
+/// Returns the sign of the exact product. The sign of zero is plus.
 pub fn sign_of_product(first: Ten, second: Ten) -> Sign
     ensures { result ≡ sign_of (units first *ℤ units second) }
 {

@@ -30,12 +30,12 @@ use Rattle.h41_program.proofs.ShortLines.{answers_alone}
 use Rattle.h41_program.proofs.Windows.{drop-map-range}
 use Rattle.h41_ram.specs.RegisterMap.{RegisterMap, is_sound}
 
--- a number has its characters
+-- A number has its characters.
 characters_of : (line : Line) → IsNumber line → (text : List Character) × (line ≡ Number text)
 characters_of (Number characters) is = (characters, refl)
 characters_of line is = absurd is
 
--- bytes of which the first goes on in a number
+-- Bytes whose first one continues a number.
 goes : (bytes : List ℕ) (first : ℕ) (rest : List ℕ) → first ∷ rest ≡ bytes → 0x10 ≤ first → first ≤ 0x1C → GoesOn (bytes ++ [])
 goes bytes first rest same from to = subst (λ (all : List ℕ). GoesOn (all ++ [])) same (from, to)
 
@@ -47,7 +47,7 @@ parts false b is = absurd (cc is)
 joined : (a b : Bool) → IsTrue a → IsTrue b → IsTrue (a && b)
 joined a b first second = rw (first, second) refl
 
--- bytes that spell a text of digits and radix marks are theirs
+-- Bytes that encode a text of digits and radix marks are bytes of these.
 each_plain : (f : ℕ → ℕ) (at : ℕ) (text : List Character) → map f (range_with_len at (length text)) ≡ map character_code text
     → IsTrue (list_all is_plain text)
     → (k : ℕ) → at ≤ k → k < at + length text → IsIn 0x10 0x1B (f k)
@@ -63,7 +63,7 @@ each_plain f at (character ∷ text) same plain k from below =
           subst (λ (b : ℕ). IsIn 0x10 0x1B b) (sym (ap f same_place ∙ first)) ((plain_code character).0 both.0)
     ]
 
--- and such bytes spell one
+-- Such bytes encode such a text.
 all_plain : (f : ℕ → ℕ) (at : ℕ) (text : List Character) → map f (range_with_len at (length text)) ≡ map character_code text
     → ((k : ℕ) → at ≤ k → k < at + length text → f k < 0x1B)
     → IsTrue (list_all is_plain text)
@@ -97,7 +97,7 @@ module _ (one : OneLine) (numbers : NumberBegins) (plain_texts : PlainTextsAreTy
   abbrev line : Line
   line = there.0
 
-  -- the bytes of the line
+  -- The bytes of the line.
   own : bytes_from memory at size ≡ spelling line
   own =
       let some = ends.some in
@@ -173,7 +173,7 @@ module _ (one : OneLine) (numbers : NumberBegins) (plain_texts : PlainTextsAreTy
         plain_number_is plain_texts text digits value plain reads ends.few typed,
       )
 
--- a number line that stands plainly is what is read
+-- Reading such a number line gives its digits.
 plain_ends : (memory : RegisterMap) (at last : ℕ) (text : List Character) (behind : ℕ)
     → last ≡ final_position memory → last + 3 ≡ byte_count memory → StandsPlain memory at text behind
     → EndsPlain memory at last (with_codes no_digits (bytes_from memory at (behind - at))) behind (program_byte memory behind)
@@ -215,11 +215,11 @@ pub none_found : (memory : RegisterMap) (at last : ℕ) → last ≡ final_posit
 none_found memory at last last_is count none text behind stands =
     none _ behind _ (plain_ends memory at last text behind last_is count stands)
 
--- where so far all bytes are those of digits and radix marks, and these digits, no such number ends
+-- If all bytes so far are those of digits and radix marks, and form these digits, no such number ends here.
 module _ (memory : RegisterMap) (at last position : ℕ) (so_far : PlainDigits) (from : at ≤ position)
     (each : (k : ℕ) → at ≤ k → k < position → IsIn 0x10 0x1B (program_byte memory k))
     (reads : so_far ≡ with_codes no_digits (bytes_from memory at (position - at))) where
-  -- before their end
+  -- Such a number does not end before these bytes do.
   ends_from : (digits : PlainDigits) (behind byte : ℕ) → EndsPlain memory at last digits behind byte → position ≤ behind
   ends_from digits behind byte ends = elim (cases_lt behind position) [
     | inl sooner ↦
@@ -229,7 +229,7 @@ module _ (memory : RegisterMap) (at last position : ℕ) (so_far : PlainDigits) 
     | inr later ↦ later
   ]
 
-  -- at a byte behind them that is of no number, where they have no digit
+  -- No such number ends at a byte that is part of no number, if there is no digit before it.
   pub none_here : so_far.count ≡ 0 → (IsIn 0x10 0x1B (program_byte memory position) → ⊥) → EndsNowhere memory at last
   none_here none other digits behind byte ends = elim (cases_lt position behind) [
     | inl further ↦ other (ends.each position from further)
@@ -241,7 +241,7 @@ module _ (memory : RegisterMap) (at last position : ℕ) (so_far : PlainDigits) 
         omega (arith, count, none, some)
   ]
 
-  -- at a byte that goes on in a number, but for a sign and an exponent only with an eleventh digit
+  -- No such number ends at a byte that continues a number: a sign, an exponent, or an eleventh digit.
   pub none_on : IsIn 0x10 0x1D (program_byte memory position)
       → (program_byte memory position < 0x1B → (program_byte memory position < 0x1A) × (so_far.count ≡ 10))
       → EndsNowhere memory at last

@@ -20,7 +20,7 @@ use Rattle.h41_numbers.specs.NumberLines.{IsNumberOf, digit_of, digits_in, numbe
 use Rattle.h41_plain_numbers.specs.declared.plain.PlainDigits.{PlainDigits}
 use Rattle.h41_plain_numbers.specs.private.PlainReading.{IsTypedPlain, no_digits, with_code, with_codes, with_digit}
 
--- what is said of digits and radix marks is said of their codes
+-- What is true of digits and radix marks is true of their codes.
 pub plain_code : (character : Character)
     → (IsTrue (is_plain character) → IsIn 0x10 0x1B (character_code character))
     × (character_code character < 0x1B → IsTrue (is_plain character))
@@ -38,13 +38,13 @@ plain_code characters.Point = (λ is. (omega arith, omega arith), λ low. refl)
 plain_code characters.Exponent = (λ is. cc, λ low. absurd (omega arith))
 plain_code characters.Minus = (λ is. cc, λ low. absurd (omega arith))
 
--- one more code
+-- One more code.
 pub codes_more : (digits : PlainDigits) (codes : List ℕ) (code : ℕ)
     → with_codes digits (codes ++ code ∷ []) ≡ with_code (with_codes digits codes) code
 codes_more digits [] code = refl
 codes_more digits (first ∷ codes) code = codes_more (with_code digits first) codes code
 
--- more codes are no fewer digits, and no more of them stand behind the mark than there are
+-- With more codes there are no fewer digits, and not more of them are after the radix mark than there are.
 more_places : (marked : Bool) (places count : ℕ) → places ≤ count → (if marked then places + 1 else places) ≤ count + 1
 more_places true places count few = omega arith
 more_places false places count few = omega arith
@@ -81,7 +81,7 @@ pub places_most : (digits : PlainDigits) (codes : List ℕ) → digits.places �
 places_most digits [] few = few
 places_most digits (code ∷ codes) few = places_most (with_code digits code) codes (places_kept (nat_lt code 0x1A) digits code few)
 
--- how many digits of so many stand behind a radix mark, where so many stand in front of the first in the text: all where one was before
+-- How many digits of a text are after a radix mark: all if one was before the text, otherwise those after the first one in it.
 abbrev behind_mark : (marked any : Bool) (size whole : ℕ) → ℕ
 behind_mark true any size whole = size
 behind_mark false true size whole = size - whole
@@ -100,7 +100,7 @@ mark_after : (marked : Bool) (places size : ℕ) → places + size ≡ places + 
 mark_after true places size = refl
 mark_after false places size = omega arith
 
--- what stands in front of the first radix mark
+-- The digits before the first radix mark.
 whole_more : (character : Character) (text : List Character)
     → whole_digits (character ∷ text)
     ≡ length (digits_in (cond (not (is_point character)) (character ∷ take_while (λ other. not (is_point other)) text) []))
@@ -111,25 +111,25 @@ none_after : (marked : Bool) (places : ℕ) → places ≡ places + behind_mark 
 none_after true places = omega arith
 none_after false places = omega arith
 
--- the digits of a text whose first character has one
+-- The digits of a text whose first character has one.
 digits_behind : (character : Character) (digit : ℕ) (text : List Character) → digit_of character ≡ Some digit
     → digits_in (character ∷ text) ≡ digit ∷ digits_in text
 digits_behind character digit text own =
     ap (λ (found : Option ℕ). option_map_or (λ first. first ∷ digits_in text) found (digits_in text)) own
 
--- what the characters of a text are read as, behind digits
+-- The result of reading the characters of a text after other digits.
 pub record AreRead (text : List Character) (digits : PlainDigits) : Type 0 where
   pub number : (with_codes digits (map character_code text)).number ≡ number_from digits.number (digits_in text)
   pub count : (with_codes digits (map character_code text)).count ≡ digits.count + length (digits_in text)
   pub places : (with_codes digits (map character_code text)).places ≡ digits.places + after digits.marked text
 
--- a character is this digit, and its code is read as that
+-- A character is this digit, and its code is read as that.
 pub record IsDigit (character : Character) (digit : ℕ) (digits : PlainDigits) : Type 0 where
   pub own : digit_of character ≡ Some digit
   pub no_point : is_point character ≡ false
   pub reads : with_code digits (character_code character) ≡ with_digit digits digit
 
--- a digit in front of a text
+-- A digit before a text.
 module _ (character : Character) (digit : ℕ) (text : List Character) (digits : PlainDigits) (is : IsDigit character digit digits)
     (rest : AreRead text (with_code digits (character_code character))) where
   more : digits_in (character ∷ text) ≡ digit ∷ digits_in text
@@ -199,13 +199,13 @@ after_is false size whole count same = refl
 none_before : {a b : ℕ} → a ≡ 0 + b → a ≡ b
 none_before same = omega arith
 
--- they are counted
+-- They are counted.
 pub digits_counted : (text : List Character) (digits : PlainDigits) → IsTrue (list_all is_plain text)
     → digits ≡ with_codes no_digits (map character_code text) → digits.count ≡ length (digits_in text)
 digits_counted text digits plain reads =
     let read = text_read text no_digits plain in omega (arith, ap (λ (d : PlainDigits). d.count) reads, read.count)
 
--- the number of the digits is that of the text
+-- The number that the digits form is that of the text.
 pub plain_number_is : PlainTextsAreTyped → (text : List Character) (digits : PlainDigits) (number : Ten) → IsTrue (list_all is_plain text)
     → digits ≡ with_codes no_digits (map character_code text)
     → digits.count ≤ 10

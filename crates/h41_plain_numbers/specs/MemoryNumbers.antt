@@ -11,8 +11,8 @@ use Rattle.h41_program.specs.ProgramBytes.{final_position, program_byte}
 use Rattle.h41_program.specs.ProgramLines.{HasFirst, PositionFrom}
 use Rattle.h41_ram.specs.RegisterMap.{RegisterMap}
 
--- such a number line stands at a position itself: one to ten digits, with no sign and no exponent;
--- the byte behind it is before the last ones, and goes on in no number
+-- At a position there is such a number line: it has one to ten digits, and no sign and no exponent;
+-- the byte after it is before the last ones, and does not continue a number.
 pub record StandsPlain (memory : RegisterMap) (at : ℕ) (text : List Character) (behind : ℕ)
     : Type 0 where
   pub first : HasFirst memory at
@@ -23,8 +23,8 @@ pub record StandsPlain (memory : RegisterMap) (at : ℕ) (text : List Character)
   pub inside : behind < final_position memory
   pub other : IsIn 0x10 0x1D (program_byte memory behind) → ⊥
 
--- memory has one there, of this number, and the first line from the byte behind it on, or that byte
--- where no line follows, at another position
+-- At a position there is such a number line with this number. The next position is that of the
+-- first line from the byte after it on, or that of this byte if no line follows.
 abbrev pub HasNumber : RegisterMap → ℕ → Ten → ℕ → Type 0
 HasNumber memory at number next =
     (text : List Character) × (behind : ℕ)
@@ -32,7 +32,7 @@ HasNumber memory at number next =
     × PositionFrom memory behind next
     × IsNumberOf text number
 
--- or none
+-- At a position there is no such number line.
 abbrev pub HasNoNumber : RegisterMap → ℕ → Type 0
 HasNoNumber memory at =
     (text : List Character) (behind : ℕ) → StandsPlain memory at text behind → ⊥

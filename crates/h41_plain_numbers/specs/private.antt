@@ -1,3 +1,3 @@
--- What the functions of this crate promise one another. No public contract and no law needs this
+-- What the functions of this crate promise to each other. No public contract and no law needs this
 -- file.
 pub mod PlainReading

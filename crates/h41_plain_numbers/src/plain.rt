@@ -1,4 +1,4 @@
-//! Number lines of program memory that are digits and a radix mark alone, read in one pass.
+//! Reads number lines of program memory that are digits and radix marks alone in one pass.
 
 ghost use Rattle.std.specs.Prelude.{◌≡◌, ◌<◌, ◌≤◌, ◌+◌, ◌^◌, IfNone, IfSome, IsTrue};
 ghost use Rattle.h41_codes.specs.Heads.{IsIn};
@@ -14,33 +14,33 @@ use h41_numbers::laws::plain_texts_are_typed;
 use h41_program::{ByteReader, final_position, position_by};
 use h41_ram::Ram;
 
-/// How many digits count.
+/// The greatest number of digits that are used.
 const MANTISSA_DIGITS: u8 = 10;
 
-/// The byte of the radix mark; those of the digits stand before it.
+/// The byte of the radix mark. The bytes of the digits are less than it.
 const RADIX_MARK: u8 = 0x1A;
 
-/// The most bytes of a number, and the one behind them.
+/// The greatest number of bytes of a number, plus one for the byte after it.
 const NUMBER_AND_NEXT: u16 = 17;
 
-/// The exponent 0, counted from -99.
+/// The exponent 0, plus 99.
 const EXPONENT_BIAS: u32 = 99;
 
-/// The digits of a number line so far.
+/// The digits of a number line that are read so far.
 #[derive(Clone, Copy)]
 struct PlainDigits {
     /// The digits as one whole number.
     number: u64,
-    /// How many they are.
+    /// The number of digits.
     count: u8,
-    /// How many of them stand behind the radix mark.
+    /// The number of digits after the radix mark.
     places: u8,
-    /// Whether the radix mark was there.
+    /// Whether the radix mark was read.
     marked: bool,
 }
 
 impl PlainDigits {
-    /// With one more digit, or the radix mark, by its code.
+    /// Returns the digits after one more code was read, which is that of a digit or of the radix mark.
     #[inline(always)]
     fn read(self, code: u8) -> Self
         requires code { IsIn 0x10 0x1B code }
@@ -75,7 +75,7 @@ impl PlainDigits {
         }
     }
 
-    /// The number of the digits.
+    /// Returns the number that the digits form.
     #[inline(always)]
     fn ten(self) -> Ten
         requires { self.places ≤ 10 }
@@ -88,9 +88,10 @@ impl PlainDigits {
     }
 }
 
-/// The number of the number line that stands at a position itself, and the position of the next line, or of the byte behind it where
-/// no line follows: digits and radix marks alone, one to ten digits, and behind them a byte in front of the last ones that goes on
-/// in no number. `None` just where no such line stands there.
+/// Returns the number of the number line at a position, and the position of the next line, or that of the byte after the number if
+/// no line follows. The number line must be digits and radix marks alone, with one to ten digits, and must be followed by a byte
+/// that is before the last ones of program memory and does not continue a number. Returns `None` exactly if there is no such line
+/// at the position.
 #[inline(never)]
 pub fn plain_number<const REGS: usize>(ram: &Ram<REGS>, at: u16) -> Option<(Ten, u16)>
     requires { IsTrue (is_sound ram.now.registers) }
@@ -113,7 +114,8 @@ pub fn plain_number<const REGS: usize>(ram: &Ram<REGS>, at: u16) -> Option<(Ten,
     }
 }
 
-/// The digits of the number line that stands at a position, in front of the last bytes; the position behind it and its byte.
+/// Returns the digits of such a number line at a position, the position after it and the byte there, or `None`. `last` is the
+/// position of the last bytes.
 #[inline(always)]
 fn plain_digits<const REGS: usize>(
     ram: &Ram<REGS>,

@@ -1,4 +1,4 @@
--- Numbers in decimal digits: how many there are, and how they part.
+-- Numbers in decimal digits: how many there are, and how they are separated.
 use Rattle.std.specs.Prelude.{◌≡◌, ℕ, zero, suc, ◌+◌, ◌*◌, ◌/◌, ◌%◌, ◌^◌, ◌<◌, ◌≤◌, List, [], ◌∷◌, ◌++◌, length, refl, nat_lt, ◌==◌, ◌&&◌}
 use Rattle.std.specs.Prelude.{if◌then◌else◌, Bool, true, false}
 use Rattle.std.specs.Fmt.{decimal}
@@ -7,7 +7,7 @@ use Rattle.std.proofs.lemmas.Fmt.{decimal_digit, decimal_step, length-decimal-le
 use Rattle.std.proofs.lemmas.Bool.Decides.{nat_tests}
 use Rattle.h41_show.specs.Digits.{digits_text, ends_group, grouped_digits}
 
--- so many digits are so many bytes
+-- So many digits are so many bytes.
 pub length-digits_text : (count number : ℕ) → length (digits_text count number) ≡ count
 length-digits_text zero number = refl
 length-digits_text (suc count) number =
@@ -15,7 +15,7 @@ length-digits_text (suc count) number =
     let split = length-append (digits_text count (number / 10)) ((48 + number % 10) ∷ []) in
     omega arith
 
--- the last digit, and those before it
+-- The last digit, and those before it.
 pub length-decimal_step : (n : ℕ) → 10 ≤ n → n < 2 ^ 64 → length (decimal n) ≡ length (decimal (n / 10)) + 1
 length-decimal_step n high fits =
     let split = length-append (decimal (n / 10)) ((48 + n % 10) ∷ []) in
@@ -27,7 +27,7 @@ length-decimal_digit n low = ap length (decimal_digit n low)
 pub length-decimal_most : (n : ℕ) → n < 2 ^ 64 → length (decimal n) ≤ 20
 length-decimal_most n fits = length-decimal-le 20 n (omega arith) (omega arith) fits
 
--- the last three digits, and those before them
+-- The last three digits, and those before them.
 pub decimal_group : (n : ℕ) → 1000 ≤ n → n < 2 ^ 64 → decimal n ≡ decimal (n / 1000) ++ digits_text 3 (n % 1000)
 decimal_group n high fits =
     let a = decimal_step n (omega arith) fits in
@@ -45,7 +45,7 @@ length-decimal_group n high fits =
     ∙ (length-append (decimal (n / 1000)) (digits_text 3 (n % 1000))
     ∙ ap (λ k. length (decimal (n / 1000)) + k) (length-digits_text 3 (n % 1000)))
 
--- marks are at most as many as digits
+-- There are at most as many separators as digits.
 twice : (mark digit : ℕ) (behind : List ℕ) (ends : Bool) → length (grouped_digits mark behind) ≤ 2 * length behind
     → length (if ends then digit ∷ mark ∷ grouped_digits mark behind else digit ∷ grouped_digits mark behind) ≤ 2 * length (digit ∷ behind)
 twice mark digit behind true most = omega arith
@@ -55,7 +55,7 @@ pub length-grouped : (mark : ℕ) (digits : List ℕ) → length (grouped_digits
 length-grouped mark [] = omega arith
 length-grouped mark (digit ∷ behind) = twice mark digit behind (ends_group behind) (length-grouped mark behind)
 
--- up to three digits have no mark
+-- Up to three digits have no separator.
 pub grouped_short : (mark : ℕ) (digits : List ℕ) → length digits ≤ 3 → grouped_digits mark digits ≡ digits
 grouped_short mark [] few = refl
 grouped_short mark (a ∷ []) few = refl
@@ -63,7 +63,7 @@ grouped_short mark (a ∷ b ∷ []) few = refl
 grouped_short mark (a ∷ b ∷ c ∷ []) few = refl
 grouped_short mark (a ∷ b ∷ c ∷ d ∷ rest) few = absurd (omega arith)
 
--- three more digits end a group where the digits before them did
+-- Three more digits end a group if the digits before them did.
 three_more : (n m : ℕ) → n ≡ m + 3 → 0 < m → (nat_lt 0 n && n % 3 == 0) ≡ (nat_lt 0 m && m % 3 == 0)
 three_more n m more some =
     let a : nat_lt 0 n ≡ true = grind (arith, nat_tests) in
@@ -82,7 +82,7 @@ behind_digit : (ends : Bool) (mark digit : ℕ) (rest group : List ℕ)
 behind_digit true mark digit rest group = refl
 behind_digit false mark digit rest group = refl
 
--- and stand behind a mark
+-- Three more digits follow a separator.
 pub grouped-group : (mark : ℕ) (front : List ℕ) (x y z : ℕ) → 0 < length front
     → grouped_digits mark (front ++ x ∷ y ∷ z ∷ []) ≡ grouped_digits mark front ++ mark ∷ x ∷ y ∷ z ∷ []
 grouped-group mark [] x y z some = absurd (omega arith)

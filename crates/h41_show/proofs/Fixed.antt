@@ -14,7 +14,7 @@ use Rattle.h41_show.proofs.DecimalTexts.{length-decimal_step, length-decimal_dig
 use Rattle.h41_show.proofs.Powers.{power_pos, power_split, scaled_low, scaled_high, scaled_quotient}
 use Rattle.h41_show.proofs.Roundings.{nearest_scaled}
 
--- a number between two neighbouring powers of ten has one digit more than the lower exponent
+-- A number between two neighbouring powers of ten has one digit more than the lower exponent.
 length-decimal_is : (k n : ℕ) → 10 ^ k ≤ n → n < 10 ^ (k + 1) → n < 2 ^ 64 → length (decimal n) ≡ k + 1
 length-decimal_is zero n low high fits = length-decimal_digit n high
 length-decimal_is (suc k) n low high fits =
@@ -27,7 +27,7 @@ length-decimal_is (suc k) n low high fits =
     let above : n / 10 < 10 ^ (k + 1) = div_below n 10 (10 ^ (k + 1)) (omega arith) (omega arith) in
     length-decimal_step n ten fits ∙ (let rest = length-decimal_is k (n / 10) below above (omega arith) in omega arith)
 
--- the digits in front of the radix mark, of ten digits at a power of ten
+-- The digits before the radix mark, of ten digits at a power of ten.
 module _ (d s : ℕ) (low : 10 ^ 9 ≤ d) (high : d < 10 ^ 10) where
   whole : 99 ≤ s → s ≤ 108 → integer_digits (d * 10 ^ s) ≡ s - 99 + 1
   whole least most =
@@ -68,7 +68,7 @@ module _ (d s : ℕ) (low : 10 ^ 9 ≤ d) (high : d < 10 ^ 10) where
       ∙ ap (nearest (d * 10 ^ s)) (power_split (108 - decimals) dropped s sum)
       ∙ nearest_scaled d (10 ^ dropped) (10 ^ s) (power_pos s))
 
-  -- the same, as the code has it
+  -- The same, as the code has it.
   pub fixed_count-code : (digits steps whole decimals : ℕ) → s ≤ 108 → steps ≡ s → whole ≡ steps - 99 → decimals ≡ min digits (9 - whole)
       → nearest d (10 ^ (108 - steps - decimals)) ≡ fixed_count digits (d * 10 ^ s)
   fixed_count-code digits steps whole decimals most same front are =
@@ -94,7 +94,7 @@ module _ (d s : ℕ) (low : 10 ^ 9 ≤ d) (high : d < 10 ^ 10) where
       let unit : 10 ^ 118 ≡ 10 ^ 10 * one = refl in
       subst (λ t. t ≤ d * 10 ^ s) unit (omega arith)
 
--- what FIX shows, and what it doesn't
+-- The sizes that FIX shows in its own form, and those that it does not.
 pub is_fixed-shown : (digits size : ℕ) → size < 10 ^ 10 * one → 0 < fixed_count digits size → is_fixed digits size ≡ true
 unfolding is_fixed
 is_fixed-shown digits size small some =
@@ -120,7 +120,7 @@ is_fixed-tiny digits size some small none =
     let c : (size == 0) ≡ false = grind (arith, nat_tests) in
     rw (a, b, c) refl
 
--- too many digits are dropped for any to be left
+-- Too many digits are dropped for any to be left.
 pub nearest_none : (d dropped : ℕ) → d < 10 ^ 10 → 10 < dropped → nearest d (10 ^ dropped) ≡ 0
 nearest_none d dropped high many =
     let bound : 10 ^ 11 ≤ 10 ^ dropped = pow-le-pow_right (omega arith) many in

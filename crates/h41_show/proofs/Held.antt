@@ -1,4 +1,4 @@
--- What a register shows, from what it holds.
+-- The text of a register, from its content.
 use Rattle.std.specs.Prelude.{◌≡◌, ◌≢◌, ℕ, List, Option, Some, None, ℤ, slice_index, ◌==◌, if◌then◌else◌, true, false, refl}
 use Rattle.std.proofs.Common.{ap, ◌∙◌, arith}
 use Rattle.std.proofs.lemmas.Bool.Decides.{nat_tests}
@@ -9,7 +9,7 @@ use Rattle.h41_lines.specs.Characters.{characters_text}
 use Rattle.h41_show.specs.RegisterText.{holding_text, register_text}
 use Rattle.h41_show.specs.declared.format.Format.{Format}
 
--- what is worth a number is that number
+-- A content with a value is the number with this value.
 held_number : (held : Holding) (value : ℤ) → worth held ≡ Some value → held ≡ Number value
 held_number (Number other) value e = ap Number (let same : other ≡ value = cc in same)
 held_number (Text bytes) value e = cc
@@ -20,7 +20,7 @@ pub register_text-number : (format : Format) (register : List ℕ) (value : ℤ)
 unfolding register_text
 register_text-number format register value e = ap (holding_text format register) (held_number (holding_of register) value e)
 
--- a register without a number is judged by its place 13
+-- The content of a register without a number depends on its place 13.
 not_number : (number : Option ℤ) (register : List ℕ) → worth (holding number register) ≡ None
     → holding number register ≡ (if slice_index register 13 == 1 then Text (text_in register) else Other)
 not_number (Some value) register e = cc

@@ -9,18 +9,18 @@ use Rattle.std.proofs.lemmas.Bool.{cases_lt}
 pub power_pos : (k : ℕ) → 0 < 10 ^ k
 power_pos k = one-le-pow k 10 (omega arith)
 
--- a number between two neighbours has but one exponent
+-- A number between two neighbouring powers has only one exponent.
 pub power_below : (a b n : ℕ) → 10 ^ a ≤ n → n < 10 ^ b → a < b
 power_below a b n low high = elim (cases_lt a b) [
   | inl less ↦ less
   | inr not ↦ let up : 10 ^ b ≤ 10 ^ a = pow-le-pow_right (omega arith) not in absurd (omega arith)
 ]
 
--- powers as products
+-- Powers as products.
 pub power_split : (a b c : ℕ) → a ≡ b + c → 10 ^ a ≡ 10 ^ b * 10 ^ c
 power_split a b c e = ap (λ k. 10 ^ k) e ∙ pow-add 10 b c
 
--- digits at a power of ten
+-- digits at a power of ten.
 pub scaled_low : (d s k : ℕ) → 10 ^ k ≤ d → 10 ^ (k + s) ≤ d * 10 ^ s
 scaled_low d s k low =
     let p = power_split (k + s) k s refl in
@@ -33,7 +33,7 @@ scaled_high d s k high =
     let q : d * 10 ^ s < 10 ^ k * 10 ^ s = mul-lt-mul_of_pos_right high (power_pos s) in
     omega arith
 
--- a quotient by a power of ten
+-- A quotient by a power of ten.
 pub shifted : (c k j f : ℕ) → k ≡ f + j → c * 10 ^ k / 10 ^ j ≡ c * 10 ^ f
 shifted c k j f e =
     let p = power_split k f j e in

@@ -11,7 +11,7 @@ use Rattle.h41_decimal.specs.Units.{one}
 use Rattle.h41_show.specs.Rounding.{nearest, exponent_of, rounded_size}
 use Rattle.h41_show.proofs.Powers.{power_pos, pow-lt-pow, power_split, scaled_low, scaled_high, scaled_quotient}
 
--- none of the powers from a number's next one up is at most the number
+-- None of the powers from a number's next one up is at most the number.
 none_above : (k n start size : ℕ) → k < start → size < 10 ^ (k + 1)
     → count_by (λ power. nat_le (10 ^ power) size) (range_with_len start n) ≡ 0
 none_above k zero start size above high = refl
@@ -23,7 +23,7 @@ none_above k (suc n) start size above high =
     sum_by-cons (λ power. cond (nat_le (10 ^ power) size) 1 0) start (range_with_len (start + 1) n)
     ∙ ap (λ b. cond b 1 0 + count_by (λ power. nat_le (10 ^ power) size) (range_with_len (start + 1) n)) test ∙ (omega arith)
 
--- so those that are reach to the number's own
+-- So those that are reach to the number's own.
 counted : (k n start size : ℕ) → start ≤ k + 1 → k + 1 ≤ start + n → 10 ^ k ≤ size → size < 10 ^ (k + 1)
     → count_by (λ power. nat_le (10 ^ power) size) (range_with_len start n) ≡ k + 1 - start
 counted k zero start size from to low high = omega arith
@@ -41,14 +41,14 @@ pub exponent_of-digits : (k n : ℕ) → k ≤ 207 → 10 ^ k ≤ n → n < 10 ^
 unfolding exponent_of
 exponent_of-digits k n within low high = counted k 207 1 n (omega arith) (omega arith) low high ∙ (omega arith)
 
--- digits and steps at one power of ten are rounded as they are without it
+-- digits and steps at one power of ten are rounded as they are without it.
 pub nearest_scaled : (d p q : ℕ) → 0 < q → nearest (d * q) (p * q) ≡ nearest d p
 nearest_scaled d p q some =
     let above : 2 * (d * q) + p * q ≡ (2 * d + p) * q = omega arith in
     let below : 2 * (p * q) ≡ (2 * p) * q = omega arith in
     rw (above, below) (mul-div-mul_right (2 * d + p) (2 * p) some)
 
--- half a power of ten is added before the quotient
+-- Half a power of ten is added before the quotient.
 pub nearest-half : (d k : ℕ) → (d + 10 ^ k / 2) / 10 ^ k ≡ nearest d (10 ^ k)
 nearest-half d zero = omega arith
 nearest-half d (suc j) =
@@ -60,7 +60,7 @@ nearest-half d (suc j) =
     let cancel : (d + h) * 2 / ((2 * h) * 2) ≡ (d + h) / (2 * h) = mul-div-mul_right (d + h) (2 * h) (omega arith) in
     rw (power, half, above, below) (sym cancel)
 
--- how large the nearest number of steps is
+-- How large the nearest number of steps is.
 pub nearest_low : (d p c : ℕ) → 0 < p → c * p ≤ d → c ≤ nearest d p
 nearest_low d p c some low = le-div c (2 * d + p) (2 * p) (omega arith) (omega arith)
 
@@ -69,7 +69,7 @@ nearest_high d p c some high =
     let below : nearest d p < c + 1 = div_below (2 * d + p) (2 * p) (c + 1) (omega arith) (omega arith) in
     omega arith
 
--- digits of which so many are dropped, where they are ten
+-- Ten digits of which some are dropped.
 module _ (d m : ℕ) (few : m ≤ 7) (low : 10 ^ 9 ≤ d) (high : d < 10 ^ 10) where
   parts : 10 ^ 9 ≡ 10 ^ m * 10 ^ (9 - m)
   parts = power_split 9 m (9 - m) (omega arith)
@@ -89,7 +89,7 @@ module _ (d m : ℕ) (few : m ≤ 7) (low : 10 ^ 9 ≤ d) (high : d < 10 ^ 10) w
   pub cut_high : d / 10 ^ (9 - m) < 10 ^ (m + 1)
   cut_high = div_below d (10 ^ (9 - m)) (10 ^ (m + 1)) (power_pos (9 - m)) (subst (λ t. d < t) parts_above high)
 
--- a size is rounded to what is nearest, where that is below 10^100
+-- A size is rounded to the nearest one if that is below 10^100.
 rounded_near : (m n e c : ℕ) → exponent_of n ≡ e → nearest n (10 ^ (e - m)) ≡ c → c * 10 ^ (e - m) < 10 ^ 100 * one
     → rounded_size m n ≡ c * 10 ^ (e - m)
 unfolding rounded_size
@@ -97,7 +97,7 @@ rounded_near m n e c exponent count below =
     let test : nat_lt (c * 10 ^ (e - m)) (10 ^ 100 * one) ≡ true = grind (arith, nat_tests) in
     rw (exponent, count, test) refl
 
--- and else it is cut
+-- Otherwise it is cut.
 rounded_cut : (m n e c : ℕ) → exponent_of n ≡ e → nearest n (10 ^ (e - m)) ≡ c → 10 ^ 100 * one ≤ c * 10 ^ (e - m)
     → rounded_size m n ≡ n / 10 ^ (e - m) * 10 ^ (e - m)
 unfolding rounded_size
@@ -108,7 +108,7 @@ rounded_cut m n e c exponent count above =
 top : 10 ^ 100 * one ≡ 10 ^ 208
 top = refl
 
--- a size of ten digits at a power of ten, up to exponent 99
+-- A size of ten digits at a power of ten, up to exponent 99.
 module _ (d s m : ℕ) (few : m ≤ 7) (small : s ≤ 198) (low : 10 ^ 9 ≤ d) (high : d < 10 ^ 10) where
   pub exponent_of-size : exponent_of (d * 10 ^ s) ≡ s + 9
   exponent_of-size =

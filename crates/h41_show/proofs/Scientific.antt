@@ -17,7 +17,7 @@ use Rattle.h41_show.proofs.DecimalTexts.{length-decimal_digit}
 use Rattle.h41_show.proofs.Powers.{power_pos, scaled_low, scaled_high, shifted}
 use Rattle.h41_show.proofs.Roundings.{exponent_of-digits}
 
--- digits at a power of ten, as many as SCI and ENG show
+-- digits at a power of ten, as many as SCI and ENG show.
 module _ (c t m : ℕ) (few : m ≤ 7) (small : t ≤ 198) (low : 10 ^ m ≤ c) (high : c < 10 ^ (m + 1)) where
   exponent_of-shown : exponent_of (c * 10 ^ (t + 9 - m)) ≡ t + 9
   exponent_of-shown =
@@ -49,13 +49,13 @@ module _ (c t m : ℕ) (few : m ≤ 7) (small : t ≤ 198) (low : 10 ^ m ≤ c) 
       let text = exponential_text-shown format.radix extra most within in
       sym (rw (test, ← decimals, ← value) (exponent ∙ (beyond ∙ text)))
 
--- FIX, where it shows the size
+-- FIX, if it shows the size in its own form.
 pub notation_text-fixed : (format : Format) (size : ℕ) → is_fixed format.digits size ≡ true
     → notation_text Fixed format size ≡ steps_text format (fixed_decimals format.digits size) (fixed_count format.digits size)
 unfolding fixed_text
 notation_text-fixed format size fixed = ap (λ b. if b then fixed_text format size else scientific_text format size) fixed
 
--- zero
+-- Zero.
 fixed_count-zero : (digits : ℕ) → fixed_count digits 0 ≡ 0
 fixed_count-zero digits =
     let k = 108 - fixed_decimals digits 0 in
@@ -89,7 +89,7 @@ zero_in_powers format notation is = elim is [
   | inr engineering ↦ zero_scientific format ∙ ap (λ n. notation_text n format 0) (sym engineering)
 ]
 
--- a sign and a size
+-- A sign and a size.
 pub number_text-signed : (format : Format) (sign : Sign) (size : ℕ) → 0 < size
     → sign_text sign ++ notation_text format.notation format size ≡ number_text format (with_sign sign size)
 unfolding number_text

@@ -2,16 +2,16 @@
 use Rattle.std.specs.Prelude.{ℕ, zero, suc, ◌+◌, ◌/◌, ◌%◌, Bool, ◌&&◌, ◌==◌, nat_lt, List, [], ◌∷◌}
 use Rattle.std.specs.Prelude.{◌++◌, length, if◌then◌else◌}
 
--- so many decimal digits of a number, the lowest last
+-- The lowest decimal digits of a number, the lowest last.
 abbrev pub digits_text : ℕ → ℕ → List ℕ
 digits_text zero number = []
 digits_text (suc count) number = digits_text count (number / 10) ++ (48 + number % 10) ∷ []
 
--- whether whole groups of three digits stand behind a digit, and not none
+-- Whether the digits after a digit form one or more whole groups of three.
 abbrev pub ends_group : List ℕ → Bool
 ends_group behind = nat_lt 0 (length behind) && length behind % 3 == 0
 
--- digits in groups of three, counted from the right, with a mark between two groups
+-- Digits in groups of three, counted from the right, with a character between two groups.
 abbrev pub grouped_digits : ℕ → List ℕ → List ℕ
 grouped_digits mark [] = []
 grouped_digits mark (digit ∷ behind) =

@@ -6,16 +6,16 @@ ghost use Rattle.h41_digits.specs.Register.{byte_at};
 
 use h41_digits::Reg;
 
-/// The place of a register that tells ALPHA data from numbers.
+/// The place of a register that distinguishes ALPHA data from numbers.
 pub const KIND_PLACE: usize = 13;
 
-/// What stands there in ALPHA data.
+/// The digit in that place in ALPHA data.
 pub const ALPHA_DATA: u8 = 1;
 
-/// How many characters a register holds.
+/// The number of characters that a register can contain.
 pub const REGISTER_CHARACTERS: usize = 6;
 
-/// The six bytes of ALPHA data in a register, the leftmost first.
+/// Returns the six bytes of ALPHA data in a register, the leftmost first.
 pub fn alpha_data(register: Reg) -> [u8; REGISTER_CHARACTERS]
     ensures { result ≡ map (byte_at register) (5 ∷ 4 ∷ 3 ∷ 2 ∷ 1 ∷ 0 ∷ []) }
 {
@@ -29,7 +29,7 @@ pub fn alpha_data(register: Reg) -> [u8; REGISTER_CHARACTERS]
     ]
 }
 
-/// Bytes without the leading ones that are zero.
+/// Returns bytes without the leading ones that are zero.
 pub fn after_nulls(bytes: &[u8]) -> &[u8]
     ensures bytes { result.now ≡ holding.after_nulls bytes.now }
     ensures most { length result.now ≤ length bytes.now }

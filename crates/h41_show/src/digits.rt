@@ -1,4 +1,4 @@
-//! Decimal digits, as they are written into texts.
+//! Writes decimal digits into texts.
 
 ghost use Rattle.std.specs.Prelude.{◌≡◌, ◌+◌, ◌*◌, ◌<◌, ◌≤◌, ◌++◌, [], ◌∷◌, length};
 ghost use Rattle.std.specs.Fmt.{decimal};
@@ -7,13 +7,13 @@ ghost use Rattle.h41_show.specs.Digits.{digits_text, grouped_digits};
 
 use arrayvec::ArrayString;
 
-/// How many bytes a text has room for: ALPHA's 24 bytes take 72 where each is told in hexadecimal.
+/// The capacity of a text in bytes: the 24 bytes of ALPHA need 72 if each is shown in hexadecimal.
 pub const TEXT_CAPACITY: usize = 80;
 
-/// A text in the making.
+/// A text that is being written.
 pub(crate) type DisplayText = ArrayString<TEXT_CAPACITY>;
 
-/// Appends an ASCII character.
+/// Appends an ASCII character to a text.
 pub(crate) fn push_byte(text: &mut DisplayText, byte: u8)
     requires room { array_string_len text.old < 80 }
     requires ascii { byte < 128 }
@@ -22,7 +22,7 @@ pub(crate) fn push_byte(text: &mut DisplayText, byte: u8)
     text.push(char::from(byte));
 }
 
-/// Appends so many decimal digits of a number, the lowest last.
+/// Appends the lowest decimal digits of a number, `count` of them, the lowest last.
 pub(crate) fn push_digits(text: &mut DisplayText, number: u64, count: usize)
     requires { array_string_len text.old + count ≤ 80 }
     ensures bytes { text.new.bytes ≡ text.old.bytes ++ digits_text count number }
@@ -34,7 +34,7 @@ pub(crate) fn push_digits(text: &mut DisplayText, number: u64, count: usize)
     }
 }
 
-/// Appends a number, in as many decimal digits as it has.
+/// Appends a number with all its decimal digits.
 pub(crate) fn push_decimal(text: &mut DisplayText, number: u64)
     requires { array_string_len text.old + length (decimal number) ≤ 80 }
     ensures { text.new.bytes ≡ text.old.bytes ++ decimal number }
@@ -45,7 +45,7 @@ pub(crate) fn push_decimal(text: &mut DisplayText, number: u64)
     push_byte(text, b'0' + (number % 10) as u8);
 }
 
-/// Appends a number in groups of three digits, with a mark between them.
+/// Appends a number in groups of three digits, separated by the character `mark`.
 pub(crate) fn push_grouped(text: &mut DisplayText, number: u64, mark: u8)
     requires room { array_string_len text.old + 2 * length (decimal number) ≤ 80 }
     requires mark { mark < 128 }

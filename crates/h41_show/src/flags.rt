@@ -1,4 +1,4 @@
-//! What the flags say of the display format.
+//! The display format in the flags.
 
 ghost use Rattle.std.specs.Prelude.{◌≡◌, ◌≤◌};
 ghost use Rattle.h41_ram.specs.NamedFlags.{decimal_point, engineering, fixed};
@@ -8,7 +8,7 @@ ghost use Rattle.h41_show.specs.DisplayFormat as spec;
 use crate::format::{Notation, RadixMark};
 use h41_ram::{Ram, flags};
 
-/// The notation: FIX where flag 40 is set, else ENG where flag 41 is set, else SCI.
+/// Returns the notation: FIX if flag 40 is set, otherwise ENG if flag 41 is set, otherwise SCI.
 pub(crate) fn notation<const REGS: usize>(ram: &Ram<REGS>) -> Notation
     ensures { result ≡ spec.notation_of (flag_of ram.now.registers fixed)
         (flag_of ram.now.registers engineering) }
@@ -22,7 +22,7 @@ pub(crate) fn notation<const REGS: usize>(ram: &Ram<REGS>) -> Notation
     }
 }
 
-/// The number in flags 36 to 39: 0 to 15.
+/// Returns the number that flags 36 to 39 form, 0 to 15.
 pub(crate) fn display_digit<const REGS: usize>(ram: &Ram<REGS>) -> u8
     ensures { result ≡ spec.display_digit ram.now.registers }
 {
@@ -32,7 +32,7 @@ pub(crate) fn display_digit<const REGS: usize>(ram: &Ram<REGS>) -> u8
         + weight(ram.flag(flags::DIGITS_1), 1)
 }
 
-/// What a flag counts: its weight where it is set, else nothing.
+/// Returns the weight of a flag if it is set, otherwise 0.
 fn weight(flag: bool, amount: u8) -> u8
     requires { amount ≤ 8 }
     ensures value { result ≡ spec.weight flag amount }
@@ -41,7 +41,7 @@ fn weight(flag: bool, amount: u8) -> u8
     if flag { amount } else { 0 }
 }
 
-/// The radix mark: the point where flag 28 is set, else the comma.
+/// Returns the radix mark: the point if flag 28 is set, otherwise the comma.
 pub(crate) fn radix<const REGS: usize>(ram: &Ram<REGS>) -> RadixMark
     ensures { result ≡ spec.radix_of (flag_of ram.now.registers decimal_point) }
 {

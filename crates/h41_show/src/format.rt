@@ -5,18 +5,18 @@ ghost use Rattle.std.specs.Prelude.{◌≡◌};
 use crate::flags::{display_digit, notation, radix};
 use h41_ram::{Ram, flags};
 
-/// How numbers are shown.
+/// The notation of numbers.
 #[derive(Clone, Copy, Debug, PartialEq, Eq)]
 pub enum Notation {
     /// FIX: a fixed number of decimals.
     Fixed,
     /// SCI: a mantissa with one digit before the radix mark, and an exponent.
     Scientific,
-    /// ENG: the same with an exponent that is a multiple of 3.
+    /// ENG: a mantissa and an exponent that is a multiple of 3.
     Engineering,
 }
 
-/// The mark before the decimals. The other one parts groups of three digits.
+/// The radix mark, which precedes the decimals. The other of the two characters separates groups of three digits.
 #[derive(Clone, Copy, Debug, PartialEq, Eq)]
 pub enum RadixMark {
     /// `.`, with `,` between groups.
@@ -25,25 +25,26 @@ pub enum RadixMark {
     Comma,
 }
 
-/// The display format: what FIX, SCI and ENG set, and flags 28 and 29.
+/// The display format, as FIX, SCI and ENG and flags 28 and 29 determine it.
 #[derive(Clone, Copy, Debug, PartialEq, Eq)]
 pub struct Format {
     /// FIX, SCI or ENG.
     pub notation: Notation,
-    /// The display digit, 0 to 9. A greater one shows as 9 does.
+    /// The display digit, 0 to 9: the number of digits that are shown. A greater one has the effect of 9.
     pub digits: u8,
     /// The radix mark.
     pub radix: RadixMark,
-    /// Whether FIX parts the digits before the radix mark by threes.
+    /// Whether FIX separates the digits before the radix mark into groups of three.
     pub grouping: bool,
 }
 
 impl Format {
     ghost use Rattle.h41_show.specs.DisplayFormat.{format_of};
 
-    /// The format that the flags tell: 40 for FIX, else 41 for ENG, else SCI; 36 to 39 the display digit, above 9 taken as 9;
-    /// 28 for the point as the radix mark, else the comma; 29 for grouping. From the Owner's Handbook, but for flags 40 and 41
-    /// both set and digits above 9, which are this project's own choice.
+    /// Returns the format that the flags determine: FIX if flag 40 is set, otherwise ENG if flag 41 is set, otherwise SCI; flags 36
+    /// to 39 are the display digit, and above 9 have the effect of 9; flag 28 makes the point the radix mark instead of the comma;
+    /// flag 29 is grouping. This follows the Owner's Handbook, except if flags 40 and 41 are both set or the display digit is above
+    /// 9 (this project's choice).
     #[tactic(auto, unfolding(crate::specs::DisplayFormat::format_of))]
     pub fn from_flags<const REGS: usize>(ram: &Ram<REGS>) -> Self
         ensures { result ≡ format_of ram.now.registers }

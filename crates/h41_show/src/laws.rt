@@ -1,4 +1,4 @@
-//! Laws of texts: each is the contract of a function with next to nothing to do.
+//! Laws of texts. Each law is the contract of a function with an empty or nearly empty body.
 
 ghost use Rattle.std.specs.Prelude.{◌≡◌, ◌≤◌, length};
 ghost use Rattle.h41_decimal.specs.Units.{units};
@@ -12,22 +12,22 @@ use h41_decimal::Ten;
 use h41_digits::Reg;
 use h41_ram::Ram;
 
-/// Sizes are rounded to the nearest number of steps.
+/// States that sizes are rounded to the nearest number of steps.
 pub fn nearest_is_nearest()
     ensures { NearestIsNearest }
 {}
 
-/// The nearest number of steps is determined.
+/// States that the nearest number of steps is determined.
 pub fn nearest_is_determined()
     ensures { NearestIsDetermined }
 {}
 
-/// The exponent of a size is determined by the powers of ten between which it stands.
+/// States that the exponent of a size is determined by the two powers of ten between which the size is.
 pub fn exponent_is_determined()
     ensures { ExponentIsDetermined }
 {}
 
-/// How many bytes the text of a number has: at most 80.
+/// Returns the number of bytes of the text of a number, at most 80.
 pub fn number_text_fits(number: Ten, format: Format) -> usize
     ensures size { result ≡ length (numbers.number_text format (units number)) }
     ensures fits { result ≤ 80 }
@@ -35,7 +35,7 @@ pub fn number_text_fits(number: Ten, format: Format) -> usize
     number_text(number, format).len()
 }
 
-/// How many bytes the text of a register has: at most 80.
+/// Returns the number of bytes of the text of a register, at most 80.
 pub fn register_text_fits(register: Reg, format: Format) -> usize
     ensures size { result ≡ length (registers.register_text format register) }
     ensures fits { result ≤ 80 }
@@ -43,7 +43,7 @@ pub fn register_text_fits(register: Reg, format: Format) -> usize
     register_text(register, format).len()
 }
 
-/// How many bytes the text of ALPHA has: at most 80.
+/// Returns the number of bytes of the text of ALPHA, at most 80.
 pub fn alpha_text_fits<const REGS: usize>(ram: &Ram<REGS>) -> usize
     ensures size { result ≡ length (registers.alpha_text ram.now.registers) }
     ensures fits { result ≤ 80 }

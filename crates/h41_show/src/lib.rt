@@ -1,4 +1,4 @@
-//! The texts that the HP-41's display shows for numbers, registers and ALPHA.
+//! The texts in which the HP-41's display shows numbers, registers and ALPHA.
 #![tactic(auto)]
 
 pub mod characters;

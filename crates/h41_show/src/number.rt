@@ -14,21 +14,21 @@ use crate::rounding::{Rounded, power_of_ten, round, without_last};
 use arrayvec::ArrayString;
 use h41_decimal::{Magnitude, Sign, Ten};
 
-/// The most digits that a number shows in FIX.
+/// The greatest number of digits that FIX shows.
 const DIGITS: u32 = 10;
 
-/// How far exponent 0 is above the least exponent, -99.
+/// The distance of exponent 0 from the least exponent, -99.
 const EXPONENT_ZERO: u32 = 99;
 
-/// The text of a number in a display format.
+/// Returns the text of a number in a display format.
 ///
-/// FIX rounds to the display digit's decimals, as far as ten digits allow, and groups the digits before the radix mark where the
-/// format says so. A number from 10^10 up, and one other than zero that would show as zero, shows as in SCI. SCI and ENG show up
-/// to eight digits, and an exponent of two; ENG's is a multiple of 3. Halves are rounded away from zero; where rounding would
-/// give exponent 100, SCI and ENG cut instead.
+/// FIX rounds to as many decimals as the display digit says and ten digits allow, and groups the digits before the radix mark if
+/// the format says so. A number of 10^10 or more, and a number other than zero that would be shown as zero, is shown as in SCI. SCI
+/// and ENG show up to eight digits, and an exponent of two digits; the exponent of ENG is a multiple of 3. Halves are rounded away
+/// from zero. If rounding would result in exponent 100, SCI and ENG cut instead.
 ///
-/// From the Owner's Handbook; the eight digits, the cut, zeros that fill ENG's missing digits and zero's exponent are this
-/// project's own choice.
+/// This follows the Owner's Handbook, except the eight digits, the cut, the zeros that replace missing digits in ENG, and the
+/// exponent of zero (this project's choice).
 pub fn number_text(number: Ten, format: Format) -> ArrayString<TEXT_CAPACITY>
     ensures { result.bytes ≡ spec.number_text format (units number) }
 {
@@ -43,7 +43,7 @@ pub fn number_text(number: Ten, format: Format) -> ArrayString<TEXT_CAPACITY>
     text
 }
 
-/// Appends a minus for a negative number.
+/// Appends a minus sign for a negative number, and nothing for another.
 fn push_sign(text: &mut DisplayText, sign: Sign)
     requires { array_string_len text.old ≡ 0 }
     ensures bytes { text.new.bytes ≡ text.old.bytes ++ spec.sign_text sign }
@@ -55,7 +55,7 @@ fn push_sign(text: &mut DisplayText, sign: Sign)
     }
 }
 
-/// Appends zero.
+/// Appends zero in a display format.
 fn push_zero(text: &mut DisplayText, format: Format)
     requires { array_string_len text.old ≤ 1 }
     ensures { text.new.bytes ≡ text.old.bytes ++ spec.size_text format 0 }
@@ -72,7 +72,7 @@ fn push_zero(text: &mut DisplayText, format: Format)
     }
 }
 
-/// Appends a size above zero.
+/// Appends a size greater than zero in a display format.
 fn push_size(text: &mut DisplayText, x: Magnitude, format: Format)
     requires { array_string_len text.old ≤ 1 }
     ensures { text.new.bytes ≡ text.old.bytes ++ spec.size_text format (size x) }
@@ -89,14 +89,14 @@ fn push_size(text: &mut DisplayText, x: Magnitude, format: Format)
 /// A size as FIX shows it: a number of steps of its last decimal.
 #[derive(Clone, Copy)]
 struct DecimalSteps {
-    /// How many decimals there are: 0 to 9.
+    /// The number of decimals, 0 to 9.
     decimals: u32,
     /// The number of steps.
     count: u64,
     ghost few: { decimals ≤ 9 },
 }
 
-/// A size as FIX shows it, or nothing where it shows it as SCI does.
+/// Returns a size as FIX shows it, or `None` if FIX shows it as SCI does.
 fn fixed(x: Magnitude, digits: u8) -> Option<DecimalSteps>
     ensures fixed { is_some result ≡ spec.is_fixed digits (size x) }
     ensures decimals { IfSome result (λ s. s.decimals ≡ spec.fixed_decimals digits (size x)) }
@@ -107,7 +107,7 @@ fn fixed(x: Magnitude, digits: u8) -> Option<DecimalSteps>
         return None;
     }
     let decimals = fixed_decimals(above_least.saturating_sub(EXPONENT_ZERO), digits);
-    // Of the ten digits, those behind the last decimal.
+    // The number of the ten digits that are after the last decimal.
     let dropped = EXPONENT_ZERO + DIGITS - 1 - above_least - decimals;
     if dropped > DIGITS {
         return None;
@@ -118,7 +118,7 @@ fn fixed(x: Magnitude, digits: u8) -> Option<DecimalSteps>
     }
 }
 
-/// How many decimals FIX shows beside so many digits before the radix mark, not counting the first.
+/// Returns the number of decimals that FIX shows if the size has `whole` + 1 digits before the radix mark, 1 to 10.
 fn fixed_decimals(whole: u32, digits: u8) -> u32
     requires { whole ≤ 9 }
     ensures { result ≡ min digits (9 - whole) }
@@ -126,7 +126,7 @@ fn fixed_decimals(whole: u32, digits: u8) -> u32
     u32::from(digits).min(9 - whole)
 }
 
-/// How many digits SCI and ENG show behind the first.
+/// Returns the number of digits that SCI and ENG show after the first one, 0 to 7.
 fn mantissa_decimals(digits: u8) -> u32
     ensures value { result ≡ spec.mantissa_decimals digits }
     ensures most { result ≤ 7 }
@@ -134,7 +134,7 @@ fn mantissa_decimals(digits: u8) -> u32
     u32::from(digits).min(7)
 }
 
-/// Appends a number of steps of the last decimal as FIX shows it.
+/// Appends a number of steps of the last decimal, as FIX shows it.
 fn push_steps(text: &mut DisplayText, format: Format, steps: DecimalSteps)
     requires { array_string_len text.old ≤ 1 }
     ensures { text.new.bytes ≡ text.old.bytes ++ spec.steps_text format steps.decimals steps.count }
@@ -158,7 +158,7 @@ fn push_integer(text: &mut DisplayText, format: Format, whole: u64)
     }
 }
 
-/// Appends the radix mark of FIX, where it has one.
+/// Appends the radix mark in FIX, if it is shown.
 fn push_fixed_mark(text: &mut DisplayText, format: Format)
     requires { array_string_len text.old ≤ 41 }
     ensures bytes { text.new.bytes ≡ text.old.bytes ++ spec.fixed_mark format }
@@ -169,7 +169,7 @@ fn push_fixed_mark(text: &mut DisplayText, format: Format)
     }
 }
 
-/// Appends a size as SCI and ENG show it.
+/// Appends a size greater than zero, as SCI and ENG show it.
 fn push_scientific(text: &mut DisplayText, x: Magnitude, format: Format)
     requires { array_string_len text.old ≤ 1 }
     ensures { text.new.bytes ≡ text.old.bytes ++ spec.scientific_text format (size x) }
@@ -185,7 +185,7 @@ fn push_scientific(text: &mut DisplayText, x: Magnitude, format: Format)
     push_exponent(text, above_least - extra);
 }
 
-/// How many digits beyond the first stand before the radix mark: with ENG the exponent is a multiple of 3.
+/// Returns the number of digits before the radix mark after the first one, 0 to 2. The exponent of ENG is a multiple of 3.
 fn extra_digits(notation: Notation, above_least: u32) -> u32
     ensures value { result ≡ spec.extra_digits notation (above_least + 9) }
     ensures most { result ≤ 2 }
@@ -209,7 +209,7 @@ fn push_mantissa(text: &mut DisplayText, radix: RadixMark, count: u64, decimals:
     push_digits(text, count, decimals as usize);
 }
 
-/// Appends an exponent, counted from -99.
+/// Appends an exponent, given plus 99.
 fn push_exponent(text: &mut DisplayText, above_least: u32)
     requires room { array_string_len text.old ≤ 29 }
     requires range { above_least ≤ 198 }
@@ -224,7 +224,7 @@ fn push_exponent(text: &mut DisplayText, above_least: u32)
     }
 }
 
-/// The radix mark's character.
+/// Returns the character of the radix mark.
 fn radix_byte(radix: RadixMark) -> u8
     ensures value { result ≡ spec.radix_byte radix }
     ensures ascii { result < 128 }
@@ -235,7 +235,7 @@ fn radix_byte(radix: RadixMark) -> u8
     }
 }
 
-/// The character between groups of digits.
+/// Returns the character that separates groups of digits.
 fn group_byte(radix: RadixMark) -> u8
     ensures value { result ≡ spec.group_byte radix }
     ensures ascii { result < 128 }

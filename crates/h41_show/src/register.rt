@@ -15,9 +15,9 @@ use h41_digits::{PLACES, Reg, glyph};
 use h41_lines::characters::push_characters;
 use h41_ram::Ram;
 
-/// The text of a register: its number in the display format, its ALPHA data as characters, and another pattern as its 14 digits
-/// in upper-case hexadecimal. Leading nulls of ALPHA data are not shown; of its bytes 20 to 7E but `\` are ASCII characters, and
-/// another is `\` and two hexadecimal digits (this project's own choice).
+/// Returns the text of a register: a number in the display format, ALPHA data as characters, and any other content as the 14 digits
+/// in upper-case hexadecimal. Leading nulls of ALPHA data are not shown. Its bytes 20 to 7E except `\` are shown as ASCII
+/// characters; any other byte is shown as `\` and two hexadecimal digits (this project's choice).
 pub fn register_text(register: Reg, format: Format) -> ArrayString<TEXT_CAPACITY>
     ensures { result.bytes ≡ spec.register_text format register }
 {
@@ -33,7 +33,7 @@ pub fn register_text(register: Reg, format: Format) -> ArrayString<TEXT_CAPACITY
     text
 }
 
-/// The text of ALPHA: its bytes but for leading nulls, as those of ALPHA data in a register.
+/// Returns the text of ALPHA: its bytes without leading nulls, shown as those of ALPHA data in a register.
 pub fn alpha_text<const REGS: usize>(ram: &Ram<REGS>) -> ArrayString<TEXT_CAPACITY>
     ensures { result.bytes ≡ spec.alpha_text ram.now.registers }
 {

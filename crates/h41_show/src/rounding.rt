@@ -1,4 +1,4 @@
-//! Sizes of numbers, rounded as the display shows them.
+//! Rounds the sizes of numbers as the display shows them.
 
 ghost use Rattle.std.specs.Prelude.{◌≡◌, ◌+◌, ◌-◌, ◌*◌, ◌^◌, ◌<◌, ◌≤◌};
 ghost use Rattle.h41_decimal.specs.Units.{size};
@@ -6,10 +6,10 @@ ghost use Rattle.h41_show.specs.Rounding.{nearest, rounded_size, worth_at};
 
 use h41_decimal::Magnitude;
 
-/// The exponent of the greatest numbers, counted from -99.
+/// The exponent of the greatest numbers, plus 99.
 const GREATEST_EXPONENT: u32 = 198;
 
-/// Ten to a power from 0 to 10.
+/// Returns ten to a power from 0 to 10.
 pub(crate) fn power_of_ten(power: u32) -> u64
     requires { power ≤ 10 }
     ensures { result ≡ 10 ^ power }
@@ -17,7 +17,7 @@ pub(crate) fn power_of_ten(power: u32) -> u64
     10u64.pow(power)
 }
 
-/// Ten digits without their last ones, rounded to the nearest number; a half goes up.
+/// Returns ten digits without their last ones, rounded to the nearest number, halves up.
 pub(crate) fn without_last(digits: u64, dropped: u32) -> u64
     requires digits { digits < 10 ^ 10 }
     requires dropped { dropped ≤ 10 }
@@ -27,17 +27,18 @@ pub(crate) fn without_last(digits: u64, dropped: u32) -> u64
     (digits + step / 2) / step
 }
 
-/// A size rounded to a number of digits: a whole number of that many, the first of them not zero, and the exponent of the
-/// first.
+/// A size rounded to a number of digits: these digits as a whole number, the first of which is not zero, and the exponent of the
+/// first digit.
 #[derive(Clone, Copy)]
 pub(crate) struct Rounded {
-    /// The digits.
+    /// The digits as a whole number.
     pub(crate) digits: u64,
-    /// The exponent, counted from -99: 0 to 198.
+    /// The exponent plus 99, 0 to 198.
     pub(crate) above_least: u32,
 }
 
-/// A size, rounded to its first digit and so many behind it. Where that would give exponent 100, the others are cut off instead.
+/// Returns a size rounded to its first digit and `decimals` more. If that would result in exponent 100, the other digits are cut
+/// off instead.
 pub(crate) fn round(x: Magnitude, decimals: u32) -> Rounded
     requires { decimals ≤ 7 }
     ensures value { worth_at result.digits result.above_least decimals

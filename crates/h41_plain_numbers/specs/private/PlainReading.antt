@@ -1,5 +1,5 @@
--- How the digits of a number line in memory are read in one pass, where nothing but a radix mark
--- stands among them: what private functions promise one another.
+-- How the digits of a number line in memory are read in one pass, if there are only radix marks
+-- among them: what private functions promise to each other.
 use Rattle.std.specs.Prelude.{◌≡◌, ℕ, ◌+◌, ◌-◌, ◌*◌, ◌<◌, ◌≤◌, true, false, List, [], ◌∷◌}
 use Rattle.std.specs.Prelude.{if◌then◌else◌, map, nat_lt}
 use Rattle.std.specs.List.{range_with_len}
@@ -12,11 +12,11 @@ use Rattle.h41_program.specs.ProgramBytes.{program_byte}
 use Rattle.h41_ram.specs.RegisterMap.{RegisterMap}
 use Rattle.h41_plain_numbers.specs.declared.plain.PlainDigits.{PlainDigits}
 
--- nothing is read yet
+-- Nothing is read yet.
 abbrev pub no_digits : PlainDigits
 no_digits = record { number = 0; count = 0; places = 0; marked = false }
 
--- behind one more digit
+-- The digits after one more digit.
 abbrev pub with_digit : PlainDigits → ℕ → PlainDigits
 with_digit digits digit = record {
   number = 10 * digits.number + digit;
@@ -25,22 +25,22 @@ with_digit digits digit = record {
   marked = digits.marked;
 }
 
--- behind one more code: of a digit, 10 to 19, or of the radix mark
+-- The digits after one more code: 10 to 19 is a digit, 1A the radix mark.
 abbrev pub with_code : PlainDigits → ℕ → PlainDigits
 with_code digits code =
     if nat_lt code 0x1A then with_digit digits (code - 0x10) else record digits { marked = true }
 
--- behind more of them
+-- The digits after more codes.
 abbrev pub with_codes : PlainDigits → List ℕ → PlainDigits
 with_codes digits [] = digits
 with_codes digits (code ∷ codes) = with_codes (with_code digits code) codes
 
--- the bytes of memory from a position on, so many of them
+-- A number of bytes of memory, from a position on.
 abbrev pub bytes_from : RegisterMap → ℕ → ℕ → List ℕ
 bytes_from memory at count = map (program_byte memory) (range_with_len at count)
 
--- the bytes from a position to another are those of digits and radix marks, and these digits; the
--- byte there, in front of the last ones, goes on in no number
+-- The bytes from one position to another are digits and radix marks, and form these digits; the
+-- byte after them is before the last ones, and does not continue a number.
 pub record EndsPlain (memory : RegisterMap) (at last : ℕ) (digits : PlainDigits) (behind byte : ℕ)
     : Type 0 where
   pub some : at < behind
@@ -54,12 +54,12 @@ pub record EndsPlain (memory : RegisterMap) (at last : ℕ) (digits : PlainDigit
   pub own : byte ≡ program_byte memory behind
   pub other : IsIn 0x10 0x1D byte → ⊥
 
--- there are no such bytes
+-- There are no such bytes.
 abbrev pub EndsNowhere : RegisterMap → (at last : ℕ) → Type 0
 EndsNowhere memory at last =
     (digits : PlainDigits) (behind byte : ℕ) → EndsPlain memory at last digits behind byte → ⊥
 
--- the number of these digits, so many of them behind the radix mark
+-- The number of these digits, this number of which are after the radix mark.
 abbrev pub IsTypedPlain : (digits places : ℕ) → Ten → Type 0
 IsTypedPlain digits places number =
     (exponent : Exponent) × (exponent.biased ≡ 99) × IsTyped Plus digits places exponent number

@@ -8,7 +8,7 @@ use Rattle.h41_decimal.specs.declared.register.TheConstants.{UNPACKED_PAIRS}
 use Rattle.h41_decimal.proofs.Tables.{each, each_holds}
 use Rattle.h41_decimal.proofs.register.unpacked_pair.Goals as goal
 
--- what the table may have of a byte: its number, which is below 100, or 255 for none
+-- The possible values of the table for a byte: its number, which is below 100, or 255 for none.
 told : ℕ → Option ℕ → Bool
 told number (Some told_one) = eqb number told_one && nat_lt told_one 100
 told number None = eqb number 255

@@ -4,11 +4,11 @@ use Rattle.std.proofs.lemmas.Nat.{pow-add}
 use Rattle.h41_decimal.proofs.Cuts.{rounded_at}
 use Rattle.h41_decimal.proofs.rounding.round_eleven_digits.Goals as goal
 
--- the place of the tenth digit
+-- The place of the tenth digit.
 next_place : (n scale : ℕ) → n * 10 ^ (scale + 1) ≡ n * (10 * 10 ^ scale)
 next_place n scale = ap (λ t. n * t) (pow-add 10 scale 1 ∙ omega arith)
 
--- and of the ninth
+-- And of the ninth.
 second_place : (scale : ℕ) → 1000000000 * 10 ^ (scale + 2) ≡ 10000000000 * (10 * 10 ^ scale)
 second_place scale = ap (λ t. 1000000000 * t) (pow-add 10 scale 2) ∙ omega arith
 

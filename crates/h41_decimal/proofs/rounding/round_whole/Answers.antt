@@ -4,7 +4,7 @@ use Rattle.h41_decimal.specs.private.Cut.{IsCut}
 use Rattle.h41_decimal.proofs.Cuts.{eleven_of_more, eleven_of_fewer, cut_to_eleven, fill_to_eleven}
 use Rattle.h41_decimal.proofs.rounding.round_whole.Goals as goal
 
--- the quotient by a power of ten that has eleven digits
+-- The quotient by a power of ten that has eleven digits.
 more : (whole count : ℕ) → 11 < count → 10 ^ count ≤ 10 * whole → whole < 10 ^ count
     → (0 < 10 ^ (count - 11)) × (10 ^ 10 ≤ whole / 10 ^ (count - 11)) × (whole / 10 ^ (count - 11) < 10 ^ 11)
 more whole count many least next = eleven_of_more whole count (count - 11) (10 ^ (count - 11)) refl (omega arith) least next
@@ -19,7 +19,7 @@ round_eleven_digits-requires-clause-below c =
     let h = more c.args.whole c.digit_count-count.result (omega arith) c.digit_count-count.ensures.least c.digit_count-count.ensures.next in
     omega (arith, h, c.without_last.ensures)
 
--- the product with a power of ten that has eleven digits
+-- The product with a power of ten that has eleven digits.
 fewer : (c : goal.After-power_of_ten) → (10 ^ 10 ≤ c.args.whole * c.power_of_ten.result) × (c.args.whole * c.power_of_ten.result < 10 ^ 11)
 fewer c =
     eleven_of_fewer c.args.whole c.digit_count-count.result (11 - c.digit_count-count.result) c.power_of_ten.result

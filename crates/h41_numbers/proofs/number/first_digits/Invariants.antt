@@ -3,7 +3,7 @@ use Rattle.h41_numbers.specs.NumberLines.{digits_in, number_from}
 use Rattle.h41_numbers.specs.private.NumberReading.{read_count, read_number}
 use Rattle.h41_numbers.proofs.number.first_digits.Given as goal
 
--- what is left of the text makes of the digits so far what the whole text makes of none
+-- The rest of the text continues the digits so far to those of the whole text.
 abbrev pub invariant-loop-character : goal.invariant-loop-character
 invariant-loop-character l =
     (read_number l.most l.digits.0 l.digits.1.0 (drop l.character-index l.text) ≡ number_from 0 (take l.most (digits_in l.text)))

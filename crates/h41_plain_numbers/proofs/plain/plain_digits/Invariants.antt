@@ -5,7 +5,7 @@ use Rattle.h41_program.specs.ProgramBytes.{program_byte}
 use Rattle.h41_plain_numbers.specs.private.PlainReading.{bytes_from, no_digits, with_codes}
 use Rattle.h41_plain_numbers.proofs.plain.plain_digits.Given as goal
 
--- the bytes so far
+-- The bytes so far.
 abbrev pub invariant-loop-position : goal.invariant-loop-position
 invariant-loop-position g l = record {
   reads : l.digits ≡ with_codes no_digits (bytes_from l.ram.registers l.at (l.position - l.at));

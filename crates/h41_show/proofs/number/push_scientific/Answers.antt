@@ -1,4 +1,4 @@
--- The mantissa and the exponent, one behind the other.
+-- The mantissa, followed by the exponent.
 use Rattle.std.proofs.Common.{◌≡◌, ◌+◌, ◌-◌, ◌*◌, ◌^◌, ◌<◌, ◌++◌, ap, ◌∙◌, append_assoc}
 use Rattle.h41_decimal.specs.Units.{size}
 use Rattle.h41_show.specs.NumberText.{mantissa_text, exponent_text}

@@ -13,7 +13,7 @@ use Rattle.h41_entries.specs.DirectivesRead.{focal_line, lines_length}
 use Rattle.h41_entries.proofs.Placed.{IsPlaced, placed, name_reading, entry_reading, focal_reading}
 use Rattle.h41_entries.proofs.Texts.{length-name_words, name_spelled}
 
--- where a line of a source stands
+-- The place of a line of a source.
 line_placed : (labels : Labels) (source words : List ℕ) (origin : ℕ)
     (before : List SourceLine) (line : SourceLine) (behind : List SourceLine)
     → SpellsBy labels source origin words (before ++ line ∷ behind) → IsPlaced labels origin before line behind words
@@ -33,7 +33,7 @@ name_is_read labels source words fill text origin label before behind good by =
     ∙ ap (λ count. spelled_name (words_before ((at.front ++ name_words text) ++ (at.others ++ fill)) (count + length text))) (sym at.size)
     ∙ name_spelled at.front text (at.others ++ fill) good
 
--- the two words of an entry
+-- The two words of a table entry.
 entry_at : (front others fill : List ℕ) (first second entry : ℕ) → length front ≡ 2 + 2 * entry
     → (slice_index ((front ++ (first ∷ second ∷ others)) ++ fill) (2 + 2 * entry) ≡ first)
     × (slice_index ((front ++ (first ∷ second ∷ others)) ++ fill) (3 + 2 * entry) ≡ second)
@@ -103,7 +103,7 @@ focal_is_read labels source words fill name origin entry label before behind goo
       },
     )
 
--- two addresses of one label
+-- Two addresses of the same label.
 same_target : (found : Option ℕ) (one other : ℕ) → found ≡ Some one → found ≡ Some other → one ≡ other
 same_target found one other e f = let g : Some one ≡ Some other = sym e ∙ f in cc
 

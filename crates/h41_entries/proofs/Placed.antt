@@ -1,4 +1,4 @@
--- Where a line of a source stands among its words, and what it says.
+-- The place of a line of a source among its words, and its meaning.
 use Rattle.std.proofs.Common.{◌≡◌, ℕ, ◌+◌, ◌-◌, true, ◌&&◌, ◌==◌, List, [], ◌∷◌, ◌++◌, length, take, Some, None, Result, Ok, Err}
 use Rattle.std.proofs.Common.{if◌then◌else◌, refl, sym, ap, subst, ◌∙◌, arith, append_assoc, length-append}
 use Rattle.std.specs.Prelude.{codes, slice_index}
@@ -15,7 +15,7 @@ use Rattle.h41_asm.specs.Statements.{value_statement, singles}
 use Rattle.h41_asm.specs.Statements.{statement_length, takers, takes_entry, takes_name}
 use Rattle.h41_entries.specs.DirectivesRead.{lines_length}
 
--- a line's own words are as many as it takes
+-- The number of a line's own words is the length of the line.
 length_said : (labels : Labels) (address : ℕ) (value_statement : Statement) (own : List ℕ)
     → StatementSpells labels address value_statement own
     → length own ≡ statement_length value_statement
@@ -30,7 +30,7 @@ length_read : (labels : Labels) (address : ℕ) (read : Result Statement SourceF
 length_read labels address (Ok statement) own spells = length_said labels address statement own spells
 length_read labels address (Err fault) own spells = absurd spells
 
--- the words of a line, those before it and those behind
+-- The words of a line, those before it and those after it.
 pub record IsPlaced (labels : Labels) (origin : ℕ) (before : List SourceLine)
     (line : SourceLine) (behind : List SourceLine) (words : List ℕ) : Type 0 where
   pub front : List ℕ
@@ -71,7 +71,7 @@ placed labels origin (first ∷ before) line behind words spelled =
       rest = subst (λ a. LinesSpell labels (a + length next.own) behind next.others) here next.rest;
     }
 
--- what the directives say
+-- The meaning of the directives.
 name_taken : (word : List ℕ) → reading_of (codes "NAME" ∷ word ∷ []) ≡ ok_or (takes_name word) BadOperand
 unfolding singles takers
 name_taken word = refl

@@ -1,4 +1,4 @@
--- The words of a name, read backwards from the function that they stand before.
+-- The words of a name, read backwards from the function that follows them.
 use Rattle.std.proofs.Common.{◌≡◌, ◌⊎◌, inl, inr, ℕ, zero, suc, ◌+◌, ◌-◌, ◌/◌, ◌%◌, ◌<◌, ◌≤◌, true, false, not, ◌&&◌, nat_lt, ◌==◌, List}
 use Rattle.std.proofs.Common.{[], ◌∷◌, ◌++◌, length, map, take, min, reverse, Some, refl, sym, ap, ◌∙◌, arith, length-append}
 use Rattle.std.specs.Prelude.{nat_le, slice_index}
@@ -12,7 +12,7 @@ use Rattle.h41_asm.specs.Operands.{is_text, is_text_byte}
 use Rattle.h41_asm.specs.Statements.{name_words, with_mark}
 use Rattle.h41_pages.specs.FunctionTables.{character, is_last, spelled_name, word_before, words_before}
 
--- words with the last of them marked
+-- Words of which the last is marked as the last of a name.
 mark_last : List ℕ → List ℕ
 mark_last [] = []
 mark_last (word ∷ []) = (word + 0x80) ∷ []
@@ -42,7 +42,7 @@ length-name_words text =
     length-with_mark (reverse (map (λ byte. byte % 64) text)) ∙ length-reverse (map (λ byte. byte % 64) text)
     ∙ length-map text (λ byte. byte % 64)
 
--- one character
+-- One character.
 character_read : (byte word : ℕ) → 32 ≤ byte → byte ≤ 95 → word % 64 ≡ byte % 64 → character word ≡ byte
 character_read byte word low high same =
     by_size (cases_lt (word % 64) 0x20)
@@ -70,7 +70,7 @@ in_range byte good =
     let both = and_parts (nat_le 0x20 byte) (nat_le byte 0x5F && not (byte == 34)) good in
     (leb-true 0x20 byte both.0, leb-true byte 0x5F (and_parts (nat_le byte 0x5F) (not (byte == 34)) both.1).0)
 
--- the characters of a text, and whatever stands before them
+-- The characters of a text, whatever precedes them.
 text_spelled : (text more : List ℕ) (count : ℕ) → 0 < length text → length text ≤ count → list_all is_text_byte text ≡ true
     → spelled_name (take count (mark_last (map (λ byte. byte % 64) text) ++ more)) ≡ Some text
 unfolding mark_last
@@ -88,7 +88,7 @@ text_spelled (byte ∷ next ∷ text) more (suc count) some fits good =
     (ap (option_map (λ name. character (byte % 64) ∷ name)) (text_spelled (next ∷ text) more count (omega arith) (omega arith) both.1)
     ∙ ap (λ read. Some (read ∷ next ∷ text)) (character_read byte (byte % 64) range.0 range.1 same))
 
--- the words before an offset are those in front of it, the last of them first
+-- The words before an offset, the last of them first.
 words_in_front : (front behind : List ℕ) → words_before (front ++ behind) (length front) ≡ take 11 (reverse front)
 words_in_front front behind =
     sym (fill_by_all (word_before (front ++ behind) (length front)) (take 11 (reverse front)) (min (length front) 11) 0

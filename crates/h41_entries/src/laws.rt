@@ -1,10 +1,10 @@
-//! The law: the contract of a function with nothing to do.
+//! The law of table entries. It is the contract of a function with an empty body.
 
 ghost use Rattle.h41_entries.specs.DirectivesRead.{NameIsRead, EntryIsRead, FocalIsRead};
 ghost use Rattle.h41_entries.specs.DirectivesRead.{FunctionIsRead};
 
-/// The words of `NAME`, `ENTRY` and `FOCAL` are read by the table of functions as the name, the address and the kind that the
-/// source says; and a function behind its `NAME` has this name.
+/// States that the table of functions of a page reads the words of `NAME`, `ENTRY` and `FOCAL` as the name, the address and the
+/// kind of function in the source, and that a function that follows its `NAME` has this name.
 pub fn directives_are_read()
     ensures name { NameIsRead }
     ensures entry { EntryIsRead }

@@ -1,5 +1,5 @@
-//! A law over the assembler and the pages, which share no code: what the directives of a source say is what the table of
-//! functions reads.
+//! A law about the assembler and the pages, which share no code: the table of functions of a page reads what the directives of a
+//! source say.
 #![tactic(auto)]
 
 pub mod laws;

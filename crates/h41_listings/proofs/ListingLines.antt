@@ -1,4 +1,4 @@
--- The lines of a text whose lines have no byte that would end them or be dropped.
+-- The lines of a text whose lines have no byte that would end them or be removed.
 use Rattle.std.proofs.Common.{◌≡◌, ℕ, ◌-◌, ◌<◌, Bool, true, false, not, ◌&&◌, List, [], ◌∷◌, ◌++◌, length, nat_lt, ◌==◌, refl, ap, ◌∙◌}
 use Rattle.std.proofs.Common.{arith, All}
 use Rattle.std.specs.Prelude.{slice_index}
@@ -9,11 +9,11 @@ use Rattle.std.proofs.lemmas.List.Splits.{slice_split_at, length-slice_split}
 use Rattle.std.proofs.lemmas.List.Sums.{AllPass-from_list_all}
 use Rattle.h41_asm.specs.SourceLines.{lines}
 
--- a byte that a line can have as it is: no control character, no '"' and no ';'
+-- A byte that can be part of a line as it is: no control character, no '"' and no ';'.
 abbrev pub is_plain : ℕ → Bool
 is_plain byte = nat_lt 31 byte && (not (byte == 34) && not (byte == 59))
 
--- what a plain byte is not
+-- The bytes that a plain byte is not.
 pub not_below : (byte other : ℕ) → is_plain byte ≡ true → other < 32 → (byte == other) ≡ false
 not_below byte other plain low =
     let above = ltb-true 31 byte (and_parts (nat_lt 31 byte) (not (byte == 34) && not (byte == 59)) plain).0 in
@@ -25,7 +25,7 @@ not_special byte plain =
     let both = and_parts (not (byte == 34)) (not (byte == 59)) others.1 in
     (not-true (byte == 34) both.0, not-true (byte == 59) both.1)
 
--- no CR ends it
+-- A plain line does not end in CR.
 unstripped : (text : List ℕ) → list_all is_plain text ≡ true → strip_carriage_return text ≡ text
 unstripped [] plain = refl
 unstripped (first ∷ rest) plain =
@@ -38,7 +38,7 @@ lines_of_parts-cons : (part : List ℕ) (parts : List (List ℕ)) → 0 < length
 lines_of_parts-cons part [] some = absurd (omega arith)
 lines_of_parts-cons part (next ∷ more) some = refl
 
--- the first line, and the lines behind its LF
+-- The first line, and the lines after its LF.
 pub lines-cons : (text rest : List ℕ) → list_all is_plain text ≡ true → lines (text ++ 10 ∷ rest) ≡ text ∷ lines rest
 lines-cons text rest plain =
     let newline : ℕ → Bool = λ byte. byte == 10 in

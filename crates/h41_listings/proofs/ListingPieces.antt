@@ -1,4 +1,4 @@
--- The lines of words say these words: piece by piece, and of one word or two.
+-- The lines of words are read as these words: instruction by instruction, with one word or two.
 use Rattle.std.proofs.Common.{◌≡◌, ℕ, ◌+◌, ◌*◌, ◌/◌, ◌%◌, ◌<◌, true, false, ◌||◌, ◌==◌, List, [], ◌∷◌, ◌++◌, Option, Some, None, flat_map}
 use Rattle.std.proofs.Common.{refl, sym, ap, ◌∙◌, subst, arith, append_assoc, inl, inr}
 use Rattle.std.specs.Prelude.{codes}
@@ -17,7 +17,7 @@ use Rattle.h41_listings.proofs.ListingRows.{reads_immediate, reads_long_jump}
 use Rattle.h41_listings.proofs.ListingTable.{reads_word}
 use Rattle.h41_listings.proofs.ListingTexts.{Reads}
 
--- the words of a piece
+-- The words of a piece.
 abbrev pub behind_first : Option ℕ → List ℕ
 behind_first None = []
 behind_first (Some second) = second ∷ []
@@ -25,11 +25,11 @@ behind_first (Some second) = second ∷ []
 abbrev pub piece_words : Piece → List ℕ
 piece_words piece = piece.first ∷ behind_first piece.second
 
--- the text of a piece says them
+-- The text of an instruction is read as its words.
 abbrev pub ReadsPiece : Piece → Type 0
 ReadsPiece piece = Reads (piece_text piece.first piece.second) (piece_words piece)
 
--- the words of a jump to an address that is put together
+-- The words of a jump to an address that was combined from its bytes.
 jump_words : (low : ℕ) (second : SecondWord) → low < 256
     → long_jump_words second.condition second.kind (second.high_byte * 256 + low) ≡ number_of (LongJump low) ∷ second_number_of second ∷ []
 jump_words low second inside =
@@ -48,7 +48,7 @@ reads_jump low second inside high =
     subst (λ (t : List ℕ). Reads t (number_of (LongJump low) ∷ second_number_of second ∷ [])) text
     (subst (λ (words : List ℕ). Reads (name ++ 32 ∷ digits) words) (jump_words low second inside) line)
 
--- which words begin two: those of jumps by address, and LDI
+-- The words that begin an instruction of two words: those of jumps by address, and LDI.
 begins_two : (first : ℕ) → (length_of first == 2) ≡ true → (first % 4 == 1 || first == 0x130) ≡ true
 unfolding length_of
 begins_two first two = elim (cases_Bool (first % 4 == 1 || first == 0x130)) [
@@ -87,7 +87,7 @@ module _ (word_of_row : WordOfRow) (one_word_of_row : OneWordOfRow) (said_by_wor
     | inr immediate ↦ reads_immediate_pair first second second_fits (eqb-true first 0x130 immediate)
   ]
 
-  -- each piece of words says its own
+  -- Each instruction is read as its own words.
   pub reads_pieces : (words : List ℕ) → AllByRecursion (λ word. word < 1024) words → AllByRecursion ReadsPiece (pieces words)
   reads_pieces [] each = tt
   reads_pieces (first ∷ []) each = (reads_word word_of_row first each.0, tt)
@@ -97,7 +97,7 @@ module _ (word_of_row : WordOfRow) (one_word_of_row : OneWordOfRow) (said_by_wor
       (λ two. (reads_pair first second each.0 each.1.0 two, reads_pieces rest each.1.1))
       (λ one. (reads_word word_of_row first each.0, reads_pieces (second ∷ rest) each.1))
 
--- and the pieces have all the words
+-- The instructions have all the words.
 pub words_of_pieces : (words : List ℕ) → flat_map piece_words (pieces words) ≡ words
 words_of_pieces [] = refl
 words_of_pieces (first ∷ []) = refl

@@ -1,4 +1,4 @@
--- The line of each row, family by family, says the word of the row.
+-- The line of each row, family by family, is read as the word of the row.
 use Rattle.std.proofs.Common.{◌≡◌, ℕ, ◌+◌, ◌<◌, pos, negsuc, Bool, true, false, not, ◌&&◌, nat_lt, ◌==◌, List, [], ◌∷◌, ◌++◌, length}
 use Rattle.std.proofs.Common.{Option, Some, None, refl, ap, arith}
 use Rattle.std.specs.Prelude.{codes, bytes_eq}
@@ -26,7 +26,7 @@ use Rattle.h41_listings.proofs.ListingTexts.{short_jump_taken, operation_taken, 
 use Rattle.h41_listings.proofs.ListingTexts.{test_pointer_taken, set_pointer_taken, rotate_taken, load_digit_taken, write_taken, read_taken}
 use Rattle.h41_listings.proofs.ListingWords.{is_solid}
 
--- hexadecimal digits as operands
+-- Hexadecimal digits as operands.
 hexadecimal_operand : (count number : ℕ) → 0 < count → IsOperand (hexadecimal_text count number)
 hexadecimal_operand count number some =
     record { some = omega (arith, length-hexadecimal count number); solid = solid_hexadecimal count number }
@@ -49,7 +49,7 @@ reads_long_jump condition kind address inside =
     (takes_address condition kind) (long_jump_taken condition kind (hexadecimal_text 4 address))
     (hexadecimal_operand 4 address (omega arith)) (rw (read_address address inside) refl)
 
--- short jumps, forward and backward
+-- Short jumps, forward and backward.
 pub reads_forward : (condition : Condition) (words : ℕ) → words < 64
     → Reads (row_text (ShortJump condition (pos words))) (number_of (ShortJump condition (pos words)) ∷ [])
 reads_forward condition words inside =
@@ -68,7 +68,7 @@ reads_backward condition words inside =
     (takes_displacement condition) (short_jump_taken condition text)
     (record { some = omega arith; solid = solid_hexadecimal 2 (words + 1) }) (rw (read_backward words inside, near) refl)
 
--- operations at a field
+-- Operations on a field.
 field_operand : (field : Field) → IsOperand (field_text field)
 field_operand AtPointer = record { some = omega arith; solid = refl }
 field_operand field = record { some = omega arith; solid = refl }
@@ -84,7 +84,7 @@ reads_arithmetic operation field =
     (takes_field operation) (operation_taken operation (field_text field))
     (field_operand field) (rw (read_field field) refl)
 
--- what a decimal number is as an operand, and which it is
+-- Whether a text is a decimal number as an operand, and which it is.
 abbrev is_operand : List ℕ → Bool
 is_operand word = nat_lt 0 (length word) && (list_all is_solid word && not (bytes_eq word (codes "DATA")))
 
@@ -123,7 +123,7 @@ unfolding digits
 read_register number inside =
     just (number + 1) _ (agree_below_at (λ n. is_just (n + 1) (number_in 1 15 (decimal (n + 1)))) (λ _. true) 15 number refl inside)
 
--- a mnemonic that takes a number
+-- A mnemonic that takes a number.
 reads_number : (name : List ℕ) (least count number : ℕ) (row : ℕ → Row) → IsTaken name (takes_number least count row) (decimal number)
     → number < 16 → number_in least count (decimal number) ≡ Some number → Reads (name ++ 32 ∷ decimal number) (number_of (row number) ∷ [])
 reads_number name least count number row taken inside read =

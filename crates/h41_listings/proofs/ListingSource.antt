@@ -15,7 +15,7 @@ use Rattle.h41_listings.specs.ListingRoundTrip.{ListingAssembles}
 use Rattle.h41_listings.proofs.ListingLines.{lines-cons}
 use Rattle.h41_listings.proofs.ListingPieces.{ReadsPiece, piece_words, reads_pieces, words_of_pieces}
 
--- the line of a piece
+-- The line of a piece.
 abbrev source_line : Piece → SourceLine
 source_line piece = line_of (words_of (piece_text piece.first piece.second))
 
@@ -32,7 +32,7 @@ no_labels [] each = refl
 no_labels (piece ∷ rest) each =
     ap (λ label. cons_option label (labels_of (map source_line rest))) each.0.unlabelled ∙ no_labels rest each.1
 
--- whatever the labels are, the lines spell the words of the pieces
+-- Whatever the addresses of the labels are, the lines spell the words of the instructions.
 line_spells : (labels : Labels) (address : ℕ) (piece : Piece) → ReadsPiece piece
     → LineSpells labels address (source_line piece) (piece_words piece)
 line_spells labels address piece reads = record {
@@ -51,7 +51,7 @@ spells labels address (piece ∷ rest) each = (
   spells labels (address + length (piece_words piece)) rest each.1,
 )
 
--- and only these
+-- The lines spell only these words.
 spells_only : (labels : Labels) (address : ℕ) (some : List Piece) (words : List ℕ) → AllByRecursion ReadsPiece some
     → LinesSpell labels address (map source_line some) words → words ≡ flat_map piece_words some
 spells_only labels address [] words each spelled = spelled

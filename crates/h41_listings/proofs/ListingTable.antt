@@ -1,4 +1,4 @@
--- The line of each word says that word: of a row of the listing, and of a word that stands for none.
+-- The line of each word is read as that word: for a row of the list, and for a word that is no instruction.
 use Rattle.std.proofs.Common.{◌≡◌, ℕ, zero, suc, ◌+◌, ◌*◌, ◌<◌, ◌≤◌, ℤ, pos, negsuc, Bool, true, false, ◌==◌, List, [], ◌∷◌, ◌++◌, map}
 use Rattle.std.proofs.Common.{refl, subst, arith}
 use Rattle.std.specs.List.{AllByRecursion, flat_map, range_with_len, list_all}
@@ -20,11 +20,11 @@ use Rattle.h41_listings.proofs.ListingRows.{reads_set_status, reads_test_status,
 use Rattle.h41_listings.proofs.ListingRows.{reads_load_digit, reads_write, reads_read}
 use Rattle.h41_listings.proofs.ListingTexts.{Reads}
 
--- the line of a row says the word of the row
+-- The line of a row is read as the word of the row.
 abbrev ReadsRow : Row → Type 0
 ReadsRow row = Reads (row_text row) (number_of row ∷ [])
 
--- what holds of each element of lists holds of lists made from them
+-- What is true of each element of some lists is true of lists made from them.
 module _ {A : Type 0} (Holds : A → Type 0) where
   each_append : (xs ys : List A) → AllByRecursion Holds xs → AllByRecursion Holds ys → AllByRecursion Holds (xs ++ ys)
   each_append [] ys before behind = behind
@@ -57,7 +57,7 @@ module _ {A : Type 0} (Holds : A → Type 0) where
       let both = and_parts (test x) (list_all test xs) passes in
       (holds x both.0, each_tested test xs holds both.1)
 
--- the single words
+-- The single words.
 abbrev is_single : Row → Bool
 is_single (rows.Arithmetic operation field) = false
 is_single (rows.LongJump low_byte) = false
@@ -122,7 +122,7 @@ read (suc before) low high =
     let next : before + 1 ≡ suc before = omega arith in
     subst (λ (n : ℕ). ReadsRow (rows.Read n)) next (reads_read before (omega arith))
 
--- a jump whose second word is missing is CON
+-- A jump whose second word is missing is CON.
 long_jump : (low_byte : ℕ) → low_byte < 256 → ReadsRow (rows.LongJump low_byte)
 unfolding number_of
 long_jump low_byte inside = reads_constant (low_byte * 4 + 1) (omega arith)
@@ -190,7 +190,7 @@ reads_row : (word : ℕ) → word < 1024 → ReadsRow (row_of word)
 unfolding row_of word_table
 reads_row word inside = in_table listed_rows word listed (constant word inside)
 
--- the line of a word alone says the word
+-- The line of a single word is read as the word.
 pub reads_word : WordOfRow → (word : ℕ) → word < 1024 → Reads (row_text (row_of word)) (word ∷ [])
 reads_word round_trip word inside =
     subst (λ (number : ℕ). Reads (row_text (row_of word)) (number ∷ [])) (round_trip word inside) (reads_row word inside)

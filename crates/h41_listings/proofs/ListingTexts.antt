@@ -1,4 +1,4 @@
--- What a line says that is a mnemonic and an operand.
+-- The meaning of a line that is a mnemonic and an operand.
 use Rattle.std.proofs.Common.{◌≡◌, ℕ, ◌<◌, true, false, List, [], ◌∷◌, ◌++◌, length, Some, None, Ok, refl, ap, ◌∙◌}
 use Rattle.std.specs.Prelude.{codes, bytes_eq}
 use Rattle.std.specs.List.{list_all}
@@ -21,19 +21,19 @@ use Rattle.h41_asm.specs.Statements.{takes_number, takes_address, takes_displace
 use Rattle.h41_listings.proofs.ListingLines.{is_plain}
 use Rattle.h41_listings.proofs.ListingWords.{is_solid, words_of-operand}
 
--- a line that has no label and says these words
+-- A line that has no label and is read as these words.
 pub record Reads (text own : List ℕ) : Type 0 where
   pub plain : list_all is_plain text ≡ true
   pub unlabelled : (line_of (words_of text)).label ≡ None
   pub said : reading_of (line_of (words_of text)).code ≡ Ok (Words own)
 
--- a mnemonic that takes a word as its operand
+-- A mnemonic that takes a word as its operand.
 pub record IsTaken (name : List ℕ) (takes : Taking) (word : List ℕ) : Type 0 where
   pub plain : list_all is_plain name ≡ true
   pub unlabelled : (line_of (words_of name ++ word ∷ [])).label ≡ None
   pub said : reading_of (line_of (words_of name ++ word ∷ [])).code ≡ ok_or (takes word) BadOperand
 
--- an operand's word
+-- An operand's word.
 pub record IsOperand (word : List ℕ) : Type 0 where
   pub some : 0 < length word
   pub solid : list_all is_solid word ≡ true
@@ -108,7 +108,7 @@ pub load_digit_taken : (word : List ℕ) → IsTaken (codes "LD@R") (takes_numbe
 unfolding singles takers
 load_digit_taken word = record { plain = refl; unlabelled = refl; said = refl }
 
--- WRIT DATA and READ DATA are mnemonics of their own
+-- WRIT DATA and READ DATA are mnemonics of their own.
 none_writes : (word : List ℕ) → bytes_eq word (codes "DATA") ≡ false → single_among singles (codes "WRIT" ∷ word ∷ []) ≡ None
 unfolding singles
 none_writes word no_data = rw no_data (refl {a = None})

@@ -1,4 +1,4 @@
--- The words of a mnemonic and an operand behind a blank.
+-- The words of a mnemonic, a space and an operand.
 use Rattle.std.proofs.Common.{◌≡◌, ℕ, ◌<◌, Bool, true, false, not, ◌&&◌, List, [], ◌∷◌, ◌++◌, length, nat_lt, ◌==◌, filter, refl, ap, ◌∙◌}
 use Rattle.std.proofs.Common.{arith, inl, inr}
 use Rattle.std.specs.List.{list_all, onto_first}
@@ -7,7 +7,7 @@ use Rattle.std.proofs.lemmas.List.Elements.{filter-append}
 use Rattle.h41_asm.specs.SourceLines.{is_blank, parts_from, quoted_after, words_of}
 use Rattle.h41_listings.proofs.ListingLines.{is_plain, not_below, not_special}
 
--- a plain byte that is no blank
+-- A plain byte that is no space.
 abbrev pub is_solid : ℕ → Bool
 is_solid byte = is_plain byte && not (byte == 32)
 
@@ -28,7 +28,7 @@ parts_some quoted (byte ∷ rest) =
     (λ _. cond_both (not quoted && is_blank byte) ([] ∷ others) (onto_first byte others)
     (λ parts. 0 < length parts) (λ _. omega arith) (λ _. onto_first-some byte others))
 
--- the parts of a plain text with a blank behind it, and what follows
+-- The parts of a plain text that is followed by a space, and the rest.
 parts-append : (name rest : List ℕ) → list_all is_plain name ≡ true
     → parts_from false (name ++ 32 ∷ rest) ≡ parts_from false name ++ parts_from false rest
 parts-append [] rest plain = refl
@@ -56,7 +56,7 @@ words_solid : (word : List ℕ) → 0 < length word → list_all is_solid word �
 words_solid word some solid =
     ap (filter (λ part. nat_lt 0 (length part))) (parts_solid word solid) ∙ cond-true _ _ _ (lt-ltb 0 (length word) some)
 
--- the words of a mnemonic, and its operand
+-- The words of a mnemonic, and its operand.
 pub words_of-operand : (name word : List ℕ) → list_all is_plain name ≡ true → 0 < length word → list_all is_solid word ≡ true
     → words_of (name ++ 32 ∷ word) ≡ words_of name ++ (word ∷ [])
 words_of-operand name word plain some solid =

@@ -1,11 +1,11 @@
--- The listing round trip: to assemble the listing of words gives these words back, at any origin at
+-- The listing round trip: assembling the listing of words gives these words back, at any origin at
 -- which they fit.
 use Rattle.std.specs.Prelude.{◌≡◌, ℕ, ◌+◌, ◌<◌, ◌≤◌, ◌↔◌, List, length, All}
 use Rattle.h41_words.specs.Counts.{word_count}
 use Rattle.h41_dis.specs.Spelling.{spell}
 use Rattle.h41_asm.specs.Assembly.{Assembles, address_count}
 
--- the listing of words, as a source, assembles to these words and to no others
+-- The listing of words, as a source, assembles to these words and to no others.
 abbrev pub ListingAssembles : Type 0
 ListingAssembles =
     (words : List ℕ) (origin : ℕ) (other : List ℕ) → All (λ word. word < word_count) words

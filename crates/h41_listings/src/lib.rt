@@ -1,4 +1,4 @@
-//! The listing round trip: a law over the lister and the assembler, which share no code.
+//! The listing round trip: a law about the disassembler and the assembler, which share no code.
 #![tactic(auto)]
 
 pub mod laws;

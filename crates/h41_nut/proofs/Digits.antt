@@ -10,7 +10,7 @@ use Rattle.h41_digits.specs.Register.{IsRegister, value}
 use Rattle.h41_digits.specs.Packed.{value-cons}
 use Rattle.h41_nut.specs.RegisterWords.{by_place, digits_or, digits_and}
 
--- a register that has the digit at each place
+-- A register that has the digit at each place.
 pub by_place-is : (z : List ℕ) (digit : ℕ → ℕ) → length z ≡ 14 → ((place : ℕ) → place < 14 → get_or z place 0 ≡ digit place)
     → z ≡ by_place digit
 by_place-is z digit size each =
@@ -18,7 +18,7 @@ by_place-is z digit size each =
     let below : place < 14 = omega (arith, size) in
     each place below ∙ sym (get_or-map-range_with_len digit 0 14 place place 0 below (omega arith)))
 
--- an operation on the bits of two numbers is one on each two digits
+-- An operation on the bits of two numbers is one on each two digits.
 abbrev Digitwise : (ℕ → ℕ → ℕ) → Type 0
 Digitwise bits = (a b x y : ℕ) → a < 16 → b < 16 → (bits a b < 16) × (bits (a + 16 * x) (b + 16 * y) ≡ bits a b + 16 * bits x y)
 
@@ -77,6 +77,6 @@ pub is_digits_and : (x y z : List ℕ) → IsRegister 14 x → IsRegister 14 y �
     → z ≡ digits_and x y
 is_digits_and x y z = bitwise bit_and and_digitwise x y z
 
--- the bits of two numbers fit where both do
+-- The bits of two numbers fit if both numbers do.
 pub or_fits : (a b : ℕ) → a < 16 ^ 14 → b < 16 ^ 14 → bit_or a b < 16 ^ 14
 or_fits a b a_fits b_fits = or_lt 56 a b a_fits b_fits

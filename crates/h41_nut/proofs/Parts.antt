@@ -13,14 +13,14 @@ use Rattle.h41_nut.proofs.Digits.{by_place-is}
 digit_at : (x : List ℕ) (place : ℕ) → IsRegister 14 x → place < 14 → slice_index x place < 16
 digit_at x place register inside = All-get_or (λ digit. digit < 16) x place 0 (omega (arith, register.size, inside)) register.each
 
--- the lowest digit of a part, and those above it
+-- The lowest digit of a part, and those above it.
 value_at : (x : List ℕ) (lo count : ℕ) → IsRegister 14 x → lo < 14
     → value (take (suc count) (drop lo x)) ≡ slice_index x lo + 16 * value (take count (drop (lo + 1) x))
 value_at x lo count register inside =
     ap (λ d. value (take (suc count) d)) (drop_more x lo 0 (omega (arith, register.size, inside)))
     ∙ value-cons (slice_index x lo) (take count (drop (lo + 1) x))
 
--- a part is below 16 to the power of the count of its places
+-- A part is below 16 to the power of the count of its places.
 pub part-lt : (x : List ℕ) (lo count : ℕ) → IsRegister 14 x → lo + count ≤ 14 → value (take count (drop lo x)) < 16 ^ count
 part-lt x lo zero register inside = omega arith
 part-lt x lo (suc count) register inside =
@@ -28,7 +28,7 @@ part-lt x lo (suc count) register inside =
     rw (value_at x lo count register (omega (arith, inside)), pow-succ' 16 count)
     (omega (arith, above, digit_at x lo register (omega (arith, inside))))
 
--- parts that hold the same number have the same digits
+-- Parts with the same number have the same digits.
 same_part : (count a b k : ℕ) (x y : List ℕ) → IsRegister 14 x → IsRegister 14 y → a + count ≤ 14 → b + count ≤ 14
     → value (take count (drop a x)) ≡ value (take count (drop b y)) → k < count → slice_index x (a + k) ≡ slice_index y (b + k)
 same_part zero a b k x y p q in_x in_y held inside = absurd (omega (arith, inside))
@@ -48,7 +48,7 @@ same_part (suc count) a b k x y p q in_x in_y held inside =
           ∙ ap (slice_index y) (omega (arith, later))
     ]
 
--- a register made of the two parts of another one, each in the other's place
+-- A register made of the two parts of another one, each in the other's place.
 pub exchanged_parts : (x stayed z : List ℕ) (digits : ℕ) → digits < 14 → IsRegister 14 x → IsRegister 14 stayed → IsRegister 14 z
     → value (take (14 - digits) (drop 0 stayed)) ≡ value (take (14 - digits) (drop digits x))
     → value (take digits (drop (14 - digits) z)) ≡ value (take digits (drop 0 x)) → take (14 - digits) z ≡ take (14 - digits) stayed
@@ -67,6 +67,6 @@ exchanged_parts x stayed z digits few from between register staying leaving belo
           ∙ ap (slice_index x) (omega (arith, few, high, inside))
     ])
 
--- a register is below 16 to the power of its places
+-- A register is below 16 to the power of its places.
 pub register-lt : (x : List ℕ) → IsRegister 14 x → value x < 16 ^ 14
 register-lt x register = rw (take_all 14 x (omega (arith, register.size))) at (part-lt x 0 14 register (omega arith))

@@ -1,4 +1,4 @@
--- Why a word that is about the processor alone is carried out as its row says.
+-- Why a word that only uses the processor is executed as its row says.
 use Rattle.std.proofs.Common.{◌≡◌, ◌==◌, ◌<◌, ◌≤◌, ◌&&◌, Bool, true, false, None, Result, Ok, Err, OnOk, refl, ap, arith}
 use Rattle.std.specs.Prelude.{is_ok}
 use Rattle.std.proofs.lemmas.Bool.{false≢true}
@@ -18,7 +18,7 @@ use Rattle.h41_nut.specs.private.RowStep.{Ran, RanWithin, is_within}
 use Rattle.h41_nut.specs.Processor.{Processor}
 use Rattle.h41_nut.specs.WordStep.{Nut, RefusesOr, nut_of, answer, registers_after, row_writes_program}
 
--- a processor that goes on, with the memory, the pages and the keyboard as they are
+-- A processor that continues, with the memory, the pages and the keyboard as they are.
 gone : {T : Type 0} {Change : Nut → Nut → Type 0} (carry : Bool) (changed s t : Processor) (ram : RegisterMap) (pages : PageMap)
     (keys : Keys) (result : Result T WordRefusal)
     → ((after : Nut) → after ≡ nut_of (at_address (next_address s) carry changed) ram pages keys → Change (nut_of s ram pages keys) after)
@@ -61,7 +61,7 @@ ran_within row s t ram pages keys result within ran =
     gone (answer row (nut_of s ram pages keys)) (registers_after row (nut_of s ram pages keys)) s t ram pages keys result
     (λ after same. same) (ran ram pages)
 
--- it writes no register of the program
+-- Such a word writes no register of the program.
 within_writes_none : (row : Row) (s : Nut) → is_within row ≡ true → row_writes_program row s ≡ false
 within_writes_none (rows.Write register) s within = absurd (false≢true within)
 within_writes_none rows.WriteData s within = absurd (false≢true within)
@@ -71,7 +71,7 @@ pub within_marks : {T : Type 0} (row : Row) (s : Nut) (ram : RamState) (result :
     → MarksIf (row_writes_program row s && is_ok result) ram ram
 within_marks row s ram result within = rw (within_writes_none row s within) refl
 
--- where it goes on, no function ends
+-- No function ends at the address after such a word.
 pub ends_nowhere : {T : Type 0} (carry : Bool) (changed s t : Processor) (result : Result T WordRefusal)
     → first_address ≤ s.pc → s.pc < 0x10000 → Goes None (next_address s) carry changed s t result
     → OnOk result ((t.pc == end_of_function) ≡ false)

@@ -1,4 +1,4 @@
--- A status bit is read as it was set or cleared, and the others stay.
+-- A status bit is read as it was set or cleared, and the others do not change.
 use Rattle.std.proofs.Common.{◌≡◌, ◌≢◌, ℕ, zero, suc, ◌+◌, ◌-◌, ◌*◌, ◌/◌, ◌%◌, ◌^◌, ◌<◌, ◌≤◌, Bool, true, false, refl, sym, ap, arith, ◌∙◌}
 use Rattle.std.specs.Prelude.{◌==◌, if◌then◌else◌}
 use Rattle.std.specs.Int.{bit_at}
@@ -7,11 +7,11 @@ use Rattle.std.proofs.lemmas.Nat.{and_le_l}
 use Rattle.std.proofs.lemmas.Nat.Bits.{and_pow, bit_at_lowest, bit_at-suc}
 use Rattle.h41_nut.specs.ProcessorLaws.{StatusIsRead, OtherStatusStays}
 
--- a number with another bit at a place
+-- A number with another bit at a place.
 abbrev changed : ℕ → ℕ → ℕ → ℕ
 changed s n v = s - bit_at s n * 2 ^ n + v * 2 ^ n
 
--- its half, and its last bit, where the place is not the last
+-- The half of such a number, and its last bit, if the place is not the last.
 halves : (s h b p q v : ℕ) → h ≡ s / 2 → q ≡ p * 2 → b * p ≤ h → (s - b * q + v * q) / 2 ≡ h - b * p + v * p
 halves s h b p q v half double fits =
     let x : b * q ≡ b * p * 2 = ap (λ t. b * t) double ∙ omega arith in
@@ -52,7 +52,7 @@ bit_kept s (suc n) (suc k) v small apart =
     bit_at-suc (changed s (suc n) v) k ∙ ap (λ t. bit_at t k) (half_changed s n v)
     ∙ bit_kept (s / 2) n k v small (λ equal. apart (ap suc equal)) ∙ sym (bit_at-suc s k)
 
--- the bit that is put
+-- The bit that is put.
 put : Bool → ℕ
 put true = 1
 put false = 0

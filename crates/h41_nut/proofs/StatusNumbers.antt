@@ -1,4 +1,4 @@
--- The status bits as a number: what a test, a set and a clear of one bit come to.
+-- The status bits as a number: the effects of testing, setting and clearing one bit.
 use Rattle.std.proofs.Common.{◌≡◌, ℕ, zero, suc, ◌+◌, ◌-◌, ◌*◌, ◌^◌, ◌<◌, Bool, true, false, arith, ◌∙◌, ap}
 use Rattle.std.specs.Prelude.{◌==◌, if◌then◌else◌}
 use Rattle.std.specs.Int.{bit_at}
@@ -14,20 +14,20 @@ weight_counts zero weight small some = grind (arith, nat_tests)
 weight_counts (suc zero) weight small some = grind (arith, nat_tests)
 weight_counts (suc (suc bit)) weight small some = absurd (omega arith)
 
--- a bit is set where the number has all of its weight
+-- A bit is set if the number has all of its weight.
 pub contains_bit : (s n : ℕ) → (bit_and s (2 ^ n) == 2 ^ n) ≡ (bit_at s n == 1)
 contains_bit s n = ap (λ met. met == 2 ^ n) (and_pow s n) ∙ weight_counts (bit_at s n) (2 ^ n) (bit_at-lt s n) (pow_pos n)
 
--- a bit is set by its weight, where that does not count yet
+-- A bit is set by adding its weight, if it was clear.
 pub set_bit : (s n : ℕ) → bit_or s (2 ^ n) ≡ s - bit_at s n * 2 ^ n + 2 ^ n
 set_bit s n = omega (arith, or_add_and s (2 ^ n), and_pow s n, and_le_l s (2 ^ n))
 
--- and cleared by taking it off, where it counts
+-- A bit is cleared by subtracting its weight, if it was set.
 pub clear_bit : (s n : ℕ) → s < 2 ^ 16 → 2 ^ n < 2 ^ 16 → bit_and s (2 ^ 16 - 1 - 2 ^ n) ≡ s - bit_at s n * 2 ^ n
 clear_bit s n small weight =
     omega (arith, and-not 16 (2 ^ n) s weight small, and_comm s (2 ^ 16 - 1 - 2 ^ n), and_comm s (2 ^ n), and_pow s n)
 
--- a bit that is put on or off, among the 14
+-- A bit that is set or cleared, among the 14.
 pub put_bit : (s n : ℕ) (on : Bool) → s < 2 ^ 14 → 2 ^ n < 2 ^ 14
     → (if on then bit_or s (2 ^ n) else without 16 s (2 ^ n)) ≡ s - bit_at s n * 2 ^ n + (if on then 2 ^ n else 0)
 put_bit s n true small weight = set_bit s n

@@ -1,4 +1,4 @@
--- The registers of the processor, and the states that it starts in.
+-- The registers of the processor, and its states at the start.
 use Rattle.std.specs.Prelude.{ℕ, Bool, true, false, List, [], ◌∷◌, replicate}
 use Rattle.h41_fields.specs.declared.field.Pointer.{Pointer}
 use Rattle.h41_fields.specs.declared.field.Pointer.TheVariants.{P}
@@ -6,35 +6,36 @@ use Rattle.h41_nut.specs.Addresses.{end_of_function}
 use Rattle.h41_nut.specs.declared.base.Base.{Base}
 use Rattle.h41_nut.specs.declared.base.Base.TheVariants.{Hexadecimal}
 
+-- The state of the processor.
 pub record Processor : Type 0 where
-  -- the registers of 14 digits, place 0 first
+  -- The registers of 14 digits, place 0 first.
   pub a : List ℕ
   pub b : List ℕ
   pub c : List ℕ
   pub m : List ℕ
   pub n : List ℕ
-  -- the registers of 8 bits
+  -- The registers of 8 bits.
   pub g : ℕ
   pub t : ℕ
-  -- the status bits, S0 the lowest
+  -- The status bits as a number, of which S0 is the lowest bit.
   pub status : ℕ
-  -- the pointers, and which of them is active
+  -- The places that the pointers P and Q name, and the active pointer.
   pub p : ℕ
   pub q : ℕ
   pub active : Pointer
-  -- the address of the next word
+  -- The address of the next word.
   pub pc : ℕ
-  -- the four return addresses, the newest first
+  -- The four return addresses, the newest first.
   pub returns : List ℕ
   pub carry : Bool
   pub base : Base
-  -- the address that is selected in RAM
+  -- The selected address of the memory.
   pub selected : ℕ
-  -- whether the display is on
+  -- Whether the display is on.
   pub display : Bool
 
--- the state before the first call: all zero, but for the address at which a function ends and the
--- display, which is on
+-- The state before the first call: everything is zero, except the address, at which a function
+-- ends, and the display, which is on.
 abbrev pub initial_state : Processor
 initial_state = record {
   a = replicate 14 0;
@@ -56,9 +57,9 @@ initial_state = record {
   display = true;
 }
 
--- the state in which a function begins at an address (this project's choice): all zero as at first,
--- the newest return address that of a function's end, the other three 0000; the display stays as it
--- is
+-- The state in which a function begins at an address (this project's choice): everything is zero as
+-- before the first call; the newest return address is that of a function's end, the other three are
+-- 0000; the display does not change.
 abbrev pub at_function : Processor → ℕ → Processor
 at_function s address =
     record initial_state {

@@ -1,6 +1,6 @@
 //! The base of arithmetic.
 
-/// The base that arithmetic words count in.
+/// The base in which arithmetic words compute.
 #[derive(Clone, Copy, Debug, PartialEq, Eq)]
 pub enum Base {
     /// Hexadecimal mode: base 16.

@@ -1,4 +1,4 @@
-//! The registers of the processor, its states at the start, and what its words do to them, family by family.
+//! The registers of the processor, its states at the start, and the effects of its words on them, family by family.
 
 ghost use Rattle.std.specs.Prelude.{◌≡◌, ◌^◌, ◌<◌, false, true};
 ghost use Rattle.h41_nut.specs.Processor.{initial_state, at_function};
@@ -18,7 +18,7 @@ pub(crate) mod pointers;
 pub(crate) mod registers;
 mod status;
 
-/// How many return addresses the processor keeps.
+/// The number of return addresses that the processor stores.
 const RETURNS: usize = 4;
 
 /// The registers of the Nut processor.
@@ -74,7 +74,7 @@ impl Model for Cpu {
 }
 
 impl Cpu {
-    /// The state before the first call: all zero, but for the address 00F0 and the display, which is on.
+    /// Returns the state before the first call: everything is zero, except the address, 00F0, and the display, which is on.
     pub fn new() -> Self
         ensures { result ≡ initial_state }
     {
@@ -99,8 +99,8 @@ impl Cpu {
         }
     }
 
-    /// The state in which a function begins at an address: all is zero as at first, the newest return address is 00F0,
-    /// and the display stays as it is (this project's choice).
+    /// Sets the state in which a function begins at an address: everything is zero as before the first call, the newest return
+    /// address is 00F0, and the display does not change (this project's choice).
     pub fn enter(&mut self, address: u16)
         ensures { self.new ≡ at_function self.old address }
     {
@@ -113,70 +113,70 @@ impl Cpu {
         };
     }
 
-    /// The display goes off, as it does with the calculator.
+    /// Turns the display off, as it is while the calculator is off.
     pub fn turn_display_off(&mut self)
         ensures { self.new ≡ with_display false self.old }
     {
         self.display = false;
     }
 
-    /// The display goes on, as each key turns it.
+    /// Turns the display on, as each key does.
     pub fn turn_display_on(&mut self)
         ensures { self.new ≡ with_display true self.old }
     {
         self.display = true;
     }
 
-    /// The register A.
+    /// Returns the register A.
     pub fn a(&self) -> Reg
         ensures { result ≡ self.now.a }
     {
         self.a
     }
 
-    /// The register B.
+    /// Returns the register B.
     pub fn b(&self) -> Reg
         ensures { result ≡ self.now.b }
     {
         self.b
     }
 
-    /// The register C.
+    /// Returns the register C.
     pub fn c(&self) -> Reg
         ensures { result ≡ self.now.c }
     {
         self.c
     }
 
-    /// The register M.
+    /// Returns the register M.
     pub fn m(&self) -> Reg
         ensures { result ≡ self.now.m }
     {
         self.m
     }
 
-    /// The register N.
+    /// Returns the register N.
     pub fn n(&self) -> Reg
         ensures { result ≡ self.now.n }
     {
         self.n
     }
 
-    /// The register G, of 8 bits.
+    /// Returns the register G, which has 8 bits.
     pub fn g(&self) -> u8
         ensures { result ≡ self.now.g }
     {
         self.g
     }
 
-    /// The register T, of 8 bits.
+    /// Returns the register T, which has 8 bits.
     pub fn t(&self) -> u8
         ensures { result ≡ self.now.t }
     {
         self.t
     }
 
-    /// The status bits as a number, S0 the lowest of 14.
+    /// Returns the 14 status bits as a number, of which S0 is the lowest bit.
     pub fn status(&self) -> u16
         ensures value { result ≡ self.now.status }
         ensures bound { result < 2 ^ 14 }
@@ -184,7 +184,7 @@ impl Cpu {
         self.status.bits()
     }
 
-    /// The pointer P, a place from 0 to 13.
+    /// Returns the place, 0 to 13, that the pointer P names.
     pub fn p(&self) -> usize
         ensures value { result ≡ self.now.p }
         ensures bound { result < 14 }
@@ -192,7 +192,7 @@ impl Cpu {
         self.p
     }
 
-    /// The pointer Q, a place from 0 to 13.
+    /// Returns the place, 0 to 13, that the pointer Q names.
     pub fn q(&self) -> usize
         ensures value { result ≡ self.now.q }
         ensures bound { result < 14 }
@@ -200,42 +200,42 @@ impl Cpu {
         self.q
     }
 
-    /// Which of the pointers is active.
+    /// Returns the active pointer.
     pub fn active(&self) -> Pointer
         ensures { result ≡ self.now.active }
     {
         self.active
     }
 
-    /// The address of the next word.
+    /// Returns the address of the next word.
     pub fn pc(&self) -> u16
         ensures { result ≡ self.now.pc }
     {
         self.pc
     }
 
-    /// The four return addresses, the newest first; 0000 stands where there is none.
+    /// Returns the four return addresses, the newest first. A missing address is 0000.
     pub fn returns(&self) -> [u16; RETURNS]
         ensures { result ≡ self.now.returns }
     {
         self.returns
     }
 
-    /// The carry.
+    /// Returns the carry.
     pub fn carry(&self) -> bool
         ensures { result ≡ self.now.carry }
     {
         self.carry
     }
 
-    /// The base that arithmetic words count in.
+    /// Returns the base in which arithmetic words compute.
     pub fn base(&self) -> Base
         ensures { result ≡ self.now.base }
     {
         self.base
     }
 
-    /// The address that is selected in RAM, of ten bits.
+    /// Returns the selected address of the memory, which has ten bits.
     pub fn selected(&self) -> u16
         ensures value { result ≡ self.now.selected }
         ensures bound { result < 2 ^ 10 }
@@ -243,7 +243,7 @@ impl Cpu {
         self.selected
     }
 
-    /// The display bit: whether the display is on.
+    /// Returns whether the display is on.
     pub fn display(&self) -> bool
         ensures { result ≡ self.now.display }
     {

@@ -30,9 +30,11 @@ mod memory;
 mod peripherals;
 mod rom;
 
-/// Carries out the word at the processor's address. It is refused by the first of these, and changes nothing then: the
-/// fetch of the word (8, 9); the word itself (6, 7, 10, 11); the fetch of a second word (8, 9); a read or write of a page
-/// (8, 12); an arrival in pages 0 to 3 other than at 00F0 (8). The order is this project's choice; after FFFF comes 0000.
+/// Executes the word at the processor's address. The first of these errors is returned, and then nothing changes: of the fetch of
+/// the word, SystemRom (08) or EmptyPage (09); of the word itself, UndefinedWord (06), WordNotInProfile (07), PeripheralNotHeld
+/// (10) or Asleep (11); of the fetch of a second word, SystemRom (08) or EmptyPage (09); of a read or write of a page, SystemRom
+/// (08) or ReadOnly (12); of the next address, SystemRom (08) if it is in pages 0 to 3 and not 00F0. The order is this project's
+/// choice. The address after FFFF is 0000.
 #[inline(always)]
 pub fn step<const REGS: usize>(
     cpu: &mut Cpu,
@@ -50,7 +52,8 @@ pub fn step<const REGS: usize>(
     Ok(())
 }
 
-/// The same, and tells whether it arrives at 00F0, where a function ends. That is asked of words alone that jump or return.
+/// Executes the word at the processor's address, and returns whether the next address is 00F0, at which a function ends. Only words
+/// that jump or return check this. The errors are those of `step`.
 #[inline(always)]
 pub fn step_to_end<const REGS: usize>(
     cpu: &mut Cpu,
@@ -69,8 +72,8 @@ pub fn step_to_end<const REGS: usize>(
     execute_row(word, row(word), cpu, ram, pages, keys)
 }
 
-/// Carries out a word, in a page that may be plugged, by its row of the table of words. Tells whether a function ends where it arrives:
-/// a word that jumps or returns finds that as it goes, and each other one goes on behind itself, where none ends.
+/// Executes a word, in a page that can be plugged, by its row of the table of words. Returns whether a function ends at the next
+/// address: a word that jumps or returns determines this as it jumps; after every other word, no function ends.
 #[inline(always)]
 fn execute_row<const REGS: usize>(
     word: Word,
@@ -106,7 +109,7 @@ fn execute_row<const REGS: usize>(
     }
 }
 
-/// Carries out a word that neither jumps nor returns, and so arrives where no function ends.
+/// Executes a word that neither jumps nor returns. No function ends at its next address.
 #[inline(always)]
 fn execute_straight<const REGS: usize>(
     word: Word,
@@ -157,7 +160,7 @@ fn execute_straight<const REGS: usize>(
     }
 }
 
-/// Carries out a word that is about the processor alone, and the keyboard: it goes on with the word behind it.
+/// Executes a word that only uses the processor and the keyboard, and continues with the word after it.
 #[inline(always)]
 fn execute_within(row: Row, cpu: &mut Cpu, keys: Keys) -> Result<(), WordRefusal>
     requires held { first_address ≤ cpu.old.pc }
@@ -179,7 +182,7 @@ fn execute_within(row: Row, cpu: &mut Cpu, keys: Keys) -> Result<(), WordRefusal
     }
 }
 
-/// Changes registers of the processor as a word says that is about these alone, and no test.
+/// Changes the registers of the processor as a word says that only uses these, and that is not a test.
 #[inline(always)]
 fn change(row: Row, cpu: &mut Cpu, keys: Keys)
     requires within { is_within row ≡ true }
@@ -213,8 +216,8 @@ fn change(row: Row, cpu: &mut Cpu, keys: Keys)
     }
 }
 
-/// `ENBANK1` to `ENBANK4`: chooses the bank that the word names. Its machine code stands apart and asks the word for the bank, so that
-/// these words have one way, and the words beside them in the table a shorter one.
+/// `ENBANK1` to `ENBANK4`: activates the bank that the word names. It is a cold function of its own that determines the bank from
+/// the word, so that all these words have one path, and other words a shorter one.
 #[cold]
 #[inline(never)]
 fn enable_bank(pages: &mut Pages, page: u8, word: Word)

@@ -5,7 +5,7 @@ ghost use Rattle.std.specs.Prelude.{⊤, ◌≡◌, ◌^◌, ◌<◌, [], ◌∷
 use bitflags::{Flag, Flags, bitflag_items};
 use h41_words::StatusBit;
 
-/// The status bits that are set, S0 to S13.
+/// The status bits that are set, of S0 to S13.
 #[derive(Clone, Copy, PartialEq, Eq, Debug)]
 pub struct StatusBits(u16);
 
@@ -53,7 +53,7 @@ impl Flags for StatusBits {
     }
 }
 
-/// The one status bit that a word names.
+/// Returns the set of the one status bit that a word names.
 pub fn named(bit: StatusBit) -> StatusBits
     ensures weight { result.0 ≡ 2 ^ bit }
     ensures bound { result.0 < 2 ^ 14 }

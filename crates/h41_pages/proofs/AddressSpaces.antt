@@ -1,4 +1,4 @@
--- The words of all banks follow what is plugged, unplugged and written.
+-- The list of the words of all banks changes with what is plugged, unplugged and written.
 use Rattle.std.proofs.Common.{◌≡◌, ◌≢◌, ◌⊎◌, ℕ, ◌+◌, ◌-◌, ◌*◌, ◌<◌, ◌≤◌, Bool, true, false, if◌then◌else◌, List, [], Option, Some, None}
 use Rattle.std.proofs.Common.{◌++◌, take, drop, length, replicate, arith, refl, sym, ap, ◌∙◌, inl, inr, get_or-set_other, length-set}
 use Rattle.std.proofs.Common.{slice_set, slice_index_or}
@@ -23,7 +23,7 @@ use Rattle.h41_pages.proofs.PageMaps.{none_plugged, none_held, none_is_page_map,
 use Rattle.h41_pages.proofs.PageMaps.{page_changed, image_changed, choice_changed, choices_cleared, word_changed}
 use Rattle.h41_pages.proofs.WrittenWords.{pluggable, image_size, outside_system, other_word, word_fetched}
 
--- numbers that an empty list was filled up with
+-- Numbers that an empty list was filled up with.
 pub filled : (items : List ℕ) (spare count number : ℕ) → items ≡ [] → spare ≡ 0
     → take count items ++ replicate (count - spare) number ≡ replicate count number
 filled items spare count number none short =
@@ -31,7 +31,7 @@ filled items spare count number none short =
     ∙ ap (λ list. list ++ replicate (count - spare) number) (take-nil count)
     ∙ ap (λ n. replicate n number) (omega (arith, short))
 
--- where the word at an address of a bank stands
+-- The position of the word at an address of a bank.
 page_is : (bank : Bank) (address : ℕ) → address < address_count → page_of (word_place bank address) ≡ page_place bank (page_of address)
 page_is bank address below = omega (arith, below)
 
@@ -41,7 +41,7 @@ offset_is bank address = omega arith
 inside : (bank : Bank) (page : ℕ) → page < page_count → page_place bank page < 64
 inside bank page below = omega (arith, below, bank_below bank)
 
--- at such a place of a page the page's own numbers stand
+-- At such a position, a page's own numbers are read.
 pub read_in_page : (numbers words : List ℕ) (page place : ℕ) → length numbers ≡ space_size → length words ≡ page_size
     → page < 64 → page_of place ≡ page
     → slice_index_or (with_page numbers page words) place 0 ≡ slice_index_or words (offset_of place) 0
@@ -54,7 +54,7 @@ read_in_page numbers words page place whole size below here =
     ∙ get_or_append_left words (drop (start + page_size) numbers) 0 (place - start) inside
     ∙ ap (λ at. slice_index_or words at 0) same
 
--- and elsewhere those of before
+-- Elsewhere, the earlier numbers are read.
 outside : (numbers words : List ℕ) (page place : ℕ) → length numbers ≡ space_size → length words ≡ page_size → page < 64
     → page_of place ≢ page → (place < page * page_size) ⊎ (page * page_size ≤ place)
     → slice_index_or (with_page numbers page words) place 0 ≡ slice_index_or numbers place 0
@@ -84,7 +84,7 @@ pub read_elsewhere : (numbers words : List ℕ) (page place : ℕ) → length nu
 read_elsewhere numbers words page place whole size below apart =
     outside numbers words page place whole size below apart (cases_lt place (page * page_size))
 
--- the numbers are as many as before
+-- The numbers are as many as before.
 pub count_with_page : (numbers words : List ℕ) (page : ℕ) → length numbers ≡ space_size → length words ≡ page_size → page < 64
     → length (with_page numbers page words) ≡ space_size
 count_with_page numbers words page whole size below =
@@ -96,7 +96,7 @@ count_with_page numbers words page whole size below =
     ∙ ap (λ n. length (take start numbers) + n) (length-append words (drop (start + page_size) numbers))
     ∙ omega (arith, front, size, rest, below)
 
--- the number at an address without an image, and with one outside the system's pages
+-- The number at an address without an image, and with one outside the system's pages.
 nothing_there : (address : ℕ) (image : Option PageImage) → image ≡ None → number_of (fetched_from address image) ≡ nothing
 nothing_there address image none = ap (λ i. number_of (fetched_from address i)) none ∙ either (is_system address)
   where
@@ -111,7 +111,7 @@ word_there address image words writable held some =
     ap (λ system. number_of (if system then Err (SystemRom address) else word_in address image)) held
     ∙ ap (λ i. number_of (word_in address i)) some
 
--- with nothing plugged nothing stands anywhere
+-- With nothing plugged, there are no words.
 pub space_at_start : IsSpaceOf no_pages empty_space
 space_at_start bank address below =
     get_or-replicate space_size (word_place bank address) nothing 0 (omega (arith, below, bank_below bank))
@@ -122,7 +122,7 @@ space_at_start bank address below =
         ap (λ banks. slice_index_or banks (bank_place bank) None) (get_or-replicate page_count page no_banks [] below)
         ∙ none_plugged (bank_place bank)
 
--- with words plugged at a page's bank
+-- With words plugged at a page's bank.
 plugged_at : (pages : PageMap) (numbers : List ℕ) (page number : ℕ) (writable : Bool) (words : List ℕ) (bank : Bank) (address : ℕ)
     → IsPages pages numbers → length words ≡ page_size → first_page ≤ page → page ≤ last_page → address < address_count
     → (page_place bank (page_of address) ≡ page_place (bank_numbered number) page)
@@ -162,7 +162,7 @@ space_plugged pages numbers page number writable words is none bank address belo
     plugged_at pages numbers page number writable words bank address is (image_size words held.words) inside.0 inside.1 below
     (cases_eq (page_place bank (page_of address)) (page_place (bank_numbered number) page))
 
--- with no words at a page's bank: none stands there, and where none stood is still none
+-- With the words of a bank of a page removed: there are none in it, and where there was none, there still is none.
 own_emptied : (numbers : List ℕ) (cleared bank : Bank) (page address : ℕ) → length numbers ≡ space_size → page < page_count
     → address < address_count → page_of address ≡ page → bank_place bank ≡ bank_place cleared
     → slice_index (without_bank numbers cleared page) (word_place bank address) ≡ nothing
@@ -193,7 +193,7 @@ count_emptied numbers cleared page whole below =
     count_with_page numbers (replicate page_size nothing) (page_place cleared page) whole (length-replicate page_size nothing)
     (inside cleared page below)
 
--- with a page unplugged
+-- With a page unplugged.
 module _ (numbers : List ℕ) (page : ℕ) (whole : length numbers ≡ space_size) (below : page < page_count) where
   abbrev one : List ℕ
   one = without_bank numbers First page
@@ -258,7 +258,7 @@ unplugged_at pages numbers page bank address is below in_space (inr apart) =
     ∙ is.space bank address in_space
     ∙ sym (ap (λ image. number_of (fetched_from address image)) (unplugging_keeps pages page (page_of address) bank apart))
 
--- with a word written
+-- With a word written.
 module _ (pages : PageMap) (numbers : List ℕ) (target word : ℕ) (is : IsPages pages numbers) (in_space : target < address_count) where
   abbrev chosen : Bank
   chosen = chosen_at pages (page_of target)
@@ -320,7 +320,7 @@ module _ (pages : PageMap) (numbers : List ℕ) (target word : ℕ) (is : IsPage
       ∙ is.space bank address below
       ∙ sym (same_place bank address apart (cases_eq (page_of address) (page_of target)) (cases_eq (bank_place bank) (bank_place chosen)))
 
--- so each change leaves pages and their words as they are at any time
+-- So each change leaves pages and their words as they are at any time.
 pub pages_at_start : IsPages no_pages empty_space
 pages_at_start = record { map = none_is_page_map; size = length-replicate space_size nothing; space = space_at_start }
 
@@ -350,7 +350,7 @@ pages_unplugged pages numbers page is below =
           unplugged_at pages numbers page bank address is below in_space (cases_eq (page_of address) page);
     }
 
--- what is chosen changes no word
+-- Activating a bank changes no word.
 pub pages_chosen : (pages : PageMap) (numbers : List ℕ) (page : ℕ) (bank : Bank) → IsPages pages numbers
     → IsPages (record pages { chosen = slice_set pages.chosen page bank }) numbers
 pages_chosen pages numbers page bank is =
@@ -371,7 +371,7 @@ pages_written pages numbers address word is below small none =
           written_at pages numbers address word is below bank other none in_space (cases_eq (word_place bank other) place);
     }
 
--- what a fetch reads
+-- The number that a fetch reads.
 pub number_fetched : (pages : PageMap) (numbers : List ℕ) (address : ℕ) → IsPages pages numbers → address < address_count
     → slice_index numbers (word_place (chosen_at pages (page_of address)) address) ≡ number_of (fetched pages address)
 unfolding fetched

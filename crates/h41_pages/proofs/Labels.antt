@@ -1,4 +1,4 @@
--- Keystroke code begins with a label just where its name says so.
+-- Keystroke code begins with a label exactly if its bytes say so.
 use Rattle.std.proofs.Common.{◌≡◌, ℕ, suc, zero, ◌+◌, ◌-◌, ◌*◌, ◌<◌, ◌≤◌, ◌↔◌, Bool, true, false, List, [], ◌∷◌, ◌++◌, map}
 use Rattle.std.proofs.Common.{length, take, drop, Option, Some, None, Result, Ok, Err, refl, sym, ◌∙◌, ap, subst, arith, length-append}
 use Rattle.std.proofs.Common.{length-take-le, take-append-drop}
@@ -12,19 +12,19 @@ use Rattle.h41_pages.specs.FunctionLaws.{BeginsLabel}
 use Rattle.h41_pages.specs.KeystrokeCode.{code_byte, is_label, label_name}
 use Rattle.h41_pages.specs.private.Labels.{name_of}
 
--- the bytes of words are bytes, and so are the first of them
+-- The bytes of words are bytes, and so are the first of them.
 are_bytes : (words : List ℕ) (count : ℕ) → IsBytes (take count (map code_byte words))
 are_bytes words zero index inside = absurd (omega (arith, inside))
 are_bytes [] (suc count) index inside = absurd (omega (arith, inside))
 are_bytes (word ∷ words) (suc count) zero inside = omega arith
 are_bytes (word ∷ words) (suc count) (suc index) inside = are_bytes words count index (omega (arith, inside))
 
--- a test that passes has what is behind it
+-- A test that passes has the tested value.
 taken : (b : Bool) (name own : List ℕ) → then_some b own ≡ Some name → (b ≡ true) × (own ≡ name)
 taken true name own same = (refl, cc)
 taken false name own same = cc
 
--- the four bytes in front of a name, and the name
+-- The four bytes before a name, and the name.
 front : (first second third key : ℕ) (behind : List ℕ) (n : ℕ) → n ≤ length behind
     → take (4 + n) (first ∷ second ∷ third ∷ key ∷ behind) ≡ first ∷ second ∷ third ∷ key ∷ take n behind
 front first second third key behind n inside = let e : 4 + n ≡ suc (suc (suc (suc n))) = omega arith in rw e refl
@@ -67,7 +67,7 @@ has_label (a ∷ b ∷ c ∷ d ∷ words) name same =
     begins (code_byte a) (code_byte b) third (code_byte d) behind name (omega arith) (omega arith) (omega arith) is.0 is.1
     (subst (λ (own : List ℕ). IsBytes own) is.1 (are_bytes words (third - 0xF1)))
 
--- bytes that begin with a label have its name
+-- Bytes that begin with a label have its name.
 spelled : (link key : ℕ) (name rest : List ℕ) → link < 3584 → label_name (spelling (GlobalLabel link key name) ++ rest) ≡ Some name
 spelled link key name rest fits =
     let is : is_label (link_high link) (0xF1 + length name) (name ++ rest) ≡ true =
@@ -80,7 +80,7 @@ label_has bytes name (link, key, count, label) =
     ap label_name (sym (take-append-drop count bytes) ∙ ap (λ line. line ++ drop count bytes) label.spells.same)
     ∙ spelled link key name (drop count bytes) label.spells.valid.0
 
--- the name of a line that was read
+-- The name of a line that was read.
 abbrev pub name_read : {E : Type 0} → Result (Line × ℕ) E → Option (List ℕ)
 name_read (Ok found) = name_of found.0
 name_read (Err fault) = None
@@ -93,7 +93,7 @@ none_read : (line : Line) (own : Option (List ℕ)) → name_of line ≡ own →
 none_read line None same none = same
 none_read line (Some name) same none = absurd (none name refl)
 
--- it is that of the code
+-- It is that of the code.
 named : {E : Type 0} (words : List ℕ) (result : Result (Line × ℕ) E)
     → ((line : Line) (count : ℕ) → (result ≡ Ok (line, count)) ↔ Begins (map code_byte words) line count)
     → (own : Option (List ℕ)) → label_name (map code_byte words) ≡ own → name_read result ≡ own

@@ -3,7 +3,7 @@ use Rattle.std.proofs.Common.{◌≡◌, ℕ, true, false, List, [], ◌∷◌, 
 use Rattle.std.specs.Option.{option_map}
 use Rattle.h41_pages.specs.FunctionTables.{character, is_last, spelled_name}
 
--- the characters read, and what the words that are left spell
+-- The characters read so far, and the name that the remaining words spell.
 abbrev pub going_on : List ℕ → List ℕ → Option (List ℕ)
 going_on name words = option_map (λ rest. name ++ rest) (spelled_name words)
 

@@ -13,7 +13,7 @@ use Rattle.h41_pages.specs.PageMap.{PageMap, PageImage, IsPageMap, banks_at, cho
 use Rattle.h41_pages.specs.PageMap.{word_in, image_at, with_image, no_banks, written}
 use Rattle.h41_pages.specs.declared.refusal.FetchRefusal.TheVariants.{SystemRom}
 
--- a fetch looks at nothing but the banks of its page and the one that is chosen
+-- A fetch depends only on the banks of its page and on its active bank.
 pub same_fetch : (pages others : PageMap) (address : ℕ) → banks_at pages (page_of address) ≡ banks_at others (page_of address)
     → chosen_at pages (page_of address) ≡ chosen_at others (page_of address) → fetched pages address ≡ fetched others address
 unfolding fetched
@@ -22,7 +22,7 @@ same_fetch pages others address banks chosen =
     (ap (λ all. slice_index_or all (bank_place (chosen_at pages (page_of address))) None) banks
     ∙ ap (λ bank. slice_index_or (banks_at others (page_of address)) (bank_place bank) None) chosen)
 
--- another page's banks
+-- Another page's banks.
 pub other_banks : (images : List (List (Option PageImage))) (banks : List (Option PageImage)) (page other : ℕ) → other ≢ page
     → slice_index_or (slice_set images page banks) other [] ≡ slice_index_or images other []
 other_banks images banks page other different = rw get_or-set_other refl
@@ -31,7 +31,7 @@ pub other_chosen : (chosen : List Bank) (bank : Bank) (page other : ℕ) → oth
     → slice_index_or (slice_set chosen page bank) other First ≡ slice_index_or chosen other First
 other_chosen chosen bank page other different = rw get_or-set_other refl
 
--- a page's own banks
+-- A page's own banks.
 pub own_banks : (images : List (List (Option PageImage))) (banks : List (Option PageImage)) (page : ℕ) → page < length images
     → slice_index_or (slice_set images page banks) page [] ≡ banks
 own_banks images banks page below = rw get_or-set_same refl
@@ -46,7 +46,7 @@ bank_below Second = omega arith
 bank_below Third = omega arith
 bank_below Fourth = omega arith
 
--- a fetch in a page that may be plugged is of its chosen image
+-- A fetch in a page that can be plugged is from its active image.
 pub fetch_at : (pages : PageMap) (page offset : ℕ) (image : Option PageImage) → first_page ≤ page → offset < page_size
     → chosen_image pages page ≡ image → fetched pages (address_in page offset) ≡ word_in (address_in page offset) image
 unfolding fetched
@@ -61,7 +61,7 @@ fetch_at pages page offset image first below here =
 pub offset_in : (page offset : ℕ) → offset < page_size → offset_of (address_in page offset) ≡ offset
 offset_in page offset below = omega arith
 
--- a bank is known by its place
+-- A bank is determined by its index.
 same_bank : (bank other : Bank) → bank_place bank ≡ bank_place other → bank ≡ other
 same_bank bank other same = sym (numbered bank) ∙ ap (λ place. bank_numbered (place + 1)) same ∙ numbered other
   where
@@ -71,7 +71,7 @@ same_bank bank other same = sym (numbered bank) ∙ ap (λ place. bank_numbered 
     numbered Third = refl
     numbered Fourth = refl
 
--- among pages of which one has another image at a bank: that image, and each other one
+-- The images of pages of which one has another image at a bank: that image, and every other one.
 pub own_changed : (pages : PageMap) (page : ℕ) (bank other : Bank) (image : Option PageImage) → IsPageMap pages → page < page_count
     → bank_place other ≡ bank_place bank → image_at (with_image pages page bank image) page other ≡ image
 own_changed pages page bank other image is below same =
@@ -117,7 +117,7 @@ by_bank : (page other : ℕ) (bank at : Bank) → (other ≢ page) ⊎ (at ≢ b
 by_bank page other bank at (inl different) = inl different
 by_bank page other bank at (inr different) = inr (λ same. different (same_bank at bank same))
 
--- so each call keeps the banks that it does not name
+-- So each call keeps the banks that it does not name.
 pub plugging_keeps : PluggingKeepsOtherBanks
 plugging_keeps pages page number writable words other bank apart =
     others_changed pages page other (bank_numbered number) bank _ (by_bank page other (bank_numbered number) bank apart)

@@ -19,11 +19,11 @@ use Rattle.h41_pages.specs.PageMap.{with_image, with_page_image, with_word, writ
 use Rattle.h41_pages.specs.declared.refusal.PlugRefusal.TheVariants as plugs
 use Rattle.h41_pages.proofs.OtherPages.{other_banks, own_banks, own_image, bank_below}
 
--- each image among the banks of a page is one that is held there
+-- Each image among the banks of a page is supported there.
 abbrev pub HoldsImages : ℕ → List (Option PageImage) → Type 0
 HoldsImages page banks = (place : ℕ) → IfSome (slice_index_or banks place None) (IsHeldImage page place)
 
--- among banks of which one is changed
+-- Among banks of which one is changed.
 other_image : (banks : List (Option PageImage)) (image : Option PageImage) (place other : ℕ) → other ≢ place
     → slice_index_or (slice_set banks place image) other None ≡ slice_index_or banks other None
 other_image banks image place other different = rw get_or-set_other refl
@@ -41,7 +41,7 @@ pub bank_changed : (page : ℕ) (banks : List (Option PageImage)) (image : Optio
     → HoldsImages page banks → IfSome image (IsHeldImage page place) → HoldsImages page (slice_set banks place image)
 bank_changed page banks image place below each held = λ at. image_held page banks image place at below each held (cases_eq at place)
 
--- among pages of which one has other banks
+-- Among pages of which one has other banks.
 banks_sized : (pages : PageMap) (banks : List (Option PageImage)) (page other : ℕ) → IsPageMap pages → page < 16 → length banks ≡ 4
     → other < 16 → (other ≡ page) ⊎ (other ≢ page) → length (slice_index_or (slice_set pages.images page banks) other []) ≡ 4
 banks_sized pages banks page other is below size inside (inl same) =
@@ -58,7 +58,7 @@ banks_held pages banks page other is below each (inl same) =
 banks_held pages banks page other is below each (inr apart) =
     subst (HoldsImages other) (sym (other_banks pages.images banks page other apart)) (is.each other)
 
--- pages with other banks at a page
+-- Pages with other banks at a page.
 pub page_changed : (pages : PageMap) (page : ℕ) (banks : List (Option PageImage)) → IsPageMap pages → page < 16 → length banks ≡ 4
     → HoldsImages page banks → IsPageMap (record pages { images = slice_set pages.images page banks })
 page_changed pages page banks is below size each = record {
@@ -68,7 +68,7 @@ page_changed pages page banks is below size each = record {
   each = λ other. banks_held pages banks page other is below each (cases_eq other page);
 }
 
--- pages with another image at a page's bank
+-- Pages with another image at a page's bank.
 pub image_changed : (pages : PageMap) (page place : ℕ) (image : Option PageImage) → IsPageMap pages → page < 16 → place < 4
     → IfSome image (IsHeldImage page place)
     → IsPageMap (record pages { images = slice_set pages.images page (slice_set (banks_at pages page) place image) })
@@ -78,7 +78,7 @@ image_changed pages page place image is below inside held =
     (length-set (banks_at pages page) place image ∙ size)
     (bank_changed page (banks_at pages page) image place (omega (arith, size, inside)) (is.each page) held)
 
--- nothing is plugged in empty banks
+-- Nothing is plugged in empty banks.
 pub none_plugged : (place : ℕ) → slice_index_or no_banks place None ≡ None
 none_plugged zero = refl
 none_plugged (suc zero) = refl
@@ -89,7 +89,7 @@ none_plugged (suc (suc (suc (suc place)))) = refl
 pub none_held : (page : ℕ) → HoldsImages page no_banks
 none_held page place = subst (λ i. IfSome i (IsHeldImage page place)) (sym (none_plugged place)) tt
 
--- pages with a bank chosen at one of them, and with the first at all
+-- Pages with another active bank at one of them, and with bank 1 active everywhere.
 pub choice_changed : (pages : PageMap) (page : ℕ) (bank : Bank) → IsPageMap pages
     → IsPageMap (record pages { chosen = slice_set pages.chosen page bank })
 choice_changed pages page bank is = record {
@@ -102,7 +102,7 @@ choice_changed pages page bank is = record {
 pub choices_cleared : (pages : PageMap) → IsPageMap pages → IsPageMap (record pages { chosen = replicate 16 First })
 choices_cleared pages is = record { images = is.images; banks = is.banks; chosen = refl; each = is.each }
 
--- a page with nothing plugged, as at the start
+-- A page with nothing plugged, as at the start.
 empty_banks : (page : ℕ) → (page < 16) ⊎ (16 ≤ page) → HoldsImages page (slice_index_or (replicate 16 no_banks) page [])
 empty_banks page (inl below) = subst (HoldsImages page) (sym (get_or-replicate 16 page no_banks [] below)) (none_held page)
 empty_banks page (inr above) = subst (HoldsImages page) (sym (get_or-eq_default (replicate 16 no_banks) [] above)) (λ place. tt)
@@ -115,7 +115,7 @@ none_is_page_map = record {
   each = λ page. empty_banks page (cases_lt page 16);
 }
 
--- words of which one is changed are still those of an image
+-- Words of which one is changed are still those of an image.
 fits_set : (fits : ℕ → Bool) (words : List ℕ) (offset word : ℕ) → list_all fits words ≡ true → fits word ≡ true
     → list_all fits (slice_set words offset word) ≡ true
 fits_set fits [] offset word all fit = refl
@@ -130,7 +130,7 @@ image_rewritten words offset word image small =
     let both = and_parts (length words == page_size) (list_all _ words) image in
     rw (length-set words offset word, both.0) (fits_set _ words offset word both.1 (grind arith))
 
--- words that are plugged are an image that is held
+-- Words that are plugged are a supported image.
 none_of_both : {A : Type 0} (first second : Option A) → option_or first second ≡ None → (first ≡ None) × (second ≡ None)
 none_of_both None second none = (refl, none)
 none_of_both (Some value) second none = absurd (cc)
@@ -168,7 +168,7 @@ plugged_held pages page number writable words none =
       words = unless (is_image words) plugs.BadImage second.1;
     }
 
--- a word of an image is changed where it stands, as the code reaches it
+-- A word of an image is changed at its place, as the code accesses it.
 pub image_held_with : (page place : ℕ) (image : PageImage) (offset word : ℕ) → IsHeldImage page place image → word < 0x400
     → IsHeldImage page place (record image { words = slice_set image.words offset word })
 image_held_with page place image offset word held small =
@@ -179,7 +179,7 @@ pub row_is : (images : List (List (Option PageImage))) (chosen : List Bank) (pag
     → row ≡ slice_index_or images page []
 row_is images chosen page row d is below read = read ∙ get_or_default images page d [] (omega (arith, is.images, below))
 
--- words plugged, as the code reaches their place
+-- Words are plugged, as the code accesses their place.
 pub plugged_as : (images : List (List (Option PageImage))) (chosen : List Bank) (page number : ℕ)
     (writable : Bool) (words : List ℕ) (from place : ℕ) (row : List (Option PageImage)) (image : PageImage)
     → from ≡ page → row ≡ slice_index_or images from [] → place ≡ bank_place (bank_numbered number)
@@ -197,7 +197,7 @@ plugged_as images chosen page number writable words from place row image at read
     })
     made
 
--- the image of the chosen bank, as the code reaches it to write in it
+-- The image of the active bank, as the code accesses it to write in it.
 pub record Reached (pages : PageMap) (address from place : ℕ) (bank : Bank) (row : List (Option PageImage)) (image : Option PageImage)
     : Type 0 where
   pub at : from ≡ page_of address
@@ -237,14 +237,14 @@ module _ {pages : PageMap} {address from place : ℕ} {bank : Bank} {row : List 
       ap (λ r. slice_index_or r (bank_place (chosen_at pages (page_of address))) None) (sym row_as)
       ∙ ap (λ k. slice_index_or row k None) (sym place_as) ∙ there.found
 
-  -- whether it is written
+  -- Whether it is written.
   pub refused_as : (writable : Bool) → writable ≡ is_writable image
       → then_some (not writable) (record { address = address }) ≡ write_refusal pages address
   refused_as writable is =
       ap (λ w. then_some (not w) (record { address = address })) is
       ∙ ap (λ i. then_some (not (is_writable i)) (record { address = address })) (sym chosen_as)
 
-  -- with the word written, and as it was
+  -- With the word written, and as it was.
   pub written_as : (word : ℕ) (made : Option PageImage) → made ≡ option_map (with_word (offset_of address) word) image
       → record pages { images = slice_set pages.images from (slice_set row place made) } ≡ written pages address word
   unfolding written
@@ -263,7 +263,7 @@ module _ {pages : PageMap} {address from place : ℕ} {bank : Bank} {row : List 
       ∙ ap (λ r. record pages { images = slice_set pages.images from r }) (set-get_or row place None ∙ there.read)
       ∙ ap (λ images. record pages { images = images }) (set-get_or pages.images from [])
 
--- the image at a bank with another word
+-- The image at a bank with another word.
 rewritten_held : (page place offset word : ℕ) (image : Option PageImage) → word < 0x400 → IfSome image (IsHeldImage page place)
     → IfSome (option_map (with_word offset word) image) (IsHeldImage page place)
 rewritten_held page place offset word None small held = tt

@@ -1,4 +1,4 @@
--- What is fetched after a page was plugged or unplugged.
+-- The words that are fetched after a page was plugged or unplugged.
 use Rattle.std.proofs.Common.{◌≡◌, ℕ, ◌<◌, List, Option, Some, None, Ok, length, arith, ap, refl, ◌∙◌, slice_set, slice_index_or}
 use Rattle.std.proofs.Common.{slice_index, if◌then◌else◌, is_some, get_or-set_same}
 use Rattle.h41_words.specs.declared.rows.Bank.{Bank}
@@ -28,7 +28,7 @@ others_plugged pages page number writable words address different =
     same_fetch (with_page_image pages page number writable words) pages address
     (other_banks pages.images _ page (page_of address) different) refl
 
--- what is plugged at a bank that is chosen
+-- The words that are plugged at the active bank.
 chosen_now : (pages : PageMap) (page : ℕ) (bank : Bank) (image : PageImage) (plugged : Option PageImage) → IsPageMap pages → page < 16
     → image_at pages page bank ≡ plugged → plugged ≡ Some image → chosen_image (with_chosen pages page bank) page ≡ Some image
 chosen_now pages page bank image plugged whole below here some =

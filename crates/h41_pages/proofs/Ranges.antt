@@ -1,14 +1,14 @@
--- Numbers in a row that a loop takes one at a time: what is left of a list, a search or a test behind the one taken.
+-- Consecutive numbers that a loop uses one at a time: the rest of a list, a search or a test after each number.
 use Rattle.std.proofs.Common.{◌≡◌, ℕ, suc, ◌+◌, ◌-◌, ◌<◌, ◌≤◌, Bool, true, false, List, [], ◌∷◌, ◌++◌, Some, None, cond, arith, ap, ◌∙◌}
 use Rattle.std.proofs.Common.{map}
 use Rattle.std.specs.List.{range_with_len, find, flat_map}
 use Rattle.h41_pages.specs.FunctionTables.{all_pages}
 
--- the numbers from one up to another, without that
+-- The numbers from one up to another, without that.
 unfoldable pub up_to : ℕ → ℕ → List ℕ
 up_to low high = range_with_len low (high - low)
 
--- all of them
+-- All of them.
 pub up_to-zero : (high : ℕ) → range_with_len 0 high ≡ up_to 0 high
 unfolding up_to
 up_to-zero high = let e : high ≡ high - 0 = omega arith in ap (range_with_len 0) e
@@ -17,7 +17,7 @@ pub pages_up_to : all_pages ≡ up_to 0 16
 unfolding all_pages
 pages_up_to = up_to-zero 16
 
--- the first of them, and those behind it
+-- The first number, and the numbers after it.
 pub up_to-step : (low high : ℕ) → low < high → up_to low high ≡ low ∷ up_to (low + 1) high
 unfolding up_to
 up_to-step low high below =
@@ -30,7 +30,7 @@ up_to-none low high above =
     let e : high - low ≡ 0 = omega arith in
     ap (range_with_len low) e
 
--- a list made of them
+-- A list made of them.
 pub map-step : {X : Type 0} → (f : ℕ → X) (low high : ℕ) → low < high → map f (up_to low high) ≡ f low ∷ map f (up_to (low + 1) high)
 map-step f low high below = ap (map f) (up_to-step low high below)
 
@@ -44,7 +44,7 @@ flat_map-step f low high below = ap (flat_map f) (up_to-step low high below)
 pub flat_map-none : {X : Type 0} → (f : ℕ → List X) (low high : ℕ) → high ≤ low → flat_map f (up_to low high) ≡ []
 flat_map-none f low high above = ap (flat_map f) (up_to-none low high above)
 
--- a search among them
+-- A search among them.
 pub find-skips : (p : ℕ → Bool) (low high : ℕ) → low < high → p low ≡ false → find p (up_to low high) ≡ find p (up_to (low + 1) high)
 find-skips p low high below fails =
     ap (find p) (up_to-step low high below) ∙ ap (λ b. cond b (Some low) (find p (up_to (low + 1) high))) fails

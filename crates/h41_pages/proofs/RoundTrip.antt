@@ -3,11 +3,11 @@ use Rattle.std.proofs.Common.{◌≡◌, ℕ, zero, suc, ◌+◌, ◌*◌, ◌/�
 use Rattle.std.specs.List.{range_with_len}
 use Rattle.h41_pages.specs.Images.{image_bytes, word_in_bytes, first_words}
 
--- one list behind a word
+-- A list after a word.
 cons_with : {X : Type 0} {x y : X} {xs ys : List X} → x ≡ y → xs ≡ ys → x ∷ xs ≡ y ∷ ys
 cons_with {x = x} {ys = ys} first others = ap (λ rest. x ∷ rest) others ∙ ap (λ head. head ∷ ys) first
 
--- two bytes more move a word by one
+-- Two bytes more move a word by one.
 place_shifted : (high low : ℕ) (rest : List ℕ) (place other : ℕ) → other ≡ suc (suc place)
     → slice_index (high ∷ low ∷ rest) other ≡ slice_index rest place
 place_shifted high low rest place other same = ap (slice_index (high ∷ low ∷ rest)) same
@@ -25,7 +25,7 @@ words_shifted high low rest from zero = refl
 words_shifted high low rest from (suc count) =
     cons_with (word_shifted high low rest from) (words_shifted high low rest (from + 1) count)
 
--- the bytes of words spell these words
+-- The bytes of words spell these words.
 pub read_back : (words : List ℕ) → first_words (image_bytes words) (length words) ≡ words
 unfolding first_words
 read_back [] = refl

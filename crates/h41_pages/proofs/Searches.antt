@@ -1,4 +1,4 @@
--- A function with a name is searched in a list.
+-- Searches for a function with a name in a list.
 use Rattle.std.proofs.Common.{◌≡◌, ℕ, true, false, List, ◌∷◌, ◌++◌, Option, Some, None, cond, refl, ap, ◌∙◌}
 use Rattle.std.specs.List.{find}
 use Rattle.std.specs.Option.{option_map, option_or}
@@ -16,7 +16,7 @@ map-takes : {X Y : Type 0} (f : X → Y) (y : Y) → (first second : Option X) �
 map-takes f y None second some = cc
 map-takes f y (Some x) second some = some
 
--- in two lists behind each other: in the second where the first has none, else in the first
+-- In two lists, one after the other: the function is in the second if the first has none, otherwise in the first.
 pub found_behind : (name : List ℕ) (first second : List ModuleFunction) → found_in name first ≡ None
     → found_in name (first ++ second) ≡ found_in name second
 found_behind name first second none =
@@ -29,7 +29,7 @@ found_before name numbers first second some =
     ap (option_map numbers_of) (find-append (is_named name) first second)
     ∙ map-takes numbers_of numbers (find (is_named name) first) (find (is_named name) second) some
 
--- in a list with a first function
+-- In a list with a first function.
 pub found_later : (name : List ℕ) (function : ModuleFunction) (others : List ModuleFunction) → is_named name function ≡ false
     → found_in name (function ∷ others) ≡ found_in name others
 found_later name function others fails = ap (λ b. option_map numbers_of (cond b (Some function) (find (is_named name) others))) fails

@@ -1,4 +1,4 @@
--- What is fetched after a word was written.
+-- The words that are fetched after a word was written.
 use Rattle.std.proofs.Common.{◌≡◌, ◌≢◌, ◌⊎◌, ℕ, ◌+◌, ◌<◌, ◌≤◌, Bool, true, false, not, List, Option, Some, None, Ok, Err, if◌then◌else◌}
 use Rattle.std.proofs.Common.{length, arith, refl, sym, ap, subst, ◌∙◌, inl, inr, get_or-set_same, get_or-set_other, slice_set, slice_index}
 use Rattle.std.proofs.Common.{slice_index_or}
@@ -16,7 +16,7 @@ use Rattle.h41_pages.specs.declared.refusal.FetchRefusal.TheVariants.{SystemRom}
 use Rattle.h41_pages.specs.declared.refusal.ReadOnly.{ReadOnly}
 use Rattle.h41_pages.proofs.OtherPages.{same_fetch, other_banks, own_banks, own_image, bank_below}
 
--- the image that is chosen is one that is held
+-- The image of the active bank is supported.
 chosen_held : (pages : PageMap) (page : ℕ) (image : PageImage) → IsPageMap pages → chosen_image pages page ≡ Some image
     → IsHeldImage page (bank_place (chosen_at pages page)) image
 chosen_held pages page image is here =
@@ -36,7 +36,7 @@ pluggable page place held =
 pub image_size : (words : List ℕ) → is_image words ≡ true → length words ≡ page_size
 image_size words image = eqb-true (length words) page_size (and_parts (length words == page_size) (list_all _ words) image).0
 
--- the image that is chosen behind a write
+-- The image of the active bank after a write.
 chosen_after : (pages : PageMap) (address word : ℕ) → IsPageMap pages → page_of address < 16
     → chosen_image (written pages address word) (page_of address)
     ≡ option_map (with_word (offset_of address) word) (chosen_image pages (page_of address))
@@ -50,7 +50,7 @@ chosen_after pages address word is below =
     (own_banks pages.images (slice_set (banks_at pages page) place image) page (omega (arith, is.images, below)))
     ∙ own_image (banks_at pages page) image place (omega (arith, size, bank_below (chosen_at pages page)))
 
--- a fetch outside the system's pages
+-- A fetch outside the system's pages.
 fetched_in : (pages : PageMap) (address : ℕ) (image : Option PageImage) → is_system address ≡ false
     → chosen_image pages (page_of address) ≡ image → fetched pages address ≡ word_in address image
 unfolding fetched
@@ -84,7 +84,7 @@ word_fetched pages address word is accepted =
     of_image pages address word (chosen_image pages (page_of address)) is refl
     (accepted_writable (is_writable (chosen_image pages (page_of address))) (record { address = address }) accepted)
 
--- another word of an image of which one was written
+-- Another word of an image of which one was written.
 pub other_word : (address offset word : ℕ) (image : Option PageImage) → offset_of address ≢ offset
     → word_in address (option_map (with_word offset word) image) ≡ word_in address image
 other_word address offset word None apart = refl

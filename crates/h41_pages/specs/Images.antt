@@ -1,4 +1,5 @@
--- Images as bytes: two bytes a word, the high byte first, the words in the order of their offsets.
+-- Images as bytes: two bytes for each word, the high byte first, in the order of the words'
+-- offsets.
 use Rattle.std.specs.Prelude.{◌≡◌, ◌⊎◌, ℕ, ◌+◌, ◌*◌, ◌/◌, ◌%◌, Bool, not, ◌&&◌, List, [], ◌∷◌, map}
 use Rattle.std.specs.Prelude.{length, slice_index, is_none, nat_le, ◌==◌, Option, Some, None}
 use Rattle.std.specs.Prelude.{IfSome}
@@ -12,68 +13,70 @@ use Rattle.h41_pages.specs.declared.refusal.ReadRefusal.TheVariants as reads
 use Rattle.h41_pages.specs.declared.refusal.ImageRefusal as image
 use Rattle.h41_pages.specs.declared.refusal.ImageRefusal.TheVariants as images
 
--- the two bytes of a word
+-- The two bytes of a word.
 abbrev pub word_bytes : ℕ → List ℕ
 word_bytes word = word / 256 ∷ word % 256 ∷ []
 
--- the bytes of these words
+-- The bytes of words.
 abbrev pub image_bytes : List ℕ → List ℕ
 image_bytes words = flat_map word_bytes words
 
--- how many bytes an image has
+-- The number of bytes of an image.
 abbrev pub image_size : ℕ
 image_size = 2 * page_size
 
--- the word that two bytes spell, from a place on
+-- The word that two bytes form, from a position on.
 abbrev pub word_from : List ℕ → ℕ → ℕ
 word_from bytes place = slice_index bytes place * 256 + slice_index bytes (place + 1)
 
--- the word at an offset stands at twice its place
+-- The word at an offset is at twice this position.
 abbrev pub word_in_bytes : List ℕ → ℕ → ℕ
 word_in_bytes bytes offset = word_from bytes (2 * offset)
 
--- so many words that bytes spell from the first on
+-- The first words that bytes form.
 unfoldable pub first_words : List ℕ → ℕ → List ℕ
 first_words bytes count = map (word_in_bytes bytes) (range_with_len 0 count)
 
--- the words of an image of these bytes
+-- The words of an image with these bytes.
 abbrev pub words_in : List ℕ → List ℕ
 words_in bytes = first_words bytes page_size
 
--- whether a number is a word's: up to 3FF
+-- Whether a number is that of a word: up to 3FF.
 abbrev pub is_word : ℕ → Bool
 is_word number = nat_le number last_word
 
--- whether bytes are those of an image: 8,192 of them, and no word above 3FF
+-- Whether no word of an image is above 3FF.
 abbrev pub all_fit : List ℕ → Bool
 all_fit bytes = list_all is_word (words_in bytes)
 
+-- Whether bytes are those of an image: 8,192 bytes, with no word above 3FF.
 abbrev pub is_image_bytes : List ℕ → Bool
 is_image_bytes bytes = length bytes == image_size && all_fit bytes
 
--- why bytes are not read as an image: 4
+-- The reason why bytes are not read as an image: BadImage (04).
 abbrev pub read_refusal : List ℕ → Option read.ReadRefusal
 read_refusal bytes = then_some (not (is_image_bytes bytes)) reads.BadImage
 
--- this is why bytes are not read; memory that was refused comes last
+-- The refusal is this reason, or OutOfMemory (21) if there is none.
 abbrev pub RefusesRead : List ℕ → read.ReadRefusal → Type 0
 RefusesRead bytes refusal =
     (read_refusal bytes ≡ Some refusal)
     ⊎ ((read_refusal bytes ≡ None) × (refusal ≡ reads.OutOfMemory))
 
--- why an image is not written: 1 where the page or the bank is not held, 3 where it is not plugged
+-- The reason why an image is not written: NoSuchPage (01) if the page or the bank is not supported,
+-- NotPlugged (03) if the bank is not plugged.
 abbrev pub image_refusal : PageMap → ℕ → ℕ → Option image.ImageRefusal
 image_refusal pages page number =
     option_or (then_some (not (is_held page number)) images.NoSuchPage)
     (then_some (is_none (image_at pages page (bank_numbered number))) images.NotPlugged)
 
--- this is why an image is not written; memory that was refused comes last
+-- The refusal is this reason, or OutOfMemory (21) if there is none.
 abbrev pub RefusesImage : PageMap → ℕ → ℕ → image.ImageRefusal → Type 0
 RefusesImage pages page number refusal =
     (image_refusal pages page number ≡ Some refusal)
     ⊎ ((image_refusal pages page number ≡ None) × (refusal ≡ images.OutOfMemory))
 
--- these are the bytes of the image at a page's bank
+-- The bytes are those of the image of a bank of a page.
 abbrev pub IsImageAt : PageMap → ℕ → ℕ → List ℕ → Type 0
 IsImageAt pages page number bytes =
     IfSome (image_at pages page (bank_numbered number))

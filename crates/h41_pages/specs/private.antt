@@ -1,4 +1,4 @@
--- What the functions of this crate promise one another. No public contract and no law needs these
+-- What the functions of this crate promise to each other. No public contract and no law needs these
 -- files.
 pub mod AddedFunctions
 pub mod AddressSpace

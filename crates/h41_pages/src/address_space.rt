@@ -1,4 +1,5 @@
-//! The words of all banks as one list, bank behind bank, so that a word is fetched by one index and a bank is chosen by one write.
+//! The words of all banks as one list, one bank after the other, so that a word is fetched with one index and a bank is activated
+//! with one write.
 
 ghost use Rattle.std.specs.Prelude.{◌≡◌, ◌<◌, ◌↔◌, IsSome, IfSome, IfOk, length};
 ghost use Rattle.std.specs.Prelude.{slice_index, slice_set};
@@ -12,13 +13,13 @@ use h41_words::{Bank, Word};
 use std::alloc::{AllocError, Global};
 use std::marker::Model;
 
-/// How many words there are in all banks.
+/// The number of words in all banks.
 const WORDS: usize = BANKS * BANK_WORDS;
 
-/// The number where no word is: the first above all words.
+/// The number for an address without a word: the first number above all words.
 const NOTHING: u16 = 0x400;
 
-/// The word at each address of each bank, where there is one.
+/// The word at each address of each bank, if there is one.
 #[derive(Drop)]
 pub struct AddressSpace {
     numbers: Vec<u16>,
@@ -36,7 +37,7 @@ impl Model for AddressSpace {
 }
 
 impl AddressSpace {
-    /// No word anywhere.
+    /// Returns an address space without words. The only error is `AllocError`, if allocation fails.
     pub fn new(alloc: Global) -> Result<Self, AllocError>
         ensures { IfOk result (λ space. space ≡ spec.empty_space) }
     {
@@ -45,7 +46,7 @@ impl AddressSpace {
         Ok(AddressSpace { numbers })
     }
 
-    /// The word at an address of a bank, where there is one.
+    /// Returns the word at an address of a bank, or `None` if there is none.
     #[inline(always)]
     pub fn word(&self, bank: ChosenBank, address: u16) -> Option<Word>
         ensures fits { IsSome result
@@ -56,14 +57,14 @@ impl AddressSpace {
         Word::new(self.numbers[bank.word_place(address)])
     }
 
-    /// Puts a word at an address of a bank.
+    /// Writes a word at an address of a bank.
     pub fn set(&mut self, bank: Bank, address: u16, word: Word)
         ensures { self.new ≡ slice_set self.old (spec.word_place bank address) word }
     {
         self.numbers[ChosenBank::of(bank).word_place(address)] = word.number();
     }
 
-    /// Puts words at the addresses of a page's bank.
+    /// Writes the 4,096 words of a bank of a page, 0 to 15.
     pub fn put(&mut self, bank: Bank, page: usize, words: &[u16])
         requires page { page < page_count }
         requires size { length words.now ≡ page_size }
@@ -73,7 +74,7 @@ impl AddressSpace {
         self.numbers[start..start + PAGE_WORDS].copy_from_slice(words);
     }
 
-    /// Takes the words of all banks of a page away.
+    /// Removes the words of all banks of a page, 0 to 15.
     pub fn clear(&mut self, page: usize)
         requires { page < page_count }
         ensures { self.new ≡ spec.without_page self.old page }
@@ -84,7 +85,7 @@ impl AddressSpace {
         self.clear_bank(Bank::Fourth, page);
     }
 
-    /// Takes the words of a page's bank away.
+    /// Removes the words of a bank of a page, 0 to 15.
     fn clear_bank(&mut self, bank: Bank, page: usize)
         requires { page < page_count }
         ensures { self.new ≡ spec.without_bank self.old bank page }

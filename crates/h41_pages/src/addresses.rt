@@ -1,31 +1,32 @@
-//! Where words stand: sixteen pages of 4,096 words.
+//! The addresses of words: sixteen pages of 4,096 words.
 
 ghost use Rattle.std.specs.Prelude.{◌≡◌, ◌<◌};
 ghost use Rattle.h41_pages.specs.Addresses as spec;
 
-/// How many pages the address space has.
+/// The number of pages of the address space.
 pub const PAGES: usize = 16;
 
-/// How many words a page has.
+/// The number of words of a page.
 pub const PAGE_WORDS: usize = 4096;
 
-/// The first address of the pages that may be plugged. Those below are of the system's ROM, which is not held (this
+/// The first address of the pages that can be plugged. Those below it belong to the system's ROM, which is not supported (this
 /// project's choice).
 pub const FIRST_ADDRESS: u16 = 0x4000;
 
-/// The pages that may be plugged; those below are the system's.
+/// The first page that can be plugged. Those below it belong to the system's ROM.
 const FIRST_PAGE: u8 = 4;
 
+/// The last page that can be plugged.
 const LAST_PAGE: u8 = 15;
 
-/// Whether a page may be plugged: it is 4 to F (this project's choice).
+/// Returns whether a page can be plugged: whether it is 4 to F (this project's choice).
 pub fn is_pluggable(page: u8) -> bool
     ensures { result ≡ spec.is_pluggable page }
 {
     (FIRST_PAGE..=LAST_PAGE).contains(&page)
 }
 
-/// The page of an address, 0 to 15: its first hexadecimal digit.
+/// Returns the page of an address, 0 to 15: its first hexadecimal digit.
 #[inline(always)]
 pub fn page_of(address: u16) -> usize
     ensures page { result ≡ spec.page_of address }
@@ -34,7 +35,7 @@ pub fn page_of(address: u16) -> usize
     usize::from(address) / PAGE_WORDS
 }
 
-/// The place of an address in its page, 0 to 4,095: its other three digits.
+/// Returns the offset of an address in its page, 0 to 4,095: its other three digits.
 pub fn offset_of(address: u16) -> usize
     ensures offset { result ≡ spec.offset_of address }
     ensures bound { result < spec.page_size }

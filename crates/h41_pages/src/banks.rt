@@ -1,4 +1,4 @@
-//! The banks of a page: up to four images, of which one is read and written.
+//! The banks of a page: up to four images, of which one is active, that is, read and written.
 
 ghost use Rattle.std.specs.Prelude.{◌≡◌, ◌<◌};
 ghost use Rattle.h41_pages.specs.PageMap as spec;
@@ -8,20 +8,20 @@ use crate::addresses::{PAGE_WORDS, PAGES, is_pluggable};
 use h41_words::Bank;
 use std::marker::Model;
 
-/// How many banks a page has.
+/// The number of banks of a page.
 pub const BANKS: usize = 4;
 
-/// How many words a bank of all pages has: one for each address.
+/// The number of words in one bank of all pages: one for each address.
 pub const BANK_WORDS: usize = PAGES * PAGE_WORDS;
 
-/// Whether a page and a bank are held: pages 4 to F, banks 1 to 4 (this project's choice).
+/// Returns whether a page and a bank are supported: pages 4 to F, banks 1 to 4 (this project's choice).
 pub fn is_held(page: u8, bank: u8) -> bool
     ensures { result ≡ spec.is_held page bank }
 {
     is_pluggable(page) && (1..=4).contains(&bank)
 }
 
-/// The bank with a number, 1 to 4.
+/// Returns the bank with a number from 1 to 4.
 pub fn bank_numbered(number: u8) -> Bank
     ensures { result ≡ spec.bank_numbered number }
 {
@@ -33,7 +33,7 @@ pub fn bank_numbered(number: u8) -> Bank
     }
 }
 
-/// The place of a bank among those of its page.
+/// Returns the index, 0 to 3, of a bank among the banks of its page.
 #[inline(always)]
 pub fn bank_place(bank: Bank) -> usize
     ensures place { result ≡ spec.bank_place bank }
@@ -47,7 +47,7 @@ pub fn bank_place(bank: Bank) -> usize
     }
 }
 
-/// A bank that is chosen, by where its words begin in the list of those of all banks: a fetch adds the address, and no more.
+/// An active bank, stored as the position of its words in the list of the words of all banks: a fetch only has to add the address.
 #[derive(Clone, Copy)]
 pub struct ChosenBank {
     start: usize,
@@ -68,7 +68,7 @@ impl Model for ChosenBank {
 }
 
 impl ChosenBank {
-    /// A bank that is chosen.
+    /// Returns a bank as an active bank.
     pub fn of(bank: Bank) -> Self
         ensures { result ≡ bank }
     {
@@ -81,7 +81,7 @@ impl ChosenBank {
         ChosenBank { start }
     }
 
-    /// The bank.
+    /// Returns the bank.
     pub fn bank(self) -> Bank
         ensures { result ≡ self }
     {
@@ -93,7 +93,7 @@ impl ChosenBank {
         }
     }
 
-    /// Where the word at an address of the bank stands in that list.
+    /// Returns the position, in the list of the words of all banks, of the word at an address of the bank.
     #[inline(always)]
     pub fn word_place(self, address: u16) -> usize
         ensures place { result ≡ word_place self address }

@@ -1,5 +1,5 @@
-//! The functions that modules list: word 0 of a page is its XROM number, word 1 how many entries it has, and two words an
-//! entry follow. All of it is read in bank 1.
+//! The functions of modules. Word 0 of a page is its XROM number, word 1 the number of its table entries, and the table follows
+//! with two words for each entry. All of this is read in bank 1.
 
 ghost use Rattle.std.specs.Prelude.{◌≡◌, ◌<◌, ◌≤◌, ◌+◌, ◌++◌, find, option_map, IfOk, IfSome, OnOk};
 ghost use Rattle.std.specs.Prelude.{All, Some, length, slice_index};
@@ -16,20 +16,21 @@ use arrayvec::ArrayVec;
 use h41_words::{Bank, Word};
 use std::alloc::{AllocError, Global};
 
-/// The greatest XROM number, and the most entries of a page.
+/// The greatest XROM number.
 const LAST_NUMBER: u16 = 31;
 
+/// The greatest number of table entries of a page.
 const MOST_ENTRIES: u16 = 64;
 
-/// The most characters of a microcode function's name.
+/// The greatest number of characters of the name of a microcode function.
 const MICROCODE_NAME_LENGTH: usize = 11;
 
-/// An entry of a module's table.
+/// A table entry of a module.
 #[derive(Clone, Copy, Debug, PartialEq, Eq)]
 pub struct Entry {
-    /// Where the function stands.
+    /// The address of the function.
     pub address: u16,
-    /// Whether it is keystroke code, and else microcode.
+    /// Whether the function is a keystroke program; otherwise it is microcode.
     pub keystroke: bool,
 }
 
@@ -38,15 +39,16 @@ pub struct Entry {
 pub struct ModuleFunction {
     /// The XROM number of its module, 1 to 31.
     pub number: u8,
-    /// Its entry there, 0 to 63.
+    /// The number of its table entry, 0 to 63.
     pub entry: u8,
-    /// Its name, where it has one.
+    /// Its name, if it has one.
     pub name: Option<Name>,
 }
 
 impl Pages {
-    /// The entry with these two numbers: that of the lowest page with the first, and nothing past that page's count, which
-    /// is taken as 0 where it is above 64 or the number is not 1 to 31 (this project's choice).
+    /// Returns the table entry with an XROM number and an entry number, in the lowest page with this XROM number. Returns `None` if
+    /// there is no such page, or if the entry number is not below the page's number of entries. That is taken as 0 if it is above
+    /// 64 or the XROM number is not 1 to 31 (this project's choice).
     pub fn entry(&self, number: u8, entry: u8) -> Option<Entry>
         ensures { result ≡ spec.entry_at self.now number entry }
     {
@@ -54,7 +56,7 @@ impl Pages {
         self.entry_of(page, entry)
     }
 
-    /// The entry of a page, where it has one of that number.
+    /// Returns a table entry of a page, or `None` if it has none with this number.
     fn entry_of(&self, page: usize, entry: u8) -> Option<Entry>
         requires { page < 16 }
         ensures { result ≡ spec.entry_on self.now page entry }
@@ -65,7 +67,7 @@ impl Pages {
         }
     }
 
-    /// The lowest page with an XROM number.
+    /// Returns the lowest page with an XROM number, or `None` if there is none.
     fn page_numbered(&self, number: u8) -> Option<usize>
         ensures page { result ≡ spec.page_numbered self.now number }
         ensures bound { IfSome result (λ page. page < 16) }
@@ -78,7 +80,7 @@ impl Pages {
         None
     }
 
-    /// Whether a page has an XROM number.
+    /// Returns whether a page has an XROM number.
     fn is_numbered(&self, page: usize, number: u8) -> bool
         requires { page < 16 }
         ensures { result ≡ spec.is_numbered number (spec.first_image self.now page) }
@@ -89,8 +91,8 @@ impl Pages {
         }
     }
 
-    /// The two numbers of the function with a name: the first that has it, by page, then entry. They are 1 to 31, and 0
-    /// to 63.
+    /// Returns the XROM number, 1 to 31, and the entry number, 0 to 63, of the function with a name, or `None` if there is none.
+    /// The first function with the name is found, in the order of the pages and then of their table entries.
     pub fn find(&self, name: &[u8]) -> Option<(u8, u8)>
         ensures found { result ≡ spec.function_of_name self.now name.now }
         ensures bound { IfSome result spec.AreNumbers }
@@ -103,7 +105,7 @@ impl Pages {
         None
     }
 
-    /// The same of one page.
+    /// Returns the XROM number and the entry number of the first function of one page with a name.
     fn find_at(&self, page: usize, name: &[u8]) -> Option<(u8, u8)>
         requires { page < 16 }
         ensures found { result ≡ spec.found_in name.now (spec.functions_at self.now page) }
@@ -115,7 +117,8 @@ impl Pages {
         }
     }
 
-    /// All functions, by page, then entry. 21 where memory is refused.
+    /// Returns all functions, in the order of the pages and then of their table entries. The only error is `AllocError`, if
+    /// allocation fails.
     pub fn functions(&self, alloc: Global) -> Result<Vec<ModuleFunction>, AllocError>
         ensures { IfOk result (λ functions. functions.items ≡ spec.functions self.now) }
     {
@@ -126,8 +129,8 @@ impl Pages {
         Ok(functions)
     }
 
-    /// Where the keystroke functions of a page begin, in the order of their entries: their offsets in the page, which its
-    /// bank 1 lists. None where that is not plugged, or where its number or its count is out of range (this project's
+    /// Returns the offsets of the keystroke functions of a page, in the order of their table entries, as its bank 1 lists them.
+    /// There are none if bank 1 is not plugged, or if the XROM number or the number of entries is out of range (this project's
     /// choice).
     pub fn keystroke_offsets(&self, page: usize) -> ArrayVec<u16, 64>
         requires { page < 16 }
@@ -140,7 +143,7 @@ impl Pages {
         }
     }
 
-    /// Adds the functions of a page to a list.
+    /// Appends the functions of a page to a list. The only error is `AllocError`, if allocation fails.
     fn add_functions_at(
         &self,
         page: usize,
@@ -157,14 +160,14 @@ impl Pages {
 }
 
 impl Image {
-    /// The XROM number, where there are functions: word 0.
+    /// Returns word 0, which is the XROM number if there are functions.
     fn number(&self) -> u16
         ensures { result ≡ spec.number_in self.now.words }
     {
         self.word(0).number()
     }
 
-    /// How many entries there are: word 1, and none where the number or the count is out of range.
+    /// Returns the number of table entries: word 1, or 0 if the XROM number or the number of entries is out of range.
     fn entry_count(&self) -> usize
         ensures count { result ≡ spec.entry_count self.now.words }
         ensures bound { result ≤ 64 }
@@ -178,7 +181,7 @@ impl Image {
         }
     }
 
-    /// Whether an entry is marked as keystroke code.
+    /// Returns whether a table entry is that of a keystroke function, which its bit 9 indicates.
     fn is_keystroke(&self, entry: usize) -> bool
         requires { entry < 64 }
         ensures { result ≡ spec.is_keystroke self.now.words entry }
@@ -186,7 +189,7 @@ impl Image {
         self.word(2 + 2 * entry).number() / 512 % 2 == 1
     }
 
-    /// The offset where the function of an entry stands.
+    /// Returns the offset of the function of a table entry, 0 to 4,095.
     fn entry_offset(&self, entry: usize) -> usize
         requires { entry < 64 }
         ensures offset { result ≡ spec.entry_offset self.now.words entry }
@@ -197,7 +200,7 @@ impl Image {
         usize::from(256 * high + low)
     }
 
-    /// The offsets where the functions in keystrokes begin.
+    /// Returns the offsets of the keystroke functions.
     fn keystroke_offsets(&self) -> ArrayVec<u16, 64>
         ensures offsets { result.items ≡ spec.keystroke_offsets_in self.now.words }
         ensures bound { All (λ offset. offset < page_size) result.items }
@@ -212,7 +215,7 @@ impl Image {
         offsets
     }
 
-    /// An entry of a page that has this image, where there is one of that number.
+    /// Returns a table entry of a page that has this image, or `None` if there is none with this number.
     fn entry(&self, page: usize, entry: usize) -> Option<Entry>
         requires { page < 16 }
         ensures { result ≡ spec.entry_of page entry self.now }
@@ -226,7 +229,8 @@ impl Image {
         })
     }
 
-    /// The name that ends before an offset: read backwards, up to the character marked as the last.
+    /// Returns the name that ends directly before an offset, or `None`. It is read backwards, up to the word that is marked as its
+    /// last character.
     fn name_before(&self, offset: usize) -> Option<Name>
         requires { offset < page_size }
         ensures { result ≡ spec.spelled_name (spec.words_before self.now.words offset) }
@@ -243,7 +247,8 @@ impl Image {
         None
     }
 
-    /// The name of an entry's function, where it has one: that before microcode, and that of the label of keystroke code.
+    /// Returns the name of the function of a table entry, if it has one: for microcode the name before it, for a keystroke function
+    /// that of its label.
     fn entry_name(&self, entry: usize) -> Option<Name>
         requires { entry < 64 }
         ensures { result ≡ spec.entry_name self.now.words entry }
@@ -256,7 +261,7 @@ impl Image {
         }
     }
 
-    /// Whether an entry's function has a name.
+    /// Returns whether the function of a table entry has a name.
     fn is_named(&self, entry: usize, name: &[u8]) -> bool
         requires { entry < 64 }
         ensures { result ≡ spec.is_named name.now (spec.function_in self.now.words entry) }
@@ -267,7 +272,7 @@ impl Image {
         }
     }
 
-    /// An entry's function.
+    /// Returns the function of a table entry.
     fn function(&self, entry: usize) -> ModuleFunction
         requires { entry < spec.entry_count self.now.words }
         ensures { result ≡ spec.function_in self.now.words entry }
@@ -280,7 +285,7 @@ impl Image {
         }
     }
 
-    /// The two numbers of the function with a name: the first that has it.
+    /// Returns the XROM number and the entry number of the first function with a name.
     fn find(&self, name: &[u8]) -> Option<(u8, u8)>
         ensures found { result ≡ spec.found_in name.now (spec.functions_of self.now.words) }
         ensures bound { IfSome result spec.AreNumbers }
@@ -294,7 +299,7 @@ impl Image {
         None
     }
 
-    /// Adds its functions to a list.
+    /// Appends the functions of the image to a list. The only error is `AllocError`, if allocation fails.
     fn add_functions(&self, functions: &mut Vec<ModuleFunction>) -> Result<(), AllocError>
         ensures { OnOk result (AddsOf self.now.words functions.old.items functions.new.items) }
     {
@@ -306,7 +311,7 @@ impl Image {
     }
 }
 
-/// The character of a word of a name: its low six bits are the character's code, 20 to 5F, modulo 64.
+/// Returns the character of a word of a name: the low six bits of the word are the character's code, 20 to 5F, modulo 64.
 fn character(word: Word) -> u8
     ensures { result ≡ spec.character word }
 {
@@ -314,7 +319,7 @@ fn character(word: Word) -> u8
     if code < 0x20 { code + 0x40 } else { code }
 }
 
-/// Whether a word of a name is marked as the last character.
+/// Returns whether a word is the last character of a name, which its bit 7 indicates.
 fn is_last(word: Word) -> bool
     ensures { result ≡ spec.is_last word }
 {

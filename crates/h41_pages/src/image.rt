@@ -1,4 +1,4 @@
-//! The image of a page's bank: its words, and beside them the keystroke code that they hold.
+//! The image of a bank of a page: its words, and a copy of the keystroke code in them.
 
 ghost use Rattle.std.specs.Prelude.{◌≡◌, ◌<◌, IfOk, IsFalse, IsTrue, All, length, option_map};
 ghost use Rattle.std.specs.Prelude.{slice_index, slice_set};
@@ -14,7 +14,7 @@ use h41_words::Word;
 use std::alloc::{AllocError, Global};
 use std::marker::Model;
 
-/// The words of a page's bank, and whether microcode may write them.
+/// The words of a bank of a page, and whether microcode can write them.
 #[derive(Drop)]
 pub struct Image {
     words: Vec<Word>,
@@ -38,7 +38,7 @@ impl Model for Image {
 }
 
 impl Image {
-    /// An image of these words.
+    /// Returns the image of 4,096 words. The only error is `AllocError`, if allocation fails.
     pub fn new(alloc: Global, writable: bool, words: &[u16]) -> Result<Self, AllocError>
         requires size { length words.now ≡ page_size }
         requires each { All (λ word. word < word_count) words.now }
@@ -58,7 +58,7 @@ impl Image {
         })
     }
 
-    /// Its words.
+    /// Returns the words of the image.
     pub fn words(&self) -> &[Word]
         ensures words { result.now ≡ self.now.words }
         ensures size { length result.now ≡ page_size }
@@ -66,7 +66,7 @@ impl Image {
         self.words.as_slice()
     }
 
-    /// Its keystroke code.
+    /// Returns the keystroke code of the image: the low byte of each word.
     pub fn code(&self) -> &[u8]
         ensures code { result.now ≡ code_from self.now.words 0 }
         ensures size { length result.now ≡ page_size }
@@ -74,7 +74,7 @@ impl Image {
         self.code.as_slice()
     }
 
-    /// The word at an offset.
+    /// Returns the word at an offset.
     pub fn word(&self, offset: usize) -> Word
         requires { offset < page_size }
         ensures { result ≡ slice_index self.now.words offset }
@@ -82,7 +82,7 @@ impl Image {
         self.words[offset]
     }
 
-    /// Whether microcode may write its words.
+    /// Returns whether microcode can write the words of the image.
     pub fn is_writable(&self) -> bool
         ensures { result ≡ self.now.writable }
     {
@@ -101,7 +101,7 @@ impl Image {
     }
 }
 
-/// Writes a word at an offset where an image is plugged as writable. Whether it is.
+/// Writes a word at an offset if an image is plugged there as writable, and returns whether it is.
 #[inline(always)]
 pub fn write_plugged(image: &mut Option<Image>, offset: usize, word: Word) -> bool
     requires { offset < page_size }
@@ -119,14 +119,14 @@ pub fn write_plugged(image: &mut Option<Image>, offset: usize, word: Word) -> bo
     }
 }
 
-/// The byte of keystroke code that a word holds.
+/// Returns the byte of keystroke code in a word.
 fn code_byte(word: Word) -> u8
     ensures { result ≡ code_byte word }
 {
     (word.number() % 256) as u8
 }
 
-/// Whether these are the words of an image.
+/// Returns whether words are those of an image: 4,096 words up to 3FF.
 pub fn is_image(words: &[u16]) -> bool
     ensures test { result ≡ is_image words.now }
     ensures size { IsTrue result → length words.now ≡ page_size }
@@ -135,7 +135,7 @@ pub fn is_image(words: &[u16]) -> bool
     words.len() == PAGE_WORDS && all_fit(words)
 }
 
-/// Whether none is above 3FF.
+/// Returns whether no word is above 3FF.
 fn all_fit(words: &[u16]) -> bool
     ensures test { result ≡ list_all (λ word. nat_le word 0x3FF) words.now }
     ensures each { IsTrue result → All (λ word. word < word_count) words.now }

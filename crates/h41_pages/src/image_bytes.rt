@@ -1,4 +1,4 @@
-//! Images as bytes, as files have them: two bytes a word, the high byte first.
+//! Images as bytes, as files contain them: two bytes for each word, the high byte first.
 
 ghost use Rattle.std.specs.Prelude.{◌≡◌, ◌+◌, ◌*◌, ◌≤◌, ◌<◌, None, IfOk, IfErr, OnOk, IsTrue, All};
 ghost use Rattle.std.specs.Prelude.{length, vec_len};
@@ -15,11 +15,11 @@ use byteorder::{BigEndian, ByteOrder};
 use h41_words::Word;
 use std::alloc::{AllocError, Global};
 
-/// How many bytes an image has.
+/// The number of bytes of an image.
 const IMAGE_BYTES: usize = 2 * PAGE_WORDS;
 
-/// The words of an image that is given as bytes. Refused, in this order: 4 where there are not 8,192 bytes or a word is above
-/// 3FF, 21 where memory is refused.
+/// Returns the words of an image that is given as bytes. The errors, in this order: BadImage (04) if there are not 8,192 bytes or a
+/// word is above 3FF, OutOfMemory (21) if allocation fails.
 pub fn image_read(alloc: Global, bytes: &[u8]) -> Result<Vec<u16>, ReadRefusal>
     ensures accepted { OnOk result (spec.read_refusal bytes.now ≡ None) }
     ensures words { IfOk result (λ words. words.items ≡ spec.words_in bytes.now) }
@@ -31,7 +31,7 @@ pub fn image_read(alloc: Global, bytes: &[u8]) -> Result<Vec<u16>, ReadRefusal>
     Ok(words_in(alloc, bytes)?)
 }
 
-/// The words of an image's bytes.
+/// Returns the words of an image's bytes.
 fn words_in(alloc: Global, bytes: &[u8]) -> Result<Vec<u16>, AllocError>
     requires { length bytes.now ≡ spec.image_size }
     ensures { IfOk result (λ words. words.items ≡ spec.words_in bytes.now) }
@@ -43,7 +43,7 @@ fn words_in(alloc: Global, bytes: &[u8]) -> Result<Vec<u16>, AllocError>
     Ok(words)
 }
 
-/// Whether these are the bytes of an image: 8,192 of them, and no word above 3FF.
+/// Returns whether bytes are those of an image: 8,192 bytes, with no word above 3FF.
 pub fn is_image_bytes(bytes: &[u8]) -> bool
     ensures test { result ≡ spec.is_image_bytes bytes.now }
     ensures size { IsTrue result → length bytes.now ≡ spec.image_size }
@@ -51,7 +51,7 @@ pub fn is_image_bytes(bytes: &[u8]) -> bool
     bytes.len() == IMAGE_BYTES && all_fit(bytes)
 }
 
-/// Whether no word of an image is above 3FF.
+/// Returns whether no word of an image is above 3FF.
 fn all_fit(bytes: &[u8]) -> bool
     requires { length bytes.now ≡ spec.image_size }
     ensures { result ≡ spec.all_fit bytes.now }
@@ -64,7 +64,7 @@ fn all_fit(bytes: &[u8]) -> bool
     true
 }
 
-/// The word that two bytes spell, from a place on.
+/// Returns the word that two bytes form, from a position on.
 fn word_from(bytes: &[u8], place: usize) -> u16
     requires { place + 1 < length bytes.now }
     ensures { result ≡ spec.word_from bytes.now place }
@@ -73,8 +73,9 @@ fn word_from(bytes: &[u8], place: usize) -> u16
 }
 
 impl Pages {
-    /// The bytes of the image at a page and bank. Refused, in this order: 1 where the page is not 4 to F or the bank is not 1
-    /// to 4 (this project's choice), 3 where it is not plugged, 21 where memory is refused.
+    /// Returns the bytes of the image of a bank of a page. The errors, in this order: NoSuchPage (01) if the page is not 4 to F or
+    /// the bank is not 1 to 4 (this project's choice), NotPlugged (03) if the bank is not plugged, OutOfMemory (21) if allocation
+    /// fails.
     pub fn image_write(&self, alloc: Global, page: u8, bank: u8) -> Result<Vec<u8>, ImageRefusal>
         ensures accepted { OnOk result (spec.image_refusal self.now page bank ≡ None) }
         ensures bytes { IfOk result (λ bytes. spec.IsImageAt self.now page bank bytes.items) }
@@ -92,7 +93,7 @@ impl Pages {
 }
 
 impl Image {
-    /// The bytes of its words.
+    /// Returns the bytes of the image's words.
     fn bytes(&self, alloc: Global) -> Result<Vec<u8>, AllocError>
         ensures bytes { IfOk result (λ bytes. bytes.items ≡ spec.image_bytes self.now.words) }
         ensures size { IfOk result (λ bytes. vec_len bytes ≡ spec.image_size) }
@@ -101,7 +102,7 @@ impl Image {
     }
 }
 
-/// The bytes of words.
+/// Returns the bytes of words.
 fn bytes_of(alloc: Global, words: &[Word]) -> Result<Vec<u8>, AllocError>
     ensures bytes { IfOk result (λ bytes. bytes.items ≡ spec.image_bytes words.now) }
     ensures size { IfOk result (λ bytes. vec_len bytes ≡ 2 * length words.now) }
@@ -113,7 +114,7 @@ fn bytes_of(alloc: Global, words: &[Word]) -> Result<Vec<u8>, AllocError>
     Ok(bytes)
 }
 
-/// The two bytes of a word.
+/// Returns the two bytes of a word, the high byte first.
 fn word_bytes(word: Word) -> [u8; 2]
     ensures { result ≡ spec.word_bytes word }
 {

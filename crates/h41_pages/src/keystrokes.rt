@@ -1,4 +1,4 @@
-//! The names of functions in keystroke code: a byte of a program stands in the low eight bits of each word.
+//! The names of keystroke functions. The low eight bits of each word are a byte of a program.
 
 ghost use Rattle.std.specs.Prelude.{◌≡◌, ◌<◌};
 ghost use Rattle.h41_pages.specs.Addresses.{page_size};
@@ -10,7 +10,7 @@ use crate::name::Name;
 use h41_codes::{Line, decode};
 
 impl Image {
-    /// The name of the label with which the keystroke code at an offset begins, where it does.
+    /// Returns the name of the label with which the keystroke code at an offset begins, or `None` if it begins with anything else.
     pub(crate) fn label_name(&self, offset: usize) -> Option<Name>
         requires { offset < page_size }
         ensures { result ≡ spec.label_name (spec.code_from self.now.words offset) }
@@ -22,7 +22,7 @@ impl Image {
     }
 }
 
-/// The name of a line, where it is a label that has one.
+/// Returns the name of a line, if it is a label that has one.
 fn name_of(line: &Line) -> Option<Name>
     ensures { result ≡ labels.name_of line.now }
 {

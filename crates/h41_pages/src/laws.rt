@@ -1,4 +1,4 @@
-//! Laws of pages and images: each is the contract of a function with next to nothing to do.
+//! Laws of pages and images. Each law is the contract of a function with an empty or nearly empty body.
 
 ghost use Rattle.h41_pages.specs.PageMap.{IsPageMap};
 ghost use Rattle.h41_pages.specs.PageLaws.{ImageRoundTrip, ImageIsRead, PluggedImageIsRead};
@@ -12,50 +12,51 @@ ghost use Rattle.h41_pages.specs.FunctionLaws.{NameIsOfLabel};
 
 use crate::pages::Pages;
 
-/// What all pages are, at any time: what is plugged is an image, at a page and a bank that are held. So the laws hold for any
-/// pages that a caller was handed.
+/// States what is true of all pages at any time: each plugged image has the words of an image, and its page and bank are supported.
+/// So the laws apply to any pages that a caller has.
 pub fn pages_are_a_map(pages: &Pages)
     ensures { IsPageMap pages.now }
 {
     pages.known();
 }
 
-/// The image round trip: an image that is written is read as the same words; so are the bytes of one that is plugged.
+/// States the image round trip: an image that is written as bytes is read as the same words, and so are the bytes of a plugged
+/// image.
 pub fn image_round_trip()
     ensures words { ImageRoundTrip }
     ensures read { ImageIsRead }
     ensures plugged { PluggedImageIsRead }
 {}
 
-/// What is plugged at the chosen bank of a page is fetched there.
+/// States that the words that are plugged at the active bank of a page are fetched there.
 pub fn plugged_is_fetched()
     ensures { PluggedIsFetched }
 {}
 
-/// What is plugged at a bank is fetched once that is chosen.
+/// States that the words that are plugged at a bank are fetched once this bank is active.
 pub fn chosen_is_fetched()
     ensures { ChosenIsFetched }
 {}
 
-/// A page that is unplugged is empty.
+/// States that an unplugged page is empty.
 pub fn unplugged_is_empty()
     ensures { UnpluggedIsEmpty }
 {}
 
-/// A word that is written is fetched, and every other address stays.
+/// States that a written word is fetched, and that every other address keeps its word.
 pub fn written_is_fetched()
     ensures written { WrittenIsFetched }
     ensures others { WritingKeepsOthers }
 {}
 
-/// A page that a call does not name stays.
+/// States that plugging, unplugging and activating a bank change no other page.
 pub fn other_pages_stay()
     ensures plug { PluggingKeepsOthers }
     ensures unplug { UnpluggingKeepsOthers }
     ensures choose { ChoosingKeepsOthers }
 {}
 
-/// What is plugged at a bank that a call does not name stays, in the same page too.
+/// States that plugging, writing, unplugging and activating a bank change no other bank, even in the same page.
 pub fn other_banks_stay()
     ensures plug { PluggingKeepsOtherBanks }
     ensures write { WritingKeepsOtherBanks }
@@ -63,7 +64,7 @@ pub fn other_banks_stay()
     ensures choose { ChoosingKeepsBanks }
 {}
 
-/// Keystroke code has a name just where the line with which it begins is a label of this name.
+/// States that keystroke code has a name exactly if the line with which it begins is a label with this name.
 pub fn name_is_of_label()
     ensures { NameIsOfLabel }
 {}

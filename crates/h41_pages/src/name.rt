@@ -1,15 +1,15 @@
-//! The name of a function in a module.
+//! The name of a function of a module.
 
 ghost use Rattle.std.specs.Prelude.{◌≡◌, ◌<◌, ◌≤◌, ◌++◌, [], ◌∷◌, length, bytes_eq};
 
 use arrayvec::ArrayVec;
 use std::marker::Model;
 
-/// The most characters of a name: those of a label.
+/// The greatest number of characters of a name, which is that of a label.
 pub const NAME_LENGTH: usize = 14;
 
-/// The name of a function: of one in microcode 1 to 11 characters, 20 to 5F; of one in keystrokes that of its label, up to 14
-/// characters of any kind.
+/// The name of a function. For microcode it has 1 to 11 characters from 20 to 5F; for a keystroke function it is that of its label,
+/// with up to 14 characters of any kind.
 #[derive(Debug, Drop)]
 pub struct Name {
     characters: ArrayVec<u8, NAME_LENGTH>,
@@ -24,7 +24,7 @@ impl Model for Name {
 }
 
 impl Name {
-    /// A name with no characters yet.
+    /// Returns an empty name.
     pub(crate) fn new() -> Self
         ensures { result ≡ [] }
     {
@@ -33,7 +33,7 @@ impl Name {
         }
     }
 
-    /// Puts a character at its end.
+    /// Appends a character, if there are fewer than 14.
     pub(crate) fn push(&mut self, character: u8)
         requires { length self.old < NAME_LENGTH }
         ensures { self.new ≡ self.old ++ character ∷ [] }
@@ -41,7 +41,7 @@ impl Name {
         self.characters.push(character);
     }
 
-    /// The name with these characters.
+    /// Returns the name with up to 14 characters.
     pub(crate) fn of(characters: &[u8]) -> Self
         requires { length characters.now ≤ NAME_LENGTH }
         ensures { result ≡ characters.now }
@@ -53,14 +53,14 @@ impl Name {
         name
     }
 
-    /// Its characters.
+    /// Returns the characters of the name.
     pub fn as_bytes(&self) -> &[u8]
         ensures { result.now ≡ self.now }
     {
         self.characters.as_slice()
     }
 
-    /// Whether these are its characters.
+    /// Returns whether the name has these characters.
     pub(crate) fn is(&self, characters: &[u8]) -> bool
         ensures { result ≡ bytes_eq self.now characters.now }
     {

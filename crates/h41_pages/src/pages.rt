@@ -19,13 +19,13 @@ use h41_words::{Bank, Word};
 use std::alloc::{AllocError, Global};
 use std::marker::Model;
 
-/// The pages of the address space: sixteen of 4,096 words, each with four banks, of which one is chosen. Pages 4 to F may be
+/// The pages of the address space: sixteen pages of 4,096 words, each with four banks, of which one is active. Pages 4 to F can be
 /// plugged, at banks 1 to 4.
 #[derive(Drop)]
 pub struct Pages {
     images: Vec<[Option<Image>; BANKS]>,
     chosen: [ChosenBank; PAGES],
-    /// What is fetched at each address of each bank.
+    /// The word that is fetched at each address of each bank.
     space: AddressSpace,
 }
 
@@ -42,7 +42,7 @@ impl Model for Pages {
 }
 
 impl Pages {
-    /// Nothing plugged, and bank 1 chosen everywhere. 21 where memory is refused.
+    /// Returns pages with nothing plugged, and bank 1 active everywhere. The only error is `AllocError`, if allocation fails.
     pub fn new(alloc: Global) -> Result<Self, AllocError>
         ensures { IfOk result (λ pages. pages ≡ spec.no_pages) }
     {
@@ -53,9 +53,9 @@ impl Pages {
         })
     }
 
-    /// Plugs 4,096 words at a page and bank. Refused, in this order: 1 where the page is not 4 to F or the bank is not 1
-    /// to 4 (this project's choice), 2 where it is plugged, 4 where there are not 4,096 words or one is above 3FF, 21 where
-    /// memory is refused.
+    /// Plugs 4,096 words at a bank of a page. The errors, in this order: NoSuchPage (01) if the page is not 4 to F or the bank is
+    /// not 1 to 4 (this project's choice), Occupied (02) if the bank is already plugged, BadImage (04) if there are not 4,096 words
+    /// or one is above 3FF, OutOfMemory (21) if allocation fails. After an error nothing has changed.
     pub fn plug(
         &mut self,
         alloc: Global,
@@ -80,7 +80,7 @@ impl Pages {
         Ok(())
     }
 
-    /// Why words are not plugged, but for want of memory.
+    /// Returns the reason why words cannot be plugged, except that allocation fails.
     fn plug_refusal(&self, page: u8, bank: u8, words: &[u16]) -> Option<PlugRefusal>
         ensures refusal { result ≡ spec.plug_refusal self.now page bank words.now }
         ensures page { IfNone result (page < 16) }
@@ -98,8 +98,8 @@ impl Pages {
         }
     }
 
-    /// Takes out all banks of a page, which is then as at the start. Refused as 1 where the page is not 4 to F, as 3 where
-    /// none of its banks is plugged.
+    /// Unplugs all banks of a page, which is afterwards as at the start. The errors: NoSuchPage (01) if the page is not 4 to F,
+    /// NotPlugged (03) if none of its banks is plugged. After an error nothing has changed.
     pub fn unplug(&mut self, page: u8) -> Result<(), UnplugRefusal>
         ensures refusal { result_err result ≡ spec.unplug_refusal self.old page }
         ensures ok { OnOk result (self.new ≡ spec.without_images self.old page) }
@@ -118,8 +118,8 @@ impl Pages {
         Ok(())
     }
 
-    /// Chooses a bank of a page, 0 to F, where it is plugged; else nothing changes (this project's choice). Its machine code
-    /// stands apart, so that words that choose none have the shorter way.
+    /// Activates a bank of a page, 0 to F, if it is plugged; otherwise nothing changes (this project's choice). It is a cold
+    /// function of its own, so that words that activate no bank are faster.
     #[cold]
     #[inline(never)]
     pub fn choose(&mut self, page: u8, bank: Bank)
@@ -132,7 +132,7 @@ impl Pages {
         }
     }
 
-    /// Chooses bank 1 of each page.
+    /// Activates bank 1 of each page.
     pub fn choose_first_banks(&mut self)
         ensures { self.new ≡ spec.with_first_banks self.old }
     {
@@ -140,8 +140,8 @@ impl Pages {
         self.chosen = first;
     }
 
-    /// The word at an address, in the chosen bank of its page. Refused as 8 in pages 0 to 3, as 9 where that bank is not
-    /// plugged; so there is one from address 4000 on alone.
+    /// Returns the word at an address, in the active bank of its page. The errors: SystemRom (08) in pages 0 to 3, EmptyPage (09)
+    /// if the active bank is not plugged. So there are words from address 4000 on only.
     #[tactic(auto, unfolding(crate::specs::PageMap::fetched))]
     #[inline(always)]
     pub fn fetch(&self, address: u16) -> Result<Word, FetchRefusal>
@@ -155,7 +155,8 @@ impl Pages {
         }
     }
 
-    /// The words from an address to its page's end, in the chosen bank of the page. Refused as `fetch` is.
+    /// Returns the words from an address to the end of its page, in the active bank of the page. The errors: SystemRom (08) in
+    /// pages 0 to 3, EmptyPage (09) if the active bank is not plugged.
     pub fn words_from(&self, address: u16) -> Result<&[Word], FetchRefusal>
         ensures refusal { result_err result ≡ spec.fetch_refusal self.now address }
         ensures words { IfOk result (λ words. words.now ≡ spec.words_from self.now address) }
@@ -167,8 +168,8 @@ impl Pages {
         }
     }
 
-    /// The keystroke code of a page: the low byte of each word of its bank 1, by the word's offset. None where that is not
-    /// plugged.
+    /// Returns the keystroke code of a page: the low byte of each word of its bank 1, in the order of their offsets. It is empty if
+    /// bank 1 is not plugged.
     pub fn code(&self, page: usize) -> &[u8]
         requires { page < 16 }
         ensures code { result.now ≡ code_of self.now page }
@@ -180,7 +181,8 @@ impl Pages {
         }
     }
 
-    /// Writes the word at an address, in the chosen bank of its page. Refused as 12 where that is not plugged as writable.
+    /// Writes the word at an address, in the active bank of its page. The error is ReadOnly (12) if this bank is not plugged as
+    /// writable; then nothing has changed.
     #[tactic(auto, unfolding(crate::specs::PageMap::written))]
     pub fn write(&mut self, address: u16, word: Word) -> Result<(), ReadOnly>
         ensures refusal { result_err result ≡ spec.write_refusal self.old address }
@@ -200,7 +202,7 @@ impl Pages {
         Ok(())
     }
 
-    /// Whether the word at an address may be written. Refused as 12 where the chosen bank of its page is not plugged as
+    /// Returns ReadOnly (12) if the word at an address cannot be written, because the active bank of its page is not plugged as
     /// writable.
     pub fn check_writable(&self, address: u16) -> Result<(), ReadOnly>
         ensures { result_err result ≡ spec.write_refusal self.now address }
@@ -211,14 +213,14 @@ impl Pages {
         }
     }
 
-    /// What all pages are, at any time.
+    /// States what is true of all pages at any time.
     pub(crate) fn known(&self)
         ensures { spec.IsPageMap self.now }
     {
         let _images = &self.images;
     }
 
-    /// The image at a page's bank.
+    /// Returns the image of a bank of a page, 0 to 15, or `None` if it is not plugged.
     pub(crate) fn image(&self, page: usize, bank: Bank) -> Option<&Image>
         requires { page < 16 }
         ensures { option_copied result ≡ spec.image_at self.now page bank }
@@ -226,7 +228,7 @@ impl Pages {
         self.images[page][bank_place(bank)].as_ref()
     }
 
-    /// The image at the chosen bank of a page.
+    /// Returns the image of the active bank of a page, 0 to 15, or `None` if it is not plugged.
     #[inline(always)]
     fn chosen_image(&self, page: usize) -> Option<&Image>
         requires { page < 16 }
@@ -236,7 +238,7 @@ impl Pages {
     }
 }
 
-/// Nothing at any page and bank.
+/// Returns images with nothing plugged at any bank. The only error is `AllocError`, if allocation fails.
 fn no_images(alloc: Global) -> Result<Vec<[Option<Image>; BANKS]>, AllocError>
     ensures { IfOk result (λ images. images.items ≡ spec.no_pages.images) }
 {
@@ -247,7 +249,7 @@ fn no_images(alloc: Global) -> Result<Vec<[Option<Image>; BANKS]>, AllocError>
     Ok(images)
 }
 
-/// Whether any of a page's banks is plugged.
+/// Returns whether any of a page's banks is plugged.
 fn is_any_plugged(images: &[Option<Image>]) -> bool
     ensures { result ≡ list_any (λ image. is_some image) images.now }
 {

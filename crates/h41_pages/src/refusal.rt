@@ -1,4 +1,5 @@
-//! Why calls on pages are refused. Each changes nothing then. The numbers are those by which decks print refusals.
+//! The reasons why calls on pages are refused. A refused call changes nothing. The numbers are those with which decks print
+//! refusals.
 
 ghost use Rattle.std.specs.Prelude.{◌≡◌};
 ghost use Rattle.h41_pages.specs.declared.refusal.PlugRefusal.TheVariants as plug;
@@ -8,46 +9,46 @@ ghost use Rattle.h41_pages.specs.declared.refusal.ImageRefusal.TheVariants as im
 use std::alloc::AllocError;
 use thiserror::Error;
 
-/// Why words were not plugged.
+/// The reason why words were not plugged.
 #[derive(Clone, Copy, Debug, PartialEq, Eq, Error)]
 pub enum PlugRefusal {
-    /// 1: the page is not 4 to F, or the bank is not 1 to 4.
+    /// NoSuchPage (01): the page is not 4 to F, or the bank is not 1 to 4.
     #[error("there is no such page")]
     NoSuchPage,
-    /// 2: something is plugged at the page's bank.
+    /// Occupied (02): the bank of the page is already plugged.
     #[error("the page is plugged")]
     Occupied,
-    /// 4: there are not 4,096 words, or one is above 3FF.
+    /// BadImage (04): there are not 4,096 words, or one is above 3FF.
     #[error("this is no image of a page")]
     BadImage,
-    /// 21: memory was refused.
+    /// OutOfMemory (21): allocation failed.
     #[error("out of memory")]
     OutOfMemory,
 }
 
-/// Why a page was not unplugged.
+/// The reason why a page was not unplugged.
 #[derive(Clone, Copy, Debug, PartialEq, Eq, Error)]
 pub enum UnplugRefusal {
-    /// 1: the page is not 4 to F.
+    /// NoSuchPage (01): the page is not 4 to F.
     #[error("there is no such page")]
     NoSuchPage,
-    /// 3: no bank of the page is plugged.
+    /// NotPlugged (03): no bank of the page is plugged.
     #[error("the page is not plugged")]
     NotPlugged,
 }
 
-/// Why no word was fetched.
+/// The reason why no word was fetched.
 #[derive(Clone, Copy, Debug, PartialEq, Eq, Error)]
 pub enum FetchRefusal {
-    /// 8: this address lies in pages 0 to 3, where the system's ROM would be.
+    /// SystemRom (08): this address is in pages 0 to 3, which belong to the system's ROM.
     #[error("{0:04X} lies in the system's ROM")]
     SystemRom(u16),
-    /// 9: the chosen bank of this address's page is not plugged.
+    /// EmptyPage (09): the active bank of this address's page is not plugged.
     #[error("no page is plugged at {0:04X}")]
     EmptyPage(u16),
 }
 
-/// 12: why no word was written. The chosen bank of this address's page is not plugged as writable.
+/// ReadOnly (12): no word was written, because the active bank of this address's page is not plugged as writable.
 #[derive(Clone, Copy, Debug, PartialEq, Eq, Error)]
 #[error("{address:04X} can't be written")]
 pub struct ReadOnly {
@@ -55,27 +56,27 @@ pub struct ReadOnly {
     pub address: u16,
 }
 
-/// Why bytes were not read as an image.
+/// The reason why bytes were not read as an image.
 #[derive(Clone, Copy, Debug, PartialEq, Eq, Error)]
 pub enum ReadRefusal {
-    /// 4: there are not 8,192 bytes, or a word is above 3FF.
+    /// BadImage (04): there are not 8,192 bytes, or a word is above 3FF.
     #[error("this is no image of a page")]
     BadImage,
-    /// 21: memory was refused.
+    /// OutOfMemory (21): allocation failed.
     #[error("out of memory")]
     OutOfMemory,
 }
 
-/// Why an image was not written as bytes.
+/// The reason why an image was not written as bytes.
 #[derive(Clone, Copy, Debug, PartialEq, Eq, Error)]
 pub enum ImageRefusal {
-    /// 1: the page is not 4 to F, or the bank is not 1 to 4.
+    /// NoSuchPage (01): the page is not 4 to F, or the bank is not 1 to 4.
     #[error("there is no such page")]
     NoSuchPage,
-    /// 3: nothing is plugged at the page's bank.
+    /// NotPlugged (03): the bank of the page is not plugged.
     #[error("the page is not plugged")]
     NotPlugged,
-    /// 21: memory was refused.
+    /// OutOfMemory (21): allocation failed.
     #[error("out of memory")]
     OutOfMemory,
 }

@@ -1,4 +1,4 @@
-//! h41_arith: each kernel once, digits A to F in base 10, and every sum and difference of one digit.
+//! h41_arith: each function once, the digits A to F in base 10, and every sum and difference of one digit.
 
 ghost use Rattle.std.specs.Prelude.{◌<◌};
 
@@ -96,7 +96,7 @@ fn every_digit(rt: HostRuntime) {
     every_digit_at(&rt, 13);
 }
 
-/// Sums and differences of all digits at a place, with and without a carry in, in both bases.
+/// Tests the sums and differences of all digits at a place, with and without a carry in, in both bases.
 fn every_digit_at(rt: &impl Abort, place: usize)
     requires { place < 14 }
 {
@@ -112,7 +112,8 @@ fn every_digit_at(rt: &impl Abort, place: usize)
     }
 }
 
-/// The sum of two digits at a place, by the rule of one digit: from the base on there is a carry, and the digit is what is left.
+/// Tests the sum of two digits at a place against the rule for one digit: if it reaches the base, there is a carry, and the digit
+/// is the rest.
 fn sum_of_digits<const DEC: bool>(rt: &impl Abort, place: usize, x: u8, y: u8, carry: bool)
     requires place { place < 14 }
     requires first { x < 16 }
@@ -137,7 +138,8 @@ fn sum_of_digits<const DEC: bool>(rt: &impl Abort, place: usize, x: u8, y: u8, c
     assert!(rt; holds, "{x} + {y} in base {base} at {place}");
 }
 
-/// The difference of two digits at a place, by the rule of one digit: below 0 there is a borrow, and the base is added.
+/// Tests the difference of two digits at a place against the rule for one digit: if it is below 0, there is a borrow, and the base
+/// is added.
 fn difference_of_digits<const DEC: bool>(rt: &impl Abort, place: usize, x: u8, y: u8, borrow: bool)
     requires place { place < 14 }
     requires first { x < 16 }

@@ -1,6 +1,6 @@
-//! h41_decimal: rows whose expected values were computed by exact fractions, as registers: the sign's digit, ten of the
-//! mantissa, three of the exponent. Halves, cancellations, sums of sizes far apart, products and quotients at both ends of the
-//! range, remainders of each pair of signs, and operands at random.
+//! h41_decimal: rows whose expected values were computed with exact fractions, written as registers: the digit of the sign, ten
+//! digits of the mantissa, three of the exponent. They contain halves, cancellations, sums of sizes far apart, products and
+//! quotients at both limits of the range, remainders of each pair of signs, and random operands.
 
 use crate::judge::wants;
 use h41_decimal::{DecimalFault, Places, Ten};
@@ -9,7 +9,7 @@ use std::cmp::Ordering;
 use std::process::Abort;
 use std::test::Fail;
 
-/// Two operands and an answer.
+/// Two operands and the expected result.
 type DecimalRow = (u64, u64, Result<u64, DecimalFault>);
 
 static ADD: [DecimalRow; 60] = [
@@ -318,13 +318,13 @@ static ROOTS: [(u64, Result<u64, DecimalFault>); 30] = [
     (0x09700000000069, Ok(0x09848857802034)),
 ];
 
-/// The number that a register holds.
+/// Returns the number in a register.
 fn operand(register: u64) -> Result<Ten, Fail> {
     let register = Reg::from_u64(register).ok_or("fourteen digits")?;
     Ok(Ten::from_reg(register).ok_or("a number")?)
 }
 
-/// An answer as a register.
+/// Returns a result as a register.
 fn answer(outcome: Result<Ten, DecimalFault>) -> Result<u64, DecimalFault> {
     match outcome {
         Ok(number) => Ok(number.to_reg().to_u64()),
@@ -343,7 +343,7 @@ enum DecimalOperation {
     Modulo,
 }
 
-/// Its answer.
+/// Returns the result of an operation on two numbers.
 fn carry_out(operation: DecimalOperation, x: Ten, y: Ten) -> Result<Ten, DecimalFault> {
     match operation {
         DecimalOperation::Add => x.add(y),
@@ -355,7 +355,7 @@ fn carry_out(operation: DecimalOperation, x: Ten, y: Ten) -> Result<Ten, Decimal
     }
 }
 
-/// Each row of a table has its answer.
+/// Tests that each row of a table has its result.
 fn answers(rt: &impl Abort, operation: DecimalOperation, rows: &[DecimalRow]) -> Result<(), Fail> {
     for (x, y, expected) in rows {
         let found = answer(carry_out(operation, operand(*x)?, operand(*y)?));

@@ -1,4 +1,4 @@
-//! h41_show: texts of the Owner's Handbook's forms, and of each rule's limits.
+//! h41_show: texts in the forms of the Owner's Handbook, and at the limits of each rule.
 
 use crate::judge::wants;
 use h41_decimal::Ten;
@@ -8,10 +8,10 @@ use h41_show::{Format, Notation, RadixMark, alpha_text, number_text, register_te
 use std::process::Abort;
 use std::test::Fail;
 
-/// A register as a number, a display digit, and the text.
+/// A number as a register, a display digit, and the expected text.
 type TextRow = (u64, u8, &'static str);
 
-/// FIX, with the point and with grouping.
+/// Rows for FIX, with the point as the radix mark and with grouping.
 static FIXED: [TextRow; 28] = [
     (0x00000000000000, 4, "0.0000"),
     (0x00000000000000, 0, "0."),
@@ -43,7 +43,7 @@ static FIXED: [TextRow; 28] = [
     (0x09995000000002, 0, "1,000."),
 ];
 
-/// SCI, with the point.
+/// Rows for SCI, with the point as the radix mark.
 static SCIENTIFIC: [TextRow; 12] = [
     (0x00000000000000, 4, "0.0000 00"),
     (0x00000000000000, 0, "0. 00"),
@@ -59,7 +59,7 @@ static SCIENTIFIC: [TextRow; 12] = [
     (0x02500000000000, 0, "3. 00"),
 ];
 
-/// ENG, with the point.
+/// Rows for ENG, with the point as the radix mark.
 static ENGINEERING: [TextRow; 14] = [
     (0x00000000000000, 3, "0.000 00"),
     (0x01234560000004, 3, "12.35 03"),
@@ -77,13 +77,13 @@ static ENGINEERING: [TextRow; 14] = [
     (0x09999999999098, 3, "1.000 99"),
 ];
 
-/// The number that a register holds.
+/// Returns the number in a register.
 fn held(register: u64) -> Result<Ten, Fail> {
     let register = Reg::from_u64(register).ok_or("14 digits")?;
     Ok(Ten::from_reg(register).ok_or("a number")?)
 }
 
-/// A format with the point and with grouping.
+/// Returns a format with the point as the radix mark and with grouping.
 fn pointed(notation: Notation, digits: u8) -> Format {
     Format {
         notation,
@@ -93,7 +93,7 @@ fn pointed(notation: Notation, digits: u8) -> Format {
     }
 }
 
-/// Each row of a table has its text.
+/// Tests that each row of a table has its text.
 fn texts(rt: &impl Abort, notation: Notation, rows: &[TextRow]) -> Result<(), Fail> {
     for (register, digits, text) in rows {
         let shown = number_text(held(*register)?, pointed(notation, *digits));

@@ -1,4 +1,4 @@
-//! h41_fields: the places of each field, and those that a mask has.
+//! h41_fields: the places of each field, and those of masks.
 
 use h41_fields::{Field, Pointer, Span, span};
 

@@ -1,10 +1,10 @@
-//! What a test wants.
+//! The judgement of a test.
 
 ghost use Rattle.std.specs.Prelude.{IsTrue};
 
 use std::process::Abort;
 
-/// Stops the test where something does not hold, by the name of its row.
+/// Stops the test, with the name of the row, if the condition is false.
 pub fn wants(rt: &impl Abort, row: &str, holds: bool)
     ensures { IsTrue holds }
 {

@@ -1,4 +1,5 @@
-//! Known values of the libraries below the calculator, by which their definitions can be judged: what decks do not print.
+//! Tests with known values of the libraries below the calculator, by which their definitions can be judged: values that no deck
+//! prints.
 #![tactic(auto)]
 
 #[cfg(test)]

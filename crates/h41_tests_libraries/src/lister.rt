@@ -6,7 +6,7 @@ use h41_words::Word;
 use std::alloc::Global;
 use std::test::Fail;
 
-/// The words with these numbers.
+/// Returns the words with these numbers.
 fn words(alloc: Global, numbers: &[u16]) -> Result<Vec<Word>, Fail> {
     let mut words = Vec::new(alloc);
     for number in numbers {

@@ -1,4 +1,4 @@
-//! h41_program: programs edited, and lines and labels found.
+//! h41_program: edits of programs, and searches for lines and labels.
 
 ghost use Rattle.std.specs.Prelude.{IsTrue};
 ghost use Rattle.h41_program.specs.Lines.{is_inner};
@@ -13,7 +13,7 @@ use h41_program::{
 };
 use h41_ram::Ram;
 
-/// A call on memory with its answer, where a line is given by its bytes; or a register with its digits.
+/// A call on memory with its expected result, in which a line is given by its bytes; or a register with its expected digits.
 enum Step {
     Load(&'static [u8], Result<u16, ProgramRefusal>),
     Insert(u16, &'static [u8], Result<u16, ProgramRefusal>),
@@ -24,23 +24,23 @@ enum Step {
     StartOf(u16, u16),
     Final(u16),
     Global(&'static [u8], Option<u16>),
-    /// The number of the line at a position, where its program ends, and the line before it.
+    /// The number of the line at a position. The variants that follow are the end of its program, and the line before it.
     Number(u16, Option<u16>),
     EndOf(u16, Option<u16>),
     Before(u16, Option<u16>),
-    /// Whether the last program is open, and it is closed.
+    /// Whether the last program is open. The next variant closes it.
     Open(Result<bool, ProgramRefusal>),
     Close(Result<(), ProgramRefusal>),
-    /// From a position on, the first line is `RCL 05` in its short form, at a position, with another behind it.
+    /// The first line from a position on is `RCL 05` in its short form, at the second position; the third is the position after it.
     Recall(u16, u16, u16),
-    /// The same line stands at two positions.
+    /// The lines at two positions are equal.
     SameLine(u16, u16),
-    /// A register is written.
+    /// A register is written. The next variant is its expected content.
     Write(u16, u64),
     Register(u16, u64),
 }
 
-/// The line that bytes begin with; STOP where they begin with none that programs can have.
+/// Returns the line with which bytes begin, or STOP if they begin with none that programs can have.
 fn line(bytes: &[u8]) -> Line
     ensures { IsTrue (is_inner result) }
 {
@@ -50,7 +50,7 @@ fn line(bytes: &[u8]) -> Line
     }
 }
 
-/// A line that programs can have as it is, STOP in the place of another.
+/// Returns a line that programs can have as it is, and STOP for any other.
 fn inner_line(line: Line) -> Line
     ensures { IsTrue (is_inner result) }
 {
@@ -60,13 +60,13 @@ fn inner_line(line: Line) -> Line
     }
 }
 
-/// Whether a line stands at a position, and is `RCL 05` in its short form.
+/// Returns whether the line at a position is `RCL 05` in its short form.
 fn is_recall(listed: ListedLine, position: u16) -> bool {
     let recall = Line::Register(RegisterFunction::RecallRegister, ShortRegister::new(5));
     listed.position == position && listed.line == recall
 }
 
-/// Whether this is the first line from a position on, by both of the calls that tell it.
+/// Returns whether this is the first line from a position on, according to both functions that find it.
 fn finds_recall(ram: &Ram<320>, at: u16, position: u16, behind: u16) -> bool
     requires { IsTrue (is_sound ram.now.registers) }
 {
@@ -78,7 +78,7 @@ fn finds_recall(ram: &Ram<320>, at: u16, position: u16, behind: u16) -> bool
     }
 }
 
-/// Makes the step, and says whether its answer is the one that is wanted.
+/// Performs a step, and returns whether its result is the expected one.
 fn makes(ram: &mut Ram<320>, step: &Step) -> bool
     requires { IsTrue (is_sound ram.old.registers) }
 {
@@ -110,7 +110,7 @@ fn makes(ram: &mut Ram<320>, step: &Step) -> bool
     }
 }
 
-/// Rows of steps, each from an empty memory on.
+/// Tests rows of steps, each of which starts with an empty memory.
 static ROWS: [(&str, &[Step]); 12] = [
     (
         "two recalls",

@@ -1,4 +1,4 @@
--- What carrying out a row promises a step.
+-- What the execution of a row promises to a step.
 use Rattle.std.specs.Prelude.{◌≡◌, Bool, true, false, None, Result}
 use Rattle.h41_words.specs.declared.rows.Row.{Row}
 use Rattle.h41_words.specs.declared.rows.Row.TheVariants as rows
@@ -12,16 +12,16 @@ use Rattle.h41_nut.specs.private.ProcessorSteps.{Goes}
 use Rattle.h41_nut.specs.WordStep.{WordEffect, RefusesOr, nut_of, row_refusal}
 use Rattle.h41_nut.specs.WordStep.{answer, registers_after}
 
--- a row was carried out: refused as `row_refusal` says and then without a change, or with its
--- `WordEffect`
+-- The result of a row: refused as `row_refusal` says and not changed, or changed as `WordEffect`
+-- says.
 abbrev pub Ran : {T : Type 0} → Row → Result T WordRefusal → Processor → RegisterMap → PageMap
     → Keys → Processor → RegisterMap → PageMap → Keys → Type 0
 Ran row result cpu ram pages keys cpu' ram' pages' keys' =
     RefusesOr (row_refusal row (nut_of cpu ram pages keys)) (WordEffect row)
     result (nut_of cpu ram pages keys) (nut_of cpu' ram' pages' keys')
 
--- whether a word jumps or returns; each other one goes on with the word behind it, or behind the
--- word that it loads
+-- Whether a word jumps or returns. Every other word continues with the word after it, or after the
+-- word that it loads.
 abbrev pub is_jump : Row → Bool
 is_jump (rows.LongJump low_byte) = true
 is_jump (rows.ShortJump condition displacement) = true
@@ -31,8 +31,8 @@ is_jump rows.GoToAddress = true
 is_jump rows.GoToKey = true
 is_jump row = false
 
--- whether a word goes on with the word behind it, refused for no reason of its own, and reads and
--- changes no more than the processor and what it reads of the keyboard, but for arithmetic
+-- Whether a word, except arithmetic, continues with the word after it, has no refusal of its own,
+-- reads only the processor and the keyboard, and changes only the processor.
 abbrev pub is_within : Row → Bool
 is_within (rows.Arithmetic operation field) = false
 is_within (rows.Write register) = false
@@ -55,14 +55,14 @@ is_within rows.GoToAddress = false
 is_within rows.GoToKey = false
 is_within row = true
 
--- such a word was carried out, whatever the memory and the pages are
+-- Such a word was executed, whatever the memory and the pages are.
 abbrev pub RanWithin : {T : Type 0} → Row → Keys → Processor → Processor → Result T WordRefusal
     → Type 0
 RanWithin row keys s t result = (ram : RegisterMap) (pages : PageMap)
     → Goes None (next_address s) (answer row (nut_of s ram pages keys))
     (registers_after row (nut_of s ram pages keys)) s t result
 
--- whether such a word changes no register, but for what it answers as the carry
+-- Whether such a word changes no register, except the carry if it is a test.
 abbrev pub is_test : Row → Bool
 is_test (rows.TestStatus bit) = true
 is_test (rows.TestPointer place) = true
@@ -72,7 +72,7 @@ is_test rows.TestLowBattery = true
 is_test rows.Nop = true
 is_test row = false
 
--- the registers were changed as such a word says, whatever the memory and the pages are
+-- The registers were changed as such a word says, whatever the memory and the pages are.
 abbrev pub Changed : Row → Keys → Processor → Processor → Type 0
 Changed row keys s t =
     (ram : RegisterMap) → (pages : PageMap) → t ≡ registers_after row (nut_of s ram pages keys)

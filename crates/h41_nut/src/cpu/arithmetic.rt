@@ -18,8 +18,9 @@ use h41_fields::{Field, span};
 use h41_words::Operation;
 
 impl Cpu {
-    /// `OPERATION FIELD`: works on a field in the base that is set. There is one for each size of memory, though it has nothing of it: so
-    /// each loop over words has its own, in one piece.
+    /// `OPERATION FIELD`: performs an operation on a field in the current base. Returns SystemRom (08), and changes nothing, if the
+    /// next address is 0000. The function does not depend on the size of memory; it is generic so that each loop over words
+    /// contains its own inlined copy.
     #[inline(always)]
     pub(crate) fn arithmetic<const REGS: usize>(
         &mut self,
@@ -42,7 +43,8 @@ impl Cpu {
         Ok(())
     }
 
-    /// Works on a span of places, in base 10 where `DEC`, else in base 16, as where the carry is clear before.
+    /// Performs an operation on a span of places, in base 10 if `DEC` is true, otherwise in base 16. The carry before it has no
+    /// effect.
     #[inline(always)]
     fn operate<const DEC: bool>(&mut self, operation: Operation, span: Span)
         requires base { base_of DEC ≡ base_number self.old.base }

@@ -1,4 +1,4 @@
-//! How the processor goes on: to the next word, by jumps, and by returns.
+//! The next address of the processor: after the word, by jumps, and by returns.
 
 ghost use Rattle.std.specs.Prelude.{◌≡◌, ◌<◌, ◌≤◌, ◌==◌, IfOk};
 ghost use Rattle.std.specs.Result.{result_err};
@@ -18,7 +18,7 @@ use h41_pages::FIRST_ADDRESS;
 use h41_words::{Condition, Displacement, LongJumpKind, SecondWord};
 
 impl Cpu {
-    /// The address after the word.
+    /// Returns the address after the word.
     #[inline(always)]
     pub(crate) fn next_address(&self) -> u16
         ensures { result ≡ arrivals.next_address self.now }
@@ -26,7 +26,8 @@ impl Cpu {
         self.pc.wrapping_add(1)
     }
 
-    /// The address after the word, unless no step may arrive there. The word stands in a page that may be plugged, so that is 0000 alone.
+    /// Returns the address after the word, or SystemRom (08) if no step may go there. Since the word is in a page that can be
+    /// plugged, this is the case for 0000 only.
     #[inline(always)]
     pub(crate) fn following(&self) -> Result<u16, WordRefusal>
         requires { first_address ≤ self.now.pc }
@@ -39,7 +40,7 @@ impl Cpu {
         }
     }
 
-    /// Stands at an address, with a carry.
+    /// Sets the address and the carry.
     #[inline(always)]
     pub(crate) fn arrive(&mut self, address: u16, carry: bool)
         ensures { self.new ≡ arrivals.at_address address carry self.old }
@@ -48,7 +49,8 @@ impl Cpu {
         self.carry = carry;
     }
 
-    /// Goes to an address, with no carry; tells whether a function ends there.
+    /// Jumps to an address and clears the carry; returns whether a function ends there. The error is SystemRom (08) if no step may
+    /// go there.
     #[inline(always)]
     pub(crate) fn go_to(&mut self, address: u16) -> Result<bool, WordRefusal>
         ensures change { GoesTo (λ _. address) (λ s. s) self.old self.new result }
@@ -59,7 +61,7 @@ impl Cpu {
         Ok(ends)
     }
 
-    /// Goes on after the word, with no carry.
+    /// Continues after the word and clears the carry. The error is SystemRom (08) if the next address is 0000.
     #[inline(always)]
     pub(crate) fn go_on(&mut self) -> Result<(), WordRefusal>
         requires { first_address ≤ self.old.pc }
@@ -68,7 +70,7 @@ impl Cpu {
         self.answer(false)
     }
 
-    /// Goes on after the word, with the answer of a test as the carry.
+    /// Continues after the word, with the result of a test as the carry. The error is SystemRom (08) if the next address is 0000.
     #[inline(always)]
     pub(crate) fn answer(&mut self, test: bool) -> Result<(), WordRefusal>
         requires { first_address ≤ self.old.pc }
@@ -79,8 +81,9 @@ impl Cpu {
         Ok(())
     }
 
-    /// `?NC XQ` and the like: goes to the address of both words, where the carry is as the second word says. `XQ` keeps the
-    /// address after both words. Tells whether a function ends where it goes.
+    /// `?NC XQ` and the like: jumps to the address in both words if the carry meets the condition of the second word. `XQ` pushes
+    /// the address after both words. Returns whether a function ends at the next address; the error is SystemRom (08) if no step
+    /// may go there.
     #[inline(always)]
     pub(crate) fn long_jump(
         &mut self,
@@ -103,8 +106,8 @@ impl Cpu {
         Ok(ends)
     }
 
-    /// `JNC` and `JC`: goes by the displacement from the word's own address, where the carry is as the condition says. Tells whether a
-    /// function ends where it goes.
+    /// `JNC` and `JC`: jumps by the displacement from the word's own address if the carry meets the condition. Returns whether a
+    /// function ends at the next address; the error is SystemRom (08) if no step may go there.
     #[inline(always)]
     pub(crate) fn short_jump(
         &mut self,
@@ -123,7 +126,8 @@ impl Cpu {
         }
     }
 
-    /// `RTN`: goes to the newest return address, which is taken off. Tells whether a function ends there.
+    /// `RTN`: jumps to the newest return address and removes it. Returns whether a function ends there; the error is SystemRom (08)
+    /// if no step may go there.
     pub(crate) fn return_to_newest(&mut self) -> Result<bool, WordRefusal>
         ensures change { GoesTo spec.newest_return spec.with_return_popped self.old self.new
             result }
@@ -136,7 +140,8 @@ impl Cpu {
         Ok(ends)
     }
 
-    /// `?C RTN` and `?NC RTN`: returns where the carry is as the condition says. Tells whether a function ends where it goes.
+    /// `?C RTN` and `?NC RTN`: returns if the carry meets the condition. Returns whether a function ends at the next address; the
+    /// error is SystemRom (08) if no step may go there.
     pub(crate) fn return_if(&mut self, condition: Condition) -> Result<bool, WordRefusal>
         requires { first_address ≤ self.old.pc }
         ensures change { ReturnsIf condition self.old self.new result }
@@ -157,14 +162,14 @@ impl Cpu {
         self.pop();
     }
 
-    /// `PUSH ADR`: the address in C becomes the newest return address.
+    /// `PUSH ADR`: makes the address in C the newest return address.
     pub(crate) fn push_address(&mut self)
         ensures { self.new ≡ with_address_pushed self.old }
     {
         self.push(self.address_in_c());
     }
 
-    /// `POP ADR`: the newest return address goes to C, and is taken off.
+    /// `POP ADR`: copies the newest return address to C and removes it.
     pub(crate) fn pop_address(&mut self)
         ensures { self.new ≡ with_address_popped self.old }
     {
@@ -173,7 +178,8 @@ impl Cpu {
         self.pop();
     }
 
-    /// `GOTO KEY`: goes to the next address with the key's code as its low byte. Tells whether a function ends there.
+    /// `GOTO KEY`: jumps to the next address with its low byte replaced by the key's code. Returns whether a function ends there;
+    /// the error is SystemRom (08) if no step may go there.
     pub(crate) fn go_to_key(&mut self, key: u8) -> Result<bool, WordRefusal>
         ensures change { GoesTo (spec.key_target key) (λ s. s) self.old self.new result }
         ensures end { TellsEnd result self.new }
@@ -181,7 +187,7 @@ impl Cpu {
         self.go_to(self.next_address() / 256 * 256 + u16::from(key))
     }
 
-    /// Takes the newest return address off; the oldest is 0000 then.
+    /// Removes the newest return address. The oldest is then 0000.
     fn pop(&mut self)
         ensures { self.new ≡ spec.with_return_popped self.old }
     {
@@ -189,7 +195,7 @@ impl Cpu {
         self.returns = [second, third, fourth, 0];
     }
 
-    /// Puts a return address in front; the oldest is lost.
+    /// Adds a return address as the newest one. The oldest is lost.
     fn push(&mut self, address: u16)
         ensures { self.new ≡ spec.with_return_pushed address self.old }
     {
@@ -198,7 +204,7 @@ impl Cpu {
     }
 }
 
-/// Whether a jump or a return is taken at this carry.
+/// Returns whether a jump or a return with a condition is taken at this carry.
 #[inline(always)]
 fn is_taken(condition: Condition, carry: bool) -> bool
     ensures { result ≡ spec.is_taken condition carry }
@@ -209,7 +215,7 @@ fn is_taken(condition: Condition, carry: bool) -> bool
     }
 }
 
-/// The address that lies by a displacement further on or back.
+/// Returns the address at a displacement from an address, modulo 65,536.
 #[inline(always)]
 fn displaced(address: u16, displacement: Displacement) -> u16
     ensures { result ≡ displaced_address address displacement }
@@ -222,7 +228,7 @@ fn displaced(address: u16, displacement: Displacement) -> u16
     }
 }
 
-/// Whether a function ends at an address, unless no step may arrive there.
+/// Returns whether a function ends at an address, or SystemRom (08) if no step may go there.
 #[inline(always)]
 pub(crate) fn arrival(address: u16) -> Result<bool, WordRefusal>
     ensures refusal { result_err result ≡ arrivals.arrival_refusal address }
@@ -237,8 +243,8 @@ pub(crate) fn arrival(address: u16) -> Result<bool, WordRefusal>
     }
 }
 
-/// Whether an address in pages 0 to 3 is closed to all steps, as each but 00F0 is. Its machine code stands apart, since few words come
-/// there.
+/// Returns whether no step may go to an address in pages 0 to 3, which is true of each except 00F0. It is a cold function of its
+/// own, because few words jump there.
 #[cold]
 #[inline(never)]
 fn is_closed(address: u16) -> bool

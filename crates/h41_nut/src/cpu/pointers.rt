@@ -8,7 +8,7 @@ use h41_digits::PLACES;
 use h41_fields::Pointer;
 
 impl Cpu {
-    /// Where the active pointer is, 0 to 13.
+    /// Returns the place, 0 to 13, that the active pointer names.
     pub(crate) fn pointer(&self) -> usize
         ensures place { result ≡ spec.pointer_of self.now }
         ensures bound { result < 14 }
@@ -19,7 +19,7 @@ impl Cpu {
         }
     }
 
-    /// `R= n`, `R=R+1` and `R=R-1`: puts the active pointer at a place.
+    /// `R= n`, `R=R+1` and `R=R-1`: moves the active pointer to a place.
     pub(crate) fn set_pointer(&mut self, place: usize)
         requires { place < 14 }
         ensures { self.new ≡ spec.with_pointer place self.old }
@@ -38,7 +38,7 @@ impl Cpu {
     }
 }
 
-/// The place above another; above 13 comes 0.
+/// Returns the place above another. The place above 13 is 0.
 pub(crate) fn place_above(place: usize) -> usize
     requires { place < 14 }
     ensures value { result ≡ spec.place_above place }
@@ -47,7 +47,7 @@ pub(crate) fn place_above(place: usize) -> usize
     if place == PLACES - 1 { 0 } else { place + 1 }
 }
 
-/// The place below another; below 0 comes 13.
+/// Returns the place below another. The place below 0 is 13.
 pub(crate) fn place_below(place: usize) -> usize
     requires { place < 14 }
     ensures value { result ≡ spec.place_below place }

@@ -1,4 +1,4 @@
-//! The words that load, copy and rotate registers, and those that switch.
+//! The words that load, copy and rotate registers, and those that change modes.
 
 ghost use Rattle.std.specs.Prelude.{◌≡◌, ◌<◌, ◌≤◌};
 ghost use Rattle.h41_pages.specs.Addresses.{first_address};
@@ -17,14 +17,14 @@ use h41_digits::{PLACES, Reg};
 use h41_words::{DigitPlace, LoadedDigit, RegisterTransfer, Word};
 
 impl Cpu {
-    /// The address in C's digits 6 to 3.
+    /// Returns the address in the digits 6 to 3 of C.
     pub(crate) fn address_in_c(&self) -> u16
         ensures { result ≡ spec.address_in_c self.now }
     {
         self.c.number(3, 6) as u16
     }
 
-    /// The low ten bits of C's digits 2 to 0.
+    /// Returns the low ten bits of the digits 2 to 0 of C.
     pub(crate) fn word_in_c(&self) -> u16
         ensures value { result ≡ spec.word_in_c self.now }
         ensures bound { result < word_count }
@@ -32,14 +32,14 @@ impl Cpu {
         (self.c.number(0, 2) % 1024) as u16
     }
 
-    /// A word's digits to places 2 to 0 of C.
+    /// Copies the digits of a word to places 2 to 0 of C.
     fn put_word(&mut self, word: Word)
         ensures { self.new ≡ spec.with_word_in_c word self.old }
     {
         self.c = self.c.with_number(0, 2, u64::from(word.number()));
     }
 
-    /// `LDI`: the second word goes to C; the processor goes on after it.
+    /// `LDI`: copies the second word to C and continues after it. The error is SystemRom (08) if no step may go there.
     pub(crate) fn load_immediate(&mut self, second: Word) -> Result<(), WordRefusal>
         ensures { GoesTo address_after_both (spec.with_word_in_c second) self.old self.new result }
     {
@@ -50,7 +50,7 @@ impl Cpu {
         Ok(())
     }
 
-    /// `FETCH S&X`: a word goes to C.
+    /// `FETCH S&X`: copies a word to C and continues. The error is SystemRom (08) if the next address is 0000.
     pub(crate) fn load_word(&mut self, word: Word) -> Result<(), WordRefusal>
         requires { first_address ≤ self.old.pc }
         ensures { GoesOn (spec.with_word_in_c word) self.old self.new result }
@@ -61,7 +61,7 @@ impl Cpu {
         Ok(())
     }
 
-    /// `LD@R n`: a digit goes to C at the active pointer, which goes down.
+    /// `LD@R n`: writes a digit to C at the active pointer's place, and moves the pointer down one place.
     pub(crate) fn load_digit(&mut self, digit: LoadedDigit)
         ensures { self.new ≡ spec.with_digit_loaded digit self.old }
     {
@@ -70,21 +70,21 @@ impl Cpu {
         self.set_pointer(place_below(place));
     }
 
-    /// `C=KEY`: the key's code goes to C's digits 4 and 3.
+    /// `C=KEY`: copies the key's code to the digits 4 and 3 of C.
     pub(crate) fn load_key(&mut self, key: u8)
         ensures { self.new ≡ spec.with_key_in_c key self.old }
     {
         self.c = self.c.with_number(3, 4, u64::from(key));
     }
 
-    /// `READ DATA`, `C=C OR A` and `C=C AND A`: a register goes to C.
+    /// `READ DATA`, `C=C OR A` and `C=C AND A`: copies a register to C.
     pub(crate) fn load_register(&mut self, register: Reg)
         ensures { self.new ≡ spec.with_c register self.old }
     {
         self.c = register;
     }
 
-    /// `RCR n`: rotates C right by so many digits.
+    /// `RCR n`: rotates C right by a number of digits.
     pub(crate) fn rotate_right(&mut self, digits: DigitPlace)
         ensures { self.new ≡ spec.with_c_rotated digits self.old }
     {
@@ -108,7 +108,7 @@ impl Cpu {
         self.selected = address;
     }
 
-    /// `READ n`: selects an address of the memory, whose register goes to C.
+    /// `READ n`: selects an address of the memory, and copies its register to C.
     pub(crate) fn select_and_load(&mut self, address: u16, register: Reg)
         requires { address < word_count }
         ensures { self.new ≡ selecting_and_loading address register self.old }
@@ -117,7 +117,7 @@ impl Cpu {
         self.c = register;
     }
 
-    /// `SETHEX` and `SETDEC`: the base that arithmetic counts in from here on.
+    /// `SETHEX` and `SETDEC`: selects the base of arithmetic.
     pub(crate) fn set_base(&mut self, base: Base)
         ensures { self.new ≡ spec.with_base base self.old }
     {
@@ -167,7 +167,7 @@ impl Cpu {
         }
     }
 
-    /// The byte of C at the active pointer, its low digit there and its high digit one place above.
+    /// Returns the byte of C at the active pointer: its low digit is at the pointer's place, its high digit one place above.
     fn byte_at_pointer(&self) -> u8
         ensures { result ≡ spec.byte_at_pointer self.now }
     {
@@ -175,7 +175,7 @@ impl Cpu {
         self.c.get(place) + 16 * self.c.get(place_above(place))
     }
 
-    /// Puts a byte into C at the active pointer.
+    /// Writes a byte to C at the active pointer: the low digit to the pointer's place, the high digit one place above.
     fn put_byte_at_pointer(&mut self, byte: u8)
         ensures { self.new ≡ spec.with_byte_at_pointer byte self.old }
     {
@@ -186,7 +186,7 @@ impl Cpu {
             .with(place_above(place), byte / 16);
     }
 
-    /// The address of a register, 0 to 15, in the selected block of 16.
+    /// Returns the address of a register, 0 to 15, in the selected block of 16.
     pub(crate) fn block_address(&self, register: u8) -> u16
         requires { register < 16 }
         ensures value { result ≡ block_address register self.now }
@@ -196,7 +196,7 @@ impl Cpu {
     }
 }
 
-/// A register rotated right by so many digits.
+/// Returns a register rotated right by 0 to 13 digits.
 fn rotated(register: Reg, digits: usize) -> Reg
     requires { digits < 14 }
     ensures { result ≡ spec.rotated_register register digits }
@@ -211,14 +211,14 @@ fn rotated(register: Reg, digits: usize) -> Reg
         .with_number(PLACES - digits, PLACES - 1, leaving)
 }
 
-/// The bits that stand in one of two registers or in both.
+/// Returns the bits that are set in at least one of two registers.
 pub(crate) fn digits_or(x: Reg, y: Reg) -> Reg
     ensures { result ≡ spec.digits_or x y }
 {
     Reg::holding(x.to_u64() | y.to_u64())
 }
 
-/// The bits that stand in both of two registers.
+/// Returns the bits that are set in both of two registers.
 pub(crate) fn digits_and(x: Reg, y: Reg) -> Reg
     ensures { result ≡ spec.digits_and x y }
 {

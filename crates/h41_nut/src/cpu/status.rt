@@ -9,7 +9,7 @@ use bitflags::Flags;
 use h41_words::StatusBit;
 
 impl Cpu {
-    /// Whether a status bit is set.
+    /// Returns whether a status bit is set.
     pub(crate) fn is_status_set(&self, bit: StatusBit) -> bool
         ensures { result ≡ spec.is_status_set bit self.now }
     {
@@ -30,14 +30,14 @@ impl Cpu {
         self.set_status_byte(0);
     }
 
-    /// S0 to S7 as a byte.
+    /// Returns S0 to S7 as a byte.
     pub(crate) fn status_byte(&self) -> u8
         ensures { result ≡ spec.status_byte self.now }
     {
         (self.status.bits() % 256) as u8
     }
 
-    /// Sets S0 to S7 as a byte.
+    /// Sets S0 to S7 to the bits of a byte.
     pub(crate) fn set_status_byte(&mut self, byte: u8)
         ensures { self.new ≡ spec.with_status_byte byte self.old }
     {

@@ -11,7 +11,8 @@ use crate::refusal::WordRefusal;
 use h41_ram::Ram;
 use h41_words::{BlockRegister, ReadRegister};
 
-/// `WRIT n`: C goes to a register of the selected block, which stays selected.
+/// `WRIT n`: writes C to a register of the selected block, and selects this register. The error is SystemRom (08) if the next
+/// address is 0000.
 pub fn write_register<const REGS: usize>(
     cpu: &mut Cpu,
     ram: &mut Ram<REGS>,
@@ -33,7 +34,8 @@ pub fn write_register<const REGS: usize>(
     Ok(())
 }
 
-/// `READ n`: a register of the selected block goes to C, and stays selected.
+/// `READ n`: copies a register of the selected block to C, and selects this register. The error is SystemRom (08) if the next
+/// address is 0000.
 pub fn read_register<const REGS: usize>(
     cpu: &mut Cpu,
     ram: &Ram<REGS>,
@@ -48,7 +50,7 @@ pub fn read_register<const REGS: usize>(
     Ok(())
 }
 
-/// `WRIT DATA`: C goes to the selected register.
+/// `WRIT DATA`: writes C to the selected register. The error is SystemRom (08) if the next address is 0000.
 pub fn write_data<const REGS: usize>(cpu: &mut Cpu, ram: &mut Ram<REGS>) -> Result<(), WordRefusal>
     requires { first_address ≤ cpu.old.pc }
     ensures processor { GoesOn (λ s. s) cpu.old cpu.new result }
@@ -64,7 +66,7 @@ pub fn write_data<const REGS: usize>(cpu: &mut Cpu, ram: &mut Ram<REGS>) -> Resu
     Ok(())
 }
 
-/// `READ DATA`: the selected register goes to C.
+/// `READ DATA`: copies the selected register to C. The error is SystemRom (08) if the next address is 0000.
 pub fn read_data<const REGS: usize>(cpu: &mut Cpu, ram: &Ram<REGS>) -> Result<(), WordRefusal>
     requires { first_address ≤ cpu.old.pc }
     ensures { GoesOn (spec.with_selected_in_c ram.now.registers) cpu.old cpu.new result }

@@ -1,4 +1,4 @@
-//! The words of peripherals, and those that stand for nothing.
+//! The words of peripherals, and those that are no instruction.
 
 ghost use Rattle.std.specs.Prelude.{◌≡◌, ◌≤◌};
 ghost use Rattle.h41_pages.specs.Addresses.{first_address};
@@ -9,7 +9,7 @@ use crate::cpu::Cpu;
 use crate::refusal::WordRefusal;
 use h41_words::UnassignedWord;
 
-/// `PRPH SLCT`: does nothing where C's digits 1 and 0 are zero, and is refused as 10 else.
+/// `PRPH SLCT`: does nothing if the digits 1 and 0 of C are zero. Otherwise the error is PeripheralNotHeld (10).
 pub fn select_peripheral(cpu: &mut Cpu) -> Result<(), WordRefusal>
     requires { first_address ≤ cpu.old.pc }
     ensures { GoesOnUnless (spec.peripheral_refusal cpu.old) (λ s. s) cpu.old cpu.new result }
@@ -20,7 +20,8 @@ pub fn select_peripheral(cpu: &mut Cpu) -> Result<(), WordRefusal>
     cpu.go_on()
 }
 
-/// Why a word that stands for no instruction is refused: 3FC as 7, peripherals' words as 10, each other as 6.
+/// Returns the reason why a word that is no instruction is refused: WordNotInProfile (07) for 3FC, PeripheralNotHeld (10) for words
+/// of peripherals, UndefinedWord (06) for any other.
 pub fn constant_refusal(word: UnassignedWord, address: u16) -> WordRefusal
     ensures { result ≡ spec.constant_refusal word address }
 {

@@ -12,7 +12,8 @@ use crate::refusal::WordRefusal;
 use h41_pages::{FetchRefusal, Pages};
 use h41_words::Word;
 
-/// The word at an address. Refused as 8 in pages 0 to 3, as 9 where the chosen bank of its page is not plugged.
+/// Returns the word at an address. The errors: SystemRom (08) in pages 0 to 3, EmptyPage (09) if the active bank of its page is not
+/// plugged.
 #[inline(always)]
 pub fn fetch(pages: &Pages, address: u16) -> Result<Word, WordRefusal>
     ensures word { result ≡ word_at pages.now address }
@@ -21,7 +22,8 @@ pub fn fetch(pages: &Pages, address: u16) -> Result<Word, WordRefusal>
     Ok(pages.fetch(address)?)
 }
 
-/// `WROM`: the word in C is written at the address in C. Refused as 12 before all else where its page is not writable.
+/// `WROM`: writes the word in C at the address in C. The error is ReadOnly (12), before all others, if the active bank of its page
+/// is not plugged as writable.
 pub fn write_rom(cpu: &mut Cpu, pages: &mut Pages) -> Result<(), WordRefusal>
     requires { first_address ≤ cpu.old.pc }
     ensures processor { WritesWord pages.old cpu.old cpu.new result }
@@ -36,8 +38,8 @@ pub fn write_rom(cpu: &mut Cpu, pages: &mut Pages) -> Result<(), WordRefusal>
     Ok(())
 }
 
-/// `FETCH S&X`: the word at the address in C goes to C; 000 where the chosen bank of its page is not plugged (this project's
-/// choice). Refused as 8 before all else in the system's pages.
+/// `FETCH S&X`: copies the word at the address in C to C, or 000 if the active bank of its page is not plugged (this project's
+/// choice). The error is SystemRom (08), before all others, in the system's pages.
 #[tactic(auto, unfolding(h41_pages::specs::PageMap::fetched))]
 pub fn fetch_word(cpu: &mut Cpu, pages: &Pages) -> Result<(), WordRefusal>
     requires { first_address ≤ cpu.old.pc }

@@ -24,7 +24,7 @@ read_again words image =
 pub returns-clause-read : goal.returns-clause-read
 returns-clause-read c = read_again
 
--- the bytes of an image that is held, where there is one
+-- The bytes of a supported image, if there is one.
 read_of : (page place : ℕ) (image : Option PageImage) (bytes : List ℕ) → IfSome image (IsHeldImage page place)
     → IfSome image (λ plugged. bytes ≡ image_bytes plugged.words)
     → IfSome image (λ plugged. (read_refusal bytes ≡ None) × (words_in bytes ≡ plugged.words))

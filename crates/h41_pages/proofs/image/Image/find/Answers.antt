@@ -5,7 +5,7 @@ use Rattle.h41_pages.proofs.Searches.{found_later, found_first}
 use Rattle.h41_pages.proofs.image.Image.find.Goals as goal
 use Rattle.h41_pages.specs.declared.functions.ModuleFunction.{ModuleFunction}
 
--- the functions from an entry on
+-- The functions from an entry on.
 abbrev rest_of : List ℕ → ℕ → List ModuleFunction
 rest_of words entry = map (function_in words) (up_to entry (entry_count words))
 

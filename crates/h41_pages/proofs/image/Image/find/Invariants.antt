@@ -3,7 +3,7 @@ use Rattle.h41_pages.specs.FunctionTables.{found_in, function_in, functions_of, 
 use Rattle.h41_pages.proofs.Ranges.{up_to}
 use Rattle.h41_pages.proofs.image.Image.find.Given as goal
 
--- no entry so far has the name
+-- No entry so far has the name.
 abbrev pub invariant-loop-entry : goal.invariant-loop-entry
 invariant-loop-entry l =
     found_in l.name (functions_of l.self.words)

@@ -4,7 +4,7 @@ use Rattle.h41_pages.proofs.Names.{going_on}
 use Rattle.h41_pages.proofs.Ranges.{up_to}
 use Rattle.h41_pages.proofs.image.Image.name_before.Given as goal
 
--- the characters so far, none of them the last, and the words that are left
+-- The characters so far, none of them the last, and the words that are left.
 abbrev pub invariant-loop-distance : goal.invariant-loop-distance
 invariant-loop-distance l = record {
   length : length l.name ≡ l.distance;

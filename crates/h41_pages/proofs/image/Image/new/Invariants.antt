@@ -2,7 +2,7 @@ use Rattle.std.proofs.Common.{◌≡◌, map, take}
 use Rattle.h41_pages.specs.KeystrokeCode.{code_byte}
 use Rattle.h41_pages.proofs.image.Image.new.Given as goal
 
--- the words so far, and their bytes
+-- The words so far, and their bytes.
 abbrev pub invariant-loop-number : goal.invariant-loop-number
 invariant-loop-number l = record {
   words : l.image.items ≡ take l.number-index l.words;

@@ -7,7 +7,7 @@ use Rattle.h41_pages.proofs.Searches.{found_behind, found_before}
 use Rattle.h41_pages.proofs.pages.Pages.find.Goals as goal
 use Rattle.h41_pages.specs.declared.functions.ModuleFunction.{ModuleFunction}
 
--- the functions from a page on
+-- The functions from a page on.
 abbrev rest_of : PageMap → ℕ → List ModuleFunction
 rest_of pages page = flat_map (functions_at pages) (up_to page 16)
 

@@ -1,4 +1,4 @@
--- The image that is looked at is one that is held, and the word is written in it and at its bank's address.
+-- The image is a supported one, and the word is written in it and at its bank's address.
 use Rattle.std.proofs.Common.{true, false, ap, subst, sym, ◌∙◌, slice_index_or, slice_set}
 use Rattle.std.specs.Prelude.{option_map}
 use Rattle.h41_pages.specs.private.AddressSpace.{IsPages, word_place}

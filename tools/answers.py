@@ -212,7 +212,7 @@ class Answers:
         """An example, at its first step."""
         name = asked["name"]
         if name not in self.lessons:
-            raise Failure(f"there is no lesson {name}")
+            raise Failure(f"unknown lesson '{name}': expected one of {', '.join(self.lessons)}")
         parts = parts_of(bytes_of(os.path.join(LESSONS, f"{name}.deck")), True)
         self.begin(asked)
         self.desk.lesson = {"name": name, "title": self.lessons[name], "parts": parts, "left": list(parts)}
@@ -250,12 +250,14 @@ class Answers:
     def bring_in(self, asked):
         """Files, by tools/import: what it tells, and the deck that it makes of them, which is carried out."""
         if len(asked["files"]) > MOST_FILES:
-            raise Failure(f"at most {MOST_FILES} files come in at once")
+            raise Failure(f"found {len(asked['files'])} files: at most {MOST_FILES} can be imported at once")
         files = [(file_name(file["name"]), base64.b64decode(file["data"], validate=True)) for file in asked["files"]]
         if not files or any(not name for name, _ in files):
-            raise Failure("these files have no names")
-        if len({name for name, _ in files}) < len(files):
-            raise Failure("two of these files have one name")
+            raise Failure("a file without a name cannot be imported: name it by its kind, for example x.raw")
+        names = [name for name, _ in files]
+        twice = next((name for at, name in enumerate(names) if name in names[:at]), None)
+        if twice is not None:
+            raise Failure(f"two files are named '{twice}': rename one of them")
         with self.lock:
             free = [page for page in PAGES[4:] + PAGES[:4] if page not in self.seen["pages"]] or ["8"]
         with tempfile.TemporaryDirectory() as room:
@@ -266,7 +268,7 @@ class Answers:
             ran = tool("import", [*self.desk.words, "--page", page, *(name for name, _ in files)], room)
         told = ran.stderr.decode(errors="replace")
         if ran.returncode:
-            return {"told": told or "tools/import gave no deck", "good": False}
+            return {"told": told or "tools/import failed without a message", "good": False}
         with self.lock:
             if not self.ended:
                 self.desk.give(ran.stdout, True)
@@ -284,7 +286,7 @@ class Answers:
         words = ["--page", page] if kind in ("rom", "source") else [f"--label={label}"] if label else []
         ran = tool("export", [kind, *words, "-", "-"], None, deck)
         if ran.returncode:
-            raise Failure(ran.stderr.decode(errors="replace").strip() or "tools/export wrote nothing")
+            raise Failure(ran.stderr.decode(errors="replace").strip() or "tools/export failed without a message")
         return ran.stdout
 
 
@@ -299,4 +301,4 @@ def tool(name, words, folder, given=b""):
         return subprocess.run([sys.executable, os.path.join(os.path.realpath(TOOLS), name), *words], cwd=folder, input=given,
                               capture_output=True, timeout=LONGEST_TOOL)
     except subprocess.TimeoutExpired as error:
-        raise Failure(f"tools/{name} took more than {LONGEST_TOOL} seconds") from error
+        raise Failure(f"tools/{name} did not end within {LONGEST_TOOL} seconds and was stopped: try fewer or smaller files") from error

@@ -95,7 +95,7 @@ def commit():
         found, changes = git("rev-parse", "HEAD"), git("status", "--porcelain", "--", "crates", "crates.txt")
     except OSError:
         return None
-    return f"{found}{' and changes of its sources' if changes else ''}" if found else None
+    return f"{found}{' with uncommitted changes' if changes else ''}" if found else None
 
 
 class Record:
@@ -118,6 +118,6 @@ class Record:
         new = f"{self.PATH}.{os.getpid()}"
         with open(new, "w", encoding="utf-8") as file:
             if self.commit:
-                print(f"# proved and built of commit {self.commit}", file=file)
+                print(f"# proved and built from commit {self.commit}", file=file)
             print(*(f"{found}  {path}" for path, found in sorted(sums.items())), sep="\n", file=file)
         os.replace(new, self.PATH)

@@ -52,7 +52,7 @@ def bytes_of(path):
         with open(path, "rb") as file:
             return file.read()
     except OSError as error:
-        raise Failure(f"{path}: it cannot be read: {error.strerror}") from error
+        raise Failure(f"{path}: cannot be read: {error.strerror}") from error
 
 
 def end_with_reader():
@@ -147,7 +147,8 @@ def memory_in(words):
     at = words.index("--memory")
     given, others = words[at + 1:at + 2], words[:at] + words[at + 2:]
     if not given or given[0] not in MEMORIES or "--memory" in others:
-        raise Failure(f"--memory is one of {', '.join(MEMORIES)}", 2)
+        found = "it twice" if "--memory" in others else f"'{given[0]}'" if given else "nothing"
+        raise Failure(f"--memory: found {found}, expected one of {', '.join(MEMORIES)}", 2)
     return given[0], others
 
 
@@ -160,10 +161,10 @@ def run(deck, memory=MEMORY):
     """Runs a deck: the status and what it writes. The program's own faults and the launcher's go to standard error."""
     deck = with_keys(deck)
     if len(deck) > LONGEST_DECK:
-        raise Failure(f"the deck has {len(deck)} bytes with what is added to it, and {LONGEST_DECK} is the most", 3)
+        raise Failure(f"the deck has {len(deck):,} bytes with the commands that this tool adds: at most {LONGEST_DECK:,} can be run", 3)
     ran = subprocess.run([BENCH, *running(memory)], input=deck, stdout=subprocess.PIPE)
     if ran.returncode == NO_ANSWER:
-        raise Failure("the bench gave no answer", NO_ANSWER)
+        raise Failure("./bench gave no answer: see its message above", NO_ANSWER)
     return ran.returncode, ran.stdout
 
 
@@ -175,7 +176,7 @@ def answered(deck, memory=MEMORY):
     status, output = run(marked(lines, items), memory)
     answers = answers_of(output)
     if status in (0, 1) and items and len(answers) != len(items):
-        raise Failure(f"the bench answered {len(answers)} commands of {len(items)}", 3)
+        raise Failure(f"the bench answered {len(answers)} of {len(items)} commands and ended with status {status}", 3)
     return status, [(first, last, answer) for (first, last), answer in zip(items, answers)]
 
 
@@ -201,7 +202,7 @@ def refused_key(lines, at, memory=MEMORY):
     keys = "".join(f"key {name}\n" for name in names).encode("latin-1")
     _, answers = answered(b"".join(lines[:at]) + keys, memory)
     refusals = [number for number, (_, _, answer) in enumerate(answers[-len(names):], 1) if answer]
-    return f"its key {refusals[0]}: {names[refusals[0] - 1]}" if refusals and names[1:] else ""
+    return f"key {refusals[0]} is refused: {names[refusals[0] - 1]}" if refusals and names[1:] else ""
 
 
 def hexadecimal(data):

@@ -67,7 +67,7 @@ class Bench(Session):
             self.bench.stdin.flush()
             return [self.answer() for _ in commands]
         except (OSError, ValueError) as error:
-            raise Failure("the bench has ended", NO_ANSWER) from error
+            raise Failure("the bench ended before it answered", NO_ANSWER) from error
         finally:
             timer.cancel()
 
@@ -77,7 +77,7 @@ class Bench(Session):
         while lines[-2:] != MARK_ANSWER:
             line = self.bench.stdout.readline()
             if not line:
-                raise Failure("the bench has ended", NO_ANSWER)
+                raise Failure("the bench ended before it answered", NO_ANSWER)
             lines.append(line[:-1])
         return read(lines[:-2])
 
@@ -157,7 +157,7 @@ class Part:
 def parts_of(deck, may_be_open=False):
     """The parts of a deck, whose texts together are the deck. It may end in a block without its end where that is told."""
     if deck.endswith(b"\r"):
-        raise Failure("the deck ends in a CR, which would be part of its last line: no LF is behind it")
+        raise Failure("the deck ends in CR without LF, which makes the CR part of its last line: end the line with LF")
     lines = lines_of(with_keys(deck))
     parts, at = [], 0
     for first, last in items_of(lines):
@@ -170,7 +170,7 @@ def parts_of(deck, may_be_open=False):
     if parts and parts[-1].is_command and not is_whole(parts[-1].text.rstrip(b"\n")):
         parts[-1].is_open = True
         if not may_be_open:
-            raise Failure(f"{NO_END}: no line is `end` alone behind {parts[-1].shown().splitlines()[0]}")
+            raise Failure(f"{NO_END}: the block `{parts[-1].shown().splitlines()[0]}` has no line `end`")
     return parts
 
 
@@ -381,7 +381,7 @@ class Desk:
         if kind in ("rom", "source"):
             image, = self.bench.ask_all([b"show image %s" % page.encode()])
             if refusal_of(image):
-                raise Failure(f"page {page}: {image[-1]}")
+                raise Failure(f"page {page}: {image[-1]}: plug a module there first")
             return "\n".join([f"image {page}", *image, "end", ""]).encode()
         found = self.bench.ask_all([b"show ram %03x" % at for at in (0x00D, *range(self.top - 1, BOTTOM_OF_MEMORY - 1, -1))])
         digits = [lines[0] for lines in found]

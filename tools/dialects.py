@@ -134,7 +134,7 @@ class Names:
         found = JUMP.fullmatch(code)
         names = [found[1], *sorted(self.labels)] if found else []
         label = next((name for name in names if name in self.labels and name.upper() == found[1].upper()), None)
-        return f"no jump to the label {label}, which is JNC :{label}" if label else ""
+        return f"not a jump to the label {label}; for the jump write JNC :{label}" if label else ""
 
     # What an operand may be, each with how it was read.
 
@@ -163,7 +163,7 @@ class Names:
     def addresses(self, operand):
         found = ADDRESS.fullmatch(operand)
         if found and operand in self.labels:
-            return [(f":{operand}", f"the label {operand}, and not the address")]
+            return [(f":{operand}", f"the label {operand}, not the address")]
         return [(found[1], "")] if found else self.references(operand)
 
     def distances(self, operand):
@@ -188,8 +188,8 @@ class Names:
         if mark or as_decimal in (None, digits):
             return digits, ""
         if self.is_decimal:
-            return as_decimal, "decimal"
-        return digits, f"hexadecimal; with --decimal it is {as_decimal}"
+            return as_decimal, "read as decimal"
+        return digits, f"read as hexadecimal; with --decimal it is {as_decimal}"
 
 
 def fronts(code):
@@ -269,7 +269,7 @@ class Dialect:
         joined = next((other for other in others if other.joined and other.code != text.code and other.refers_to() in labels), None)
         if text.joined or not joined:
             return text
-        return replace(text, remark="; ".join(filter(None, [text.remark, f"a comment; without its blanks it is {joined.code}"])))
+        return replace(text, remark="; ".join(filter(None, [text.remark, f"with a comment; without the spaces it is {joined.code}"])))
 
     def texts_of(self, code):
         """What a line may be without a comment: one with an instruction or a directive."""
@@ -336,8 +336,8 @@ class Dialect:
         old = self.texts[at][len(self.codes[at]):].lstrip()
         code = self.codes[at].strip()
         if text is None:
-            new, told = f"; {self.texts[at].strip()}", "nothing"
-            told += f" (it stands in line {self.numbers[at] + 1})" if at in self.numbers else ""
+            new, told = f"; {self.texts[at].strip()}", "(removed)"
+            told += f" (its number is in line {self.numbers[at] + 1})" if at in self.numbers else ""
         else:
             new, told = text.whole() + (f" {old}" if old else ""), text.told()
         self.lines[at] = new.encode("utf-8", "surrogateescape")[:LONGEST_LINE]
@@ -363,8 +363,8 @@ class Dialect:
                 kept.append((at + 1, code.strip()))
         self.told.sort(key=lambda told: told[0])
         if kept and changed:
-            self.notes.append(f"numbers behind LDI, CON and short jumps are hexadecimal, as in line {kept[0][0]}, {kept[0][1]}"
-                              f"{f', and {len(kept) - 1} more' if kept[1:] else ''}: with --decimal they are decimal")
+            self.notes.append(f"numbers after LDI, CON and short jumps are read as hexadecimal, for example in line {kept[0][0]}, {kept[0][1]}"
+                              f"{f', and {len(kept) - 1} more' if kept[1:] else ''}; if they are decimal, use --decimal")
 
 
 def as_own(lines):

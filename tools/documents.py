@@ -12,7 +12,7 @@ def section_of(document, heading):
     text = bytes_of(os.path.join(DOCS, document)).decode("utf-8")
     found = re.search(rf"^(#+) {re.escape(heading)}\n(.*)", text, re.M | re.S)
     if not found:
-        raise Failure(f"docs/{document} has no section {heading}")
+        raise Failure(f"docs/{document}: no section '{heading}', whose tables this tool reads: restore the heading")
     level, behind = found.groups()
     return re.split(rf"^#{{1,{len(level)}}} ", behind, maxsplit=1, flags=re.M)[0]
 

@@ -52,6 +52,6 @@ def end(name, main, statuses=None):
     except OSError as error:
         # What is left to be written goes nowhere.
         os.dup2(os.open(os.devnull, os.O_WRONLY), 1)
-        why, status = f"{error.filename or 'what it tells cannot be written'}: {error.strerror}", NOT_WRITTEN
+        why, status = f"{error.filename or 'standard output cannot be written'}: {error.strerror}", NOT_WRITTEN
     print(*(f"{name}: {line}" for line in str(why).splitlines()), sep="\n", file=sys.stderr)
     sys.exit((statuses or {}).get(status, status))

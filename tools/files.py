@@ -11,12 +11,12 @@ def check_out(out, sources):
     if out == "-":
         return
     if os.path.exists(out) and not os.path.isfile(out):
-        raise Failure(f"{out}: it is no file")
+        raise Failure(f"{out}: not a regular file: choose another output file")
     for what, path in sources:
         if path != "-" and is_same(path, out):
-            raise Failure(f"{out}: it is {what}")
+            raise Failure(f"{out}: this is also {what}, which would be overwritten: choose another output file")
     if not os.path.isdir(os.path.dirname(os.path.realpath(out))):
-        raise Failure(f"{out}: its folder is not there")
+        raise Failure(f"{out}: its folder does not exist: create it first")
 
 
 def is_same(one, other):
@@ -44,7 +44,7 @@ def put(data, out):
         os.replace(new, path)
         new = None
     except OSError as error:
-        raise Failure(f"{out}: it cannot be written: {error.strerror}") from error
+        raise Failure(f"{out}: cannot be written: {error.strerror}") from error
     finally:
         if new and os.path.exists(new):
             os.unlink(new)

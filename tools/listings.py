@@ -33,7 +33,7 @@ def readable(texts):
     deck = b"".join(b"reset\n" + block(b"program", [text.encode()]) for text in asked)
     status, found = refused(deck)
     if status > 1:
-        raise Failure("the bench could not read the lines")
+        raise Failure(f"the bench ended with status {status} when it was asked for the lines of the listing")
     return set(asked) - {asked[first // 4] for first, _, _ in found}
 
 
@@ -80,27 +80,27 @@ class Listing:
             missing = next((at for at in places if not found[at]), None)
             falls = [at for last, at in zip(numbered, numbered[1:])
                      if at not in begins and int(found[at][1]) <= int(found[last][1])]
-            why = (f"line {missing + 1} has no number in front" if missing is not None else
-                   f"the number before line {falls[0] + 1} does not ascend")
-            self.notes.append(f"{why}, so the numbers before other lines stay: "
+            why = (f"line {missing + 1} has no line number" if missing is not None else
+                   f"the number of line {falls[0] + 1} does not ascend")
+            self.notes.append(f"{why}, so the line numbers are not removed: "
                               f"{shown(lines[falls[0] if missing is None else missing])}")
             self.on = set(numbered)
             return lines
         speller = Speller(read_tables(), [])
         if all(speller.number(speller.plain(lines[at])) for at in places):
-            self.notes.append("each line is a number as it stands, so none has a number in front taken off")
+            self.notes.append("every line is a number, so no line numbers are removed")
             return lines
         numbers = [int(found[at][1]) for at in numbered if at in rising]
         gaps = [(last, number) for last, number in zip(numbers, numbers[1:]) if number > last + 1] if not wrong else []
-        missing = f"; behind {gaps[0][0]} stands {gaps[0][1]}" if gaps else ""
+        missing = f"; {gaps[0][1]} follows {gaps[0][0]}" if gaps else ""
         missing += f", and there are {len(gaps)} such gaps" if gaps[1:] else ""
-        but = f", but for {len(wrong)}" if wrong else ""
+        but = f"; {len(wrong)} of the lines {'does' if len(wrong) == 1 else 'do'} not fit" if wrong else ""
         last = max((found[at][1] for at in rising), key=int)
-        self.notes.append(f"each line has a number in front{but}, {found[numbered[0]][1]} to {last}: they are taken off{missing}")
-        self.notes += [f"the numbers begin again in line {at + 1}: is an END missing before it?" for at in sorted(anew)]
+        self.notes.append(f"the line numbers {found[numbered[0]][1]} to {last} are removed{but}{missing}")
+        self.notes += [f"the line numbers start again at line {at + 1}: is an END missing before it?" for at in sorted(anew)]
         for at in wrong:
-            self.told.append((at + 1, f"{shown(lines[at])} (its number does not ascend, and is taken off too)" if found[at] else
-                              f"{shown(lines[at])} (it has no number in front, and stays as it is)"))
+            self.told.append((at + 1, f"{shown(lines[at])} (its line number does not ascend; it is removed too)" if found[at] else
+                              f"{shown(lines[at])} (it has no line number; the line is kept as it is)"))
         self.off = set(numbered)
         return [found[at][2] if at in self.off else line for at, line in enumerate(lines)]
 
@@ -142,17 +142,17 @@ class Listing:
         for number, text, function in calls:
             line = function or next((line for line, _ in speller.named(speller.function_called(text))), None)
             if function and text not in nowhere:
-                self.told.append((number, f"{text} calls a label of that name where one is in memory, else the function"))
+                self.told.append((number, f"{text} calls a label of that name if memory has one, otherwise the function"))
             elif line and not function and f'XEQ "{speller.functions.names[line]}"' == text:
-                self.told.append((number, f"{text} calls a label of that name where one is in memory, else the function where its "
-                                          f"module is plugged; as a line that is {line}"))
+                self.told.append((number, f"{text} calls a label of that name if memory has one, otherwise the function, if its "
+                                          f"module is plugged; to call the function only, write {line}"))
             elif line:
-                self.told.append((number, f"{text} calls a label; the function is the line {line}"))
+                self.told.append((number, f"{text} calls a label; for the function write {line}"))
 
     def spelled(self, number, line, speller, spellings, good):
         """The text of a line by its first spelling that is good."""
         if spellings is None:
-            self.told.append((number, f"{shown(line)} -> nothing"))
+            self.told.append((number, f"{shown(line)} -> (removed)"))
             return ""
         text, remark = next((found for found in spellings if found[0] in good), (None, ""))
         if text is None:
@@ -172,62 +172,62 @@ class Listing:
         reasons = {line: next((why for text, why in found if text is None or text in good), "")
                    for line, found in causes.items()}
         if kept:
-            more = f", as {len(kept) - 1} more that {'are' if kept[2:] else 'is'} none" if kept[1:] else ""
-            reasons[kept[0][1]] = f"it has a number in front{more}"
+            more = f", like {len(kept) - 1} more of these lines" if kept[1:] else ""
+            reasons[kept[0][1]] = f"its line number was not removed{more}"
         self.bad = [(number, line, reasons[line]) for number, line in self.bad if (number, line) not in kept[1:]]
 
     def causes(self, number, line, speller, spellings):
         """Why a line may be none, the likeliest first: each with a text that the bench reads if it is so, none where that is
         plain."""
         if line.startswith("#"):
-            yield None, "behind a number # begins no comment"
+            yield None, "# does not begin a comment after a line number"
         text = speller.plain(line)
         for quoted in filter(None, (IN_QUOTES.fullmatch(found) for found, _ in spellings)):
             characters = CHARACTER.findall(quoted[2])
             for most in (15, 14):
                 if len(characters) > most:
                     cut = f'{quoted[1]}"{"".join(characters[:most])}"'
-                    yield cut, f"at most {most} characters stand there, and these are {len(characters)}"
-            yield from ((f'{quoted[1]}"{quoted[2].replace(sign, "")}"', f"within quotes {sign} is written {code}")
+                    yield cut, f"found {len(characters)} characters, expected at most {most}"
+            yield from ((f'{quoted[1]}"{quoted[2].replace(sign, "")}"', f"inside quotes, write {sign} as {code}")
                         for sign, code in (('"', "\\22"), ("\\", "\\5C")) if sign in quoted[2])
             if not quoted[2].isascii():
                 kept = re.sub(r"[^ -~]", "", quoted[2])
                 signs = " ".join(dict.fromkeys(re.findall(r"[^ -~]", quoted[2])))
-                yield f'{quoted[1]}"{kept}"', f"{signs} is in none of the tables; \\ and two digits write any character"
+                yield f'{quoted[1]}"{kept}"', f"{signs} is in none of the tables; write any character as \\ and two hexadecimal digits"
         if text.count('"') % 2:
             for whole in (f'{text}"', re.sub(r"\A((?:LBL|GTO|XEQ) )?", r'\1"', text, flags=re.I)):
                 yield from ((found, "a quote is missing") for found, _ in speller.spellings(whole) or [])
         found = re.match(r"GTO ?\.|[A-Z]+", text.upper())
         command = re.sub(r" ?\.", " .", found[0]) if found else ""
         if command in commands():
-            yield None, f"a command, and no line of a program{commands()[command]}"
+            yield None, f"a command of the calculator, not a program line{commands()[command]}"
         counted_line = COUNTED.fullmatch(line)
         if counted_line:
-            apart = f"a blank stands behind a number in front: {shown(f'{counted_line[1]} {counted_line[2]}')}"
+            apart = f"write a space after the line number: {shown(f'{counted_line[1]} {counted_line[2]}')}"
             yield from ((found, apart) for found, _ in speller.spellings(counted_line[2]) or [])
         touching = TOUCHING.fullmatch(text)
         if touching:
             apart = f"{speller.tables.name(touching[1])} {int(touching[2]):02}"
-            yield apart, f"a blank stands between a name and its operand: {apart}"
+            yield apart, f"write a space before the operand: {apart}"
         steps = text.split()
         if len(steps) > 1:
-            yield " ".join(steps).replace(" ", ""), "a number has no blanks in it"
-        yield from ((found[:16], f"a number has at most 16 characters, and this one {len(found)}")
+            yield " ".join(steps).replace(" ", ""), "a number cannot contain spaces"
+        yield from ((found[:16], f"the number has {len(found)} characters, expected at most 16")
                     for found, _ in speller.number(text) if len(found) > 16)
         name = speller.tables.name(text)
-        yield f"{name} 00", "its operand is missing"
+        yield f"{name} 00", "the operand is missing"
         for found, _ in spellings:
             operated = WITH_NUMBER.fullmatch(found)
             if operated:
-                yield f"{operated[1]}00", f"{operated[2]} is no operand there"
+                yield f"{operated[1]}00", f"{operated[2]} is not a valid operand here"
         yield from self.parts(text, speller)
         several = speller.functions.lines(name) if speller.functions else []
         if several:
-            yield None, f"functions of modules have this name: {' and '.join(several)}"
+            yield None, f"several modules have a function of this name: write {' or '.join(several)}"
         if FUNCTION.fullmatch(speller.tables.name(steps[0])) and (not steps[1:] or speller.function(text)):
-            called = f', and a label is called by XEQ "{name}"' if CALLED.fullmatch(name) and not steps[1:] else ""
-            yield None, ("no function of the calculator or of a module that is known; one of another module is written by its "
-                         f"numbers, as XROM 05,01{called}")
+            called = f', and call a label by XEQ "{name}"' if CALLED.fullmatch(name) and not steps[1:] else ""
+            yield None, ("not a function of the calculator or of a known module; write a function of another module by its "
+                         f"numbers, for example XROM 05,01{called}")
 
     @staticmethod
     def parts(text, speller):
@@ -236,9 +236,9 @@ class Listing:
         if not behind:
             return
         name = speller.tables.name(first)
-        quotes = f'; a name stands in quotes, as {name} "SUB"' if name in ("LBL", "GTO", "XEQ") else ""
-        yield f"{name} 00", f"{behind[0]} is no operand there{quotes}"
-        yield from ((found, f"{first} is a line of its own, with nothing behind it") for found, _ in speller.spellings(first) or [])
+        quotes = f'; write a name in quotes, for example {name} "SUB"' if name in ("LBL", "GTO", "XEQ") else ""
+        yield f"{name} 00", f"{behind[0]} is not a valid operand here{quotes}"
+        yield from ((found, f"{first} takes no operand") for found, _ in speller.spellings(first) or [])
 
 
 def counted(lines):
@@ -286,5 +286,5 @@ def ascending(numbers, begins):
 
 def commands():
     """The commands that no program has, and what stands in their place, as the document's table has them."""
-    return {name: f"; here {here}" if here else "" for names, here in tables_of(section_of(DOCUMENT, "Commands"))[0]
+    return {name: f"; use {here}" if here else "" for names, here in tables_of(section_of(DOCUMENT, "Commands"))[0]
             for name in codes_of(names)}

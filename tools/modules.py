@@ -184,19 +184,19 @@ def programs_in(page, image):
     words = [image[at] << 8 | image[at + 1] for at in range(0, len(image), 2)]
     number, count = words[:2]
     if not (1 <= number <= LAST_NUMBER and 1 <= count <= MOST_FUNCTIONS):
-        raise Failure(f"page {page} is no module: it begins with {number:03X} and {count:03X}")
+        raise Failure(f"page {page} is not a module: it begins with {number:03X} {count:03X}, expected a number 001 to 01F and a count 001 to 040")
     entries = [(at, (words[2 + 2 * at] & 0xF) << 8 | words[3 + 2 * at] & 0xFF) for at in range(count) if words[2 + 2 * at] & 0x200]
     if not entries:
-        raise Failure(f"the module at page {page} has no function in keystrokes")
+        raise Failure(f"the module at page {page} has no function written in keystrokes: export it as source")
     data, found, behind, inside = bytes(word & 0xFF for word in words), [], 0, set()
     for at, place in sorted(entries, key=lambda entry: entry[1]):
         if place in inside:
-            raise Failure(f"XROM {number:02},{at:02} leads into a line, at {page}{place:03X}")
+            raise Failure(f"XROM {number:02},{at:02}: the table entry points into the middle of a program line, at {page}{place:03X}")
         if place < behind:
             continue
         length = end_of(data[place:])
         if length is None:
-            raise Failure(f"XROM {number:02},{at:02} leads to no END from {page}{place:03X} on: {why_none(data[place:])}")
+            raise Failure(f"XROM {number:02},{at:02}: the program at {page}{place:03X} has no END: {why_none(data[place:])}")
         lines = lines_of_bytes(data[place:place + length - 3])
         found.append(ended(data[place:place + length], lines))
         behind, inside = place + length, set(inside_lines(data, place, found[-1][0]))
@@ -220,4 +220,4 @@ def ended(data, lines):
 def why_none(data):
     """Why bytes lead to no END."""
     at = whole_lines(data[:PIECE])
-    return f"byte {data[at]:02X} at offset {at} begins no line" if at < min(len(data), PIECE) - 18 else "the page ends before"
+    return f"byte {data[at]:02X} at offset {at} does not begin a line" if at < min(len(data), PIECE) - 18 else "the page ends first"

@@ -5,7 +5,7 @@ import re
 from decks import MEMORY, Failure, answered, block, hexadecimal, refused, run
 from typed import LONGEST_NAME, why_no_name
 
-LEFT_OUT = "left out here, so a step there is refused: "
+LEFT_OUT = "not supported, so these lines are refused when they are executed: "
 
 # The most places that are told of a line.
 MOST_PLACES = 4
@@ -46,7 +46,7 @@ def fates(texts, front):
     deck = front + b"".join(b"reset\n" + block(b"program", [text.encode()]) + b"step\nshow display\n" for text in asked)
     status, answers = answered(deck)
     if status > 1:
-        raise Failure("the bench could not carry out the lines")
+        raise Failure(f"the bench ended with status {status} when it was asked to execute the lines")
     steps = [answer for _, _, answer in answers[len(answers) - 4 * len(asked):]]
     left_out = {text for at, text in enumerate(asked) if steps[4 * at + 2] == [b"! 13 NotInProfile"]}
     nowhere = {text for at, text in enumerate(asked) if CALL.fullmatch(text) and steps[4 * at + 3] == [b"NONEXISTENT"]}
@@ -84,11 +84,11 @@ def left_out_of(lines, labels, front, functions):
     if left_out:
         yield LEFT_OUT + told((place, functions.told(text)) for place, text in lines if text in left_out)
     if calls:
-        yield "called, and standing nowhere: " + told((place, functions.told(text)) for place, text in calls)
+        yield "called, but not found: " + told((place, functions.told(text)) for place, text in calls)
     names = [(place, LABEL.fullmatch(text)[1]) for place, text in lines if LABEL.fullmatch(text)]
     names = [(place, f'"{name}", {why_no_name(name)}') for place, name in names if why_no_name(name)]
     if names:
-        yield f"labels that no keys find (a name has at most {LONGEST_NAME} letters there): {told(names)}"
+        yield f"labels that no keys can call (keys type at most {LONGEST_NAME} letters): {told(names)}"
 
 
 def is_lost(text, program):
@@ -104,7 +104,7 @@ def loadable(prefixes):
     deck = b"".join(b"reset\n" + block(b"load", hexadecimal(data)) for data in prefixes)
     status, answers = answered(deck)
     if status > 1:
-        raise Failure("the bench could not load the bytes")
+        raise Failure(f"the bench ended with status {status} when it was asked to load the bytes")
     return [answer != [b"! 14 BrokenProgram"] for _, _, answer in answers[1::2]]
 
 
@@ -127,13 +127,13 @@ def broken(data):
     at = whole_lines(data)
     texts = listed(data[:at] + b"\x85")
     if texts is None:
-        return f"an .END. stands before the end, up to byte {at} of {len(data)}: between programs stands END, C0 00 0D"
+        return f".END. ends at byte {at} of {len(data)}, before the last line: separate programs with END, C0 00 0D"
     before = [(number, text) for number, text in enumerate(texts[:-2], 1)]
     line = numbered(before)[-1] if before else None
-    behind = f"the last line before it is {line[0]}, {line[1]}" if line else "no line stands before it"
+    behind = f"the line before it is {line[0]}, {line[1]}" if line else "no line is before it"
     rest = data[at:]
     cut = len(rest) < LONGEST_LINE_BYTES and any(loadable([rest + b"A" * more for more in range(1, LONGEST_LINE_BYTES)]))
-    what = "begins a line that is cut off" if cut else "begins no line"
+    what = "begins an incomplete line" if cut else "does not begin a line"
     return f"byte {rest[0]:02X} at offset {at} {what}; {behind}"
 
 

@@ -34,7 +34,7 @@ class Refused:
         if refusal == LINE_TOO_LONG and first != last:
             self.inner = next(at for at in range(first, last + 1) if len(text_of(lines[at])) > LONGEST_LINE)
         if self.inner is not None and self.line() != self.line().rstrip(BLANKS):
-            self.told.append("with blanks at its end")
+            self.told.append("with spaces at its end")
 
     def place(self):
         return f"line {self.first + 1}" if self.first == self.last else f"lines {self.first + 1}-{self.last + 1}"
@@ -73,11 +73,11 @@ class Refused:
         if self.lines[0].startswith(MARKS_OF_UTF16):
             return "in UTF-16", "A byte order mark"
         if self.at() == 0 and line.startswith(MARK_OF_UTF8):
-            return "behind a byte order mark", "A byte order mark"
+            return "after a byte order mark", "A byte order mark"
         if b"\r" in line:
             return "with CR", "CR alone as the line end"
         if BLANKS_THAT_ARE_NONE.search(line.decode(errors="replace")):
-            return "with a blank that is none", "Characters that look like spaces"
+            return "with a character that looks like a space", "Characters that look like spaces"
         return None
 
     def shown(self):
@@ -88,6 +88,14 @@ class Refused:
         told = self.told + ([sign[0]] if sign else [])
         behind = f" ({', '.join(told)})" if told else ""
         return (shown(line.strip(BLANKS)) + behind).lstrip(" ")
+
+    def quoted(self):
+        """The refused line in quotes, its refusal, and what else is known of it: a text for an error."""
+        line, sign = self.line(), self.sign()
+        if sign and sign[0] == "in UTF-16":
+            line = line.replace(b"\0", b"")
+        known = ", ".join(self.told + ([sign[0]] if sign else []))
+        return f"`{shown(line.strip(BLANKS))}`: {self.refusal}{f': {known}' if known else ''}"
 
     def key(self):
         """Which key of a line with several is refused, on a line of its own."""
@@ -143,12 +151,12 @@ def look_into(one, answers):
             wide = next(at for at in range(0, IMAGE_SIZE, 2) if data[at] > 3)
             one.inner = line_of(wide, {at: len(part) for at, part in parts.items()})
         else:
-            one.told.append(f"its block has {len(data):,} bytes, and an image {IMAGE_SIZE:,}")
+            one.told.append(f"found {len(data):,} bytes in the block, expected an image of {IMAGE_SIZE:,}")
     elif one.refusal in answers.values():
         one.inner = next(at for at, answer in answers.items() if answer == one.refusal)
     elif one.refusal == BAD_IMAGE:
         one.inner = line_of(MOST_WORDS, counts)
-        one.told.append(f"a page has {MOST_WORDS:,} words, and the block {sum(counts.values()):,}")
+        one.told.append(f"found {sum(counts.values()):,} words in the block, expected at most {MOST_WORDS:,}")
 
 
 def look_into_bytes(one):

@@ -20,7 +20,7 @@ FOLDER = os.path.join(os.path.dirname(os.path.realpath(__file__)), "page")
 FILES = {"": ("calculator.html", "text/html; charset=utf-8"), "calculator.css": ("calculator.css", "text/css; charset=utf-8"),
          "calculator.js": ("calculator.js", "text/javascript; charset=utf-8")}
 
-LONGEST_BODY = 8_388_608
+LONGEST_BODY, LONGEST_PATH = 8_388_608, 2000
 MOST_CONNECTIONS = 48
 # A browser has six connections at once, and each page that is open holds one.
 MOST_PAGES = 4
@@ -99,7 +99,7 @@ class Server(ThreadingHTTPServer):
         """Counts a page that opens, or one that closes."""
         with self.lock:
             if self.pages + count > MOST_PAGES:
-                raise Refusal(409, f"{MOST_PAGES} pages are open already")
+                raise Refusal(409, f"{MOST_PAGES} pages of this calculator are open already: close one")
             self.pages += count
             self.patience, self.until = AWAY, time.monotonic() + AWAY
 
@@ -115,7 +115,7 @@ class Server(ThreadingHTTPServer):
                 self.cookie = secrets.token_urlsafe(24)
                 return self.cookie
         if not hmac.compare_digest(given.encode(), self.cookie.encode()):
-            raise Refusal(403, "this calculator is open in another browser: tools/calculator opens one more")
+            raise Refusal(403, "this calculator is open in another browser: start tools/calculator again for a second one")
         return None
 
 
@@ -144,9 +144,9 @@ class Handler(BaseHTTPRequestHandler):
         except Failure as failure:
             self.reply(409, "text/plain; charset=utf-8", f"{failure}\n".encode())
         except (TypeError, ValueError, LookupError, AttributeError, OverflowError, RecursionError):
-            self.reply(400, "text/plain; charset=utf-8", b"this request is none of the page's\n")
+            self.reply(400, "text/plain; charset=utf-8", b"the request has wrong values or lacks some: reload the page\n")
         except Exception as fault:
-            self.reply(500, "text/plain; charset=utf-8", f"tools/calculator has a fault: {fault!r}\n".encode())
+            self.reply(500, "text/plain; charset=utf-8", f"internal error in tools/calculator: {fault!r}: please report it\n".encode())
 
     def turn_away(self):
         """Ends a connection whose request may not have been read: what comes is passed over for a moment, so that the reply is
@@ -165,18 +165,18 @@ class Handler(BaseHTTPRequestHandler):
         """What a request that comes from the page itself names behind the token, and its query."""
         host = f"127.0.0.1:{self.server.port}"
         if self.headers.get_all("Host") not in ([host], [f"localhost:{self.server.port}"]):
-            raise Refusal(403, "the Host header is another one's")
+            raise Refusal(403, f"unexpected Host header: expected {host}")
         if self.headers.get_all("Origin") not in (None, [f"http://{self.headers['Host']}"]):
-            raise Refusal(403, "the Origin header is another one's")
-        if len(self.path) > 2000:
-            raise Refusal(414, "the path is too long")
+            raise Refusal(403, f"unexpected Origin header: expected http://{self.headers['Host']}")
+        if len(self.path) > LONGEST_PATH:
+            raise Refusal(414, f"the path has {len(self.path)} characters: at most {LONGEST_PATH} are allowed")
         begin = f"/{self.server.token}/"
         if not hmac.compare_digest(self.path[:len(begin)].encode(), begin.encode()):
-            raise Refusal(403, "the address has not the token that tools/calculator told")
+            raise Refusal(403, "the address lacks the token: open the address that tools/calculator printed")
         name, _, query = self.path[len(begin):].partition("?")
         # The page itself may be opened by a link of another one.
         if name and self.headers.get("Sec-Fetch-Site", "none") not in ("none", "same-origin"):
-            raise Refusal(403, "another page asks")
+            raise Refusal(403, "the request comes from another web page: open the address that tools/calculator printed")
         self.server.stay()
         return name, {key: values[-1] for key, values in parse_qs(query).items()}
 
@@ -205,25 +205,25 @@ class Handler(BaseHTTPRequestHandler):
         elif name == "state":
             self.tell(self.server.answers["state"](asked))
         else:
-            raise Refusal(404, "there is nothing")
+            raise Refusal(404, f"unknown path '{name[:100]}'")
 
     def post(self, name, _):
         self.want_cookie()
         length = self.headers.get("Content-Length", "")
         if self.headers.get("Transfer-Encoding") or not (length.isascii() and length.isdigit()):
-            raise Refusal(411, "a body has to tell its length")
+            raise Refusal(411, "the request has no Content-Length: expected the length of its body in bytes")
         if int(length) > LONGEST_BODY:
-            raise Refusal(413, f"a body has at most {LONGEST_BODY:,} bytes")
+            raise Refusal(413, f"the request body has {int(length):,} bytes: at most {LONGEST_BODY:,} are allowed")
         if self.headers.get_content_type() != "application/json":
-            raise Refusal(415, "a body is JSON")
+            raise Refusal(415, f"the request body is {self.headers.get_content_type()}: expected application/json")
         body = self.rfile.read(int(length))
         if len(body) < int(length):
-            raise Refusal(400, "the body is cut off")
+            raise Refusal(400, f"the request body has {len(body):,} bytes, expected {int(length):,}")
         if name not in ("do", "import", "export"):
-            raise Refusal(404, "there is nothing")
+            raise Refusal(404, f"unknown path '{name[:100]}'")
         asked = json.loads(body)
         if not isinstance(asked, dict):
-            raise Refusal(400, "this request is none of the page's")
+            raise Refusal(400, "the request body is not a JSON object: reload the page")
         answer = self.server.answers[name](asked)
         if isinstance(answer, bytes):
             self.reply(200, "application/octet-stream", answer)
@@ -233,7 +233,7 @@ class Handler(BaseHTTPRequestHandler):
     def want_cookie(self):
         """Refuses who has not opened the page."""
         if self.server.cookie is None or not hmac.compare_digest(self.given_cookie().encode(), self.server.cookie.encode()):
-            raise Refusal(403, "this browser has not opened the calculator")
+            raise Refusal(403, "this browser has not opened the calculator: open the address that tools/calculator printed")
 
     def tell(self, answer):
         self.reply(200, "application/json", json.dumps(answer).encode())
@@ -284,4 +284,4 @@ def listen(port, answers):
     try:
         return Server(port, answers)
     except (OSError, OverflowError) as error:
-        raise Failure(f"port {port} of 127.0.0.1 cannot be had: {getattr(error, 'strerror', None) or error}", NO_ANSWER) from error
+        raise Failure(f"cannot listen on 127.0.0.1:{port}: {getattr(error, 'strerror', None) or error}; try another port with --port", NO_ANSWER) from error

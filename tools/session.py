@@ -28,7 +28,7 @@ def want_program():
     """Wants a program that answers at once: what rt try compiles reads all commands before it answers any."""
     ready = subprocess.run([BENCH, "prove", "--check"], stdin=subprocess.DEVNULL, capture_output=True)
     if ready.returncode and (ready.returncode != 1 or shutil.which("rt")):
-        raise Failure("no proved program stands: ./bench prove proves and builds it", NO_ANSWER)
+        raise Failure("the proved program is missing or out of date: build it with ./bench prove", NO_ANSWER)
 
 
 class Session:
@@ -43,7 +43,7 @@ class Session:
         """The lines that a command prints, a block from its first line up to its `end` among them."""
         command = command.rstrip(b"\n")
         if not is_whole(command):
-            raise Failure("a command is one line, or a block up to its end", 2)
+            raise Failure(f"`{command.decode(errors='replace').splitlines()[0]}`: expected one command, or one block with its line `end`", 2)
         lines = []
         try:
             self.bench.stdin.write(command + b"\n" + MARK)
@@ -51,10 +51,10 @@ class Session:
             while lines[-2:] != MARK_ANSWER:
                 line = self.bench.stdout.readline()
                 if not line:
-                    raise Failure("the bench has ended", NO_ANSWER)
+                    raise Failure("the bench ended before it answered", NO_ANSWER)
                 lines.append(line[:-1])
         except OSError as error:
-            raise Failure(f"the bench cannot be asked: {error.strerror}", NO_ANSWER) from error
+            raise Failure(f"cannot write to the bench: {error.strerror}", NO_ANSWER) from error
         return lines[:-2]
 
     def close(self):

@@ -83,12 +83,12 @@ def assemble(lines, origin=ORIGIN):
     ran = subprocess.run([BENCH, "asm", "--origin", f"{origin:04X}", "-"], input=b"".join(line + b"\n" for line in lines),
                          stdout=subprocess.PIPE)
     if ran.returncode == NO_ANSWER:
-        raise Failure("the bench gave no answer", NO_ANSWER)
+        raise Failure("./bench gave no answer: see its message above", NO_ANSWER)
     if ran.returncode == 1:
         refusal, number = ran.stdout.decode().rsplit(" ", 1)
         return None, (int(number) - 1, refusal)
     if ran.returncode:
-        raise Failure("the bench could not assemble the source", 3)
+        raise Failure(f"`bench asm` ended with status {ran.returncode}, expected 0 or 1", 3)
     return [int(word, 16) for word in ran.stdout.split()], None
 
 
@@ -125,8 +125,7 @@ class Fault:
         self.at, self.text, self.refusal, self.told = at, text, refusal, []
 
     def __str__(self):
-        text = shown(self.text.strip(BLANKS))
-        return "\n".join([f"{self.refusal}: {text}", *(f"  {one}" for one in self.told)])
+        return ": ".join([f"`{shown(self.text.strip(BLANKS))}`", self.refusal, *filter(None, ["; ".join(self.told)])])
 
 
 class Source:
@@ -140,9 +139,9 @@ class Source:
         self.marks = [f"{letters}_{at}".encode() for at in range(len(self.lines) + 1)]
         for at, text in enumerate(self.texts):
             if len(text) > LONGEST_LINE:
-                self.fault(at, f"a line has at most {LONGEST_LINE} bytes, and this one {len(text)}")
+                self.fault(at, f"the line has {len(text)} bytes, expected at most {LONGEST_LINE}")
             elif words_of(text) == [b"end"]:
-                self.fault(at, "`end` alone on its line ends the block")
+                self.fault(at, "`end` alone on a line would end the block of the deck")
         self.find_places()
         self.faults.sort(key=lambda fault: fault.at)
 
@@ -214,7 +213,7 @@ class Source:
         """What is known of a fault of a label or a reference."""
         line = self.lines[fault.at]
         if fault.refusal == "! 32 LabelTwice":
-            return [f"{line.label} stands in line {self.line_of(line.label) + 1}"]
+            return [f"line {self.line_of(line.label) + 1} has the label {line.label} already"]
         if fault.refusal == "! 33 NoLabel" and line.reference:
             other = next((name for name in self.labels if name.lower() == line.reference.lower()), None)
             return [f"no line has the label {line.reference}"
@@ -241,7 +240,7 @@ class Source:
 # The first word of a page that the calculator looks at by itself, and where its id and its checksum stand.
 FIRST_POLLED, ID_PLACE, CHECKSUM_PLACE = 0xFF4, 0xFFB, 0xFFF
 
-OF_THE_END = {b"fill": (re.compile(rb"fill[ \t]+([0-3][0-9A-Fa-f]{2})"), "`fill HHH`, a word"),
+OF_THE_END = {b"fill": (re.compile(rb"fill[ \t]+([0-3][0-9A-Fa-f]{2})"), "`fill HHH`, a word up to 3FF"),
               b"at": (re.compile(rb"at[ \t]+([0-9A-Fa-f]{3})"), "`at HHH`, a place in the page"),
               b"id": (re.compile(rb'id[ \t]+"([ !#-_]{4})"'), '`id "MA1A"`, four characters of names'),
               b"checksum": (re.compile(rb"(checksum)"), "`checksum` alone")}
@@ -297,7 +296,7 @@ class Whole:
         form, meant = OF_THE_END[directive]
         found = form.fullmatch(code)
         if not found:
-            self.fault(origin, f"it is {meant}", text)
+            self.fault(origin, f"expected {meant}", text)
         elif directive == b"fill":
             self.fill = int(found[1], 16)
             self.add(b"", origin, text)
@@ -318,14 +317,14 @@ class Whole:
     def fill_up_to(self, goal, origin, text):
         """Adds lines that fill the page up to a place."""
         if self.end > goal:
-            self.fault(origin, f"the words before it go up to {self.end - 1:03X}", text)
+            self.fault(origin, f"the words before it already reach {self.end - 1:03X}", text)
         for place in range(self.end, goal):
             self.fills.add(len(self.lines))
             self.add(constant(self.fill if place < FIRST_POLLED else 0), origin)
         self.end = max(self.end, goal)
 
     def fault(self, origin, why, text):
-        self.faults.append("{}:{}: {}: {}".format(*origin, why, shown(text.strip(BLANKS))))
+        self.faults.append("{}:{}: `{}`: {}".format(*origin, shown(text.strip(BLANKS)), why))
 
     def place(self, at):
         """A line as it is told: its file and its number there."""
@@ -344,8 +343,8 @@ class Whole:
         full = next((at for at, behind in enumerate(source.places[1:]) if behind > PAGE_SIZE), None)
         if full is None:
             return []
-        return [f"{self.place(full)}: ! 04 BadImage: there are {source.size:,} words, and a page has {PAGE_SIZE:,}: "
-                f"{shown(self.told[full].strip(BLANKS))}"]
+        return [f"{self.place(full)}: `{shown(self.told[full].strip(BLANKS))}`: ! 04 BadImage: found {source.size:,} words, expected "
+                f"at most {PAGE_SIZE:,}, one page"]
 
     def at_page(self, page):
         """The lines at a page, with the checksum of the words before it, where one is wanted."""
@@ -405,12 +404,12 @@ def run_tool(name, usage, tell, words):
     parser.add_argument("end", metavar="FILE.page", nargs="?")
     options = parser.parse_args(words)
     if len(options.page) != 1 or options.page not in PAGES:
-        parser.error(f"a page is one of 4 to F, and not {options.page}")
+        parser.error(f"--page {options.page}: expected a page from 4 to F")
     sys.stdout.reconfigure(errors="backslashreplace")
     try:
         return tell(Assembled(options.file, options.page, options.end))
     except Faulty as why:
-        print(why, file=sys.stderr)
+        print(*(f"{name}: {line}" for line in str(why).splitlines()), sep="\n", file=sys.stderr)
         return why.status
 
 
@@ -557,7 +556,7 @@ def may_be_of_others(kind):
 
 def of_another_dialect(own):
     """What is told of a line of another dialect, by what it is here."""
-    return "a line of another dialect, which tools/import " + ("leaves out" if own.startswith(";") else f"reads: `{own}`")
+    return "a line of another dialect, which tools/import " + ("removes" if own.startswith(";") else f"reads as `{own}`")
 
 
 def tell_causes(faults):
@@ -578,11 +577,11 @@ def tell_causes(faults):
                 if row.refusal == one.refusal and (kind and row.kind(classes, others) == kind or row.first == one.first)
                 and one.may_be_as(row, kind)]
         if kind == "another dialect":
-            fault.told.append(f"{one.first.decode()} is a name of another dialect, which tools/import reads: `{others[one.first]}`")
+            fault.told.append(f"{one.first.decode()} is a name of another dialect, which tools/import reads as `{others[one.first]}`")
         elif like and not may_be_of_others(kind):
             fault.told.append(max(like)[-1])
         elif like or one.refusal == OF_THE_LINE[0]:
-            unknown.append((fault, max(like)[-1] if like else "no such label, mnemonic or directive can be read"))
+            unknown.append((fault, max(like)[-1] if like else "expected a label, a mnemonic or a directive"))
         else:
             fault.told += [f"`{name}` takes {takes[name]}" for name in one.names() if name in takes]
     for (fault, cause), own in zip(unknown, as_own([fault.text for fault, _ in unknown])):

@@ -154,14 +154,14 @@ class Speller:
         thousands, point = mantissa.replace(",", ""), mantissa.replace(",", ".")
         if self.is_ambiguous(mantissa):
             if self.comma_is_point:
-                return point, "the comma is the decimal point, as in other numbers of this listing"
-            return thousands, f"the comma parts thousands; else write {point}"
+                return point, "the comma is read as the decimal point, as in other numbers of this listing"
+            return thousands, f"the comma is read as separating thousands; if it is the decimal point, write {point}"
         if GROUPS.fullmatch(mantissa):
-            return thousands, "commas part thousands"
+            return thousands, "the commas separate thousands"
         if GROUPS_OF_POINTS.fullmatch(mantissa):
-            return mantissa.replace(".", "").replace(",", "."), "points part thousands"
+            return mantissa.replace(".", "").replace(",", "."), "the points separate thousands"
         if DECIMAL_COMMA.fullmatch(mantissa):
-            return point, "the comma is the decimal point"
+            return point, "the comma is read as the decimal point"
         return None, ""
 
     def characters(self, text):
@@ -231,24 +231,24 @@ class Speller:
         if '"' in line or not has_letter and self.tables.key(line) not in self.tables.names:
             return []
         found = [(self.tables.name(line), "")]
-        return found + [(self.tables.name(f"{line}?"), "a test without its mark")] if TEST.fullmatch(line) else found
+        return found + [(self.tables.name(f"{line}?"), "a test without its question mark")] if TEST.fullmatch(line) else found
 
     def remark_on(self, line):
         """How a line that the bench reads may be meant otherwise; nothing where it may not."""
         found = ONE_LETTER.fullmatch(line)
         if found:
-            return f'the label {found[1]} of one letter; a name stands in quotes, "{found[1]}"'
+            return f'the label {found[1]} of one letter; for a name write it in quotes, "{found[1]}"'
         if line.startswith('"|-'):
-            return f'a text that begins with |-; appended it is >"{line[3:]}'
+            return f'a text that begins with |-; to append, write >"{line[3:]}'
         found = NUMBER.fullmatch(line)
         if not found:
             return ""
         if line.count(".") > 1:
-            return "a number with two points, as it stands"
+            return "a number with two points, kept as it is"
         if len(found[4] or "") > 2:
-            return f"an exponent has two digits: this is {line[:-len(found[4])]}{found[4][:2]}"
+            return f"an exponent has two digits, so this is {line[:-len(found[4])]}{found[4][:2]}"
         if self.comma_is_point and THOUSAND_OF_POINT.fullmatch(found[2]):
-            return f"the point is the decimal point; where it parts thousands write {line.replace('.', '')}"
+            return f"the point is read as the decimal point; if it separates thousands, write {line.replace('.', '')}"
         return ""
 
 

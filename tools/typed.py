@@ -63,7 +63,7 @@ def why_no_name(name):
         return f"{len(characters(name))} characters"
     if untyped(name):
         return f"no key writes {' '.join(untyped(name))}"
-    return "keys find the label of one letter" if re.fullmatch("[A-J]", name) else ""
+    return "the keys call the label of one letter" if re.fullmatch("[A-J]", name) else ""
 
 
 def number_keys(number):
@@ -87,7 +87,7 @@ def keys_of(text):
     for word in WORD.findall(text):
         if word.startswith('"'):
             if len(word) < 2 or not word.endswith('"'):
-                raise NoKeys(f"a quote is missing: {word}")
+                raise NoKeys(f"the closing quote is missing: {word}")
             keys += text_keys(word[1:-1])
         elif word not in KEYS and is_number(word):
             keys += number_keys(word)
@@ -120,7 +120,7 @@ def operand_keys(name, indirect, operand):
     elif name in OF_ONE_DIGIT and not indirect:
         operand = operand[1:] if operand[0] == "0" else None
     if operand is None:
-        raise NoKeys("no key is its operand")
+        raise NoKeys("no key types the operand")
     return ["SHIFT"] * bool(indirect) + list(operand)
 
 
@@ -140,6 +140,6 @@ def line_keys(text):
     name = operated[1] if operated else text
     front = WITH_ALPHA.get(name) or function_keys(name)
     if operated and front[0] == "XEQ" and name != "XEQ":
-        raise NoKeys(f"no key has {name}")
+        raise NoKeys(f"no key has {name}, and XEQ cannot give it an operand")
     keys = front + (operand_keys(*operated.groups()) if operated else [])
     return ["ALPHA", *keys, "ALPHA"] if name in WITH_ALPHA else keys

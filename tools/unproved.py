@@ -27,8 +27,8 @@ CAUSE = re.compile(rb"^bench: %s: .*\n" % NO_FILE.encode(), re.M)
 ENDED = re.compile(rb"^checked: ended .*\n(?:.*\n)*?run=ended status=(\d+) .*proved=no\n\Z", re.M)
 NO_ANSWER = re.compile(rb"^checked: no-answer: (.*)", re.M)
 REASONS = {
-    b"wrote more than": "it writes more than 1,048,576 bytes",
-    b"did not end within": f"it runs for more than {SECONDS} seconds in this slow build",
+    b"wrote more than": "the output has more than 1,048,576 bytes, the limit of rt try",
+    b"did not end within": f"the run takes more than {SECONDS} seconds in the slow build of rt try",
 }
 CASE = re.compile(rb"^case=(\S+) run=ended status=(\d+) .*\n", re.M)
 
@@ -43,7 +43,7 @@ def no_answer_without_room():
     try:
         yield
     except OSError as error:
-        raise NoAnswer(f"{error.filename or 'a file of its own'}: {error.strerror}") from error
+        raise NoAnswer(f"{error.filename or 'a temporary file'}: {error.strerror}") from error
 
 
 def place_of_file(words):
@@ -81,7 +81,7 @@ def copied(name, to):
             to.write(part)
             size += len(part)
             if size > LONGEST_INPUT:
-                raise NoAnswer(f"its input has more than {LONGEST_INPUT:,} bytes")
+                raise NoAnswer(f"the input has more than {LONGEST_INPUT:,} bytes")
     to.seek(0)
     return True
 
@@ -110,7 +110,7 @@ def reason_of(told):
     why = NO_ANSWER.search(told)
     if why:
         return next((ours for theirs, ours in REASONS.items() if theirs in why[1]), why[1].decode(errors="replace"))
-    return "rt try failed, and told:\n" + told.decode(errors="replace").rstrip()
+    return "rt try failed:\n" + told.decode(errors="replace").rstrip()
 
 
 @no_answer_without_room()

@@ -68,7 +68,7 @@ async function act(call, tellWhy = tell) {
 async function fetched(path, body) {
   const request = body && { method: "POST", headers: { "Content-Type": "application/json" }, body: JSON.stringify(body) };
   const reply = await fetch(path, request).catch(() => {
-    gone("tools/calculator has ended. The session can be saved as this page has it.", true);
+    gone("tools/calculator has ended. Save the session here, then start tools/calculator again.", true);
     throw new Error("");
   });
   if (!reply.ok) throw new Error((await reply.text()).trim());
@@ -140,7 +140,7 @@ function listen(isAgain) {
   };
   events.onerror = () => {
     if (events.readyState !== EventSource.CLOSED) return fetched("state").catch(() => events.close());
-    if (!isAgain) tell("Other pages of this calculator are open: this one gets no news.");
+    if (!isAgain) tell("Too many pages of this calculator are open: this one is not updated. Close another one and reload.");
     return setTimeout(listen, 2000, true);
   };
 }
@@ -272,7 +272,7 @@ function drawKeys(rows) {
   letters = {};
   const lines = rows.map((row) => make("div", { class: `keys keys-${row.length}` }, ...row.map(([name, shifted, letter]) => {
     if (letter) letters[letter] = name;
-    const means = [name, shifted && `shifted ${shifted}`, letter && `letter ${letter === " " ? "blank" : letter}`];
+    const means = [name, shifted && `shifted ${shifted}`, letter && `letter ${letter === " " ? "space" : letter}`];
     const button = make("button", { type: "button", class: "key", "data-key": name, tabindex: -1, title: name,
       "aria-label": means.filter(Boolean).join(", ") },
     make("span", { class: "shifted" }, FACES[shifted] ?? shifted ?? ""), make("span", { class: "face" }, FACES[name] ?? name),
@@ -400,7 +400,7 @@ function tellRate(milliseconds) {
   const rate = present().made * 1000 / milliseconds;
   if (!rate || !entries.at(-1).text.startsWith("run ")) return;
   const digits = rate >= 100 ? Number(rate.toPrecision(2)).toLocaleString("en") : rate.toFixed(1);
-  by("rate").textContent = `${digits} ${present().pos[0].startsWith("Micro") ? "words" : "lines"} a second`;
+  by("rate").textContent = `${digits} ${present().pos[0].startsWith("Micro") ? "words" : "lines"} per second`;
 }
 
 async function runOn() {
@@ -445,9 +445,9 @@ function show() {
   if (!(driver && waits) && by("live").textContent !== said) by("live").textContent = said;
   by("past").hidden = shown === null;
   const ago = past.length - 1 - (shown ?? 0);
-  by("past").querySelector("span").textContent = `As it was ${ago} step${ago === 1 ? "" : "s"} ago.`;
+  by("past").querySelector("span").textContent = `This is the state ${ago} step${ago === 1 ? "" : "s"} ago.`;
   by("stop").disabled = !waits;
-  by("run").textContent = waits && !driver ? "Go on" : "Run";
+  by("run").textContent = waits && !driver ? "Continue" : "Run";
   by("pos").textContent = state.pos[0];
   document.body.classList.toggle("busy", driver !== null && waits > 0);
   showBreakpoints();
@@ -648,7 +648,7 @@ function showSession() {
     return make("li", { class: text.startsWith("#") || !text.trim() ? "comment" : "" }, make("pre", {}, shortened(text.trimEnd().split("\n"), 4, 2)),
       ...(reply.length ? [make("pre", { class: kind }, shortened(reply, 36, 1))] : []));
   });
-  if (first) rows.unshift(make("li", { class: "comment" }, `${first} before these are in the saved deck`));
+  if (first) rows.unshift(make("li", { class: "comment" }, `${first} earlier commands are in the saved deck`));
   fill("session", ...rows);
   by("session").scrollTop = by("session").scrollHeight;
 }
@@ -700,13 +700,13 @@ async function base64Of(file) {
 
 async function bringIn(files) {
   const decks = files.filter((file) => /\.deck$/i.test(file.name));
-  if (decks.length && files.length > 1) throw new Error("a deck is opened alone");
+  if (decks.length && files.length > 1) throw new Error("A deck cannot be opened together with other files: choose it alone.");
   if (decks.length) return openDeck(decks[0]);
   const given = await Promise.all(files.map(async (file) => ({ name: file.name, data: await base64Of(file) })));
   by("files-panel").open = true;
   tellOfFiles("…", true);
   const answer = await ask({ files: given, page: by("page-in").value }, "import");
-  tellOfFiles(answer.told || "All came in.", answer.good);
+  tellOfFiles(answer.told || "All files were imported.", answer.good);
   await ask({ do: "go", ...pieces() });
   drive();
 }
@@ -723,7 +723,7 @@ async function takeOut() {
   const link = make("a", { href: addressOf(await reply.blob()), download: `bench.${ends[kind]}` });
   link.click();
   setTimeout(() => URL.revokeObjectURL(link.href), 10000);
-  tellOfFiles(`bench.${ends[kind]} is written.`, true);
+  tellOfFiles(`bench.${ends[kind]} was saved.`, true);
 }
 
 function tellOfFiles(text, isGood = false) {
@@ -791,7 +791,7 @@ function begin() {
     listen();
     by("needs").hidden = true;
     const name = new URLSearchParams(location.search).get("lesson");
-    if (name && ![...by("lessons").options].some((one) => one.value === name)) tell(`There is no lesson ${name}.`);
+    if (name && ![...by("lessons").options].some((one) => one.value === name)) tell(`Unknown lesson '${name}': choose one from the list.`);
     else if (name && lesson?.name !== name) await openLesson(name);
   });
 }

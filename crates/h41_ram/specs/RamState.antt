@@ -8,6 +8,7 @@ use Rattle.h41_ram.specs.RegisterMap.{m_address, main_start, n_address, o_addres
 use Rattle.h41_ram.specs.RegisterMap.{register_at, start, status_end, top_of, with_alpha, with_flag}
 use Rattle.h41_ram.specs.RegisterMap.{with_register}
 
+-- A memory as contracts see it.
 pub record RamState : Type 0 where
   pub registers : RegisterMap
   -- The dirty flag: whether a register of the program was written since the flag was cleared.

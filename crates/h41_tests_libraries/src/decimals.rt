@@ -12,6 +12,7 @@ use std::test::Fail;
 /// Two operands and the expected result.
 type DecimalRow = (u64, u64, Result<u64, DecimalFault>);
 
+/// Rows for sums.
 static ADD: [DecimalRow; 60] = [
     (0x01234567890000, 0x05000000000990, Ok(0x01234567891000)),
     (0x01234567890000, 0x04999999999990, Ok(0x01234567890000)),
@@ -75,6 +76,7 @@ static ADD: [DecimalRow; 60] = [
     (0x99397745117967, 0x91600000000060, Ok(0x91600000000060)),
 ];
 
+/// Rows for differences.
 static SUB: [DecimalRow; 59] = [
     (0x01000000000000, 0x05000100000989, Ok(0x09999999999999)),
     (0x01000000000000, 0x05000000000989, Ok(0x01000000000000)),
@@ -137,6 +139,7 @@ static SUB: [DecimalRow; 59] = [
     (0x03800000000906, 0x07421473910031, Ok(0x97421473910031)),
 ];
 
+/// Rows for products.
 static MUL: [DecimalRow; 30] = [
     (0x09999999999099, 0x01000000000001, Err(DecimalFault::Range)),
     (0x01000000000901, 0x01000000000901, Ok(0x00000000000000)),
@@ -170,6 +173,7 @@ static MUL: [DecimalRow; 30] = [
     (0x02000000000064, 0x01403028285950, Ok(0x02806056570014)),
 ];
 
+/// Rows for quotients.
 static DIV: [DecimalRow; 27] = [
     (0x02000000000000, 0x03000000000000, Ok(0x06666666667999)),
     (0x01000000000000, 0x03000000000000, Ok(0x03333333333999)),
@@ -200,6 +204,7 @@ static DIV: [DecimalRow; 27] = [
     (0x08224646188039, 0x96000000000089, Ok(0x91370774365950)),
 ];
 
+/// Rows for percentages.
 static PERCENT: [DecimalRow; 22] = [
     (0x01000000001000, 0x95000000000999, Ok(0x95000000005997)),
     (0x01000000003000, 0x95000000000999, Ok(0x95000000015997)),
@@ -225,6 +230,7 @@ static PERCENT: [DecimalRow; 22] = [
     (0x98147781029082, 0x93000000000005, Ok(0x02444334309086)),
 ];
 
+/// Rows for remainders.
 static MODULO: [DecimalRow; 57] = [
     (0x05000000000000, 0x00000000000000, Ok(0x05000000000000)),
     (0x00000000000000, 0x07000000000000, Ok(0x00000000000000)),
@@ -285,6 +291,7 @@ static MODULO: [DecimalRow; 57] = [
     (0x98900000000915, 0x04200000000060, Ok(0x04200000000060)),
 ];
 
+/// Rows for square roots.
 static ROOTS: [(u64, Result<u64, DecimalFault>); 30] = [
     (0x02000000000000, Ok(0x01414213562000)),
     (0x04000000000000, Ok(0x02000000000000)),

@@ -109,7 +109,7 @@ whole_either (Number characters) rest = follows (goes_either rest) (equal_either
 whole_either Null rest = inl tt
 whole_either line rest = inl tt
 
--- It is decidable whether bytes begin with a line of so many bytes.
+-- It is decidable whether bytes begin with a line of this many bytes.
 begins_either : (bytes : List ℕ) (line : Line) (count : ℕ) → Either (Begins bytes line count)
 begins_either bytes line count = elim (at_most count (length bytes)) [
   | inr lacks ↦ inr (λ begins. lacks begins.inside)

@@ -29,7 +29,7 @@ use Rattle.h41_codes.proofs.Tables.{character_at, character_again, character_ran
 abbrev pub byte : List ℕ → ℕ → ℕ
 byte bytes k = get_or bytes k 0
 
--- The characters of a number, at most so many.
+-- The characters of a number, at most this many.
 abbrev pub is_number : ℕ → Bool
 is_number code = leb 0x10 code && leb code 0x1C
 

@@ -60,7 +60,7 @@ first_of : (first : ℕ) (rest : List ℕ) (line : Line) (size : ℕ) → 1 ≤ 
 first_of first rest line zero some same = absurd (omega (arith, some, ap length same))
 first_of first rest line (suc n) some same = sym (ap (λ (bytes : List ℕ). get_or bytes 0 0) same)
 
--- The first byte of a short line with so many bytes is the first byte of such lines.
+-- The first byte of a short line with this many bytes is the first byte of such lines.
 pub short_head : (first : ℕ) (rest : List ℕ) (line : ShortLine) (count : ℕ) → Begins (first ∷ rest) (line_of line) count
     → IsShort first count
 short_head first rest line count begins =

@@ -32,11 +32,11 @@ abbrev pub indirect_byte : Branch → ℕ → ℕ
 indirect_byte GoTo register = register
 indirect_byte Execute register = 0x80 + register
 
--- The first two bytes of a global label, an END or .END. are C0 to CD, with the high bits of the
--- link, and its low byte.
+-- The first byte of a global label, an END or .END. is C0 to CD, with the high bits of the link.
 abbrev pub link_high : ℕ → ℕ
 link_high link = 0xC0 + link / 256
 
+-- The second byte of a global label, an END or .END. is the low byte of the link.
 abbrev pub link_low : ℕ → ℕ
 link_low link = link % 256
 
@@ -135,7 +135,7 @@ abbrev pub IsWhole : Line → List ℕ → Type 0
 IsWhole (Number characters) rest = GoesOn rest → length characters ≡ number_most
 IsWhole line rest = Unit {0}
 
--- Bytes begin with a line of so many bytes, which is complete.
+-- Bytes begin with a line of this many bytes, which is complete.
 pub record Begins (bytes : List ℕ) (line : Line) (count : ℕ) : Type 0 where
   pub inside : count ≤ length bytes
   pub spells : Spells (take count bytes) line
@@ -145,7 +145,7 @@ pub record Begins (bytes : List ℕ) (line : Line) (count : ℕ) : Type 0 where
 abbrev pub BeginsNoLine : List ℕ → Type 0
 BeginsNoLine bytes = (line : Line) (count : ℕ) → Spells (take count bytes) line → ⊥
 
--- A result is a line and a count if and only if the bytes begin with that line, of so many bytes.
+-- A result is a line and a count if and only if the bytes begin with that line, of this many bytes.
 abbrev pub AnswersLine : {E : Type 0} → Result (Line × ℕ) E → List ℕ → Type 0
 AnswersLine result bytes =
     (line : Line) (count : ℕ) → (result ≡ Ok (line, count)) ↔ Begins bytes line count

@@ -15,7 +15,8 @@ IsPadded blank most count cells = cells ≡ take count cells ++ replicate (most 
 abbrev pub FitsNumber : {A : Type 0} → List A → Type 0
 FitsNumber characters = (1 ≤ length characters) × (length characters ≤ number_most)
 
--- So many cells store a list: it is not longer than they are, and the rest has the filler value.
+-- A list is stored in `most` cells: it has at most as many elements, and the other cells have the
+-- filler value.
 abbrev pub Keeps : {A : Type 0} → A → ℕ → ℕ → List A → Type 0
 Keeps blank most count cells =
     (count ≤ most) × (length cells ≡ most) × IsPadded blank most count cells

@@ -22,7 +22,7 @@ IsAlone byte = (line : Line) × Spells (byte ∷ []) line
 abbrev pub IsTwoBytes : ℕ → Type 0
 IsTwoBytes first = IsIn 0x90 0xAF first ⊎ IsIn 0xB1 0xC0 first ⊎ IsIn 0xCE 0xD0 first
 
--- A short line that begins with this first byte has so many bytes.
+-- A short line that begins with this first byte has this many bytes.
 abbrev pub IsShort : ℕ → ℕ → Type 0
 IsShort first size =
     ((size ≡ 1) × IsOneByte first × (first ≢ 0))
@@ -35,7 +35,7 @@ abbrev pub LacksText : List ℕ → Type 0
 LacksText bytes =
     (bytes ≡ []) ⊎ (slice_index bytes 0 < 0xF0) ⊎ (length bytes + 0xF0 ≤ slice_index bytes 0)
 
--- So many characters of a number are all that there are: no further one follows, or there are 16.
+-- A number has `count` characters and no more: no further one follows, or there are 16.
 abbrev pub IsWholeRun : List ℕ → ℕ → Type 0
 IsWholeRun bytes count =
     count < length bytes → IsIn 0x10 0x1D (slice_index bytes count) → count ≡ 16

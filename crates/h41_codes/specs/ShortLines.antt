@@ -22,7 +22,7 @@ line_of (short.BranchTo branch distance backwards label) =
 abbrev pub BeginsNoShort : List ℕ → Type 0
 BeginsNoShort bytes = (one : ShortLine) (size : ℕ) → Begins bytes (line_of one) size → ⊥
 
--- All short lines that begin with this first byte have so many bytes.
+-- All short lines that begin with this first byte have this many bytes.
 abbrev pub BeginsShorts : ℕ → ℕ → Type 0
 BeginsShorts first size =
     (rest : List ℕ) (line : ShortLine) (count : ℕ) → Begins (first ∷ rest) (line_of line) count

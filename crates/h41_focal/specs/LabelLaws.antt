@@ -5,8 +5,8 @@ use Rattle.h41_labels.specs.KeptAnswers.{IsRight, KeepsSearch}
 use Rattle.h41_labels.specs.declared.search.Search.{Search}
 use Rattle.h41_ram.specs.RamState.{KeepsMark}
 
--- The condition for using cached answers remains true after a step that searches no label and does
--- not clear the dirty flag.
+-- The condition for using cached answers remains true after a step that searches no label, never
+-- clears the dirty flag, and sets it if it changes programs.
 abbrev pub KeepingStaysRight : Type 0
 KeepingStaysRight = (old new : LabelledMachine) → Keeps old new → AreRight old → AreRight new
 

@@ -10,7 +10,7 @@ pub data Answer : Type 0 where
   Done : Answer
   -- the program stops
   Stopped : Answer
-  -- the program stops, and the calculator is turned off
+  -- the program stops, and the display is turned off
   TurnedOff : Answer
   -- the display shows a text, and the program continues
   Viewed : List ℕ → Answer

@@ -48,8 +48,8 @@ pub fn typed_as_stepped()
     searches_are_determined();
 }
 
-/// If the dirty flag is clear, cached answers are right. This remains true after a step that searches no label and does not clear the dirty
-/// flag, and after a line that began like this and made at most one search.
+/// If the dirty flag is clear, cached answers are right. This remains true after a step that searches no label and sets the dirty flag if
+/// it changes programs, and after a line that began with right answers and made at most one search.
 pub fn kept_answers_stay_right()
     ensures keeping { KeepingStaysRight }
     ensures searching { SearchingStaysRight }

@@ -22,7 +22,7 @@ pub enum LineOutcome {
     Done,
     /// The program stops.
     Stopped,
-    /// The program stops, and the calculator is turned off.
+    /// The program stops, and the display is turned off.
     TurnedOff,
     /// The display shows a text, and the program continues.
     Viewed(DisplayText),
@@ -49,7 +49,7 @@ pub enum BriefOutcome {
     Done,
     /// The program stops.
     Stopped,
-    /// The program stops, and the calculator is turned off.
+    /// The program stops, and the display is turned off.
     TurnedOff,
     /// The display shows ALPHA, and the program continues.
     ViewedAlpha,

@@ -51,7 +51,7 @@ pub enum DisplayWork {
     Prompt,
     /// `STOP`: stops the program.
     Stop,
-    /// `OFF`: turns the calculator off.
+    /// `OFF`: stops the program and turns the display off.
     TurnOff,
 }
 

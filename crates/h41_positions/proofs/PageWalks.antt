@@ -117,7 +117,7 @@ label_last n listed none = elim (cases_Bool (is_end listed.line)) [
   | inr other ↦ ap position_of (label_in-other n listed [] other none)
 ]
 
--- The number of a line, if so many lines were counted.
+-- The number of a line, if this many lines were counted.
 abbrev pub counted : ℕ → ℕ → List ListedLine → Option ℕ
 counted count position lines = option_map (λ n. count + n) (number_in position lines)
 

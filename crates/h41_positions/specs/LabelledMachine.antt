@@ -51,8 +51,8 @@ with_line_begun labelled = record {
   focal = record labelled.focal { labels = begun_labels labelled };
 }
 
--- A step that searches no label keeps the condition: the dirty flag is not cleared if programs
--- change, and the cache is unchanged.
+-- A step that searches no label keeps the condition: a dirty flag that is set remains set, it is
+-- set if programs change, and the cache is unchanged.
 pub record Keeps (old new : LabelledMachine) : Type 0 where
   pub mark : KeepsMark old.ram new.ram
   pub labels : new.focal.labels ≡ old.focal.labels

@@ -69,7 +69,7 @@ count_stops bytes final place at next before rest lines listed is above whole re
     sym (ap (count_before place) whole ∙ sum_by-append (counts place) before rest ∙ ap (λ (n : ℕ). count_before place before + n) none
     ∙ add_zero (count_before place before))
 
--- The last of so many lines, if there are any.
+-- The last of this many lines, if there are any.
 pub in_front : (count : ℕ) (lines : List ListedLine) (last : Option ListedLine) → (count ≡ 0 → ⊥) → last ≡ slice_get lines (count - 1)
     → option_map_or front_behind last (Start 0) ≡ position_in_front count lines
 in_front zero lines last some is = absurd (some refl)

@@ -47,7 +47,7 @@ up_to_end-last listed = elim (cases_Bool (is_end listed.line)) [
 abbrev pub number_of : ℕ → List ListedLine → Option ℕ
 number_of place lines = number_in place (up_to_end lines)
 
--- So many lines were counted.
+-- This many lines were counted.
 abbrev pub Counted : ℕ → List ListedLine → Type 0
 Counted place before =
     (rest : List ListedLine) → number_of place (before ++ rest) ≡ option_map (λ n. length before + n) (number_of place rest)

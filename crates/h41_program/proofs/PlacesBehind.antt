@@ -64,7 +64,7 @@ record Run (memory : RegisterMap) (at limit size : ℕ) : Type 0 where
   pub each : (k : ℕ) → at ≤ k → k < at + size → IsIn 0x10 0x1D (program_byte memory k)
   pub whole : at + size < limit → IsIn 0x10 0x1D (program_byte memory (at + size)) → size ≡ 16
 
--- At least so many bytes belong to a number: there are no more, or there is one more.
+-- At least this many bytes belong to a number: there are no more, or there is one more.
 run_from : (memory : RegisterMap) (at limit left size : ℕ) → 1 ≤ size → size + left ≡ min 16 (limit - at) → at < limit
     → ((k : ℕ) → at ≤ k → k < at + size → IsIn 0x10 0x1D (program_byte memory k)) → (all : ℕ) × Run memory at limit all
 run_from memory at limit zero size some most before each = (

@@ -29,7 +29,7 @@ written-some memory lines inside =
     let test : nat_lt (curtain_of memory) (main_start + length (packing lines) / 7) ≡ false = grind (arith, nat_tests) in
     rw test refl
 
--- The number of registers that so many bytes take.
+-- The number of registers that this many bytes take.
 too_many : (count size room : ℕ) → size ≡ count + filler count + 3 → 7 * room < count + 3 → room < size / 7
 too_many count size room all many = omega arith
 
@@ -68,7 +68,7 @@ pub filled_packing : (packer : Packer) (lines : List Line) (bytes : List ℕ) �
 filled_packing packer lines bytes packs unmarked same =
     same ∙ ap (λ (items : List ℕ). items ++ replicate (filler (length items)) 0 ++ written_end) (packs.held unmarked)
 
--- There is room for so many bytes in a memory, as the test before they are written says.
+-- There is room for this many bytes in a memory, as the test before they are written says.
 pub record HasRoom (memory : RegisterMap) (registers curtain count : ℕ) : Type 0 where
   pub memory_is : IsMemory registers memory
   pub sound : is_sound memory ≡ true

@@ -24,7 +24,7 @@ use Rattle.h41_codes.specs.declared.line.Operand.TheVariants.{Direct, Indirect}
 use Rattle.h41_codes.proofs.Beginnings.{begins_by, begins_label}
 use Rattle.h41_program.specs.private.Reading.{EndsNothing}
 
--- Bytes begin with a line of so many bytes that ends neither a program nor memory.
+-- Bytes begin with a line of this many bytes that ends neither a program nor memory.
 abbrev pub Sized : List ℕ → ℕ → Type 0
 Sized bytes size = (line : Line) × Begins bytes line size × EndsNothing line
 
@@ -32,7 +32,7 @@ Sized bytes size = (line : Line) × Begins bytes line size × EndsNothing line
 abbrev Spelled : List ℕ → Type 0
 Spelled bytes = (line : Line) × Spells bytes line × ((rest : List ℕ) → IsWhole line rest) × EndsNothing line
 
--- The first so many numbers are bytes.
+-- The first numbers of a list, this many, are bytes.
 abbrev pub Bytes : List ℕ → ℕ → Type 0
 Bytes bytes size = (k : ℕ) → k < size → get_or bytes k 0 < 256
 

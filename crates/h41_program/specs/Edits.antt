@@ -194,7 +194,7 @@ pub record LeavesChanged (memory : RegisterMap) (change : ℕ → ListedLine →
 abbrev pub count_before : ℕ → List ListedLine → ℕ
 count_before position lines = count_by (λ listed. nat_lt listed.position position) lines
 
--- The position of the line that so many lines precede.
+-- The position of the line that has this many lines before it.
 abbrev pub position_behind : ℕ → List ListedLine → Option ℕ
 position_behind count listed = position_of (slice_get listed count)
 
@@ -203,7 +203,7 @@ position_behind count listed = position_of (slice_get listed count)
 abbrev pub front_behind : ListedLine → InFront
 front_behind last = if is_end last.line then Start (behind last) else LineHere last.position
 
--- What precedes the line that so many lines precede. The first program begins at 0.
+-- What precedes the line that has this many lines before it. The first program begins at 0.
 abbrev pub position_in_front : ℕ → List ListedLine → InFront
 position_in_front zero listed = Start 0
 position_in_front (suc count) listed = option_map_or front_behind (slice_get listed count) (Start 0)

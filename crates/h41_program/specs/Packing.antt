@@ -23,7 +23,7 @@ abbrev pub packed_lines : List Line → List ℕ
 packed_lines [] = []
 packed_lines (line ∷ lines) = spelling line ++ gap line lines ++ packed_lines lines
 
--- How many nulls after so many bytes fill the registers, if three bytes for .END. follow.
+-- How many nulls after this many bytes fill the registers, if three bytes for .END. follow.
 abbrev pub filler : ℕ → ℕ
 filler count = 6 - (count + 2) % 7
 

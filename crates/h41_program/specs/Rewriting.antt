@@ -26,7 +26,7 @@ free_register memory address =
 abbrev pub end_after : RegisterMap → List ℕ → ℕ
 end_after memory bytes = curtain_of memory - length bytes / 7
 
--- The register with seven of these bytes, so many registers below the first one.
+-- The register with seven of these bytes, this many registers below the first one.
 abbrev pub program_register : List ℕ → ℕ → List ℕ
 program_register bytes below = digits_from bytes (seven_from (7 * below))
 

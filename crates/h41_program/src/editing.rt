@@ -199,7 +199,7 @@ fn lines_before<const REGS: usize>(ram: &Ram<REGS>, place: u16) -> u16
     count
 }
 
-/// Returns the line of the list from 0 that so many lines precede, and the position of the byte after it.
+/// Returns the line of the list from 0 that has `count` lines before it, and the position of the byte after it.
 fn line_behind<const REGS: usize>(ram: &Ram<REGS>, count: u16) -> Option<Found>
     requires { IsTrue (is_sound ram.now.registers) }
     ensures line { AnswersFrom (λ lines. slice_get lines count) ram.now.registers 0
@@ -222,7 +222,7 @@ fn line_behind<const REGS: usize>(ram: &Ram<REGS>, count: u16) -> Option<Found>
     None
 }
 
-/// Returns what precedes the line that so many lines precede.
+/// Returns what precedes the line that has `count` lines before it.
 fn in_front<const REGS: usize>(ram: &Ram<REGS>, count: u16) -> InFront
     requires { IsTrue (is_sound ram.now.registers) }
     ensures { AnswersFrom (position_in_front count) ram.now.registers 0 result }

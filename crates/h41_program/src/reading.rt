@@ -69,9 +69,9 @@ pub struct LinePlace {
 /// A reader of successive bytes of program memory, which reads each register only once.
 #[derive(Clone, Copy, Debug, PartialEq, Eq)]
 pub struct ByteReader {
-    /// The register that contains the next byte. It is not used if that byte is the first of its register.
+    /// The register that contains the next byte, unless `left` is 0.
     pub register: Reg,
-    /// How many bytes of the register are still to be read, 0 to 7.
+    /// How many bytes of `register` are still to be read, 0 to 7.
     pub left: u16,
 }
 
@@ -225,7 +225,7 @@ fn window<const REGS: usize>(ram: &Ram<REGS>, at: u16, limit: u16) -> Window
     window
 }
 
-/// Returns the place of a line of so many bytes that ends neither a program nor memory, or `None` if there are not as many bytes before
+/// Returns the place of a line of `size` bytes that ends neither a program nor memory, or `None` if there are not as many bytes before
 /// `limit`.
 #[inline(always)]
 fn fitting<const REGS: usize>(ram: &Ram<REGS>, at: u16, limit: u16, size: u16) -> Option<LinePlace>
@@ -573,7 +573,7 @@ pub fn short_line<const REGS: usize>(ram: &Ram<REGS>, at: u16) -> Option<(ShortL
     }
 }
 
-/// Returns the position of the line after a short line of so many bytes, or of the byte just after it if no line follows. `None` if the
+/// Returns the position of the line after a short line of `size` bytes, or of the byte just after it if no line follows. `None` if the
 /// last three bytes begin inside the line. Each size is a constant in its own call, which makes the machine code faster.
 #[inline(always)]
 fn behind_short<const REGS: usize>(

@@ -163,7 +163,7 @@ fn moved(number: Ten, direction: Sign, count: u64) -> Result<Ten, DecimalFault>
     number.add(below_hundred(direction, count))
 }
 
-/// Returns a size with so many ones more or fewer if only its digits change, otherwise `None`.
+/// Returns a size plus or minus `count` if only its digits change, otherwise `None`.
 fn moved_size(x: Magnitude, grows: bool, count: u64) -> Option<Magnitude>
     requires { count < 100 }
     ensures { IfSome result (λ y. IsMovedSize grows (size x) (count * one) (size y)) }

@@ -50,7 +50,7 @@ is_kept here (Put line Before) = true
 is_kept here (Put line Instead) = not here
 is_kept here Delete = not here
 
--- So many lines precede the line at a position.
+-- This many lines precede the line at a position.
 pub record Counts (memory : RegisterMap) (at count : ℕ) : Type 0 where
   pub first : ListedLine
   pub lines : List ListedLine

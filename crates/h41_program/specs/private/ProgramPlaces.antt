@@ -2,7 +2,7 @@
 use Rattle.std.specs.Prelude.{◌≡◌, ℕ, ◌<◌, ◌≤◌, ◌+◌, ◌-◌, ◌*◌}
 use Rattle.h41_ram.specs.RegisterMap.{RegisterMap, main_start, top_of, curtain_of, end_of}
 
--- The end of programs with so many bytes, which fill registers.
+-- The end of programs with this many bytes, which fill registers.
 pub record IsPlace (memory : RegisterMap) (count end : ℕ) : Type 0 where
   pub size : 7 * (curtain_of memory - end) ≡ count
   pub low : main_start ≤ end

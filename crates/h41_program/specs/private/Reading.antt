@@ -53,7 +53,7 @@ HoldsBytes memory at number =
 abbrev pub bytes_seen : RegisterMap → ℕ → ℕ → List ℕ
 bytes_seen memory at limit = map (program_byte memory) (range_with_len at (min 18 (limit - at)))
 
--- The bytes from one position to another begin with a line of so many bytes that ends nothing.
+-- The bytes from one position to another begin with a line of this many bytes that ends nothing.
 abbrev pub BeginsSized : RegisterMap → ℕ → ℕ → ℕ → Type 0
 BeginsSized memory at limit size =
     (line : Line) × Begins (bytes_seen memory at limit) line size × EndsNothing line
@@ -75,7 +75,7 @@ abbrev pub BeginsNothing : RegisterMap → ℕ → ℕ → Type 0
 BeginsNothing memory at limit =
     (line : Line) (size : ℕ) → Begins (bytes_seen memory at limit) line size → ⊥
 
--- There are so many bytes from one position to another: this is the place of a line that ends
+-- There are this many bytes from one position to another: this is the place of a line that ends
 -- nothing.
 pub record Fits (memory : RegisterMap) (at limit size : ℕ) (place : LinePlace) : Type 0 where
   pub inside : at + size ≤ limit

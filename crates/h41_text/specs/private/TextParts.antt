@@ -120,13 +120,13 @@ first_character [] = None
 first_character (byte ∷ rest) =
     if byte == 0x22 then None else if byte == 0x5C then behind_backslash rest else Some (byte, rest)
 
--- The characters in quotes, at most so many.
+-- The characters in quotes, at most this many.
 abbrev pub unquoted_text : ℕ → List ℕ → List ℕ
 unquoted_text zero text = []
 unquoted_text (suc most) text =
     elim (first_character text) [ None ↦ [] | Some parts ↦ parts.0 ∷ unquoted_text most parts.1 ]
 
--- Characters, if there are at most so many.
+-- Characters, if there are at most this many.
 abbrev pub at_most : ℕ → List ℕ → Option (List ℕ)
 at_most most characters = if nat_le (length characters) most then Some characters else None
 

@@ -61,8 +61,8 @@ pub fn plain<const REGS: usize>(
     }
 }
 
-/// Executes a function without an operand, as `plain` does, and returns whether its outcome is `Done`. If not, `told` receives the outcome
-/// or the refusal. The most frequent functions are tested first, because most programs consist of them.
+/// Executes a function without an operand, as `plain` does, and returns whether its outcome is `Done`. If not, `told` receives the
+/// outcome or the refusal. The functions that are most frequent in programs are executed here, all others by `plain`.
 #[inline(always)]
 pub fn plain_at_once<const REGS: usize>(
     machine: &mut Machine<REGS>,

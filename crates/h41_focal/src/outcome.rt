@@ -42,7 +42,8 @@ pub enum LineOutcome {
     Failed(LineFault),
 }
 
-/// A `LineOutcome` without its texts, which is smaller. A running program needs no more for most lines.
+/// A `LineOutcome` without its texts. A running program needs no more of each line, except of those that show a text or call something
+/// outside memory.
 #[derive(Clone, Copy)]
 pub enum BriefOutcome {
     /// The program continues.

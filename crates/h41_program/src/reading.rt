@@ -319,7 +319,7 @@ fn number_size<const REGS: usize>(ram: &Ram<REGS>, at: u16, limit: u16) -> u16
     most - at
 }
 
-/// Returns the place of the `GTO`, `XEQ` or `W` with a name at a position, or `None` if it is not complete.
+/// Returns the place of the `GTO`, `XEQ` or `W` with a name at a position, or `None` if no complete text follows the first byte.
 fn named_at<const REGS: usize>(ram: &Ram<REGS>, at: u16, limit: u16) -> Option<LinePlace>
     requires from { at < limit }
     requires limit { limit ≤ byte_count ram.now.registers }
@@ -338,7 +338,8 @@ fn named_at<const REGS: usize>(ram: &Ram<REGS>, at: u16, limit: u16) -> Option<L
     fitting(ram, at, limit, u16::from(text - 0xF0) + 2)
 }
 
-/// Returns the place of the global label, `END` or `.END.` at a position, which the third byte distinguishes. `None` if it is not complete.
+/// Returns the place of the global label, `END` or `.END.` at a position, which the third byte distinguishes. `None` if it is not
+/// complete, or if the third byte is F0, which begins no line.
 fn linked_at<const REGS: usize>(ram: &Ram<REGS>, at: u16, limit: u16) -> Option<LinePlace>
     requires from { at < limit }
     requires limit { limit ≤ byte_count ram.now.registers }
@@ -574,7 +575,7 @@ pub fn short_line<const REGS: usize>(ram: &Ram<REGS>, at: u16) -> Option<(ShortL
 }
 
 /// Returns the position of the line after a short line of `size` bytes, or of the byte just after it if no line follows. `None` if the
-/// last three bytes begin inside the line. Each size is a constant in its own call, which makes the machine code faster.
+/// last three bytes begin inside the line. The machine code for each size treats it as a constant.
 #[inline(always)]
 fn behind_short<const REGS: usize>(
     ram: &Ram<REGS>,

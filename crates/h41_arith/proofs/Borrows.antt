@@ -13,7 +13,7 @@ use Rattle.h41_fields.specs.Field.{from_to}
 use Rattle.h41_arith.specs.DigitRule.{DifferenceDigit, HasCarries, Difference, carry_digit, zeros, span_value, is_less}
 use Rattle.h41_arith.specs.DigitRuleLaws.{BorrowTellsLess, ComplementBorrows}
 
--- A sum over a row of numbers, with the last of them.
+-- A sum over consecutive numbers is that without the last, plus that of the last.
 pub sum_more : (f : ℕ → ℕ) (first count : ℕ)
     → sum_by f (range_with_len first (suc count)) ≡ sum_by f (range_with_len first count) + f (first + count)
 sum_more f first zero =
@@ -29,7 +29,7 @@ sum_more f first (suc count) =
       here,
     )
 
--- So many digits from a place on, as a number.
+-- The number that some digits form, from a place on.
 abbrev pub digits_value : List ℕ → ℕ → ℕ → ℕ
 digits_value x lo count = sum_by (λ place. slice_index x place * 16 ^ (place - lo)) (range_with_len lo count)
 
@@ -40,7 +40,7 @@ value_more x lo count =
     sum_more (λ place. slice_index x place * 16 ^ (place - lo)) lo count
     ∙ ap (λ place. digits_value x lo count + slice_index x (lo + count) * 16 ^ place) power
 
--- Each digit of a register, and what is read past its end, is below 16.
+-- Each digit of a register, and what is read after its end, is below 16.
 pub digit_lt : (x : List ℕ) (place : ℕ) → IsRegister 14 x → place < 14 → slice_index x place < 16
 digit_lt x place register inside = register.each place 0 (omega (arith, register.size))
 
@@ -55,7 +55,7 @@ value_lt x lo (suc count) register inside =
 abbrev TellsLess : ℕ → ℕ → ℕ → Type 0
 TellsLess borrow x y = ((borrow ≡ 0) × (y ≤ x)) ⊎ ((borrow ≡ 1) × (x < y))
 
--- One digit more at the left.
+-- The order of two numbers with one more digit at the left.
 order_more : (base a b z borrow out x y weight : ℕ) → x < weight → y < weight → TellsLess borrow x y → DifferenceDigit base a b borrow z out
     → TellsLess out (x + a * weight) (y + b * weight)
 order_more base a b z borrow out x y weight x_small y_small (inl order) (inl digit) =
@@ -124,7 +124,7 @@ zero_at place = elim (cases_lt place 14) [
 ]
 
 module _ (base lo hi : ℕ) (x z : List ℕ) (out : ℕ) (d : Difference base zeros x 1 lo hi z out) where
-  -- Nothing is left of a zero from which a borrow is taken.
+  -- A zero from which a borrow is subtracted borrows again.
   borrow_goes_on : (count : ℕ) → lo + count ≤ hi + 1 → slice_index d.carries (lo + count) ≡ 1
   borrow_goes_on zero within =
       let at : lo + 0 ≡ lo = omega arith in
@@ -144,7 +144,7 @@ module _ (base lo hi : ℕ) (x z : List ℕ) (out : ℕ) (d : Difference base ze
       let at : lo + (hi + 1 - lo) ≡ hi + 1 = omega arith in
       sym d.last ∙ sym (ap (slice_index d.carries) at) ∙ borrow_goes_on (hi + 1 - lo) (omega arith)
 
--- 0 - x with a borrow in has a borrow out.
+-- The difference 0 - x with a borrow in has a borrow out.
 pub complement_borrows : ComplementBorrows
 complement_borrows base lo hi into x z true ordered d = refl
 complement_borrows base lo hi into x z false ordered d = absurd (omega (arith, borrow_stays base lo hi x z 0 d.digits ordered))

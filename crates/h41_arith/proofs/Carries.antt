@@ -8,7 +8,7 @@ use Rattle.std.proofs.Math.Seq.{get_or-append_seam}
 use Rattle.h41_arith.specs.DigitRule.{SumDigit, DifferenceDigit, HasCarries, carry_digit}
 use Rattle.h41_arith.specs.DigitRuleLaws.{IsDetermined}
 
--- A rule of one place by which the digit and the carry out are determined.
+-- A rule of one place that determines the digit and the carry out.
 abbrev pub Determines : (ℕ → ℕ → ℕ → ℕ → ℕ → Type 0) → Type 0
 Determines rule = (x y carry z out w other : ℕ) → rule x y carry z out → rule x y carry w other → (z ≡ w) × (out ≡ other)
 
@@ -26,7 +26,7 @@ DifferenceDigit-determines base x y carry z out w other (inr p) (inr q) = (p.1 �
 
 module _ (rule : ℕ → ℕ → ℕ → ℕ → ℕ → Type 0) (determines : Determines rule) (x y z w : List ℕ) (carry_in lo hi out other : ℕ)
     (a : HasCarries rule x y carry_in lo hi z out) (b : HasCarries rule x y carry_in lo hi w other) where
-  -- Two lists of carries agree, so many places above lo.
+  -- Two lists of carries agree at each place above lo.
   same_carry : (above : ℕ) → lo + above ≤ hi + 1 → slice_index a.carries (lo + above) ≡ slice_index b.carries (lo + above)
   same_carry zero inside =
       let at : lo ≡ lo + 0 =
@@ -57,7 +57,7 @@ module _ (rule : ℕ → ℕ → ℕ → ℕ → ℕ → Type 0) (determines : D
       sym a.last ∙ subst (λ index. slice_index a.carries index ≡ slice_index b.carries index) at (same_carry (hi + 1 - lo) (omega arith))
       ∙ b.last
 
--- Over the places from lo to below next, the rule holds, and carry is the one into next.
+-- The rule holds at the places from lo up to, but not including, next, and carry is the carry into next.
 pub record CarriedTo (rule : ℕ → ℕ → ℕ → ℕ → ℕ → Type 0) (x y : List ℕ) (carry_in lo next : ℕ) (z : List ℕ) (carry : ℕ) : Type 0 where
   pub carries : List ℕ
   pub size : length carries ≡ next + 1
@@ -66,7 +66,7 @@ pub record CarriedTo (rule : ℕ → ℕ → ℕ → ℕ → ℕ → Type 0) (x 
   pub places : (place : ℕ) → lo ≤ place → place < next
       → rule (slice_index x place) (slice_index y place) (slice_index carries place) (slice_index z place) (slice_index carries (place + 1))
 
--- Before the first place, with nothing below it.
+-- Before the first place, nothing needs to hold.
 pub carried_none : (rule : ℕ → ℕ → ℕ → ℕ → ℕ → Type 0) (x y : List ℕ) (carry_in lo : ℕ) (z : List ℕ)
     → CarriedTo rule x y carry_in lo lo z carry_in
 carried_none rule x y carry_in lo z = record {
@@ -91,7 +91,7 @@ kept carries out index within = get_or_append_left carries (out ∷ []) 0 index 
 new_last : (carries : List ℕ) (out next : ℕ) → length carries ≡ next + 1 → slice_index (carries ++ out ∷ []) (next + 1) ≡ out
 new_last carries out next size = subst (λ index. slice_index (carries ++ out ∷ []) index ≡ out) size (get_or-append_seam carries out [] 0)
 
--- One place more.
+-- The rule holds at one more place.
 pub carried_more : (rule : ℕ → ℕ → ℕ → ℕ → ℕ → Type 0) (x y : List ℕ) (carry_in lo next : ℕ) (z : List ℕ) (carry digit out : ℕ)
     → next < length z → lo ≤ next → CarriedTo rule x y carry_in lo next z carry
     → rule (slice_index x next) (slice_index y next) carry digit out → CarriedTo rule x y carry_in lo (next + 1) (set z next digit) out
@@ -137,7 +137,7 @@ same_carry_bit true false h = absurd (omega (arith, h))
 same_carry_bit false true h = absurd (omega (arith, h))
 same_carry_bit false false h = refl
 
--- A rule that determines one place gives one register and one carry.
+-- A rule that determines one place has one register and one carry as its result.
 pub result_determined : (rule : ℕ → ℕ → ℕ → ℕ → ℕ → Type 0) → Determines rule → IsDetermined (HasCarries rule)
 result_determined rule determines into x y z w carry_in carry other lo hi ordered a b = (
   ext_get_or 0 z w (a.register.size ∙ sym b.register.size) (λ place _. elim (cases_lt place lo) [

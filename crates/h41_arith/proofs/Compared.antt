@@ -14,7 +14,7 @@ use Rattle.h41_arith.proofs.Borrows.{digits_value, value_more}
 use Rattle.h41_arith.proofs.Places.{different_at, same_throughout}
 use Rattle.h41_arith.proofs.Parts.{part, part_at, part-register}
 
--- One digit more at the left of the first ones.
+-- The number of some digits with one more digit at the left.
 last_more : (x : List ℕ) (lo count : ℕ) → lo + count < length x
     → value (take (count + 1) (drop lo x)) ≡ value (take count (drop lo x)) + slice_index x (lo + count) * 16 ^ count
 last_more x lo count inside =

@@ -17,14 +17,14 @@ use Rattle.h41_arith.proofs.Carries.{carry_le}
 use Rattle.h41_arith.proofs.Parts.{part, part-register, keeps_outside}
 use Rattle.h41_arith.proofs.Steps.{Steps, steps_none, steps_more, has_carries}
 
--- A one at each of so many places.
+-- A number with a 1 in each of its digits.
 abbrev pub ones : ℕ → ℕ
 ones count = value (replicate count 1)
 
 pub ones_more : (count : ℕ) → ones (suc count) ≡ 1 + 16 * ones count
 ones_more count = value-cons 1 (replicate count 1)
 
--- Fifteen times that, and one, is the first number with a digit more.
+-- Fifteen times this number, plus one, is the first number with one more digit.
 pub fifteen_ones : (count : ℕ) → 15 * ones count + 1 ≡ 16 ^ count
 fifteen_ones zero = refl
 fifteen_ones (suc count) = omega (arith, ones_more count, fifteen_ones count, pow-succ' 16 count)
@@ -42,12 +42,12 @@ last_of_xor x y = omega (arith, sym (bit_at_lowest (bit_xor x y)) ∙ bit_at_xor
 carry_bit : (x y sum carry half : ℕ) → carry ≤ 1 → sum ≡ x + y + carry + 2 * half → bit_xor (bit_xor x y) sum % 2 ≡ carry
 carry_bit x y sum carry half bit is = omega (arith, last_of_xor (bit_xor x y) sum, last_of_xor x y)
 
--- And the bits of the carry itself are even with it.
+-- The other bits of the carry do not change this.
 pub even_with_carry : (x y sum carry half : ℕ) → sum ≡ x + y + carry + 2 * half → bit_xor (bit_xor (bit_xor x y) carry) sum % 2 ≡ 0
 even_with_carry x y sum carry half is =
     omega (arith, last_of_xor (bit_xor (bit_xor x y) carry) sum, last_of_xor (bit_xor x y) carry, last_of_xor x y)
 
--- One digit less of the sum of two numbers.
+-- The exclusive or of two numbers and their sum, with one digit less.
 pub shifted_xor : (a b s x y sum : ℕ) → a < 16 → b < 16 → s < 16
     → bit_xor (bit_xor (a + 16 * x) (b + 16 * y)) (s + 16 * sum) / 16 ≡ bit_xor (bit_xor x y) sum
 shifted_xor a b s x y sum a_small b_small s_small =
@@ -72,7 +72,7 @@ masked_more n mask =
       low,
     )
 
--- Six more at each digit.
+-- A register with six more in each digit.
 abbrev pub with_sixes : List ℕ → List ℕ
 with_sixes digits = map (λ digit. digit + 6) digits
 
@@ -85,11 +85,11 @@ value-with_sixes (digit ∷ digits) =
 abbrev pub changed : ℕ → ℕ → ℕ → ℕ → ℕ
 changed first second result places = bit_and (bit_xor (bit_xor first second) result / 16) (ones places)
 
--- A one at each digit that carries in a sum with a carry and with sixes more.
+-- A 1 in each digit that carries in a sum with a carry and with six more in each digit.
 abbrev pub tens : ℕ → ℕ → ℕ → ℕ → ℕ → ℕ
 tens first second carry sixes places = changed first second (first + second + carry + sixes) places
 
--- The total in base 10 with them.
+-- The total in base 10, computed with these ones.
 abbrev pub total_with_tens : ℕ → ℕ → ℕ → ℕ → ℕ → ℕ
 total_with_tens first second carry mask places = first + second + carry + 6 * tens first second carry (6 * mask) places
 
@@ -198,7 +198,7 @@ tens_steps (a ∷ x) (b ∷ y) (d ∷ z) carry out p q r same_x same_y bit whole
     steps_more _ a b d x y z carry next (length z) out step.0
     (tens_steps x y z next out p.1 q.1 r.1 (omega (arith, same_x)) (omega (arith, same_y)) next_bit step.1)
 
--- No number of digits below 10 is above that of nines.
+-- No number of digits below 10 is greater than the number of nines.
 pub nine_most : (digits : List ℕ) → AllByRecursion (λ digit. digit < 10) digits → value digits ≤ 9 * ones (length digits)
 nine_most [] each = omega arith
 nine_most (digit ∷ digits) each = omega (arith, each.0, value-cons digit digits, nine_most digits each.1, ones_more (length digits))
@@ -207,7 +207,7 @@ fifteen_most : (digits : List ℕ) → AllByRecursion (λ digit. digit < 16) dig
 fifteen_most [] each = omega arith
 fifteen_most (digit ∷ digits) each = omega (arith, each.0, value-cons digit digits, fifteen_most digits each.1, ones_more (length digits))
 
--- A total is below twice the first number with a digit more.
+-- A total is less than twice the first number with one more digit.
 carry_word-le : (x y : List ℕ) (carry : ℕ) → AllByRecursion (λ digit. digit < 10) x → AllByRecursion (λ digit. digit < 16) y
     → length x ≡ length y → carry ≤ 1 → carry_word (with_sixes x) y carry ≤ ones (length y)
 carry_word-le [] [] carry p q same bit = omega arith
@@ -254,7 +254,7 @@ tens_of x y z carry out count places digits first second limit mask p q r size_x
     subst (λ n. Steps (SumDigit 10) x y carry z n out) size_z
     (tens_steps x y z carry out p q r (size_x ∙ sym size_z) (size_y ∙ sym size_z) bit final)
 
--- The digits of a span, of which none is a letter.
+-- The digits of a span without a letter are decimal.
 pub part_decimal : (x : List ℕ) (lo hi number mask places : ℕ) → IsRegister 14 x → lo ≤ hi → hi < 14 → number ≡ value (part x lo hi)
     → mask ≡ ones (hi + 1 - lo) → hi + 1 - lo ≤ places → tens 0 number 0 (6 * mask) places ≡ 0
     → AllByRecursion (λ digit. digit < 10) (part x lo hi)
@@ -270,7 +270,7 @@ part_most x lo hi number mask register ordered inside is is_mask each =
     let most : value (part x lo hi) ≤ 9 * ones (hi + 1 - lo) = rw digits.size at (nine_most (part x lo hi) each) in
     omega (arith, is, is_mask, most)
 
--- A sum in base 10 put into a span.
+-- The result of a sum in base 10 that was written to a span.
 pub tens_result : (into x y z : List ℕ) (carry_in carry : Bool) (lo hi places digits first second limit mask : ℕ) → IsRegister 14 x
     → IsRegister 14 y → IsRegister 14 z → lo ≤ hi → hi < 14 → AllByRecursion (λ digit. digit < 10) (part x lo hi)
     → value (part z lo hi) ≡ digits → first ≡ value (part x lo hi) → second ≡ value (part y lo hi) → limit ≡ 16 ^ (hi + 1 - lo)

@@ -75,7 +75,7 @@ difference_steps (a ∷ x) (b ∷ y) (d ∷ z) borrow out p q r same_x same_y bi
     steps_more _ a b d x y z borrow step.0 (length z) out step.2
     (difference_steps x y z step.0 out p.1 q.1 r.1 (omega (arith, same_x)) (omega (arith, same_y)) step.1 step.3)
 
--- A sum of two numbers put into a span.
+-- The result of a sum of two numbers that was written to a span.
 pub sum_result : (into x y z : List ℕ) (carry_in carry : Bool) (lo hi : ℕ) → IsRegister 14 x → IsRegister 14 y → IsRegister 14 z → lo ≤ hi
     → hi < 14
     → value (part z lo hi) + 16 ^ (hi + 1 - lo) * carry_digit carry ≡ value (part x lo hi) + value (part y lo hi) + carry_digit carry_in
@@ -99,7 +99,7 @@ sum_result into x y z carry_in carry lo hi p q r ordered inside whole below abov
       outside = keeps_outside into z lo hi below above;
     }
 
--- And a difference.
+-- The result of a difference of two numbers that was written to a span.
 pub difference_result : (into x y z : List ℕ) (borrow_in borrow : Bool) (lo hi : ℕ) → IsRegister 14 x → IsRegister 14 y → IsRegister 14 z
     → lo ≤ hi → hi < 14
     → value (part z lo hi) + value (part y lo hi) + carry_digit borrow_in ≡ value (part x lo hi) + 16 ^ (hi + 1 - lo) * carry_digit borrow

@@ -21,7 +21,7 @@ use Rattle.std.specs.List.{AllByRecursion}
 pub whole_weight : (lo hi : ℕ) → lo ≤ hi → 16 ^ (hi + 1) ≡ 16 ^ (hi + 1 - lo) * 16 ^ lo
 whole_weight lo hi ordered = ap (λ places. 16 ^ places) (omega arith) ∙ pow-add 16 (hi + 1 - lo) lo
 
--- A number in its places is a whole number times the weight, and no other.
+-- A number in its places is a multiple of the weight, and this determines the number.
 pub is_multiple : (number n weight : ℕ) → number ≡ n * weight → number % weight ≡ 0
 is_multiple number n weight is = ap (λ k. k % weight) is ∙ mul-mod_left n weight
 
@@ -31,13 +31,13 @@ is_quotient number n weight positive is = ap (λ k. k / weight) is ∙ mul-div_c
 pub whole_quotient : (number weight : ℕ) → 0 < weight → number % weight ≡ 0 → number ≡ number / weight * weight
 whole_quotient number weight positive multiple = omega (arith, mod-add-div number weight, multiple, mul_comm weight (number / weight))
 
--- One place down.
+-- The number one place lower.
 pub sixteenth_at : (number n weight : ℕ) → 0 < weight → number ≡ n * weight → number / 16 / weight ≡ n / 16
 sixteenth_at number n weight positive is =
     div-div-eq-div-mul number 16 weight ∙ ap (λ m. number / m) (mul_comm 16 weight) ∙ sym (div-div-eq-div-mul number weight 16)
     ∙ ap (λ m. m / 16) (is_quotient number n weight positive is)
 
--- Numbers in the same places compare as they do in the first.
+-- Numbers in the same places compare as they do in the first places.
 less_here : (a b weight : ℕ) → a < b → a * weight + weight ≤ b * weight
 less_here a b weight less = omega (arith, mul-le-mul_right {m = a + 1} {n = b} weight (omega arith))
 
@@ -99,7 +99,7 @@ in_parts number n limit weight mask digits positive is few is_mask is_digits = e
     rest : (n limit : ℕ) → n < 2 * limit → limit ≤ n → n - limit < limit
     rest n limit few more = omega arith
 
--- What the code adds up.
+-- The sum that the code computes.
 pub sum_at : (first second carry v u b weight : ℕ) → first ≡ v * weight → second ≡ u * weight → carry ≡ b * weight
     → first + second + carry ≡ (v + u + b) * weight
 sum_at first second carry v u b weight is_first is_second is_carry = omega (arith, is_first, is_second, is_carry)
@@ -171,7 +171,7 @@ enough_by first taken v t limit weight more word positive is_first is_taken less
     below : (d v limit : ℕ) → v < limit → v ≡ t + d → d < limit
     below d v limit less is = omega arith
 
--- With whether it borrows.
+-- The difference modulo a limit, and whether it borrows.
 pub difference_at : (first taken v t limit weight more word : ℕ) → 0 < weight → first ≡ v * weight → taken ≡ t * weight → v < limit
     → t ≤ limit → 1 ≤ more → word ≡ more * (limit * weight)
     → (first + (word - taken)) % word / weight % limit + t ≡ v + limit * carry_digit (nat_lt first taken)
@@ -184,7 +184,7 @@ difference_at first taken v t limit weight more word positive is_first is_taken 
       rw none (enough_by first taken v t limit weight more word positive is_first is_taken less enough some is_word ∙ omega arith)
 ]
 
--- The sixes of a span are those of so many places, in their places.
+-- The sixes of a span are the sixes of its number of places, in their places.
 pub sixes_in_place : (lo hi mask sixes : ℕ) → lo ≤ hi → mask + 16 ^ lo ≡ 16 ^ (hi + 1) → 5 * sixes ≡ 2 * mask
     → sixes ≡ 6 * ones (hi + 1 - lo) * 16 ^ lo
 sixes_in_place lo hi mask sixes ordered is_mask fifths =
@@ -254,7 +254,7 @@ carried_at first second carry result x y c r lo inside small is_first is_second 
     split : (lo : ℕ) → lo < 14 → 15 ≡ suc (14 - lo) + lo
     split lo inside = omega arith
 
--- The same of a sum with sixes.
+-- The carries of a sum with sixes are in their places.
 pub tens_at : (first second carry sixes x y c m lo : ℕ) → lo < 14 → c < 16 → first ≡ x * 16 ^ lo → second ≡ y * 16 ^ lo
     → carry ≡ c * 16 ^ lo → sixes ≡ 6 * m * 16 ^ lo
     → carried_of first second carry (first + second + carry + sixes) ≡ 16 * tens x y c (6 * m) (14 - lo) * 16 ^ lo
@@ -263,7 +263,7 @@ tens_at first second carry sixes x y c m lo inside small is_first is_second is_c
     carried_at first second carry (first + second + carry + sixes) x y c (x + y + c + 6 * m) lo inside small
     is_first is_second is_carry is_sum (even_with_carry x y (x + y + c + 6 * m) c (3 * m) (omega arith))
 
--- And the total in base 10.
+-- The total in base 10 is in its places.
 pub total_at : (first second carry sixes x y c m lo : ℕ) → lo < 14 → c < 16 → first ≡ x * 16 ^ lo → second ≡ y * 16 ^ lo
     → carry ≡ c * 16 ^ lo → sixes ≡ 6 * m * 16 ^ lo
     → decimal_total_of first second carry sixes ≡ total_with_tens x y c m (14 - lo) * 16 ^ lo

@@ -59,7 +59,7 @@ known_part z digits lo hi place register ordered inside are held from to =
     ∙ ap (λ d. slice_index d (place - lo))
     (same_register (hi + 1 - lo) (part z lo hi) digits (part-register z lo hi register ordered inside) are held)
 
--- A register with known digits put in is a replaced one.
+-- A register in which known digits were inserted is the one that the definition of a replaced span gives.
 pub replaced_by : (into z digits : List ℕ) (lo hi : ℕ) (digit : ℕ → ℕ) → IsRegister 14 z → lo ≤ hi → hi < 14
     → IsRegister (hi + 1 - lo) digits → value (part z lo hi) ≡ value digits → take lo z ≡ take lo into
     → drop (hi + 1) z ≡ drop (hi + 1) into → ((place : ℕ) → lo ≤ place → place ≤ hi → slice_index digits (place - lo) ≡ digit place)
@@ -74,7 +74,7 @@ replaced_by into z digits lo hi digit register ordered inside are held below abo
       above = λ place high. outside.above place (omega arith);
     })
 
--- How many digits a span has, and the highest of them.
+-- The number of digits of a span is not zero; the highest of them.
 pub span_size : (lo hi : ℕ) → lo ≤ hi → hi + 1 - lo ≡ suc (hi - lo)
 span_size lo hi ordered = omega arith
 
@@ -99,7 +99,7 @@ up_value digits count register =
     moved_up : (whole low weight high next : ℕ) → whole ≡ low + weight * high → next ≡ 16 * weight → whole * 16 ≡ high * next + 16 * low
     moved_up whole low weight high next split is_next = rw (split, is_next) (omega arith)
 
--- And one place down: a sixteenth.
+-- The digits of a part one place down: a sixteenth of the number.
 down_value : (digits : List ℕ) → AllByRecursion (λ digit. digit < 16) digits → value digits / 16 ≡ value (drop 1 digits ++ 0 ∷ [])
 down_value [] each = refl
 down_value (digit ∷ digits) each = omega (arith, value-cons digit digits, each.0, value-append digits (0 ∷ []))

@@ -12,7 +12,7 @@ use Rattle.h41_fields.specs.Field.{from_to}
 use Rattle.h41_arith.specs.DigitRule.{with_places, is_different}
 use Rattle.h41_arith.specs.DigitRuleLaws.{HasDigits, ReplacedIsDetermined, DifferentAtAPlace}
 
--- Up to the place below next, z has these digits from lo on; elsewhere it is as `into`.
+-- At the places from lo up to, but not including, next, z has these digits; elsewhere it is like `into`.
 pub record FilledTo (into : List ℕ) (lo next : ℕ) (digit : ℕ → ℕ) (z : List ℕ) : Type 0 where
   pub inside : (place : ℕ) → lo ≤ place → place < next → slice_index z place ≡ digit place
   pub below : (place : ℕ) → place < lo → slice_index z place ≡ slice_index into place
@@ -41,7 +41,7 @@ below_span lo place hi low = grind (arith, nat_tests)
 above_span : (lo place hi : ℕ) → hi < place → (nat_le lo place && nat_le place hi) ≡ false
 above_span lo place hi high = grind (arith, nat_tests)
 
--- A register with the digits of a replaced span is that one.
+-- A register with the digits of a replaced span is the replaced register.
 pub filled_all : (into z : List ℕ) (lo hi : ℕ) (digit : ℕ → ℕ) → length z ≡ 14 → FilledTo into lo (hi + 1) digit z
     → z ≡ with_places into lo hi digit
 filled_all into z lo hi digit size filled =
@@ -95,7 +95,7 @@ not_same a b other = grind (arith, nat_tests)
 same : (a b : ℕ) → a ≡ b → not (a == b) ≡ false
 same a b equal = grind (arith, nat_tests)
 
--- A place where two registers differ.
+-- A place at which two registers differ.
 pub different_at : (x y : List ℕ) (lo hi place : ℕ) → lo ≤ place → place ≤ hi → slice_index x place ≢ slice_index y place
     → is_different x y lo hi ≡ true
 unfolding is_different from_to
@@ -107,7 +107,7 @@ different_at x y lo hi place from to other =
     (ap test (get_or-range_with_len lo (hi + 1 - lo) (place - lo) 0 index ∙ there)
     ∙ not_same (slice_index x place) (slice_index y place) other)
 
--- No place where they differ.
+-- Two registers do not differ at any place.
 pub same_throughout : (x y : List ℕ) (lo hi : ℕ) → ((place : ℕ) → lo ≤ place → place ≤ hi → slice_index x place ≡ slice_index y place)
     → is_different x y lo hi ≡ false
 unfolding is_different from_to

@@ -14,7 +14,7 @@ use Rattle.h41_arith.proofs.Decimal.{ones, ones_more, changed, last_of_xor, shif
 use Rattle.h41_arith.proofs.Parts.{part, part-register, keeps_outside}
 use Rattle.h41_arith.proofs.Steps.{Steps, steps_none, steps_more, has_carries}
 
--- The borrow out of one place, and those out of each digit of a difference, as ones.
+-- The borrow out of one place, and the borrows out of each digit of a difference, as ones.
 abbrev pub borrow_of : ℕ → ℕ → ℕ → ℕ
 borrow_of a b borrow = (15 + b + borrow - a) / 16
 
@@ -34,7 +34,7 @@ pub even_with_borrow : (x y left borrow half : ℕ) → x + 2 * half ≡ left + 
 even_with_borrow x y left borrow half is =
     omega (arith, last_of_xor (bit_xor (bit_xor x y) borrow) left, last_of_xor (bit_xor x y) borrow, last_of_xor x y)
 
--- One digit of a difference, and what is left of it.
+-- The lowest digit of a difference, and the difference of the other digits.
 lowest_digit : (a b borrow low up x y above : ℕ) → a < 16 → b < 16 → borrow ≤ 1 → low < 16
     → low + 16 * up + (b + 16 * y) + borrow ≡ a + 16 * x + 16 * above
     → (low + b + borrow ≡ a + 16 * borrow_of a b borrow) × (up + y + borrow_of a b borrow ≡ x + above)
@@ -47,7 +47,7 @@ lowest_digit a b borrow low up x y above a_small b_small bit low_small whole = e
       (omega arith, omega arith)
 ]
 
--- A number of one digit more, below a limit.
+-- A number with one more digit, modulo a limit.
 mod_more : (r n weight : ℕ) → r < 16 → 0 < weight → (r + 16 * n) % (16 * weight) ≡ r + 16 * (n % weight)
 mod_more r n weight small positive =
     let split : r + 16 * n ≡ n / weight * (16 * weight) + (r + 16 * (n % weight)) =
@@ -104,7 +104,7 @@ borrows_read (a ∷ x) (b ∷ y) borrow left half (suc places) p q same few bit 
     pow_pos16 zero = omega arith
     pow_pos16 (suc n) = omega (arith, pow-succ' 16 n, pow_pos16 n)
 
--- There are six at each digit that borrows.
+-- Six is subtracted at each digit that borrows.
 pub six_left : (x y : List ℕ) (borrow left out : ℕ) → AllByRecursion (λ digit. digit < 16) x → AllByRecursion (λ digit. digit < 10) y
     → length x ≡ length y → borrow ≤ 1 → left + value y + borrow ≡ value x + 16 ^ length y * out → 6 * borrow_word x y borrow ≤ left
 six_left [] [] borrow left out p q same bit whole = omega arith
@@ -170,7 +170,7 @@ same_below a b limit p q a_small b_small whole =
     sym (mul-add-mod_self_right p limit a ∙ mod-eq_of_lt a_small) ∙ ap (λ n. n % limit) (omega (arith, whole))
     ∙ mul-add-mod_self_right q limit b ∙ mod-eq_of_lt b_small
 
--- What is left of a difference, with six less at each digit that borrows, below a limit.
+-- A difference minus six at each digit that borrows, modulo a limit.
 pub remainder_left : (x y : List ℕ) (borrow out_of left left' bits limit more over number : ℕ) → AllByRecursion (λ digit. digit < 16) x
     → AllByRecursion (λ digit. digit < 10) y → length x ≡ length y → borrow ≤ 1 → limit ≡ 16 ^ length y
     → left % limit + value y + borrow ≡ value x + limit * out_of → bits % limit ≡ borrow_word x y borrow
@@ -198,7 +198,7 @@ remainder_left x y borrow out_of left left' bits limit more over number p q same
     put_together number a b c more over limit t words left left' bits is_left' is_left is_bits taken six =
         omega (arith, is_left', is_left, is_bits, taken, six)
 
--- A difference in base 10 put into a span.
+-- The result of a difference in base 10 that was written to a span.
 pub remainder_result : (into x y z : List ℕ) (borrow_in borrow : Bool) (lo hi : ℕ) → IsRegister 14 x → IsRegister 14 y → IsRegister 14 z
     → lo ≤ hi → hi < 14 → AllByRecursion (λ digit. digit < 10) (part y lo hi)
     → value (part z lo hi) + 6 * borrow_word (part x lo hi) (part y lo hi) (carry_digit borrow_in) + value (part y lo hi)

@@ -5,7 +5,7 @@ use Rattle.std.proofs.lemmas.List.FromFn.{get_or-map-range_with_len}
 use Rattle.h41_arith.specs.DigitRule.{HasCarries}
 use Rattle.h41_arith.proofs.Parts.{part, part_at}
 
--- A rule holds at each of so many digits from the first on, with a carry into each and one out of the last.
+-- A rule holds at each of a number of digits from the first on, with a carry into each and one out of the last.
 pub record Steps (rule : ℕ → ℕ → ℕ → ℕ → ℕ → Type 0) (x y : List ℕ) (carry : ℕ) (z : List ℕ) (count out : ℕ) : Type 0 where
   pub carries : ℕ → ℕ
   pub first : carries 0 ≡ carry
@@ -21,7 +21,7 @@ steps_none rule x y z carry out same = record {
   places = λ index few. absurd (omega (arith, few));
 }
 
--- One carry before others.
+-- A list of carries with one more before it.
 abbrev before : ℕ → (ℕ → ℕ) → ℕ → ℕ
 before carry carries zero = carry
 before carry carries (suc index) = carries index
@@ -56,7 +56,7 @@ moved : (rule : ℕ → ℕ → ℕ → ℕ → ℕ → Type 0) (a b c d e f g h
     → rule a b c d e
 moved rule a b c d e f g h i j p q r s t holds = rw (p, q, r, s, t) holds
 
--- The same at the places of a span.
+-- The rule holds at the places of a span, with these carries.
 pub has_carries : (rule : ℕ → ℕ → ℕ → ℕ → ℕ → Type 0) (x y z : List ℕ) (lo hi carry out : ℕ) → carry ≤ 1 → lo ≤ hi
     → Steps rule (part x lo hi) (part y lo hi) carry (part z lo hi) (hi + 1 - lo) out → HasCarries rule x y carry lo hi z out
 has_carries rule x y z lo hi carry out bit ordered steps = record {

@@ -41,7 +41,7 @@ same_parts a b limit p q a_small b_small p_bit q_bit whole = elim (cases_lt p q)
   ]
 ]
 
--- A rule's result has the same digits in another register.
+-- The result of a rule has the same digits if another register provides the other places.
 put_result : (rule : ℕ → ℕ → ℕ → ℕ → ℕ → Type 0) (into other x y z d : List ℕ) (carry_in told : Bool) (lo hi : ℕ) → IsRegister 14 z
     → lo ≤ hi → hi < 14 → HasResult (HasCarries rule) other x y carry_in lo hi d told → value_between z lo hi ≡ value_between d lo hi
     → take lo z ≡ take lo into → drop (hi + 1) z ≡ drop (hi + 1) into → HasResult (HasCarries rule) into x y carry_in lo hi z told
@@ -74,7 +74,7 @@ pub record Tells (operation : DigitOperation) (x y : List ℕ) (carry_in : Bool)
   pub result : (into z : List ℕ) (carry : Bool) → IsRegister 14 z → IsInParts (total / 16 ^ lo) lo hi z carry
       → take lo z ≡ take lo into → drop (hi + 1) z ≡ drop (hi + 1) into → RuleInto operation into x y carry_in lo hi z carry
 
--- The total of digits that were made place by place.
+-- The total of digits that were computed place by place.
 below_twice_limit : (digits limit carry : ℕ) → digits < limit → carry ≤ 1 → digits + limit * carry < 2 * limit
 below_twice_limit digits limit zero small bit = omega (arith, small)
 below_twice_limit digits limit (suc carry) small bit =
@@ -103,7 +103,7 @@ rule_tells operation x y carry_in lo hi total ordered inside made =
           out lo hi register ordered inside made.rule same.0 below above);
     }
 
--- And that of a sum of numbers, of which the first has no letter.
+-- The total of a sum of numbers, the first of which has no letter.
 pub sum_tells : (x y : List ℕ) (carry_in : Bool) (lo hi first second carry sixes total : ℕ) → IsRegister 14 x → IsRegister 14 y → lo ≤ hi
     → hi < 14 → AllByRecursion (λ digit. digit < 10) (part x lo hi) → first ≡ value (part x lo hi) * 16 ^ lo
     → second ≡ value (part y lo hi) * 16 ^ lo → carry ≡ carry_digit carry_in * 16 ^ lo → sixes ≡ 6 * ones (hi + 1 - lo) * 16 ^ lo
@@ -141,7 +141,7 @@ six_fit lo hi bits ordered inside few =
     sym (pow-add 16 (15 - hi) (hi + 1 - lo)) ∙ ap (λ places. 16 ^ places) (omega arith) in
     omega (arith, few, fifteen_ones (14 - lo), whole, pow-le-pow_right {n = 16} (omega arith) {i = 14 - lo} {j = 16 - lo} (omega arith))
 
--- The difference of a span's numbers in a word, and what it takes for the digits that borrow.
+-- The difference of a span's numbers in a word, minus six at each digit that borrows.
 pub difference_tells : (into x y z : List ℕ) (borrow_in : Bool) (lo hi first second borrow number : ℕ) → IsRegister 14 x → IsRegister 14 y
     → IsRegister 14 z → lo ≤ hi → hi < 14 → AllByRecursion (λ digit. digit < 10) (part y lo hi) → first ≡ value (part x lo hi) * 16 ^ lo
     → second ≡ value (part y lo hi) * 16 ^ lo → borrow ≡ carry_digit borrow_in * 16 ^ lo → number ≡ decimal_remainder_of first second borrow
@@ -204,7 +204,7 @@ difference_tells into x y z borrow_in lo hi first second borrow number p q r
     eighth : (carried bits weight : ℕ) → carried ≡ 16 * bits * weight → 3 * carried / 8 ≡ 6 * bits * weight
     eighth carried bits weight is = omega (arith, is)
 
--- What the code makes of the digits' number.
+-- The word that the code computes from the number of the digits.
 pub total_with : (digits : List ℕ) (lo hi number next : ℕ) → lo ≤ hi → number ≡ value_between digits lo hi * 16 ^ lo → next ≡ 16 ^ (hi + 1)
     → number + next ≡ (value_between digits lo hi + 16 ^ (hi + 1 - lo) * 1) * 16 ^ lo
 total_with digits lo hi number next ordered is is_next =

@@ -7,7 +7,7 @@ use Rattle.h41_arith.specs.DigitRule.{SumDigit, DifferenceDigit, HasCarries, car
 use Rattle.h41_arith.specs.DigitRuleLaws.{DifferenceIsOfNumbers, IsNumberIn, SumIsOfNumbers}
 use Rattle.h41_arith.proofs.Borrows.{digit_lt, sum_more}
 
--- So many digits from a place on, as a number.
+-- The number in a base that some digits form, from a place on.
 abbrev digits_number : ℕ → List ℕ → ℕ → ℕ → ℕ
 digits_number base x lo count = sum_by (λ place. slice_index x place * base ^ (place - lo)) (range_with_len lo count)
 
@@ -26,7 +26,7 @@ base_most : (base lo hi : ℕ) (x : List ℕ) → IsNumberIn base x lo hi → ba
 base_most base lo hi x (inl p) = omega (arith, p.0)
 base_most base lo hi x (inr p) = omega (arith, p.0)
 
--- One digit more at the left of a sum.
+-- A sum with one more digit at the left.
 sum_digit : (base a b carry z out total_x total_y total_z weight first : ℕ) → base ≤ 16 → a < base → b < base → carry ≤ 1
     → total_x + total_y + first ≡ total_z + carry * weight → SumDigit base a b carry z out
     → (total_x + a * weight) + (total_y + b * weight) + first ≡ (total_z + z * weight) + out * (base * weight)
@@ -38,7 +38,7 @@ sum_digit base a b carry z out total_x total_y total_z weight first most p q bit
     let all : (a + b + carry) * weight ≡ (z + base) * weight = ap (λ n. n * weight) at in
     rw digit.2 (omega (arith, all, lower))
 
--- And of a difference.
+-- A difference with one more digit at the left.
 difference_digit : (base a b borrow z out total_x total_y total_z weight first : ℕ) → base ≤ 16 → a < base → b < base → borrow ≤ 1
     → total_x + borrow * weight ≡ total_z + total_y + first → DifferenceDigit base a b borrow z out
     → (total_x + a * weight) + out * (base * weight) ≡ (total_z + z * weight) + (total_y + b * weight) + first
@@ -61,7 +61,7 @@ difference_bit base a b borrow z out (inr digit) = omega (arith, digit.2)
 
 module _ (base lo hi : ℕ) (x y z : List ℕ) (first out : ℕ) (p : IsNumberIn base x lo hi)
     (q : IsNumberIn base y lo hi) (inside : hi < 14) where
-  -- The sum of so many digits.
+  -- The digits of a sum up to a place are those of whole numbers.
   abbrev IsSum : List ℕ → ℕ → Type 0
   IsSum carries count = (slice_index carries (lo + count) ≤ 1)
       × (digits_number base x lo count + digits_number base y lo count + first

@@ -41,7 +41,7 @@ labels_low (line ∷ rest) earlier address name fits =
     low_with name line.label (address_from (address + line_length line) rest name) address fits.0.low
     (labels_low rest (earlier ++ line ∷ []) (address + line_length line) name fits.1)
 
--- A new label is its line's address.
+-- A new label has the address of its line.
 label_here : (labels others : Labels) (earlier : List SourceLine) (address : ℕ) (label : Option (List ℕ)) → IfSome label (IsNew earlier)
     → ((name : List ℕ) → IsNew earlier name → labels name ≡ (if has_label name label then Some address else others name))
     → IfSome label (λ name. labels name ≡ Some address)

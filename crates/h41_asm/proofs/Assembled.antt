@@ -30,7 +30,7 @@ use Rattle.h41_asm.proofs.Faultless.{AreFaultless, IsNew, at_no_line, faultless,
 use Rattle.h41_asm.proofs.Found.{not_then_some, or_none, unfound}
 use Rattle.h41_asm.proofs.Walks.{address_from, addresses_of, own_faults, own_faults_of, reference_faults, reference_faults_of}
 
--- What ready lines spell ends within the addresses.
+-- The words of ready lines end within the addresses.
 spelled_within : (labels : Labels) (rest : List SourceLine) (address : ℕ) (words : List ℕ) → address ≤ address_count
     → IsReady labels address rest → LinesSpell labels address rest words → address + length words ≤ address_count
 spelled_within labels [] address words low ready spelled = omega (arith, ap length spelled)

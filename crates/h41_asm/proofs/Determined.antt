@@ -21,7 +21,7 @@ use Rattle.h41_asm.proofs.Found.{unfound}
 use Rattle.h41_asm.proofs.Spelling.{length-spelled}
 use Rattle.h41_asm.proofs.Walks.{address_from}
 
--- A line spells as many words as it takes.
+-- The number of words that a line spells is its length.
 pub length-line : (labels : Labels) (address : ℕ) (read : Result Statement SourceFault) (own : List ℕ) → SpellsRead labels address read own
     → length own ≡ read_length read
 length-line labels address (Ok said) own spelled = length-spelled labels address said own spelled
@@ -63,7 +63,7 @@ lines_spell_once labels (line ∷ rest) address one other first second =
     let others : first.1 ≡ second.1 = lines_spell_once labels rest (address + length second.0) first.1 second.1 behind second.4 in
     first.2 ∙ ap (λ words. words ++ first.1) own ∙ ap (λ words. second.0 ++ words) others ∙ sym second.2
 
--- The label of a line that has it is the line's address.
+-- The address of a line's label is that of the line.
 labelled_here : (labels : Labels) (address : ℕ) (name : List ℕ) (label : Option (List ℕ)) → has_label name label ≡ true
     → IfSome label (λ own. labels own ≡ Some address) → labels name ≡ Some address
 labelled_here labels address name None here own = let no : false ≡ true = here in cc

@@ -136,7 +136,7 @@ all_after : (earlier : List SourceLine) (line : SourceLine) (names : List (List 
 all_after earlier line [] new other = tt
 all_after earlier line (name ∷ names) new other = (new_after earlier line name new.0 other.0, all_after earlier line names new.1 other.1)
 
--- Names that a label is not one of, either way round.
+-- A label that is none of some names; none of these names is the label.
 turned : (own : List ℕ) (names : List (List ℕ)) → AllByRecursion (λ name. bytes_eq name own ≡ false) names
     → AllByRecursion (λ name. bytes_eq own name ≡ false) names
 turned own [] other = tt

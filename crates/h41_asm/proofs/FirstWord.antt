@@ -59,7 +59,7 @@ parts_end byte rest stop = elim (or_cases (is_blank byte) (byte == 59) stop) [
   | inr comment ↦ rw (eqb-true byte 59 comment) refl
 ]
 
--- The first part is as long as it says.
+-- The length of the first part is the number of its bytes.
 parts_from-first : (quoted : Bool) (line : List ℕ)
     → parts_from quoted line ≡ take (part_length quoted line) line ∷ parts_behind (drop (part_length quoted line) line)
 parts_from-first quoted [] = refl

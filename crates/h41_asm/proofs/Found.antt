@@ -19,7 +19,7 @@ pub both_false : (first second : Bool) → (first || second) ≡ false → (firs
 both_false true second e = let no : true ≡ false = e in cc
 both_false false second e = (refl, e)
 
--- What is not found is none.
+-- If nothing is found, the result is none.
 pub unfound : {T : Type 0} (found : Option T) → (is_some found ≡ false) → found ≡ None
 unfound None none = refl
 unfound (Some found) none = let no : true ≡ false = none in cc

@@ -115,7 +115,7 @@ spelled_said labels number address (line ∷ rest) words ready spelled =
       subst (λ (n : ℕ). LinesSpell labels (address + n) rest apart.1) (sym long) others,
     )
 
--- The words with those of one more.
+-- The words after those of one more statement.
 pub spelled_next : (labels : Labels) (address : ℕ) (said : Said) (statement : Statement) (rest : List Said) (before after others : List ℕ)
     → Ok statement ≡ said.1 → SpellsNext labels address statement before after → SaidSpell labels (address + read_length said.1) rest others
     → (more : List ℕ) × (after ++ others ≡ before ++ more) × SaidSpell labels address (said ∷ rest) more
@@ -172,7 +172,7 @@ kept_next number statement line rest lines names same read =
     ∙ append_assoc (kept_said lines names) (with_words number (reading_of line.code)) (said_from (number + 1) rest)
     ∙ rw add-one refl
 
--- The line at a place is the first of those that are left.
+-- The line at an index is the first of the remaining lines.
 pub said_at : (lines : List KeptLine) (names : List (Bor (List ℕ))) (i : ℕ) (line : KeptLine) (name : Bor (List ℕ))
     → drop i lines ≡ line ∷ drop (i + 1) lines → drop i names ≡ name ∷ drop (i + 1) names
     → kept_said (drop i lines) (drop i names)

@@ -50,7 +50,7 @@ transfer_sound transfer =
 abbrev pub entries : List TableEntry
 entries = map (λ opening. (opening.0.now, opening.1)) OPENINGS
 
--- What holds of a first one and of the others.
+-- A property of a first entry and of the others.
 infixr 20 ◌&◌
 ◌&◌ : {A B : Type 0} → A → B → A × B
 first & others = (first, others)

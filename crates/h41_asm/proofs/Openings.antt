@@ -12,7 +12,7 @@ use Rattle.h41_asm.specs.SourceLines.{words_of}
 use Rattle.h41_asm.specs.Statements.{begins, is_whole, singles, takers}
 use Rattle.h41_asm.specs.private.Openings.{TableEntry, IsTable, OpensAs, TellsWords, entries_in, hash_of, place_count}
 
--- The word of the entry to which a word's hash leads.
+-- The word of the table entry to which a word's hash leads.
 abbrev pub slot : List TableEntry → List ℕ → TableEntry → List ℕ → List ℕ
 slot entries places other word = (slice_index_or entries (slice_index places (hash_of word)) other).0
 
@@ -46,7 +46,7 @@ module _ (entries : List TableEntry) (places : List ℕ) (other : TableEntry) (w
   unbegun [] others home = let no : false ≡ true = home in cc
   unbegun (part ∷ parts) others home = rw (unlike part home) refl
 
-  -- So words that begin with it begin with no mnemonic whose first word is in its place.
+  -- Words that begin with it begin with no mnemonic whose first word is at its place in the table.
   abbrev homes : {T : Type 0} → List (List ℕ × T) → Bool
   homes some = list_all (λ entry. is_placed entries places other entry.0) some
 

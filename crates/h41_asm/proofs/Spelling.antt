@@ -3,7 +3,7 @@ use Rattle.std.proofs.Common.{◌≡◌, ℕ, List, length, ap}
 use Rattle.h41_asm.specs.Placing.{Labels, StatementSpells}
 use Rattle.h41_asm.specs.Statements.{Statement, Words, OutOfReach, LongJumpTo, ShortJumpTo, EntryAt, statement_length}
 
--- A statement spells as many words as it takes.
+-- The number of words that a statement spells is its length.
 pub length-spelled : (labels : Labels) (address : ℕ) (said : Statement) (own : List ℕ) → StatementSpells labels address said own
     → length own ≡ statement_length said
 length-spelled labels address (Words words) own spelled = ap length spelled

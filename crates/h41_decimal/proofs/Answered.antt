@@ -52,7 +52,7 @@ pub quotient_determined : QuotientIsDetermined
 quotient_determined x y a b h k =
     quotient_either (unsigned_abs y == 0) (x *ℤ y *ℤ pos one) (unsigned_abs y * unsigned_abs y) a b h k
 
--- Products with a divisor are in the order of its sign.
+-- The products of numbers with a divisor are in the order of its sign.
 products_up : (a b : ℤ) (x : ℕ) → a ≤ℤ b → (a *ℤ pos x) ≤ℤ (b *ℤ pos x)
 products_up (pos m) (pos n) x h =
     let le : m ≤ n = omega (arith, ints) in
@@ -91,7 +91,7 @@ products_down (negsuc m) (negsuc n) x h =
     let f = negsuc-*ℤ-negsuc n x in
     omega (arith, ints)
 
--- Of two greatest whole numbers neither is smaller.
+-- Of two greatest whole numbers, neither is smaller.
 no_lower_floor : (w v y x : ℤ) → IsFloor w y x → IsFloor v y x → w <ℤ v → ⊥
 no_lower_floor w v y (pos x) h k less =
     let le : (w +ℤ pos 1) ≤ℤ v = omega (arith, ints) in

@@ -100,7 +100,7 @@ cut_exactly v whole scale missing place places cut at_most =
           (omega arith) cut.below at_most;
     }
 
--- Eleven digits of a number that has more: dropping the rest, a quotient by the power of ten p.
+-- A number of more than eleven digits, cut to eleven by dividing by the power of ten p.
 pub eleven_of_more : (whole count dropped p : ℕ) → p ≡ 10 ^ dropped → 11 + dropped ≡ count → 10 ^ count ≤ 10 * whole → whole < 10 ^ count
     → (0 < p) × (10 ^ 10 ≤ whole / p) × (whole / p < 10 ^ 11)
 eleven_of_more whole count dropped p is e least next =
@@ -109,7 +109,7 @@ eleven_of_more whole count dropped p is e least next =
     let p_pos : 0 < p = omega arith in
     (p_pos, le-div (10 ^ 10) whole p p_pos (omega arith), div_below whole p (10 ^ 11) p_pos (omega arith))
 
--- And of one that has fewer.
+-- A number of fewer than eleven digits, filled to eleven by multiplying by the power of ten p.
 pub eleven_of_fewer : (whole count missing p : ℕ) → p ≡ 10 ^ missing → count + missing ≡ 11 → 10 ^ count ≤ 10 * whole → whole < 10 ^ count
     → (10 ^ 10 ≤ whole * p) × (whole * p < 10 ^ 11)
 eleven_of_fewer whole count missing p is e least next =
@@ -130,7 +130,7 @@ cut_to_eleven v whole scale dropped p p_pos is cut =
     let same : whole / p * p ≡ whole / p * 10 ^ dropped = ap (λ t. whole / p * t) is in
     cut_further v whole (whole / p) scale dropped cut (omega arith) (omega arith)
 
--- And one of fewer, of which nothing was cut off, or that has eleven already.
+-- A number of at most eleven digits, from which nothing was cut off.
 pub fill_to_eleven : (v : Exact) (whole scale missing place p : ℕ) → p ≡ 10 ^ missing → place + missing ≡ scale → whole * p < 10 ^ 11
     → IsCutFarEnough v whole scale → IsCut v (whole * p) place
 fill_to_eleven v whole scale missing place p is places fits far =

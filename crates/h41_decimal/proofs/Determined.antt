@@ -19,7 +19,7 @@ use Rattle.h41_decimal.specs.declared.ten.Ten.TheVariants.{Zero}
 use Rattle.h41_decimal.proofs.Nearest.{ten_pow_pos}
 use Rattle.h41_decimal.proofs.Tens.{lower_exponent}
 
--- No size is below a bound that it reaches.
+-- A size is not less than a bound that it reaches.
 not_both : (v : Exact) (p p' q q' : ℕ) → p ≡ p' → q ≡ q' → IsBelow v p q → IsAtLeast v p' q' → ⊥
 not_both (Fraction n d) p p' q q' e f below least =
     let a : p * d ≡ p' * d = ap (λ t. t * d) e in
@@ -30,7 +30,7 @@ not_both (RootOf n) p p' q q' e f below least =
     let b : n * (q * q) ≡ n * (q' * q') = ap (λ t. n * (t * t)) f in
     omega arith
 
--- Of two nearest decimals neither is smaller.
+-- Of two nearest decimals, neither is smaller.
 not_smaller : (v : Exact) (m a b n a' b' : ℕ) → IsTenDigits m → IsTenDigits n → IsNear v m a b → IsNear v n a' b'
     → m * (10 ^ a * 10 ^ b') < n * (10 ^ a' * 10 ^ b) → ⊥
 not_smaller v m a b n a' b' m_ten n_ten x y less =

@@ -14,7 +14,7 @@ use Rattle.h41_decimal.proofs.Cuts.{power_parts}
 use Rattle.h41_decimal.proofs.Exact.{cut_difference, cut_difference_turned, cut_apart_difference, same_cut}
 use Rattle.h41_decimal.proofs.Signed.{nearest_of, nearest_of_zero, signed-sub, signed-sub_turned, signed-sub_same}
 
--- x at y's scale.
+-- The size x at the scale of y.
 at_scale : (m s t apart : ℕ) → apart + t ≡ s → (m * 10 ^ apart) * 10 ^ t ≡ m * 10 ^ s
 at_scale m s t apart e = let p = ap (λ u. m * u) (power_parts apart t s e) in omega (arith, p)
 

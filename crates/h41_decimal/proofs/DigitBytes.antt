@@ -7,7 +7,7 @@ use Rattle.std.specs.Int.RustNames.{bit_and}
 use Rattle.h41_decimal.specs.private.PackedDigits.{decimal_of, hundreds_of}
 use Rattle.h41_decimal.proofs.PackedDigits.{digit_more, no_digit, no_digit_behind}
 
--- One byte so many times.
+-- One byte, repeated a number of times.
 abbrev pub repeated : ℕ → ℕ → ℕ
 repeated byte zero = 0
 repeated byte (suc count) = byte + 256 * repeated byte count
@@ -20,7 +20,7 @@ masked_more first others byte count small fits =
     ap (λ n. bit_and n (byte + 256 * repeated byte count)) turned ∙ ap (bit_and (others * 2 ^ 8 + first)) mask_turned
     ∙ and_block 8 others (repeated byte count) first byte small fits ∙ omega arith
 
--- The lower halves of so many bytes.
+-- The lower halves of a number of bytes.
 abbrev pub halves : ℕ → ℕ → ℕ
 halves zero bytes = 0
 halves (suc count) bytes = bytes % 16 + 256 * halves count (bytes / 256)
@@ -45,7 +45,7 @@ sixteens_more count bytes =
     let low : bit_and first 16 ≡ first / 16 % 2 * 16 = and_pow first 4 in
     ap (λ n. bit_and n (repeated 16 (suc count))) sum ∙ masked_more first others 16 count (omega arith) (omega arith) ∙ omega (arith, low)
 
--- Two digits in each of so many bytes.
+-- Two digits in each of a number of bytes.
 abbrev pub twice : ℕ → ℕ
 twice zero = 0
 twice (suc count) = suc (suc (twice count))

@@ -42,7 +42,7 @@ typed_nearest sign digits biased places whole scale answer some e same rounds =
     answer refl (mul-pos (mul-pos some (ten_pow_pos 108)) (ten_pow_pos biased))
     (rounds_digits (Fraction (digits * 10 ^ 108 * 10 ^ biased) (10 ^ places * 10 ^ 99)) (typed_cut digits biased places scale e))
 
--- digits that are all zero.
+-- Digits that are all zero.
 pub typed_zero : (sign : Sign) (digits places : ℕ) (exponent : Exponent) → digits ≡ 0 → IsTyped sign digits places exponent Zero
 typed_zero sign digits places exponent none = record {
   answer = Ok Zero;

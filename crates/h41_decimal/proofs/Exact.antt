@@ -162,7 +162,7 @@ cut_sum m n s t apart e =
     exact_fraction (m * 10 ^ s + n * 10 ^ t) 1 (m * 10 ^ apart + n) (t + 128) (omega arith)
     (sum_steps m n (10 ^ s) (10 ^ t) (10 ^ apart) (10 ^ (t + 128)) (power_parts apart t s e) (pow-add 10 t 128))
 
--- Their difference, either way.
+-- The difference of two sizes at one scale, of either sign.
 difference_steps : (m n ps pt p pk r d : ℕ) → p * pt ≡ ps → pk ≡ pt * 10 ^ 128 → d + n ≡ m * p → r + n * pt ≡ m * ps
     → r * 10 ^ 128 ≡ (d * pk) * 1
 difference_steps m n ps pt p pk r d parts scale steps size =

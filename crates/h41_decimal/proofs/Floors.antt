@@ -22,7 +22,7 @@ use Rattle.h41_decimal.proofs.Signed.{not_zero, nearest_of, nearest_of_zero, sig
 use Rattle.h41_decimal.proofs.Steps.{at_unit_scale}
 use Rattle.h41_decimal.proofs.Tens.{size_pos, unsigned_abs-signed, product_with_plus, nearest_along}
 
--- y is between two products with a divisor, in the order of its sign.
+-- The number y is between two products with a divisor, in the order of its sign.
 IsBetween : Sign → ℤ → ℤ → ℤ → Type 0
 IsBetween Plus low y high = (low ≤ℤ y) × (y <ℤ high)
 IsBetween Minus low y high = (y ≤ℤ low) × (high <ℤ y)
@@ -57,7 +57,7 @@ one_less : (q : ℕ) → with_sign Minus (suc q) +ℤ pos 1 ≡ with_sign Minus 
 one_less zero = refl
 one_less (suc q) = omega (arith, ints)
 
--- Both of one sign.
+-- The remainder of two numbers with the same sign.
 pub rest_of_same : (s : Sign) (Y X q r : ℕ) (answer : Result Ten DecimalFault) → Y ≡ q * X + r → r < X → Nearest (with_sign s r) 1 answer
     → RoundsRest (with_sign s Y) (with_sign s X) answer
 rest_of_same s Y X q r answer e less nearest =
@@ -74,7 +74,7 @@ rest_of_same s Y X q r answer e less nearest =
       rest = nearest_along _ _ 1 answer d nearest;
     }
 
--- Of two signs, with something left.
+-- The remainder of two numbers with different signs, if it is not zero.
 pub rest_of_apart : (s : Sign) (Y X q r : ℕ) (answer : Result Ten DecimalFault) → Y ≡ q * X + r → 0 < r → r < X
     → Nearest (with_sign s (X - r)) 1 answer → RoundsRest (with_sign (opposite_of s) Y) (with_sign s X) answer
 rest_of_apart s Y X q r answer e some less nearest =
@@ -95,7 +95,7 @@ rest_of_apart s Y X q r answer e some less nearest =
       rest = nearest_along _ _ 1 answer d nearest;
     }
 
--- And with nothing left.
+-- The remainder of two numbers with different signs, if it is zero.
 pub rest_of_apart_none : (s : Sign) (Y X q : ℕ) → Y ≡ q * X → 0 < Y → 0 < X
     → RoundsRest (with_sign (opposite_of s) Y) (with_sign s X) (Ok Zero)
 rest_of_apart_none s Y X zero e some X_pos = absurd (omega arith)
@@ -115,7 +115,7 @@ rest_of_apart_none s Y X (suc q) e some X_pos =
       rest = nearest_of_zero _ 1 (Ok Zero) d refl;
     }
 
--- One more power of ten before the remainder is taken.
+-- The remainder may be computed before a further power of ten is multiplied.
 pub remainder_step : (n v s p r : ℕ) → s + r ≡ p → ((n % v) * 10 ^ s) * 10 ^ r % v ≡ n * 10 ^ p % v
 remainder_step n v s p r e =
     let q : 10 ^ s * 10 ^ r ≡ 10 ^ p = power_parts s r p e in
@@ -135,7 +135,7 @@ sizes_divide n m t s r m_pos le r_is =
     let less : r < m = omega arith in
     (omega arith, less, mul-lt-mul_of_pos_right less (ten_pow_pos s))
 
--- What is rounded is what is left.
+-- The rounded value is the remainder.
 pub rest_rounds : (sign : Sign) (k place : ℕ) (answer : Result Ten DecimalFault) → 0 < k → RoundsWhole sign k (place + 128) answer
     → Nearest (with_sign sign (k * 10 ^ place)) 1 answer
 rest_rounds sign k place answer k_pos rounds =
@@ -148,7 +148,7 @@ rest_rounds_at sign k place scale answer k_pos scale_is rounds =
     let P : ℕ → Type 0 = λ t. RoundsWhole sign k t answer in
     rest_rounds sign k place answer k_pos (subst P scale_is rounds)
 
--- Zero divided.
+-- The remainder of zero.
 pub rest_of_zero : (s : Sign) (X : ℕ) → 0 < X → RoundsRest (pos 0) (with_sign s X) (Ok Zero)
 rest_of_zero Plus X some = rest_of_same Plus 0 X 0 0 (Ok Zero) (omega arith) some refl
 rest_of_zero Minus X some = rest_of_same Minus 0 X 0 0 (Ok Zero) (omega arith) some refl

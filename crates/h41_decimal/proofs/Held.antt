@@ -42,7 +42,7 @@ split : (register : List ℕ) (place count n : ℕ) → decimal_in register plac
 split register place count n h =
     split_of (nat_le (slice_index register place) 9) (slice_index register place) n (decimal_in register (place + 1) count) refl h
 
--- A number of so many digits is below the power of ten.
+-- A number of some digits is less than the power of ten.
 pub below_power : (register : List ℕ) (place count n : ℕ) → decimal_in register place count ≡ Some n → n < 10 ^ count
 below_power register place zero n h = let e : 0 ≡ n = cc in omega arith
 below_power register place (suc count) n h =
@@ -53,7 +53,7 @@ below_power register place (suc count) n h =
     let p : 10 ^ suc count ≡ 10 ^ count * 10 = pow-suc 10 count in
     omega arith
 
--- Registers in which the same number is read have its digits.
+-- Two registers in which the same number is read have its digits.
 same_digits : (x y : List ℕ) (place count n : ℕ) → decimal_in x place count ≡ Some n → decimal_in y place count ≡ Some n
     → (k : ℕ) → place ≤ k → k < place + count → slice_index x k ≡ slice_index y k
 same_digits x y place zero n h i k low high = absurd (omega arith)
@@ -155,7 +155,7 @@ same_sign : (sign : Sign) (s r : ℕ) → sign_in s ≡ Some sign → sign_in r 
 same_sign Plus s r h k = plus_digit (s == 0) (s == 9) s refl h ∙ sym (plus_digit (r == 0) (r == 9) r refl k)
 same_sign Minus s r h k = minus_digit (s == 0) (s == 9) s refl h ∙ sym (minus_digit (r == 0) (r == 9) r refl k)
 
--- And so are the digits of an exponent.
+-- The digits of an exponent are determined.
 exponent_of : (t u : Bool) (e steps : ℕ) → nat_le e 99 ≡ t → nat_le 901 e ≡ u
     → (if t then Some (e + 99) else if u then Some (e - 901) else None) ≡ Some steps
     → ((e ≤ 99) × (e + 99 ≡ steps)) ⊎ ((901 ≤ e) × (steps + 901 ≡ e))
@@ -187,7 +187,7 @@ same_exponent e f steps e_below f_below h k =
     (exponent_of (nat_le f 99) (nat_le 901 f) f steps refl refl k))
     (exponent_of (nat_le e 99) (nat_le 901 e) e steps refl refl h)
 
--- So the parts of a number are.
+-- The parts of a number are determined.
 record AreSame (m e s n f r : ℕ) : Type 0 where
   pub mantissa : m ≡ n
   pub exponent : e ≡ f
@@ -237,7 +237,7 @@ held register z h =
     let n : number_in register ≡ Some z = sym (worth-holding_of register) ∙ ap worth h in
     held_of (decimal_in register 3 10) (decimal_in register 0 3) (slice_index register 13) z n
 
--- And with them each digit of the register.
+-- Each digit of the register is determined.
 same_at : (a b : List ℕ) (z : ℤ) → holding_of a ≡ Number z → holding_of b ≡ Number z → (k : ℕ) → k < 14 → slice_index a k ≡ slice_index b k
 same_at a b z a_holds b_holds k less =
     let h = held a z a_holds in

@@ -5,7 +5,7 @@ use Rattle.std.proofs.Math.Nat.{lt_of_mul-lt-mul_right, mul-le-mul, pow-suc, one
 use Rattle.std.proofs.lemmas.Nat.{pow-add}
 use Rattle.h41_decimal.specs.NearestDecimal.{Exact, Fraction, RootOf, IsBelow, IsAtLeast, IsNear}
 
--- A larger bound is above what a smaller one is above.
+-- If a bound is greater than a size, so is a greater bound.
 pub below_more : (v : Exact) (p q p' q' : ℕ) → 0 < q → 0 < q' → p * q' ≤ p' * q → IsBelow v p q → IsBelow v p' q'
 below_more (Fraction n d) p q p' q' q_pos q'_pos le h =
     let a : (n * q) * q' < (p * d) * q' = mul-lt-mul_of_pos_right h q'_pos in
@@ -18,7 +18,7 @@ below_more (RootOf n) p q p' q' q_pos q'_pos le h =
     let c : (n * (q' * q')) * (q * q) < (p' * p') * (q * q) = omega arith in
     lt_of_mul-lt-mul_right (q * q) c
 
--- A smaller bound is reached where a larger one is.
+-- If a size reaches a bound, it reaches a smaller bound.
 pub at_least_less : (v : Exact) (p q p' q' : ℕ) → 0 < q → 0 < q' → p' * q ≤ p * q' → IsAtLeast v p q → IsAtLeast v p' q'
 at_least_less (Fraction n d) p q p' q' q_pos q'_pos le h =
     let a : (p * d) * q' ≤ (n * q) * q' = mul-le-mul_right q' h in

@@ -36,7 +36,7 @@ pub no_digit_behind : (count digits : ℕ) → decimal_of count (digits / 16) �
 no_digit_behind count digits none =
     none_either (nat_le (digits % 16) 9) (λ rest. digits % 16 + 10 * rest) (decimal_of count (digits / 16)) none
 
--- digits that were packed.
+-- Digits that were packed.
 decimal_of-packed : (count number : ℕ) → number < 10 ^ count → decimal_of count (word_of_digits count number) ≡ Some number
 decimal_of-packed zero number small = ap Some (omega (arith, small))
 decimal_of-packed (suc count) number small =
@@ -48,7 +48,7 @@ decimal_of-packed (suc count) number small =
     (ap (decimal_of count) high ∙ decimal_of-packed count (number / 10) fewer)
     ∙ ap Some (let e : (number % 10 + 16 * rest) % 16 + 10 * (number / 10) ≡ number = omega (arith, low) in e)
 
--- Two and four digits at a time.
+-- Packing two and four digits at a time.
 packed_two_more : (count number : ℕ) → word_of_digits (suc (suc count)) number
     ≡ word_of_digits 2 (number % 100) + 256 * word_of_digits count (number / 100)
 packed_two_more count number =

@@ -32,7 +32,7 @@ more_below n s d (suc f) n_is few s_size low above =
         → (s * 10 ^ 5 + f) * (s * 10 ^ 5 + f) ≤ n * 10 ^ 10
     one_lower n s d f n_is s_size low square = omega arith
 
--- A number of ten digits with one or two more.
+-- A number of ten digits to which one or two digits are appended.
 pub filled_digits : (m s p : ℕ) → 10 ^ 9 ≤ m → m < 10 ^ 10 → p ≡ 10 ^ (2 - s % 2) → (10 ^ 10 ≤ m * p) × (m * p < 10 ^ 12)
 filled_digits m s p m_size m_below p_is =
     let some : 0 < 10 = omega arith in

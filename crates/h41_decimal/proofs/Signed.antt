@@ -12,7 +12,7 @@ use Rattle.h41_decimal.specs.declared.sign.Sign.TheVariants.{Plus, Minus}
 use Rattle.h41_decimal.specs.declared.ten.Ten.{Ten}
 use Rattle.h41_decimal.specs.declared.ten.Ten.TheVariants.{Zero}
 
--- What holds of a size that is not zero.
+-- A fact about a size that is not zero.
 pub not_zero : (A B : Type 0) (n : ℕ) → 0 < n → B → MatchBool (n == 0) A B
 not_zero A B n n_pos b =
     let f : (n == 0) ≡ false = grind (arith, nat_tests) in

@@ -62,7 +62,7 @@ whole_rounds sign x place low =
     rounds_of sign (m * 10 ^ s) (m * 10 ^ (s - place)) (10 ^ place) (Ok (Nonzero sign x)) (size_pos x) (omega arith) (omega arith)
     (subst P (sym e) (own_nearest (Nonzero sign x)))
 
--- One far below half a step becomes zero.
+-- A size far below half a step becomes zero.
 pub tiny_rounds : (sign : Sign) (x : Magnitude) (place : ℕ) → x.exponent.biased + 10 < place
     → RoundsTo (10 ^ place) (with_sign sign (size x)) (Ok Zero)
 tiny_rounds sign x place far =
@@ -77,7 +77,7 @@ tiny_rounds sign x place far =
     rounds_of sign (m * 10 ^ s) 0 (10 ^ place) (Ok Zero) (size_pos x) (omega arith) (omega arith)
     (nearest_of_zero (with_sign sign (0 * 10 ^ place)) 1 (Ok Zero) (signed-zero sign (0 * 10 ^ place) (omega arith)) refl)
 
--- The quotient that is rounded, of digits m by the step p, at the place of x.
+-- The rounded quotient of the digits m by the step p, at the place of x.
 steps_low : (m p ps k : ℕ) → k * p ≤ m + p / 2 → 2 * (k * (p * ps)) ≤ 2 * (m * ps) + p * ps
 steps_low m p ps k low =
     let a : (2 * (k * p)) * ps ≤ (2 * m + p) * ps = mul-le-mul_right ps (omega arith) in
@@ -112,7 +112,7 @@ quotient_rounds sign x place dropped p k answer places some p_is k_is nearest =
     let H : ℕ → Type 0 = λ t. 2 * (m * 10 ^ s) + t < 2 * ((k + 1) * t) in
     rounds_of sign (m * 10 ^ s) k (10 ^ place) answer (size_pos x) (subst L step l) (subst H step h) nearest
 
--- A quotient of zero.
+-- A rounded quotient that is zero.
 pub quotient_rounds_to_zero : (sign : Sign) (x : Magnitude) (place dropped p k : ℕ) → dropped + x.exponent.biased ≡ place → 0 < dropped
     → p ≡ 10 ^ dropped → k ≡ (x.mantissa.digits + p / 2) / p → k ≡ 0 → RoundsTo (10 ^ place) (with_sign sign (size x)) (Ok Zero)
 quotient_rounds_to_zero sign x place dropped p k places some p_is k_is none =
@@ -123,7 +123,7 @@ quotient_rounds_to_zero sign x place dropped p k places some p_is k_is none =
 pub at_unit_scale : (k place : ℕ) → (k * 10 ^ place) * 10 ^ 128 ≡ (k * 10 ^ (place + 128)) * 1
 at_unit_scale k place = let p = ap (λ t. k * t) (pow-add 10 place 128) in omega (arith, p)
 
--- And another, rounded to ten digits.
+-- A rounded quotient that is not zero, rounded to ten digits.
 pub quotient_rounds_to_steps : (sign : Sign) (x : Magnitude) (place dropped p k : ℕ) (answer : Result Ten DecimalFault)
     → dropped + x.exponent.biased ≡ place → 0 < dropped → p ≡ 10 ^ dropped → k ≡ (x.mantissa.digits + p / 2) / p → 0 < k
     → RoundsWhole sign k (place + 128) answer → RoundsTo (10 ^ place) (with_sign sign (size x)) answer

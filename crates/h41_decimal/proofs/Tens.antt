@@ -140,7 +140,7 @@ nearest_along z z' d answer e nearest = let P : ℤ → Type 0 = λ t. Nearest t
 pub rounded_along : (s s' : Sign) (v : Exact) (answer : Result Ten DecimalFault) → s ≡ s' → IsRounded s v answer → IsRounded s' v answer
 rounded_along s s' v answer e rounded = let P : Sign → Type 0 = λ t. IsRounded t v answer in subst P e rounded
 
--- Sums with zero, and in either order.
+-- Sums with zero, in either order.
 pub zero_plus : (z : ℤ) → pos 0 +ℤ z ≡ z
 zero_plus z = omega (arith, ints)
 

@@ -55,7 +55,7 @@ many_ones m s m_size high =
     let a : 10 ^ 9 * 10 ^ s ≤ m * 10 ^ s = mul-le-mul_right (10 ^ s) m_size in
     omega arith
 
--- A size by its whole ones and what is left.
+-- A size consists of its whole ones and the rest.
 pub split_at_ones : (m s k p : ℕ) → p ≡ 10 ^ k → k + s ≡ 108 → m % p * 10 ^ s + m / p * 10 ^ 108 ≡ m * 10 ^ s
 split_at_ones m s k p is e =
     let q : p * 10 ^ s ≡ 10 ^ 108 = ap (λ t. t * 10 ^ s) is ∙ power_parts k s 108 e in

@@ -33,7 +33,7 @@ each-digits_of : (places number : ℕ) → AllByRecursion (λ digit. digit < 16)
 each-digits_of zero number = tt
 each-digits_of (suc places) number = (omega arith, each-digits_of places (number / 16))
 
--- The digits of a number that digits hold are those.
+-- A register has the digits of the number that it holds.
 digits_of-value_each : (digits : List ℕ) → AllByRecursion (λ digit. digit < 16) digits → digits_of (length digits) (value digits) ≡ digits
 digits_of-value_each [] each = refl
 digits_of-value_each (digit ∷ digits) each =
@@ -62,13 +62,13 @@ pub register-digits_of : (places number : ℕ) → IsRegister places (digits_of 
 register-digits_of places number =
     record { size = length-digits_of places number; each = All-from_recursion _ _ (each-digits_of places number) }
 
--- What is kept is a register, and the number is that of its digits.
+-- The stored word determines a register, and is the number of its digits.
 pub is_register : (places word : ℕ) (digits : List ℕ) → digits_of places word ≡ digits → word < 16 ^ places
     → IsRegister places digits × (value digits ≡ word)
 is_register places word digits seen fits =
     (subst (IsRegister places) seen (register-digits_of places word), ap value (sym seen) ∙ value-digits_of places word fits)
 
--- Another digit at one place.
+-- The number of a register after the digit at one place was replaced.
 pub value-set : (digits : List ℕ) (place digit : ℕ) → place < length digits
     → value (set digits place digit) + get_or digits place 0 * 16 ^ place ≡ value digits + digit * 16 ^ place
 value-set [] place digit inside = absurd (omega (arith, inside))
@@ -84,7 +84,7 @@ set-register places digits place digit register small = record {
   each = All-set (λ digit. digit < 16) digits place digit small register.each;
 }
 
--- A word that holds the number of digits is kept as those.
+-- A word that is the number of a register stores the digits of this register.
 pub kept_as : (places word : ℕ) (digits : List ℕ) → IsRegister places digits → value digits ≡ word
     → (digits_of places word ≡ digits) × (word < 16 ^ places)
 kept_as places word digits register held = (
@@ -92,7 +92,7 @@ kept_as places word digits register held = (
   omega (arith, rw register.size at (value-below digits register.each)),
 )
 
--- The bits of a mask, and a word without them.
+-- The bits of a mask, and the bits of a word outside the mask.
 mul_one_more : (a b : ℕ) → a * b + b ≡ (a + 1) * b
 mul_one_more a b = omega arith
 
@@ -113,11 +113,11 @@ apart_from_mask word mask bits fits own =
     ap (bit_and kept) (sym own ∙ and_comm bits mask) ∙ sym (and_assoc bits kept mask) ∙ ap (λ n. bit_and n bits) cleared
     ∙ omega (arith, and_le_l 0 bits)
 
--- What is kept and what is put in.
+-- The bits that remain and the bits that are inserted make up the new word.
 pub three_parts : (joined kept moved covered word : ℕ) → joined ≡ kept + moved → kept + covered ≡ word → joined + covered ≡ word + moved
 three_parts joined kept moved covered word e parts = omega arith
 
--- Other bits in the place of some.
+-- The word after some of its bits were replaced.
 pub put_in : (word at width bits : ℕ) → word < 2 ^ 64 → width + at ≤ 64 → bits < 2 ^ width
     → bit_or (bit_and word (2 ^ 64 - 1 - (2 ^ width - 1) * 2 ^ at % 2 ^ 64)) (bits * 2 ^ at % 2 ^ 64) + word / 2 ^ at % 2 ^ width * 2 ^ at
     ≡ word + bits * 2 ^ at
@@ -146,7 +146,7 @@ put_in word at width bits fits inside small =
 pub bits_of_bytes : (k : ℕ) → 2 ^ (8 * k) ≡ 16 ^ (2 * k)
 bits_of_bytes k = ap (λ bits. 2 ^ bits) (omega arith) ∙ bits_of_places (2 * k)
 
--- The digit at a place, and the byte of two, as a shift and a mask read them.
+-- A shift and a mask read the digit at a place, and a byte of two digits.
 pub digit_read : (places word place : ℕ) (digits : List ℕ) → digits_of places word ≡ digits → place < places
     → bit_and (word / 2 ^ (4 * place)) 15 ≡ get_or digits place 0
 digit_read places word place digits seen inside =
@@ -182,7 +182,7 @@ pub byte_read : (places word k : ℕ) (digits : List ℕ) → digits_of places w
     → bit_and (word / 2 ^ (8 * k)) 255 ≡ byte_at digits k
 byte_read places word k digits seen inside = and_mask (word / 2 ^ (8 * k)) 8 ∙ byte_shifted places word k digits seen inside
 
--- Another digit, and another byte, put into the word.
+-- A word stores the register in which a digit, or a byte, was replaced.
 pub put_digit : (places word new place digit : ℕ) (digits : List ℕ) → digits_of places word ≡ digits → word < 16 ^ places → place < places
     → digit < 16 → new + word / 2 ^ (4 * place) % 16 * 2 ^ (4 * place) ≡ word + digit * 2 ^ (4 * place)
     → (digits_of places new ≡ set digits place digit) × (new < 16 ^ places)
@@ -195,7 +195,7 @@ put_digit places word new place digit digits seen fits inside small changed =
     rw (read, old.1) at (value-set digits place digit (omega (arith, inside, old.0.size))) in
     kept_as places new (set digits place digit) (set-register places digits place digit old.0 small) (omega (arith, at_place, by_list))
 
--- Two digits changed are a byte changed.
+-- Replacing both digits of a byte replaces the byte.
 both_halves : (v w1 old_high old_low high low weight word new covered byte : ℕ) → w1 + old_low * weight ≡ word + low * weight
     → v + old_high * (16 * weight) ≡ w1 + high * (16 * weight) → covered ≡ old_high * 16 + old_low → byte ≡ high * 16 + low
     → new + covered * weight ≡ word + byte * weight → v ≡ new
@@ -229,7 +229,7 @@ put_byte places word new k byte digits seen fits inside small changed =
     (both_halves (value (set_byte digits k byte)) (value low) _ _ (byte / 16) (byte % 16)
     weight word new (word / weight % 256) byte first second covered (omega arith) at_place)
 
--- The test of a number that fits.
+-- The test that a number fits into the places.
 pub fits_from_shift : (places number : ℕ) → number / 2 ^ (4 * places) ≡ 0 → number < 16 ^ places
 fits_from_shift places number high =
     let weight = 16 ^ places in
@@ -257,7 +257,7 @@ text-past places word digits seen fits =
     let size = (is_register places word digits seen fits).0.size in
     ap text (drop_all places digits (omega (arith, size)))
 
--- To compare the numbers that are kept is to compare those of the digits.
+-- Two registers are equal exactly if their stored words are.
 pub same_kept : (places w v : ℕ) (x y : List ℕ) (answer : Bool) → digits_of places w ≡ x → w < 16 ^ places → digits_of places v ≡ y
     → v < 16 ^ places → answer ≡ eqb w v → answer ≡ eqb (value x) (value y)
 same_kept places w v x y answer seen_x fits_x seen_y fits_y told =

@@ -10,7 +10,7 @@ use Rattle.h41_digits.specs.Register.{IsRegister, value}
 use Rattle.h41_digits.specs.Packed.{digits_of, value-digits_of, value-cons}
 use Rattle.h41_digits.proofs.Packed.{bits_of_places, length-digits_of, is_register, register-digits_of, kept_as}
 
--- The digits of a number hold what is left of it below their count.
+-- The lowest digits of a number form its remainder by the power of 16.
 pub value-digits_of_any : (places number : ℕ) → value (digits_of places number) ≡ number % 16 ^ places
 value-digits_of_any zero number = omega arith
 value-digits_of_any (suc places) number =
@@ -42,7 +42,7 @@ drop-digits_of (suc count) (suc places) number few =
     (div-div-eq-div-mul number 16 (16 ^ count) ∙ ap (λ weight. number / weight) (sym (pow-succ' 16 count)))
     ∙ ap (λ left. digits_of left (number / 16 ^ suc count)) (omega arith)
 
--- The number of some places of a word.
+-- The number that some places of a word form.
 pub part_read : (places word lo count : ℕ) (digits : List ℕ) → digits_of places word ≡ digits → lo + count ≤ places
     → value (take count (drop lo digits)) ≡ word / 16 ^ lo % 16 ^ count
 part_read places word lo count digits seen inside =
@@ -77,7 +77,7 @@ none_above places lo hi digits others one other all =
     drop_all (hi + 1) digits (omega (arith, one.size, all.0, all.1, all.2))
     ∙ sym (drop_all (hi + 1) others (omega (arith, other.size, all.0, all.1, all.2)))
 
--- A register with a number's digits in the place of some.
+-- A register in which the digits of a number replace some of its own.
 abbrev pub spliced : List ℕ → ℕ → ℕ → ℕ → List ℕ
 spliced digits lo hi number = take lo digits ++ (digits_of (hi + 1 - lo) number ++ drop (hi + 1) digits)
 
@@ -128,7 +128,7 @@ spliced-register places lo hi number digits register ordered inside =
           (All-append (λ digit. digit < 16) _ _ middle.each (All-drop (λ digit. digit < 16) (hi + 1) digits register.each));
     }
 
--- The bits of a number put into the word.
+-- The word in which the bits of a number replace some of its own.
 pub put_number : (places word new lo hi number : ℕ) (digits : List ℕ) → digits_of places word ≡ digits → word < 16 ^ places → lo ≤ hi
     → hi < places → number < 16 ^ (hi + 1 - lo)
     → new + word / 2 ^ (4 * lo) % 2 ^ (4 * (hi + 1 - lo)) * 2 ^ (4 * lo) ≡ word + number * 2 ^ (4 * lo)

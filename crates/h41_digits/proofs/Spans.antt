@@ -13,13 +13,13 @@ use Rattle.h41_digits.specs.Packed.{digits_of}
 use Rattle.h41_digits.proofs.Packed.{bits_of_places, weight_positive, mask-lt, apart_from_mask, three_parts}
 use Rattle.h41_digits.proofs.Parts.{part_read, put_number, spliced}
 
--- So many bits, from that of the first place.
+-- A mask has consecutive bits, beginning with that of the first place.
 pub mask_bits : (lo hi mask : ℕ) → lo ≤ hi → mask + 16 ^ lo ≡ 16 ^ (hi + 1) → mask ≡ 2 ^ (4 * (hi + 1 - lo) + 4 * lo) - 2 ^ (4 * lo)
 mask_bits lo hi mask ordered is_mask =
     let top : 2 ^ (4 * (hi + 1 - lo) + 4 * lo) ≡ 16 ^ (hi + 1) = ap (λ bits. 2 ^ bits) (omega arith) ∙ bits_of_places (hi + 1) in
     omega (arith, top, bits_of_places lo)
 
--- What the mask leaves of a word.
+-- The bits of a word that a mask selects.
 masked : (word lo hi mask : ℕ) → lo ≤ hi → mask + 16 ^ lo ≡ 16 ^ (hi + 1) → bit_and word mask ≡ in_places word lo hi * 2 ^ (4 * lo)
 masked word lo hi mask ordered is_mask =
     ap (bit_and word) (mask_bits lo hi mask ordered is_mask) ∙ and_high word (4 * (hi + 1 - lo)) (4 * lo)
@@ -35,7 +35,7 @@ span_read places word lo hi mask digits seen ordered inside is_mask =
 pub in_places-lt : (word lo hi : ℕ) → in_places word lo hi < 16 ^ (hi + 1 - lo)
 in_places-lt word lo hi = omega (arith, weight_positive (hi + 1 - lo))
 
--- The digits of a word put in.
+-- The word in which the digits of another word were inserted.
 replaced_bits : (word bits lo hi mask : ℕ) → word < 2 ^ 64 → lo ≤ hi → hi < 14 → mask + 16 ^ lo ≡ 16 ^ (hi + 1)
     → bit_or (bit_and word (2 ^ 64 - 1 - mask)) (bit_and bits mask) + word / 2 ^ (4 * lo) % 2 ^ (4 * (hi + 1 - lo)) * 2 ^ (4 * lo)
     ≡ word + in_places bits lo hi * 2 ^ (4 * lo)
@@ -116,7 +116,7 @@ first_one lo hi mask negative ordered inside is fits in_word sum =
     (mask_bits lo hi mask ordered is) (omega (arith, sum, more, is, weight_positive lo))
     ∙ bits_of_places lo
 
--- A one at each of so many places.
+-- A number with a 1 at each of its places.
 abbrev pub repunit : ℕ → ℕ
 repunit zero = 0
 repunit (suc count) = 1 + 16 * repunit count
@@ -147,7 +147,7 @@ fifteen_times lo hi mask ordered is =
     without_one : (mask ones limit weight : ℕ) → 15 * ones + 1 ≡ limit → mask + weight ≡ limit * weight → mask ≡ 15 * (ones * weight)
     without_one mask ones limit weight fifteen is = omega (arith, rw (← fifteen) at is)
 
--- The sixes of a mask.
+-- The sixes that a mask selects.
 sixes_of_fifteens : (few more : ℕ) → few ≤ more → bit_and (15 * repunit few) (6 * repunit more) ≡ 6 * repunit few
 sixes_of_fifteens zero more less = omega (arith, and_le_l 0 (6 * repunit more))
 sixes_of_fifteens (suc few) zero less = absurd (omega (arith, less))
@@ -185,7 +185,7 @@ some_sixes lo hi ordered =
 pub next-le : (hi : ℕ) → hi < 14 → 16 ^ (hi + 1) ≤ 2 ^ 56
 next-le hi inside = pow-le-pow_right {n = 16} (omega arith) {i = hi + 1} {j = 14} (omega arith)
 
--- A weight is that of one place.
+-- Different places have different weights.
 heavier : (a b : ℕ) → a < b → 16 ^ a < 16 ^ b
 heavier a b less =
     omega (arith, pow-succ' 16 a, weight_positive a, pow-le-pow_right {n = 16} (omega arith) {i = suc a} {j = b} (omega arith))

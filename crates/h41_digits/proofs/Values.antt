@@ -13,7 +13,7 @@ use Rattle.h41_digits.specs.Register.{IsRegister, value, text, hexadecimal_text}
 use Rattle.h41_digits.specs.Packed.{value-cons}
 use Rattle.h41_digits.specs.RegisterLaws.{SetByteIsRead, TextTellsValue, ValueIsInjective}
 
--- digits hold less than 16 to the power of their count.
+-- Digits hold less than 16 to the power of their count.
 pub value-lt : (digits : List ℕ) → AllByRecursion (λ digit. digit < 16) digits → value digits < 16 ^ length digits
 value-lt [] each = omega arith
 value-lt (digit ∷ digits) each = rw (value-cons digit digits) (omega (arith, value-lt digits each.1, each.0, pow-succ' 16 (length digits)))
@@ -42,7 +42,7 @@ pub same_register : ValueIsInjective
 same_register places x y p q same =
     same_digits x y (p.size ∙ sym q.size) (recursion_from_All _ x p.each) (recursion_from_All _ y q.each) same
 
--- A register is printed as its number.
+-- The text of a register is that of its number.
 text-value : (digits : List ℕ) → AllByRecursion (λ digit. digit < 16) digits → text digits ≡ hexadecimal_text (length digits) (value digits)
 text-value [] each = refl
 text-value (digit ∷ digits) each =
@@ -55,7 +55,7 @@ pub text-register : TextTellsValue
 text-register places digits register =
     text-value digits (recursion_from_All _ digits register.each) ∙ ap (λ count. hexadecimal_text count (value digits)) register.size
 
--- A byte that was set is read again.
+-- A byte that was written is read back.
 pub byte_at-set_byte : SetByteIsRead
 byte_at-set_byte digits k byte inside =
     let low = set digits (2 * k) (byte % 16) in
@@ -68,7 +68,7 @@ byte_at-set_byte digits k byte inside =
       get_or-set_same digits (2 * k) (byte % 16) 0 (omega arith),
     )
 
--- A register is printed in ASCII.
+-- The text of a register is ASCII.
 glyph-lt : (digit : ℕ) → digit < 16 → digit_glyph true digit < 128
 glyph-lt digit small = grind (arith, nat_tests)
 

@@ -18,18 +18,18 @@ bits_of_weight zero = refl
 bits_of_weight (suc k) =
     pow-succ' 256 k ∙ ap (λ weight. 256 * weight) (bits_of_weight k) ∙ sym (pow-add 2 8 (8 * k)) ∙ ap (λ bits. 2 ^ bits) (omega arith)
 
--- A byte as a shift and a mask read it.
+-- A shift and a mask read a byte of a number.
 pub number_byte_read : (number k : ℕ) → bit_and (number / 2 ^ (8 * k)) 255 ≡ number_byte number k
 number_byte_read number k = and_mask (number / 2 ^ (8 * k)) 8 ∙ ap (λ weight. number / weight % 256) (sym (bits_of_weight k))
 
--- Zeros were shifted in.
+-- A shift to the left inserts zeros.
 shifted_up : (word rest width : ℕ) → word * 2 ^ width % 2 ^ (rest + width) ≡ word % 2 ^ rest * 2 ^ width
 shifted_up word rest width =
     let split = mod-pow-add (word * 2 ^ width) rest width in
     let kept = ap (λ n. n % 2 ^ rest * 2 ^ width) (shl-shr word width) in
     omega (arith, split, kept, mul-mod_left word (2 ^ width))
 
--- A byte of the upper part, and one of the lower.
+-- A byte of the upper part of a number, and one of the lower part.
 upper_byte : (word lower more place width : ℕ) → lower < 2 ^ width
     → (word % 2 ^ (more + 8 + place) * 2 ^ width + lower) / 2 ^ (width + place) % 256 ≡ word / 2 ^ place % 256
 upper_byte word lower more place width small =

@@ -42,7 +42,7 @@ length-name_words text =
     length-with_mark (reverse (map (λ byte. byte % 64) text)) ∙ length-reverse (map (λ byte. byte % 64) text)
     ∙ length-map text (λ byte. byte % 64)
 
--- One character.
+-- One character of a name.
 character_read : (byte word : ℕ) → 32 ≤ byte → byte ≤ 95 → word % 64 ≡ byte % 64 → character word ≡ byte
 character_read byte word low high same =
     by_size (cases_lt (word % 64) 0x20)

@@ -18,7 +18,7 @@ pub record PassesFromTo (test : ℕ → Bool) (lo hi : ℕ) : Type 0 where
   pub inside : (place : ℕ) → lo ≤ place → place ≤ hi → test place ≡ true
   pub above : (place : ℕ) → hi < place → place < 14 → test place ≡ false
 
--- From the first passing place on.
+-- The numbers that pass, in a list that begins with the first passing place or after it.
 filter_from : (test : ℕ → Bool) (lo hi first count : ℕ) → PassesFromTo test lo hi → lo ≤ first → hi < first + count → first + count ≤ 14
     → filter test (range_with_len first count) ≡ range_with_len first (hi + 1 - first)
 filter_from test lo hi first zero passes from past few =
@@ -36,7 +36,7 @@ filter_from test lo hi first (suc count) passes from past few =
           (ap (λ rest. first ∷ rest) (filter_from test lo hi (first + 1) count passes (omega arith) (omega arith) (omega arith)))
     ]
 
--- From a place before it.
+-- The numbers that pass, in a list that begins before the first passing place.
 filter_to : (test : ℕ → Bool) (lo hi first count : ℕ) → PassesFromTo test lo hi → first ≤ lo → lo ≤ hi → hi < first + count
     → first + count ≤ 14 → filter test (range_with_len first count) ≡ range_with_len lo (hi + 1 - lo)
 filter_to test lo hi first zero passes before ordered past few = absurd (omega arith)
@@ -133,7 +133,7 @@ pub span_mantissa_sign : (p q : ℕ) (active : Pointer) → IsSpanOf MantissaSig
 unfolding places register_places from_to first_place last_place
 span_mantissa_sign p q active = record { first = refl; last = refl; each = refl }
 
--- The field of the pointers that is no other.
+-- The remaining field that depends on the pointers.
 pub span_of_other : (field : Field) (p q : ℕ) (active : Pointer) → active_place p q active < 14 → is_pointed field ≡ true
     → (field ≡ AtPointer → ⊥) → (field ≡ PToQ → ⊥) → IsSpanOf field p q active 0 (active_place p q active)
 span_of_other AtPointer p q active inside pointed first second = absurd (first refl)
@@ -153,7 +153,7 @@ from_cons : (first : ℕ) (rest : List ℕ) → AllFrom first rest → AllFrom f
 from_cons first rest behind zero inside = omega arith
 from_cons first rest behind (suc index) inside = behind index (omega arith)
 
--- What a row keeps is at least its first number.
+-- The numbers that pass are not less than the first number of the list.
 kept_from : (test : ℕ → Bool) (first count : ℕ) → AllFrom first (filter test (range_with_len first count))
 kept_from test first zero = λ index inside. absurd (omega arith)
 kept_from test first (suc count) =

@@ -42,7 +42,7 @@ use Rattle.h41_keys.specs.declared.prompt.Typed.TheVariants as typed
 use Rattle.h41_keys.specs.declared.prompt_step.PromptStep.{PromptStep}
 use Rattle.h41_keys.specs.declared.prompt_step.PromptStep.TheVariants as steps
 
--- A fact of two things holds of the one that is chosen.
+-- A property of two values is true of the one that is chosen.
 chosen : {A : Type 0} (P : A → Type 0) (b : Bool) (one other : A) → P one → P other → P (if b then one else other)
 chosen P true one other first second = first
 chosen P false one other first second = second

@@ -9,7 +9,7 @@ count_empty : (parts : List (List ℕ)) → length (lines_of_parts ([] ∷ parts
 count_empty [] = omega arith
 count_empty (part ∷ parts) = omega arith
 
--- One part is one line at most.
+-- One part is at most one line.
 count_one : (none : Bool) (part : List ℕ) → length (cond none [] (part ∷ [])) ≤ 1
 count_one true part = omega arith
 count_one false part = omega arith

@@ -10,7 +10,7 @@ use Rattle.std.proofs.Math.Nat.{pow-le-pow_right}
 use Rattle.std.proofs.lemmas.Str.Parse.{digits_value-take-le}
 use Rattle.h41_lines.specs.Numbers.{hexadecimal, is_numeral, is_hexadecimal}
 
--- The first digits alone are above the greatest value.
+-- If the first digits alone are above the greatest value, the whole number is.
 pub number_too_large : {A : Type 0} (radix most n : ℕ) (word : List ℕ) (good bad : A) → 1 ≤ radix → most < digits_value radix (take n word)
     → bad ≡ (if is_numeral radix word && nat_le (digits_value radix word) most then good else bad)
 number_too_large radix most n word good bad low over =

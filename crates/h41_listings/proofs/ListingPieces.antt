@@ -17,7 +17,7 @@ use Rattle.h41_listings.proofs.ListingRows.{reads_immediate, reads_long_jump}
 use Rattle.h41_listings.proofs.ListingTable.{reads_word}
 use Rattle.h41_listings.proofs.ListingTexts.{Reads}
 
--- The words of a piece.
+-- The words of an instruction after its first.
 abbrev pub behind_first : Option ℕ → List ℕ
 behind_first None = []
 behind_first (Some second) = second ∷ []

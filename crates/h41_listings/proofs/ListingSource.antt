@@ -15,7 +15,7 @@ use Rattle.h41_listings.specs.ListingRoundTrip.{ListingAssembles}
 use Rattle.h41_listings.proofs.ListingLines.{lines-cons}
 use Rattle.h41_listings.proofs.ListingPieces.{ReadsPiece, piece_words, reads_pieces, words_of_pieces}
 
--- The line of a piece.
+-- The source line of an instruction.
 abbrev source_line : Piece → SourceLine
 source_line piece = line_of (words_of (piece_text piece.first piece.second))
 

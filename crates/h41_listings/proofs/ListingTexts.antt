@@ -33,7 +33,7 @@ pub record IsTaken (name : List ℕ) (takes : Taking) (word : List ℕ) : Type 0
   pub unlabelled : (line_of (words_of name ++ word ∷ [])).label ≡ None
   pub said : reading_of (line_of (words_of name ++ word ∷ [])).code ≡ ok_or (takes word) BadOperand
 
--- An operand's word.
+-- A word that can be an operand.
 pub record IsOperand (word : List ℕ) : Type 0 where
   pub some : 0 < length word
   pub solid : list_all is_solid word ≡ true

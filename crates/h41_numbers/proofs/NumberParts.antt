@@ -54,7 +54,7 @@ mantissa_one text place at empty within =
     let none : length (digits_in (mantissa_part text)) ≡ 0 = omega (arith, length-take 10 (digits_in (mantissa_part text)), few) in
     both _ _ _ _ (eq-eqb _ _ none) (any_within is_exponent text (omega (arith, at, within)))
 
--- A digit is there.
+-- The mantissa if it has a digit.
 pub mantissa_some : (text : List Character) (place : ℕ) → place ≡ position_or_len is_exponent text
     → 0 < length (take 10 (digits_in (take place text))) → mantissa_digits text ≡ take 10 (digits_in (take place text))
 mantissa_some text place at some =
@@ -65,7 +65,7 @@ mantissa_some text place at some =
     first_fails _ _ _ _ (ne_eqb (length (digits_in (mantissa_part text))) 0 (λ none. absurd (omega (arith, none, more))))
     ∙ sym (ap (λ (part : List Character). take 10 (digits_in part)) same)
 
--- No E is there.
+-- The mantissa if there is no E.
 pub mantissa_alone : (text : List Character) (place : ℕ) → place ≡ position_or_len is_exponent text → length text ≤ place
     → mantissa_digits text ≡ take 10 (digits_in (take place text))
 mantissa_alone text place at past =

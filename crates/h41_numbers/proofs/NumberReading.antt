@@ -10,7 +10,7 @@ pub digits_behind : (found : Option ℕ) (character : Character) (rest : List Ch
     → digits_in (character ∷ rest) ≡ option_map_or (λ digit. digit ∷ digits_in rest) found (digits_in rest)
 digits_behind found character rest is = ap (λ (o : Option ℕ). option_map_or (λ digit. digit ∷ digits_in rest) o (digits_in rest)) (sym is)
 
--- One more digit counts.
+-- One more digit is used.
 taken : (most count digit : ℕ) (character : Character) (rest : List Character) → Some digit ≡ digit_of character → count < most
     → take (most - count) (digits_in (character ∷ rest)) ≡ digit ∷ take (most - (count + 1)) (digits_in rest)
 taken most count digit character rest is room =
@@ -35,7 +35,7 @@ count_more most count digit more character rest is room one =
     ap (λ (n : ℕ). length (take (most - n) (digits_in rest))) one in
     omega arith
 
--- No more count.
+-- No more digits are used.
 pub number_full : (most number count : ℕ) (character : Character) (rest : List Character) → most ≤ count
     → read_number most number count rest ≡ read_number most number count (character ∷ rest)
 number_full most number count character rest full =
@@ -50,7 +50,7 @@ count_full most count character rest full =
     ap (λ (n : ℕ). count + length (take n (digits_in rest))) none
     ∙ sym (ap (λ (n : ℕ). count + length (take n (digits_in (character ∷ rest)))) none)
 
--- A character that is no digit.
+-- A character that is no digit changes nothing.
 pub number_none : (most number count : ℕ) (character : Character) (rest : List Character) → None ≡ digit_of character
     → read_number most number count rest ≡ read_number most number count (character ∷ rest)
 number_none most number count character rest is =

@@ -15,7 +15,7 @@ use Rattle.h41_nut.specs.Processor.{Processor}
 use Rattle.h41_nut.specs.ProcessorLaws.{MicroIsDetermined, ComplementSetsCarry}
 use Rattle.h41_nut.specs.WordStep.{Nut, WordEffect, word_of}
 
--- A rule that gives one register and one carry.
+-- A rule with one register and one carry as its result.
 abbrev Single : (List ℕ → Bool → Type 0) → Type 0
 Single Rule = (z w : List ℕ) (carry other : Bool) → Rule z carry → Rule w other → (z ≡ w) × (carry ≡ other)
 
@@ -64,7 +64,7 @@ module _ (ordered : PlacesAreOrdered) (sums : SumIsDetermined) (differences : Di
   pub same_micro : MicroIsDetermined
   same_micro s t u p q = same_effect (row_of (word_of s)) s t u p.effect q.effect
 
--- C=-C-1 borrows.
+-- C=-C-1 always borrows.
 pub complement_carries : PlacesAreOrdered → ComplementBorrows → ComplementSetsCarry
 complement_carries ordered borrows s t field row micro =
     let effect = subst (λ r. WordEffect r s t) row micro.effect in

@@ -18,7 +18,7 @@ by_place-is z digit size each =
     let below : place < 14 = omega (arith, size) in
     each place below ∙ sym (get_or-map-range_with_len digit 0 14 place place 0 below (omega arith)))
 
--- An operation on the bits of two numbers is one on each two digits.
+-- An operation on the bits of two numbers is one on each pair of digits.
 abbrev Digitwise : (ℕ → ℕ → ℕ) → Type 0
 Digitwise bits = (a b x y : ℕ) → a < 16 → b < 16 → (bits a b < 16) × (bits (a + 16 * x) (b + 16 * y) ≡ bits a b + 16 * bits x y)
 

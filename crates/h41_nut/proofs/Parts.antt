@@ -48,7 +48,7 @@ same_part (suc count) a b k x y p q in_x in_y held inside =
           ∙ ap (slice_index y) (omega (arith, later))
     ]
 
--- A register made of the two parts of another one, each in the other's place.
+-- A register that consists of the two parts of another one, exchanged.
 pub exchanged_parts : (x stayed z : List ℕ) (digits : ℕ) → digits < 14 → IsRegister 14 x → IsRegister 14 stayed → IsRegister 14 z
     → value (take (14 - digits) (drop 0 stayed)) ≡ value (take (14 - digits) (drop digits x))
     → value (take digits (drop (14 - digits) z)) ≡ value (take digits (drop 0 x)) → take (14 - digits) z ≡ take (14 - digits) stayed

@@ -7,7 +7,7 @@ use Rattle.std.proofs.lemmas.Nat.{and_le_l}
 use Rattle.std.proofs.lemmas.Nat.Bits.{and_pow, bit_at_lowest, bit_at-suc}
 use Rattle.h41_nut.specs.ProcessorLaws.{StatusIsRead, OtherStatusStays}
 
--- A number with another bit at a place.
+-- A number in which the bit at a place was replaced.
 abbrev changed : ℕ → ℕ → ℕ → ℕ
 changed s n v = s - bit_at s n * 2 ^ n + v * 2 ^ n
 
@@ -52,7 +52,7 @@ bit_kept s (suc n) (suc k) v small apart =
     bit_at-suc (changed s (suc n) v) k ∙ ap (λ t. bit_at t k) (half_changed s n v)
     ∙ bit_kept (s / 2) n k v small (λ equal. apart (ap suc equal)) ∙ sym (bit_at-suc s k)
 
--- The bit that is put.
+-- The number of a bit.
 put : Bool → ℕ
 put true = 1
 put false = 0

@@ -23,7 +23,7 @@ use Rattle.h41_pages.proofs.PageMaps.{none_plugged, none_held, none_is_page_map,
 use Rattle.h41_pages.proofs.PageMaps.{page_changed, image_changed, choice_changed, choices_cleared, word_changed}
 use Rattle.h41_pages.proofs.WrittenWords.{pluggable, image_size, outside_system, other_word, word_fetched}
 
--- Numbers that an empty list was filled up with.
+-- A list that was filled with equal numbers.
 pub filled : (items : List ℕ) (spare count number : ℕ) → items ≡ [] → spare ≡ 0
     → take count items ++ replicate (count - spare) number ≡ replicate count number
 filled items spare count number none short =
@@ -84,7 +84,7 @@ pub read_elsewhere : (numbers words : List ℕ) (page place : ℕ) → length nu
 read_elsewhere numbers words page place whole size below apart =
     outside numbers words page place whole size below apart (cases_lt place (page * page_size))
 
--- The numbers are as many as before.
+-- Writing a page does not change the length of the list.
 pub count_with_page : (numbers words : List ℕ) (page : ℕ) → length numbers ≡ space_size → length words ≡ page_size → page < 64
     → length (with_page numbers page words) ≡ space_size
 count_with_page numbers words page whole size below =
@@ -122,7 +122,7 @@ space_at_start bank address below =
         ap (λ banks. slice_index_or banks (bank_place bank) None) (get_or-replicate page_count page no_banks [] below)
         ∙ none_plugged (bank_place bank)
 
--- With words plugged at a page's bank.
+-- The list after words were plugged at a bank of a page.
 plugged_at : (pages : PageMap) (numbers : List ℕ) (page number : ℕ) (writable : Bool) (words : List ℕ) (bank : Bank) (address : ℕ)
     → IsPages pages numbers → length words ≡ page_size → first_page ≤ page → page ≤ last_page → address < address_count
     → (page_place bank (page_of address) ≡ page_place (bank_numbered number) page)
@@ -193,7 +193,7 @@ count_emptied numbers cleared page whole below =
     count_with_page numbers (replicate page_size nothing) (page_place cleared page) whole (length-replicate page_size nothing)
     (inside cleared page below)
 
--- With a page unplugged.
+-- The list after a page was unplugged.
 module _ (numbers : List ℕ) (page : ℕ) (whole : length numbers ≡ space_size) (below : page < page_count) where
   abbrev one : List ℕ
   one = without_bank numbers First page
@@ -258,7 +258,7 @@ unplugged_at pages numbers page bank address is below in_space (inr apart) =
     ∙ is.space bank address in_space
     ∙ sym (ap (λ image. number_of (fetched_from address image)) (unplugging_keeps pages page (page_of address) bank apart))
 
--- With a word written.
+-- The list after a word was written.
 module _ (pages : PageMap) (numbers : List ℕ) (target word : ℕ) (is : IsPages pages numbers) (in_space : target < address_count) where
   abbrev chosen : Bank
   chosen = chosen_at pages (page_of target)
@@ -320,7 +320,7 @@ module _ (pages : PageMap) (numbers : List ℕ) (target word : ℕ) (is : IsPage
       ∙ is.space bank address below
       ∙ sym (same_place bank address apart (cases_eq (page_of address) (page_of target)) (cases_eq (bank_place bank) (bank_place chosen)))
 
--- So each change leaves pages and their words as they are at any time.
+-- So what is true of pages and their words at any time is true at the start and after each change.
 pub pages_at_start : IsPages no_pages empty_space
 pages_at_start = record { map = none_is_page_map; size = length-replicate space_size nothing; space = space_at_start }
 

@@ -12,7 +12,7 @@ use Rattle.h41_pages.specs.FunctionLaws.{BeginsLabel}
 use Rattle.h41_pages.specs.KeystrokeCode.{code_byte, is_label, label_name}
 use Rattle.h41_pages.specs.private.Labels.{name_of}
 
--- The bytes of words are bytes, and so are the first of them.
+-- The keystroke code of words consists of bytes, and so do its first bytes.
 are_bytes : (words : List ℕ) (count : ℕ) → IsBytes (take count (map code_byte words))
 are_bytes words zero index inside = absurd (omega (arith, inside))
 are_bytes [] (suc count) index inside = absurd (omega (arith, inside))
@@ -93,7 +93,7 @@ none_read : (line : Line) (own : Option (List ℕ)) → name_of line ≡ own →
 none_read line None same none = same
 none_read line (Some name) same none = absurd (none name refl)
 
--- It is that of the code.
+-- The name of the line that was read is that of the code.
 named : {E : Type 0} (words : List ℕ) (result : Result (Line × ℕ) E)
     → ((line : Line) (count : ℕ) → (result ≡ Ok (line, count)) ↔ Begins (map code_byte words) line count)
     → (own : Option (List ℕ)) → label_name (map code_byte words) ≡ own → name_read result ≡ own

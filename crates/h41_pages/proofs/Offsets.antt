@@ -8,7 +8,7 @@ use Rattle.std.proofs.lemmas.List.Elements.{filter-append, All-push}
 use Rattle.h41_pages.specs.Addresses.{page_size}
 use Rattle.h41_pages.specs.FunctionTables.{entry_offset, is_keystroke}
 
--- Those of the entries before one.
+-- The offsets of the keystroke functions of the entries before one.
 abbrev pub offsets_before : List ℕ → ℕ → List ℕ
 offsets_before words entry = map (entry_offset words) (filter (is_keystroke words) (range_with_len 0 entry))
 
@@ -28,13 +28,13 @@ one_more words entry =
     ∙ ap (map (entry_offset words)) (filter-append (is_keystroke words) before (entry ∷ []))
     ∙ map-append (entry_offset words) (filter (is_keystroke words) before) (cond (is_keystroke words entry) (entry ∷ []) [])
 
--- The offsets of the entries before one, as a loop over the entries has them.
+-- These offsets, as the loop over the entries computes them.
 pub record AreOffsets (words : List ℕ) (entry : ℕ) (offsets : List ℕ) : Type 0 where
   pub items : offsets ≡ offsets_before words entry
   pub count : length offsets ≤ entry
   pub bound : All (λ offset. offset < page_size) offsets
 
--- An entry more, of keystrokes and of microcode.
+-- One more entry: of a keystroke function, and of microcode.
 pub keystroke_more : (words : List ℕ) (entry : ℕ) (offsets : List ℕ) (offset : ℕ) → AreOffsets words entry offsets
     → is_keystroke words entry ≡ true → offset ≡ entry_offset words entry → offset < page_size
     → AreOffsets words (entry + 1) (offsets ++ offset ∷ [])

@@ -23,7 +23,7 @@ use Rattle.h41_pages.proofs.OtherPages.{other_banks, own_banks, own_image, bank_
 abbrev pub HoldsImages : ℕ → List (Option PageImage) → Type 0
 HoldsImages page banks = (place : ℕ) → IfSome (slice_index_or banks place None) (IsHeldImage page place)
 
--- Among banks of which one is changed.
+-- The banks of a page after one was changed.
 other_image : (banks : List (Option PageImage)) (image : Option PageImage) (place other : ℕ) → other ≢ place
     → slice_index_or (slice_set banks place image) other None ≡ slice_index_or banks other None
 other_image banks image place other different = rw get_or-set_other refl
@@ -41,7 +41,7 @@ pub bank_changed : (page : ℕ) (banks : List (Option PageImage)) (image : Optio
     → HoldsImages page banks → IfSome image (IsHeldImage page place) → HoldsImages page (slice_set banks place image)
 bank_changed page banks image place below each held = λ at. image_held page banks image place at below each held (cases_eq at place)
 
--- Among pages of which one has other banks.
+-- The pages after one got other banks.
 banks_sized : (pages : PageMap) (banks : List (Option PageImage)) (page other : ℕ) → IsPageMap pages → page < 16 → length banks ≡ 4
     → other < 16 → (other ≡ page) ⊎ (other ≢ page) → length (slice_index_or (slice_set pages.images page banks) other []) ≡ 4
 banks_sized pages banks page other is below size inside (inl same) =
@@ -237,14 +237,14 @@ module _ {pages : PageMap} {address from place : ℕ} {bank : Bank} {row : List 
       ap (λ r. slice_index_or r (bank_place (chosen_at pages (page_of address))) None) (sym row_as)
       ∙ ap (λ k. slice_index_or row k None) (sym place_as) ∙ there.found
 
-  -- Whether it is written.
+  -- Whether a write is refused.
   pub refused_as : (writable : Bool) → writable ≡ is_writable image
       → then_some (not writable) (record { address = address }) ≡ write_refusal pages address
   refused_as writable is =
       ap (λ w. then_some (not w) (record { address = address })) is
       ∙ ap (λ i. then_some (not (is_writable i)) (record { address = address })) (sym chosen_as)
 
-  -- With the word written, and as it was.
+  -- The image with the word written, and the image as it was.
   pub written_as : (word : ℕ) (made : Option PageImage) → made ≡ option_map (with_word (offset_of address) word) image
       → record pages { images = slice_set pages.images from (slice_set row place made) } ≡ written pages address word
   unfolding written

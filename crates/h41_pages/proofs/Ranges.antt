@@ -4,11 +4,11 @@ use Rattle.std.proofs.Common.{map}
 use Rattle.std.specs.List.{range_with_len, find, flat_map}
 use Rattle.h41_pages.specs.FunctionTables.{all_pages}
 
--- The numbers from one up to another, without that.
+-- The numbers from low up to, but not including, high.
 unfoldable pub up_to : ℕ → ℕ → List ℕ
 up_to low high = range_with_len low (high - low)
 
--- All of them.
+-- The numbers from 0 on are all of them.
 pub up_to-zero : (high : ℕ) → range_with_len 0 high ≡ up_to 0 high
 unfolding up_to
 up_to-zero high = let e : high ≡ high - 0 = omega arith in ap (range_with_len 0) e
@@ -30,7 +30,7 @@ up_to-none low high above =
     let e : high - low ≡ 0 = omega arith in
     ap (range_with_len low) e
 
--- A list made of them.
+-- A list that is made from these numbers.
 pub map-step : {X : Type 0} → (f : ℕ → X) (low high : ℕ) → low < high → map f (up_to low high) ≡ f low ∷ map f (up_to (low + 1) high)
 map-step f low high below = ap (map f) (up_to-step low high below)
 
@@ -44,7 +44,7 @@ flat_map-step f low high below = ap (flat_map f) (up_to-step low high below)
 pub flat_map-none : {X : Type 0} → (f : ℕ → List X) (low high : ℕ) → high ≤ low → flat_map f (up_to low high) ≡ []
 flat_map-none f low high above = ap (flat_map f) (up_to-none low high above)
 
--- A search among them.
+-- A search among these numbers.
 pub find-skips : (p : ℕ → Bool) (low high : ℕ) → low < high → p low ≡ false → find p (up_to low high) ≡ find p (up_to (low + 1) high)
 find-skips p low high below fails =
     ap (find p) (up_to-step low high below) ∙ ap (λ b. cond b (Some low) (find p (up_to (low + 1) high))) fails

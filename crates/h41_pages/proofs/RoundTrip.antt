@@ -7,7 +7,7 @@ use Rattle.h41_pages.specs.Images.{image_bytes, word_in_bytes, first_words}
 cons_with : {X : Type 0} {x y : X} {xs ys : List X} → x ≡ y → xs ≡ ys → x ∷ xs ≡ y ∷ ys
 cons_with {x = x} {ys = ys} first others = ap (λ rest. x ∷ rest) others ∙ ap (λ head. head ∷ ys) first
 
--- Two bytes more move a word by one.
+-- Two more bytes move a word by one.
 place_shifted : (high low : ℕ) (rest : List ℕ) (place other : ℕ) → other ≡ suc (suc place)
     → slice_index (high ∷ low ∷ rest) other ≡ slice_index rest place
 place_shifted high low rest place other same = ap (slice_index (high ∷ low ∷ rest)) same

@@ -29,7 +29,7 @@ found_before name numbers first second some =
     ap (option_map numbers_of) (find-append (is_named name) first second)
     ∙ map-takes numbers_of numbers (find (is_named name) first) (find (is_named name) second) some
 
--- In a list with a first function.
+-- A function that is not the first of a list.
 pub found_later : (name : List ℕ) (function : ModuleFunction) (others : List ModuleFunction) → is_named name function ≡ false
     → found_in name (function ∷ others) ≡ found_in name others
 found_later name function others fails = ap (λ b. option_map numbers_of (cond b (Some function) (find (is_named name) others))) fails

@@ -30,7 +30,7 @@ use Rattle.h41_program.proofs.ShortLines.{answers_alone}
 use Rattle.h41_program.proofs.Windows.{drop-map-range}
 use Rattle.h41_ram.specs.RegisterMap.{RegisterMap, is_sound}
 
--- A number has its characters.
+-- A number line consists of its characters.
 characters_of : (line : Line) → IsNumber line → (text : List Character) × (line ≡ Number text)
 characters_of (Number characters) is = (characters, refl)
 characters_of line is = absurd is

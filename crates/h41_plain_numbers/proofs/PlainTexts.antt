@@ -38,7 +38,7 @@ plain_code characters.Point = (λ is. (omega arith, omega arith), λ low. refl)
 plain_code characters.Exponent = (λ is. cc, λ low. absurd (omega arith))
 plain_code characters.Minus = (λ is. cc, λ low. absurd (omega arith))
 
--- One more code.
+-- The digits after one more code.
 pub codes_more : (digits : PlainDigits) (codes : List ℕ) (code : ℕ)
     → with_codes digits (codes ++ code ∷ []) ≡ with_code (with_codes digits codes) code
 codes_more digits [] code = refl
@@ -123,7 +123,7 @@ pub record AreRead (text : List Character) (digits : PlainDigits) : Type 0 where
   pub count : (with_codes digits (map character_code text)).count ≡ digits.count + length (digits_in text)
   pub places : (with_codes digits (map character_code text)).places ≡ digits.places + after digits.marked text
 
--- A character is this digit, and its code is read as that.
+-- The character is this digit, and its code is read as this digit.
 pub record IsDigit (character : Character) (digit : ℕ) (digits : PlainDigits) : Type 0 where
   pub own : digit_of character ≡ Some digit
   pub no_point : is_point character ≡ false
@@ -199,7 +199,7 @@ after_is false size whole count same = refl
 none_before : {a b : ℕ} → a ≡ 0 + b → a ≡ b
 none_before same = omega arith
 
--- They are counted.
+-- The digits of a text are counted.
 pub digits_counted : (text : List Character) (digits : PlainDigits) → IsTrue (list_all is_plain text)
     → digits ≡ with_codes no_digits (map character_code text) → digits.count ≡ length (digits_in text)
 digits_counted text digits plain reads =

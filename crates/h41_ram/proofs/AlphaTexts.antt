@@ -49,11 +49,11 @@ module _ (status : List (List ℕ)) (m n o p : List ℕ) (size : length status �
       get_or-set_other after_o 8 5 p zeros (apart 5 8 (omega arith)) ∙ get_or-set_other after_n 7 5 o zeros (apart 5 7 (omega arith))
       ∙ get_or-set_other after_m 6 5 n zeros (apart 5 6 (omega arith)) ∙ get_or-set_same status 5 m zeros (omega (arith, size))
 
--- A byte is its two digits.
+-- A byte consists of its two digits.
 halves : (byte : ℕ) → byte / 16 * 16 + byte % 16 ≡ byte
 halves byte = omega arith
 
--- A list of 24 is that of its elements.
+-- A list of 24 elements consists of these elements.
 listed : (text : List ℕ) → length text ≡ 24 → map (λ i. get_or text i 0) (range_with_len 0 24) ≡ text
 listed text size =
     ext_get_or 0 (map (λ i. get_or text i 0) (range_with_len 0 24)) text (length-map-range_with_len (λ i. get_or text i 0) 0 24 ∙ sym size)

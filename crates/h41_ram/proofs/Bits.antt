@@ -11,7 +11,7 @@ use Rattle.h41_digits.proofs.Packed.{bits_of_places, digits_of-value, get-digits
 use Rattle.h41_digits.proofs.Values.{value-below}
 use Rattle.h41_ram.specs.RegisterMap.{digit_with, with_bit}
 
--- The bit's weight is added to a digit that is without it.
+-- Setting a bit adds its weight to a digit in which it is clear.
 set_bit_is_digit : (digit k : ℕ) → digit < 16 → k < 4 → digit - digit / 2 ^ k % 2 * 2 ^ k + 2 ^ k < 16
 set_bit_is_digit digit zero small four = omega arith
 set_bit_is_digit digit (suc zero) small four = omega arith
@@ -31,7 +31,7 @@ bit_of_last n (suc (suc zero)) four = omega arith
 bit_of_last n (suc (suc (suc zero))) four = omega arith
 bit_of_last n (suc (suc (suc (suc k)))) four = absurd (omega arith)
 
--- What a bit weighs in the number of a register.
+-- The weight of a bit in the number of a register.
 weight_of_bit : (bit : ℕ) → 2 ^ bit ≡ 16 ^ (bit / 4) * 2 ^ (bit % 4)
 weight_of_bit bit =
     ap (λ n. 2 ^ n) (let e : bit ≡ 4 * (bit / 4) + bit % 4 = omega arith in e) ∙ pow-add 2 (4 * (bit / 4)) (bit % 4)
@@ -86,7 +86,7 @@ bit_changed digits bit new on register small changed =
       set-register 14 digits place (digit_with digit (2 ^ k) on) register (digit_with_is_digit digit k on is_digit (omega arith)),
     )
 
--- A word with one bit put in.
+-- A word in which one bit was replaced.
 abbrev pub put_bit : ℕ → ℕ → Bool → ℕ
 put_bit word bit on = bit_or (bit_and word (2 ^ 64 - 1 - 1 * 2 ^ bit % 2 ^ 64)) (bool_byte on * 2 ^ bit % 2 ^ 64)
 

@@ -6,7 +6,7 @@ use Rattle.std.proofs.lemmas.Bool.{cases_eq}
 use Rattle.h41_ram.specs.RegisterMap.{RegisterMap, digit_with, bit_of, with_bit, d_of, zeros, with_flag}
 use Rattle.h41_ram.specs.RegisterMapLaws.{FlagIsRead, OtherFlagsStay}
 
--- In one digit, a bit that was set is 1.
+-- A bit of a digit that was set is 1.
 set_bit : (digit k : ℕ) → k < 4 → (digit - digit / 2 ^ k % 2 * 2 ^ k + 2 ^ k) / 2 ^ k % 2 ≡ 1
 set_bit digit zero four = omega arith
 set_bit digit (suc zero) four = omega arith
@@ -14,7 +14,7 @@ set_bit digit (suc (suc zero)) four = omega arith
 set_bit digit (suc (suc (suc zero))) four = omega arith
 set_bit digit (suc (suc (suc (suc k)))) four = absurd (omega arith)
 
--- And one that was cleared is 0.
+-- A bit of a digit that was cleared is 0.
 clear_bit : (digit k : ℕ) → k < 4 → (digit - digit / 2 ^ k % 2 * 2 ^ k + 0) / 2 ^ k % 2 ≡ 0
 clear_bit digit zero four = omega arith
 clear_bit digit (suc zero) four = omega arith
@@ -22,7 +22,7 @@ clear_bit digit (suc (suc zero)) four = omega arith
 clear_bit digit (suc (suc (suc zero))) four = omega arith
 clear_bit digit (suc (suc (suc (suc k)))) four = absurd (omega arith)
 
--- The others are as they were.
+-- The other bits of a digit do not change.
 kept_bit : (digit k j : ℕ) (on : Bool) → k < 4 → j < 4 → j ≢ k → digit_with digit (2 ^ k) on / 2 ^ j % 2 ≡ digit / 2 ^ j % 2
 kept_bit digit zero zero true four small other = absurd (other refl)
 kept_bit digit zero (suc zero) true four small other = omega arith
@@ -63,7 +63,7 @@ read_bit : (digit k : ℕ) (on : Bool) → k < 4 → (digit_with digit (2 ^ k) o
 read_bit digit k true four = ap (λ bit. bit == 1) (set_bit digit k four)
 read_bit digit k false four = ap (λ bit. bit == 1) (clear_bit digit k four)
 
--- In a register.
+-- A bit of a register after one bit was set or cleared.
 bit_of-with_bit : (d : List ℕ) (bit : ℕ) (on : Bool) → bit / 4 < length d → bit_of (with_bit d bit on) bit ≡ on
 bit_of-with_bit d bit on inside =
     rw (get_or-set_same d (bit / 4) (digit_with (get_or d (bit / 4) 0) (2 ^ (bit % 4)) on) 0 inside)
@@ -81,7 +81,7 @@ bit_of-with_bit_other d bit other on apart inside = elim (cases_eq (other / 4) (
       rw (get_or-set_other d (bit / 4) (other / 4) (digit_with (get_or d (bit / 4) 0) (2 ^ (bit % 4)) on) 0 different)
 ]
 
--- In register d of the memory.
+-- Register d of the memory after a flag was set or cleared.
 d_of-with_flag : (memory : RegisterMap) (flag : ℕ) (on : Bool) → length memory.status ≡ 16
     → d_of (with_flag memory flag on) ≡ with_bit (d_of memory) (55 - flag) on
 d_of-with_flag memory flag on size = get_or-set_same memory.status 14 (with_bit (d_of memory) (55 - flag) on) zeros (omega (arith, size))

@@ -31,7 +31,7 @@ three_digits_read digits place hi is =
       get_or-drop place digits 2 0,
     )
 
--- digits that are written one by one.
+-- Digits that are written one by one.
 set_three : (place : ℕ) (digits : List ℕ) (a b c : ℕ) → place + 3 ≤ length digits
     → take place digits ++ (a ∷ b ∷ c ∷ drop (place + 3) digits) ≡ set (set (set digits place a) (place + 1) b) (place + 2) c
 set_three zero [] a b c inside = absurd (omega (arith, inside))
@@ -63,7 +63,7 @@ last_of_three number small = omega arith
 digits_of_three : (number : ℕ) → number < 4096 → digits_of 3 number ≡ number % 16 ∷ number / 16 % 16 ∷ number / 256 ∷ []
 digits_of_three number small = ap (λ last. number % 16 ∷ number / 16 % 16 ∷ last ∷ []) (last_of_three number small)
 
--- A register with a number of three digits is the one in which they are written one by one.
+-- Writing a number of three digits is writing its digits one by one.
 pub three_digits_written : (new old : List ℕ) (place hi number : ℕ) → hi ≡ place + 2 → place < 12 → number < 4096 → IsRegister 14 old
     → IsRegister 14 new → value (take (hi + 1 - place) (drop place new)) ≡ number → take place new ≡ take place old
     → drop (hi + 1) new ≡ drop (hi + 1) old → new ≡ with_three_places old place number
@@ -79,7 +79,7 @@ three_digits_written new old place hi number is inside small was register held b
     sym parts
     ∙ rw (below, middle, high, rest) (set_three place old (number % 16) (number / 16 % 16) (number / 256) (omega (arith, was.size)))
 
--- They hold less than 1000 hexadecimal.
+-- Three digits form a number below 1000 hexadecimal.
 pub three_digits_fit : (digits : List ℕ) (place hi : ℕ) → IsRegister 14 digits → hi ≡ place + 2 → place < 12
     → value (take (hi + 1 - place) (drop place digits)) < 4096
 three_digits_fit digits place hi register is inside =

@@ -61,7 +61,7 @@ written_keeps ram address register = record {
       };
 }
 
--- A write into a status register other than c, as the code makes it.
+-- A write to a status register other than c, as the code performs it.
 status_tests : (memory : RegisterMap) (address : ℕ) → address < 16 → address ≢ 13
     → sets_mark memory address ≡ (nat_le (end_of memory) address && nat_lt address (curtain_of memory))
 status_tests memory address below other = grind (arith, nat_tests)
@@ -87,7 +87,7 @@ pub read_status : (memory : RegisterMap) (address : ℕ) (spare : List ℕ) → 
     → get_or memory.status address spare ≡ get_or memory.status address zeros
 read_status memory address spare size inside = get_or_default memory.status address spare zeros (omega (arith, size, inside))
 
--- A flag.
+-- A write of a flag keeps the promise.
 pub flag_written : (ram : RamState) (memory : RegisterMap) (parts after : Parts) (flag : ℕ) (on : Bool) (register spare : List ℕ)
     → record { registers = memory; touched = parts.touched } ≡ ram → length memory.status ≡ 16
     → parts.curtain ≡ curtain_of memory → parts.end ≡ end_of memory

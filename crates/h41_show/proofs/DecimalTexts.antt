@@ -7,7 +7,7 @@ use Rattle.std.proofs.lemmas.Fmt.{decimal_digit, decimal_step, length-decimal-le
 use Rattle.std.proofs.lemmas.Bool.Decides.{nat_tests}
 use Rattle.h41_show.specs.Digits.{digits_text, ends_group, grouped_digits}
 
--- So many digits are so many bytes.
+-- The text of a number of digits has as many bytes.
 pub length-digits_text : (count number : ℕ) → length (digits_text count number) ≡ count
 length-digits_text zero number = refl
 length-digits_text (suc count) number =

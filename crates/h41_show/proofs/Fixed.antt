@@ -68,7 +68,7 @@ module _ (d s : ℕ) (low : 10 ^ 9 ≤ d) (high : d < 10 ^ 10) where
       ∙ ap (nearest (d * 10 ^ s)) (power_split (108 - decimals) dropped s sum)
       ∙ nearest_scaled d (10 ^ dropped) (10 ^ s) (power_pos s))
 
-  -- The same, as the code has it.
+  -- The count of steps, as the code computes it.
   pub fixed_count-code : (digits steps whole decimals : ℕ) → s ≤ 108 → steps ≡ s → whole ≡ steps - 99 → decimals ≡ min digits (9 - whole)
       → nearest d (10 ^ (108 - steps - decimals)) ≡ fixed_count digits (d * 10 ^ s)
   fixed_count-code digits steps whole decimals most same front are =
@@ -120,7 +120,7 @@ is_fixed-tiny digits size some small none =
     let c : (size == 0) ≡ false = grind (arith, nat_tests) in
     rw (a, b, c) refl
 
--- Too many digits are dropped for any to be left.
+-- If more than ten digits are dropped, none is left.
 pub nearest_none : (d dropped : ℕ) → d < 10 ^ 10 → 10 < dropped → nearest d (10 ^ dropped) ≡ 0
 nearest_none d dropped high many =
     let bound : 10 ^ 11 ≤ 10 ^ dropped = pow-le-pow_right (omega arith) many in

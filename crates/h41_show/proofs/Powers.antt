@@ -20,7 +20,7 @@ power_below a b n low high = elim (cases_lt a b) [
 pub power_split : (a b c : ℕ) → a ≡ b + c → 10 ^ a ≡ 10 ^ b * 10 ^ c
 power_split a b c e = ap (λ k. 10 ^ k) e ∙ pow-add 10 b c
 
--- digits at a power of ten.
+-- Digits at a power of ten.
 pub scaled_low : (d s k : ℕ) → 10 ^ k ≤ d → 10 ^ (k + s) ≤ d * 10 ^ s
 scaled_low d s k low =
     let p = power_split (k + s) k s refl in

@@ -23,7 +23,7 @@ none_above k (suc n) start size above high =
     sum_by-cons (λ power. cond (nat_le (10 ^ power) size) 1 0) start (range_with_len (start + 1) n)
     ∙ ap (λ b. cond b 1 0 + count_by (λ power. nat_le (10 ^ power) size) (range_with_len (start + 1) n)) test ∙ (omega arith)
 
--- So those that are reach to the number's own.
+-- So the powers up to a number's own are counted.
 counted : (k n start size : ℕ) → start ≤ k + 1 → k + 1 ≤ start + n → 10 ^ k ≤ size → size < 10 ^ (k + 1)
     → count_by (λ power. nat_le (10 ^ power) size) (range_with_len start n) ≡ k + 1 - start
 counted k zero start size from to low high = omega arith
@@ -41,7 +41,7 @@ pub exponent_of-digits : (k n : ℕ) → k ≤ 207 → 10 ^ k ≤ n → n < 10 ^
 unfolding exponent_of
 exponent_of-digits k n within low high = counted k 207 1 n (omega arith) (omega arith) low high ∙ (omega arith)
 
--- digits and steps at one power of ten are rounded as they are without it.
+-- Digits and steps at one power of ten are rounded as they are without it.
 pub nearest_scaled : (d p q : ℕ) → 0 < q → nearest (d * q) (p * q) ≡ nearest d p
 nearest_scaled d p q some =
     let above : 2 * (d * q) + p * q ≡ (2 * d + p) * q = omega arith in
@@ -60,7 +60,7 @@ nearest-half d (suc j) =
     let cancel : (d + h) * 2 / ((2 * h) * 2) ≡ (d + h) / (2 * h) = mul-div-mul_right (d + h) (2 * h) (omega arith) in
     rw (power, half, above, below) (sym cancel)
 
--- How large the nearest number of steps is.
+-- Bounds of the nearest number of steps.
 pub nearest_low : (d p c : ℕ) → 0 < p → c * p ≤ d → c ≤ nearest d p
 nearest_low d p c some low = le-div c (2 * d + p) (2 * p) (omega arith) (omega arith)
 

@@ -17,7 +17,7 @@ use Rattle.h41_show.proofs.DecimalTexts.{length-decimal_digit}
 use Rattle.h41_show.proofs.Powers.{power_pos, scaled_low, scaled_high, shifted}
 use Rattle.h41_show.proofs.Roundings.{exponent_of-digits}
 
--- digits at a power of ten, as many as SCI and ENG show.
+-- Digits at a power of ten, as many as SCI and ENG show.
 module _ (c t m : ℕ) (few : m ≤ 7) (small : t ≤ 198) (low : 10 ^ m ≤ c) (high : c < 10 ^ (m + 1)) where
   exponent_of-shown : exponent_of (c * 10 ^ (t + 9 - m)) ≡ t + 9
   exponent_of-shown =
@@ -55,7 +55,7 @@ pub notation_text-fixed : (format : Format) (size : ℕ) → is_fixed format.dig
 unfolding fixed_text
 notation_text-fixed format size fixed = ap (λ b. if b then fixed_text format size else scientific_text format size) fixed
 
--- Zero.
+-- The text of zero.
 fixed_count-zero : (digits : ℕ) → fixed_count digits 0 ≡ 0
 fixed_count-zero digits =
     let k = 108 - fixed_decimals digits 0 in
@@ -89,7 +89,7 @@ zero_in_powers format notation is = elim is [
   | inr engineering ↦ zero_scientific format ∙ ap (λ n. notation_text n format 0) (sym engineering)
 ]
 
--- A sign and a size.
+-- The text of a number is that of its sign and its size.
 pub number_text-signed : (format : Format) (sign : Sign) (size : ℕ) → 0 < size
     → sign_text sign ++ notation_text format.notation format size ≡ number_text format (with_sign sign size)
 unfolding number_text

@@ -9,7 +9,7 @@ use Rattle.h41_words.specs.WordTable.{number_of, word_at}
 use Rattle.h41_words.specs.Unassigned.{unassigned_words}
 use Rattle.h41_words.proofs.Members.{in_range, at_member, found}
 
--- Whether a number is one of these.
+-- Whether a number is in a list.
 abbrev pub is_one_of : List ℕ → ℕ → Bool
 is_one_of numbers number = list_any (λ other. other == number) numbers
 
@@ -21,11 +21,11 @@ numbers_in columns = filter (λ number. is_one_of columns (number % 64)) (map nu
 abbrev pub mapped : List ℕ
 mapped = 0x04 ∷ 0x08 ∷ 0x0C ∷ 0x14 ∷ 0x1C ∷ 0x3C ∷ []
 
--- Whether each word of these lines of a column is one of these or unassigned.
+-- Whether each word in these lines of a column is in the list or unassigned.
 unfoldable pub covers : List ℕ → ℕ → List ℕ → Bool
 covers lines column listed = list_all (λ line. is_one_of (listed ++ unassigned_words) (word_at line column)) lines
 
--- A word of such lines that is none of these is unassigned.
+-- A word in such lines that is not in the list is unassigned.
 pub unassigned_in : (lines : List ℕ) (column : ℕ) (listed : List ℕ) (word : ℕ) → covers lines column listed ≡ true
     → Contains lines (word / 64) → word % 64 ≡ column → is_one_of listed word ≡ false → Contains unassigned_words word
 unfolding covers
@@ -40,13 +40,13 @@ unassigned_in lines column listed word all line at none =
       | inr is_unassigned ↦ found word unassigned_words is_unassigned
     ]
 
--- The same of a whole column.
+-- A word of a whole column that is not in the list is unassigned.
 pub unassigned_unless : (column : ℕ) (listed : List ℕ) (word : ℕ) → covers (range_with_len 0 16) column listed ≡ true
     → word < 1024 → word % 64 ≡ column → is_one_of listed word ≡ false → Contains unassigned_words word
 unassigned_unless column listed word all inside at none =
     unassigned_in (range_with_len 0 16) column listed word all (in_range 0 16 (word / 64) (omega arith) (omega arith)) at none
 
--- And of the two lines of a mapped column that mean no number.
+-- A word in the two lines of a mapped column that mean no number is unassigned if it is not in the list.
 pub unassigned_unmapped : (column : ℕ) (listed : List ℕ) (word : ℕ) → covers (7 ∷ 15 ∷ []) column listed ≡ true
     → (word / 64 ≡ 7) ⊎ (word / 64 ≡ 15) → word % 64 ≡ column → is_one_of listed word ≡ false → Contains unassigned_words word
 unassigned_unmapped column listed word all line at none =

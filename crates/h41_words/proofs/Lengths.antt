@@ -69,6 +69,6 @@ words_of_number (ReturnIf NoCarry) valid = refl
 words_of_number (ReturnIf Carry) valid = refl
 words_of_number row valid = refl
 
--- A row whose number is this word's takes as many words as an instruction that begins with it.
+-- A row with the number of a word has as many words as an instruction that begins with this word.
 pub is_length_of : (row : Row) (word : ℕ) → IsRow row → number_of row ≡ word → words_of row ≡ length_of word
 is_length_of row word valid same = words_of_number row valid ∙ ap length_of same

@@ -9,7 +9,7 @@ use Rattle.std.proofs.lemmas.List.Elements.{All-get_or, Contains-append_left, Co
 use Rattle.std.proofs.lemmas.List.Folds.{Any-from_list_any}
 use Rattle.std.proofs.lemmas.List.Sums.{AllPass-from_list_all}
 
--- What is in one of several lists is in all of them together.
+-- An element of one of several lists is an element of all of them together.
 pub in_flat_map : {A B : Type 0} (f : A → List B) (k : ℕ) (x : A) (y : B) (xs : List A)
     → k < length xs → get_or xs k x ≡ x → Contains (f x) y → Contains (flat_map f xs) y
 in_flat_map f k x y [] inside same member = absurd (omega arith)
@@ -28,13 +28,13 @@ in_range first count number low high = (
   get_or-range_with_len first count (number - first) number (omega arith) ∙ omega arith,
 )
 
--- What passes for all of a list passes for each that it contains.
+-- A test that all elements of a list pass is passed by each of them.
 pub at_member : (test : ℕ → Bool) (numbers : List ℕ) (number : ℕ) → list_all test numbers ≡ true → Contains numbers number
     → test number ≡ true
 at_member test numbers number passes at =
     ap test (sym at.2) ∙ All-get_or (λ n. test n ≡ true) numbers at.0 number at.1 (AllPass-from_list_all test numbers passes)
 
--- And a number that a test finds in a list is in it.
+-- A number that a test finds in a list is an element of it.
 pub found : (number : ℕ) (numbers : List ℕ) → list_any (λ other. other == number) numbers ≡ true → Contains numbers number
 found number numbers passes =
     let some = Any-from_list_any (λ other. other == number) numbers passes in

@@ -53,7 +53,7 @@ absent number zero row (first ∷ rest) inside same none =
 absent number (suc k) row (first ∷ rest) inside same none =
     absent number k row rest (omega arith) same (or_parts (number == number_of first) _ none).1
 
--- A table whose numbers are distinct gives each of its rows for the row's number.
+-- In a table with distinct numbers, each row is found by its number.
 row_in_at : (k : ℕ) (row : Row) (rows : List Row) → k < length rows → get_or rows k row ≡ row
     → are_distinct (map number_of rows) ≡ true → row_in (with_numbers rows) (number_of row) ≡ row
 row_in_at k row [] inside same distinct = absurd (omega arith)
@@ -65,7 +65,7 @@ row_in_at (suc k) row (first ∷ rest) inside same distinct =
     cond-false (number_of first == number_of row) first _ (absent (number_of first) k row rest (omega arith) same (not-true _ parts.0))
     ∙ row_in_at k row rest (omega arith) same parts.1
 
--- And CON for a word that is none of its rows'.
+-- For a word that has no row in the table, CON is found.
 row_in_none : (word : ℕ) (rows : List Row) → list_any (λ other. other == word) (map number_of rows) ≡ false
     → row_in (with_numbers rows) word ≡ Constant word
 row_in_none word [] none = refl
@@ -103,7 +103,7 @@ in_numbers k first count number row inside same low high =
     in_family k (row number) (map row (range_with_len first count)) inside same
     (in_map row number (range_with_len first count) (in_range first count number low high))
 
--- An operation and a field are those of their numbers.
+-- Each operation, and each field, is in its list.
 in_operations : (operation : Operation) → Contains operations operation
 in_operations ClearA = (0, (omega arith), refl)
 in_operations operation = (operation_number operation, (omega arith), refl)
@@ -170,11 +170,11 @@ row_of_number (ReturnIf NoCarry) valid = refl
 row_of_number (ReturnIf Carry) valid = refl
 row_of_number row valid = refl
 
--- A row whose number is this word's is the word's row.
+-- A row with the number of a word is the row of this word.
 pub is_row_of : (row : Row) (word : ℕ) → IsRow row → number_of row ≡ word → row ≡ row_of word
 is_row_of row word valid same = sym (row_of_number row valid) ∙ ap row_of same
 
--- And a word's row has its number.
+-- The row of a word has the word's number.
 pub number_of_row : WordOfRow
 unfolding row_of word_table
 number_of_row word inside = row_in_number listed_rows word

@@ -7,7 +7,7 @@ use Rattle.h41_words.specs.declared.second_word.LongJumpKind.{LongJumpKind}
 use Rattle.h41_words.specs.declared.second_word.LongJumpKind.TheVariants.{Execute, Go}
 use Rattle.h41_words.specs.SecondWord.{second_of, long_jump_number, SaidByWord, WordOfSecond}
 
--- The low two bits are one of four.
+-- The two low bits are one of four numbers.
 four : (bits : ℕ) → bits < 4 → (bits ≡ 0) ⊎ (bits ≡ 1) ⊎ (bits ≡ 2) ⊎ (bits ≡ 3)
 four zero inside = inl refl
 four (suc zero) inside = inr (inl refl)

@@ -5,7 +5,7 @@ use Rattle.h41_asm.proofs.assembler.spell.Given as goal
 
 abbrev pub invariant-loop-i : goal.invariant-loop-i
 invariant-loop-i l = record {
-  -- The lines that are left are ready from here on.
+  -- The remaining lines are ready from here on.
   ready : AreReady l.address (kept_said (drop l.i l.lines) (drop l.i l.names));
   within : l.address ≤ 65536;
   -- The errors are those of the lines that are left.

@@ -35,7 +35,7 @@ returns-then-rest-eq0 c =
     let e : size y ≡ (n * 10 ^ (t - s) / m) * size x + c.remainder-rest.result * 10 ^ s = d.0 in
     rest_of_apart_none c.args.sign (size y) (size x) (n * 10 ^ (t - s) / m) (omega arith) (size_pos y) (size_pos x)
 
--- What the divisor has more than the remainder.
+-- The difference between the divisor and the remainder.
 lacking : (m k r p : ℕ) → k + r ≡ m → k * p ≡ m * p - r * p
 lacking m k r p e = let f : (k + r) * p ≡ m * p = ap (λ t. t * p) e in omega arith
 

@@ -8,7 +8,7 @@ use Rattle.h41_decimal.proofs.rounding.round_eleven_digits.Goals as goal
 next_place : (n scale : ℕ) → n * 10 ^ (scale + 1) ≡ n * (10 * 10 ^ scale)
 next_place n scale = ap (λ t. n * t) (pow-add 10 scale 1 ∙ omega arith)
 
--- And of the ninth.
+-- The place of the ninth digit.
 second_place : (scale : ℕ) → 1000000000 * 10 ^ (scale + 2) ≡ 10000000000 * (10 * 10 ^ scale)
 second_place scale = ap (λ t. 1000000000 * t) (pow-add 10 scale 2) ∙ omega arith
 

@@ -5,7 +5,7 @@ use Rattle.h41_fields.proofs.places.pointed_places.Goals as goal
 use Rattle.h41_fields.proofs.places.pointed_places.Goals.{in-P, in-Q}
 use Rattle.h41_fields.specs.declared.field.Pointer.TheVariants.{P, Q}
 
--- The pointer that the code looks at is the active one, and in the register.
+-- The pointer in the code is the active one, and is inside the register.
 pointed : (c : goal.In-AtPointer) → c.match-active.pointer ≡ active_place c.args.p c.args.q c.args.active
 pointed c = elim c.match-active.branch [ in-P w ↦ search rules | in-Q w ↦ search rules ]
 

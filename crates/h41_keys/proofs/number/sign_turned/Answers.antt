@@ -13,7 +13,7 @@ use Rattle.h41_keys.proofs.number.sign_turned.Goals as goal
 behind : (n : ℕ) (text : List Character) → take (length text - n) (drop n text) ≡ drop n text
 behind n text = between_to_end text n (length text) (omega arith)
 
--- CHS at an exponent.
+-- CHS on an exponent.
 exponent_loses : (text part rest : List Character) (end : ℕ) → end ≡ exponent_place text → end < length text → part ≡ drop (end + 1) text
     → rest ≡ drop 1 part → begins_with_minus part ≡ true → take end text ++ Exponent ∷ [] ++ rest ≡ with_sign_turned text
 exponent_loses text part rest end place within is_part is_rest minus = grind (arith, nat_tests, append_assoc)
@@ -22,7 +22,7 @@ exponent_gets : (text part : List Character) (end : ℕ) → end ≡ exponent_pl
     → begins_with_minus part ≡ false → take end text ++ Exponent ∷ Minus ∷ [] ++ part ≡ with_sign_turned text
 exponent_gets text part end place within is_part minus = grind (arith, nat_tests, append_assoc)
 
--- And at a mantissa.
+-- CHS on a mantissa.
 mantissa_loses : (text rest : List Character) (end : ℕ) → end ≡ exponent_place text → length text ≤ end → length text ≤ number_most
     → rest ≡ drop 1 text → begins_with_minus text ≡ true → rest ≡ kept_within text (with_sign_turned text)
 mantissa_loses text rest end place without bound is_rest minus = grind (arith, nat_tests, length-drop)

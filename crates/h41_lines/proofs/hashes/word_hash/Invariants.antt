@@ -2,7 +2,7 @@ use Rattle.std.proofs.Common.{◌≡◌, ◌<◌, drop}
 use Rattle.h41_lines.specs.private.Hashes.{hash_from}
 use Rattle.h41_lines.proofs.hashes.word_hash.Given as goal
 
--- The bytes that are left make the hash of all.
+-- The hash of the remaining bytes, continued from the hash so far, is that of all bytes.
 abbrev pub invariant-loop-byte : goal.invariant-loop-byte
 invariant-loop-byte l = record {
   within : l.hash < 65536;

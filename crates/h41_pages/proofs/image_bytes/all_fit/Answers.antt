@@ -10,7 +10,7 @@ use Rattle.h41_pages.proofs.image_bytes.all_fit.Goals as goal
 pub loop-offset-init : goal.loop-offset-init
 loop-offset-init c = ap (list_all is_word) (first_words_made c.args.bytes.now page_size)
 
--- Whether the words that are left fit, by the first of them.
+-- Whether the remaining words fit, depending on the first of them.
 pub fits-step : (bytes : List ℕ) (offset : ℕ) → offset < page_size
     → list_all is_word (map (word_in_bytes bytes) (up_to offset page_size)) ≡ is_word (word_in_bytes bytes offset)
     && list_all is_word (map (word_in_bytes bytes) (up_to (offset + 1) page_size))

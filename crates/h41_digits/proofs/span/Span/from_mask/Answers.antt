@@ -6,7 +6,7 @@ use Rattle.h41_digits.proofs.Packed.{weight_positive}
 use Rattle.h41_digits.proofs.Spans.{first_one, next-le}
 use Rattle.h41_digits.proofs.span.Span.from_mask.Goals as goal
 
--- The places that are found of a mask.
+-- The places that the code finds for a mask.
 found : (mask negative low next lo hi : ℕ) → IsFilled mask lo hi → negative < 2 ^ 64 → (negative + mask) % 2 ^ 64 ≡ 0
     → ((place : ℕ) → place < 15 → bit_and mask negative ≡ 16 ^ place → low ≡ place)
     → ((place : ℕ) → place < 15 → (mask + bit_and mask negative) % 2 ^ 64 ≡ 16 ^ place → next ≡ place)

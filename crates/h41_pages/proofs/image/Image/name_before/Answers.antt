@@ -5,7 +5,7 @@ use Rattle.h41_pages.proofs.Names.{going_on, name_begins, name_goes_on, name_end
 use Rattle.h41_pages.proofs.Ranges.{up_to, up_to-zero, map-step, map-none}
 use Rattle.h41_pages.proofs.image.Image.name_before.Goals as goal
 
--- The words that are left, a step further on.
+-- The remaining words, from a distance on.
 abbrev rest_of : List ℕ → ℕ → ℕ → List ℕ
 rest_of words offset distance = map (word_before words offset) (up_to distance (min offset 11))
 
@@ -21,7 +21,7 @@ loop-distance-init c =
           ∙ ap (λ name. going_on name (map (word_before words offset) (up_to 0 (min offset 11)))) (sym none);
     }
 
--- One more character, which is not the last.
+-- One more character that is not the last.
 later : (words name : List ℕ) (offset distance : ℕ) → distance < min offset 11 → is_last (word_before words offset distance) ≡ false
     → going_on name (rest_of words offset distance)
     ≡ going_on (name ++ character (word_before words offset distance) ∷ []) (rest_of words offset (distance + 1))
@@ -29,7 +29,7 @@ later words name offset distance below fails =
     ap (going_on name) (map-step (word_before words offset) distance (min offset 11) below)
     ∙ name_goes_on name (word_before words offset distance) (rest_of words offset (distance + 1)) fails
 
--- The last one.
+-- The last character.
 last : (words name : List ℕ) (offset distance : ℕ) → distance < min offset 11 → is_last (word_before words offset distance) ≡ true
     → going_on name (rest_of words offset distance) ≡ Some (name ++ character (word_before words offset distance) ∷ [])
 last words name offset distance below passes =

@@ -4,7 +4,7 @@ use Rattle.h41_pages.proofs.Names.{going_on}
 use Rattle.h41_pages.proofs.Ranges.{up_to}
 use Rattle.h41_pages.proofs.image.Image.name_before.Given as goal
 
--- The characters so far, none of them the last, and the words that are left.
+-- The characters so far, none of which is the last, and the remaining words.
 abbrev pub invariant-loop-distance : goal.invariant-loop-distance
 invariant-loop-distance l = record {
   length : length l.name ≡ l.distance;

@@ -40,7 +40,7 @@ pub enum PromptFunction {
     Label,
     /// `GTO`: goes to a label.
     GoTo,
-    /// `ISG`: increments a counter in a register, and skips a line if it is greater.
+    /// `ISG`: increments a counter in a register, and skips the next line if the counter exceeds its final value.
     IncrementSkip,
     /// `SF`: sets a flag.
     SetFlag,

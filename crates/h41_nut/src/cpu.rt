@@ -113,7 +113,7 @@ impl Cpu {
         };
     }
 
-    /// Turns the display off, as it is while the calculator is off.
+    /// Turns the display off, as turning the calculator off does.
     pub fn turn_display_off(&mut self)
         ensures { self.new ≡ with_display false self.old }
     {

@@ -1,4 +1,4 @@
--- What `clap` makes of the words of a command line of the bench, and what they are answered with.
+-- What `clap` makes of the words of a command line of the bench, and the result of the program.
 use Rattle.std.proofs.Common.{ap, ap₂, sym, refl, codes, ℕ, Bool, true, false, List, Option, Some, None, [], ◌∷◌, ◌≡◌}
 use Rattle.std.proofs.Common.{◌∙◌, ◌⊎◌, inl, inr, subst, ◌&&◌, cond, not, option_map, ◌||◌, Result, Ok, Err}
 use Rattle.std.specs.Box.{box_value}
@@ -36,7 +36,7 @@ use Rattle.h41_arguments.proofs.CommandWalks.{top, names, leaf, top_refuses, tak
 use Rattle.h41_arguments.proofs.CommandWalks.{command_fault, rows_below, command_met, below_fault, CommandName, run_name}
 use Rattle.h41_arguments.proofs.CommandWalks.{asm_name, dis_name, name_text}
 
--- ---- words that a parse finds wrong
+-- ---- Words that a parse finds wrong.
 
 abbrev FaultIs : List Text → ErrorKind → Type 0
 FaultIs words k = fault_of bench_app words ≡ k ∷ []
@@ -72,7 +72,7 @@ mark_fails name (y ∷ ys) e =
     let bad : kind.UnknownArgument ∷ kind.InvalidSubcommand ∷ [] ≡ [] =
     (walk_split top names (at [] None 1 true) y ys (mark_then (y ∷ ys) (top_walks name (last_flag ∷ y ∷ ys) e))).0 in cc
 
--- a word that is no command
+-- A word that is not a command.
 other_command : (word : Text) → is_command word ≡ false → bytes_eq (codes "help") word ≡ false → subcommand_met names idle word ≡ None
 other_command word none no_help =
     let run = or_parts (bytes_eq (codes "run") word) (bytes_eq (codes "asm") word || bytes_eq (codes "dis") word) none in
@@ -81,14 +81,14 @@ other_command word none no_help =
     (cond (two.0 i || false) (Some (codes "asm", [])) (cond (two.1 i || false) (Some (codes "dis", []))
     (cond (no_help i || false) (Some (codes "help", [])) None))))
 
--- one of two texts
+-- One of two texts.
 either_of : (P : Text → Type 0) (a b : Text) → P a → P b → (word : Text) → (bytes_eq word a || bytes_eq word b) ≡ true → P word
 either_of P a b first second word is = elim (or_cases (bytes_eq word a) (bytes_eq word b) is) [
   | inl same ↦ subst P (sym ((bytes_eq-Decides word a).0 same)) first
   | inr same ↦ subst P (sym ((bytes_eq-Decides word b).0 same)) second
 ]
 
--- one of the three commands
+-- One of the three commands.
 pub command_named : (word : Text) → is_command word ≡ true → (c : CommandName) × (name_text c ≡ word)
 command_named word is = elim (or_cases (bytes_eq (codes "run") word) (bytes_eq (codes "asm") word || bytes_eq (codes "dis") word) is) [
   | inl same ↦ (run_name, (bytes_eq-Decides (codes "run") word).0 same)
@@ -98,7 +98,7 @@ command_named word is = elim (or_cases (bytes_eq (codes "run") word) (bytes_eq (
   ]
 ]
 
--- ---- words that ask for no run
+-- ---- Words that ask for no run.
 
 abbrev NoRun : List Text → Type 0
 NoRun words = (size : MemorySize) (file : Text) → give_memory words ≡ false → file_to_run words ≡ None → fault_of bench_app words ≡ []
@@ -107,14 +107,14 @@ NoRun words = (size : MemorySize) (file : Text) → give_memory words ≡ false 
 abbrev job_with : Option Text → Task → Option (Task × Text)
 job_with found task = option_map (λ file. (task, file)) found
 
--- the task of another command, where its origin is one
+-- The task of another command, if its origin is right.
 no_run_task : (make : ℕ → Task) (size : MemorySize) → ((a : ℕ) → make a ≡ tasks.Run size → ⊥) → (origin : Option ℕ)
     (found : Option Text) (file : Text) → option_and_then (job_with found) (option_map make origin) ≡ Some (tasks.Run size, file) → ⊥
 no_run_task make size differs None found file is = cc
 no_run_task make size differs (Some a) None file is = cc
 no_run_task make size differs (Some a) (Some found) file is = differs a (some_pair_parts (make a) (tasks.Run size) found file is).0
 
--- the words behind two that give no memory
+-- The words after two that give no size of memory.
 behind : (a b : Text) (rest : List Text) → give_memory (a ∷ b ∷ rest) ≡ false → give_memory rest ≡ false
 behind a b rest none =
     (or_parts (is_memory_flag b) (give_memory rest) (or_parts (is_memory_flag a) (give_memory (b ∷ rest)) none).1).1
@@ -129,7 +129,7 @@ no_run_named dis_name name rest size file none is e asked =
     no_run_task (λ a. tasks.List a) size (λ a same. cc) (origin_asked (first_of (codes "origin") (rows_below dis_name rest)))
     (first_of (codes "FILE") (rows_below dis_name rest)) file (sym (ap job_in (command_met dis_name name rest)) ∙ asked)
 
--- a parse takes no other word in a command's place
+-- A parse accepts no other word in place of a command.
 other_fails : (name word : Text) (rest : List Text) → is_command word ≡ false → fault_of bench_app (name ∷ word ∷ rest) ≡ [] → ⊥
 other_fails name word rest none e = go (bytes_eq (codes "help") word) refl (is_last_flag word) refl (is_flag word) refl
   where
@@ -160,7 +160,7 @@ no_run (name ∷ word ∷ rest) size file no_memory is e asked = go (is_command 
         let c = command_named word named in
         subst (λ (x : Text). NoRun (name ∷ x ∷ rest)) c.1 (no_run_named c.0 name rest) size file no_memory is e asked
 
--- ---- words that ask for help or the version
+-- ---- Words that ask for help or the version.
 
 flags_alone : (name : Text)
     → FaultIs (name ∷ codes "--help" ∷ []) kind.DisplayHelp × FaultIs (name ∷ codes "-h" ∷ []) kind.DisplayHelp
@@ -168,7 +168,7 @@ flags_alone : (name : Text)
 unfolding clap_on_literals
 flags_alone name = (refl, refl, refl, refl)
 
--- the two flags for help after a command, and nothing after it
+-- The two flags for help after a command, with nothing after them.
 after_command : (c : CommandName) (name : Text)
     → FaultIs (name ∷ name_text c ∷ codes "--help" ∷ []) kind.DisplayHelp × FaultIs (name ∷ name_text c ∷ codes "-h" ∷ []) kind.DisplayHelp
     × FaultIs (name ∷ name_text c ∷ []) kind.MissingRequiredArgument
@@ -200,12 +200,12 @@ versions (name ∷ a ∷ []) is =
     either_of (λ word. FaultIs (name ∷ word ∷ []) kind.DisplayVersion) (codes "--version") (codes "-V") flags.2 flags.3 a is
 versions (name ∷ a ∷ b ∷ rest) is = cc
 
--- ---- words that are wrong
+-- ---- Words that are wrong.
 
 abbrev pub IsAnswerless : ErrorKind → Type 0
 IsAnswerless k = (k ≡ kind.DisplayHelp → ⊥) × (k ≡ kind.DisplayVersion → ⊥)
 
--- some kind may come, and none of them is an answer
+-- There is a kind of error, and none of the kinds is help or the version.
 pub record IsRefusal (kinds : Kinds) : Type 0 where
   pub some : kinds ≡ [] → ⊥
   pub no_answers : (k : ErrorKind) → IsAmong k kinds → IsAnswerless k
@@ -224,7 +224,7 @@ one_refusal kinds x is first = refusal kinds x [] is first (λ k none. absurd no
 pub first_kinds : (a b : Kinds) (x : ErrorKind) (xs : Kinds) → a ≡ x ∷ xs → or_else a b ≡ x ∷ xs
 first_kinds a b x xs is = ap (λ k. or_else k b) is
 
--- two FILEs, where the first is taken and the second is not
+-- Two FILEs, of which the first is accepted and the second is not.
 two_files : (c : CommandName) (a b : Text) (rest : List Text) → is_flag a ≡ false → is_flag b ≡ false
     → below_fault c (a ∷ b ∷ rest) ≡ kind.UnknownArgument ∷ []
 unfolding walk_fault
@@ -281,13 +281,13 @@ mistakes (name ∷ word ∷ rest) is = go (is_command word) refl
         stray_word name word rest (other_command word none (not-true (bytes_eq (codes "help") word) parts.0))
         (not-true (is_flag word) parts.1)
 
--- ---- what a parse answers
+-- ---- The result of a parse.
 
--- the job that is read of the matches is the one that the words ask for
+-- The job in the matches is the one that the words ask for.
 pub asked_of : (words : List Text) (m : ArgMatches) → HasMatchesOf bench_app words m → job_in (subcommand_rows_of m) ≡ job_asked words
 asked_of words m matches = ap job_in (matches refl).1
 
--- a command that was met, of its name and its rows
+-- A command that was found, by its name and its rows.
 pub met_row : (row : Option (Text × List Row)) (name : Text) (rows : List Row) → Some name ≡ option_map (λ p. p.0) row
     → Some rows ≡ option_map (λ p. p.1) row → row ≡ Some (name, rows)
 met_row None name rows named held = cc
@@ -304,7 +304,8 @@ named_rows m =
       | Some b ↦ refl
     ]
 
--- words that a parse takes fail by memory alone, and others by their one kind too
+-- Words that a parse accepts fail only if allocation fails, and others also with their only kind of
+-- error.
 pub failed_memory : (words : List Text) (e : Error) → HasKind (fault_of bench_app words) e → fault_of bench_app words ≡ []
     → kind_of e ≡ kind.OutOfMemory
 failed_memory words e has passed = go (subst (λ kinds. HasKind kinds e) passed has)
@@ -338,14 +339,14 @@ pub if_none : {X : Type 0} (o : Option X) (P : Type 0) → (o ≡ None → P) �
 if_none None P holds = holds refl
 if_none (Some x) P holds = tt
 
--- ---- what the words are answered with
+-- ---- The result of the words.
 
--- a job with these parts
+-- A job with these parts.
 pub gives_these : (asked : Option (Task × Text)) (result : Result Job Ending) (task : Task) (file : Text) → asked ≡ Some (task, file)
     → GivesJob asked result → AsksFor result (task, file)
 gives_these asked result task file is gives = rw is at gives
 
--- a run of this file
+-- A run of this file.
 pub runs_file : (asked : Option (Task × Text)) (result : Result Job Ending) (file : Text) → asked ≡ Some (tasks.Run sizes.Cv, file)
     → GivesJob asked result → AsksToRun result file
 runs_file asked (Ok job) file is gives =
@@ -353,7 +354,7 @@ runs_file asked (Ok job) file is gives =
     record { task_is = ap (λ (p : Task × Text). p.0) parts; file_is = ap (λ (p : Task × Text). p.1) parts }
 runs_file asked (Err ending) file is gives = let parts : ending ≡ endings.OutOfMemory = rw is at gives in parts
 
--- no run
+-- No run.
 pub runs_none : (words : List Text) (result : Result Job Ending) → give_memory words ≡ false → file_to_run words ≡ None
     → fault_of bench_app words ≡ [] → GivesJob (job_asked words) result → AsksForNoRun result
 runs_none words (Ok job) given none passed gives = λ size run. go size (job_asked words) refl gives run
@@ -366,7 +367,7 @@ runs_none words (Ok job) given none passed gives = λ size run. go size (job_ask
         (is ∙ sym (ap (λ (p : Task × Text). Some p) gives) ∙ ap (λ (t : Task). Some (t, job.file.now)) run)
 runs_none words (Err ending) given none passed gives = tt
 
--- memory may run out
+-- Allocation may fail.
 pub runs_out : (asked : Option (Task × Text)) (ending : Ending) → ending ≡ endings.OutOfMemory → GivesJob asked (Err ending)
 runs_out None ending is = inr is
 runs_out (Some parts) ending is = is

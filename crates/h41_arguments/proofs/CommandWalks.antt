@@ -24,7 +24,7 @@ use Rattle.h41_arguments.proofs.WordTurns.{nothing_left, help, version, NamesUnk
 use Rattle.h41_arguments.proofs.WordTurns.{last_flag, is_last, at}
 use Rattle.h41_arguments.proofs.WordTurns.{flag_turn, plain_turn, walk_split}
 
--- ---- the three commands
+-- ---- The three commands.
 
 pub data CommandName : Type 0 where
   run_name : CommandName
@@ -36,7 +36,7 @@ name_text run_name = codes "run"
 name_text asm_name = codes "asm"
 name_text dis_name = codes "dis"
 
--- the task that it asks for with FILE alone
+-- The task that a command asks for with only FILE.
 abbrev pub task_named : CommandName → Task
 task_named run_name = tasks.Run sizes.Cv
 task_named asm_name = tasks.Assemble 0x8000
@@ -47,7 +47,7 @@ app_named run_name = run_app
 app_named asm_name = origin_app (codes "asm")
 app_named dis_name = origin_app (codes "dis")
 
--- the two levels, as built
+-- The two levels, as they are built.
 abbrev pub top : Shape
 top = (built bench_app).top
 
@@ -63,7 +63,7 @@ top_refuses = (
   λ x. refuses_either top.rules false (has_short help x) (has_short version x),
 )
 
--- the long name that is known behind `run`
+-- The long name that is known after `run`.
 is_memory : Text → Bool
 is_memory n = bytes_eq (codes "memory") n
 
@@ -79,13 +79,13 @@ run_refuses = (
   λ x. refuses_either (leaf run_name).rules false (has_short help x) false,
 )
 
--- two hyphens stand in front of what is taken
+-- Two hyphens before a prefix.
 two_more : (n : ℕ) (rest : Text) → take (1 + (1 + n)) (45 ∷ 45 ∷ rest) ≡ 45 ∷ 45 ∷ take n rest
 two_more n rest =
     let count : 1 + (1 + n) ≡ suc (suc n) = omega arith in
     ap (λ (k : ℕ). take k (45 ∷ 45 ∷ rest)) count
 
--- a word that gives no memory does not name it
+-- A word that gives no size of memory does not name that option.
 no_memory : (word : Text) → is_memory_flag word ≡ false → NamesUnknown is_memory word
 unfolding is_memory
 no_memory word none rest is = go (bytes_eq (codes "memory") (before_first (λ x. x == 61) rest)) refl
@@ -102,7 +102,7 @@ no_memory word none rest is = go (bytes_eq (codes "memory") (before_first (λ x.
         ((bytes_eq-Decides (codes "--memory") (before_first (λ x. x == 61) (45 ∷ 45 ∷ rest))).1 named) in
         let bad : true ≡ false = sym given ∙ none in cc
 
--- ---- the words after a command that have one FILE
+-- ---- The words after a command that have one FILE.
 
 abbrev pub taken : Text → Bool → Walk
 taken file is_trailing = at [] (Some (codes "FILE", file ∷ [])) 2 is_trailing
@@ -120,7 +120,7 @@ second_plain run_name file word plain = (plain_turn (leaf run_name) [] [] (Some 
 second_plain asm_name file word plain = (plain_turn (leaf asm_name) [] [] (Some (codes "FILE", file ∷ [])) 2 word refl plain).0
 second_plain dis_name file word plain = (plain_turn (leaf dis_name) [] [] (Some (codes "FILE", file ∷ [])) 2 word refl plain).0
 
--- a level of a parse, by its walk
+-- A level of a parse, by its walk.
 abbrev pub level_end : Shape → Walk → Kinds → Bool → Kinds → Kinds
 level_end s w kinds has_subcommand below = or_else kinds
     (or_else below (or_else (settle_fault s.rules s.args_override_self w.held)
@@ -137,7 +137,7 @@ abbrev Reads : CommandName → List Text → Text → Type 0
 Reads c rest file = (t : Bool) × (walk (leaf c).rules [] nothing_held rest ≡ taken file t)
     × (walk_fault (leaf c) [] (walk_from nothing_held) rest ≡ [])
 
--- the mark before FILE, and behind it
+-- `--` before FILE, and after it.
 around_mark : (c : CommandName) (file : Text)
     → Reads c (last_flag ∷ file ∷ []) file
     × (walked (leaf c).rules [] (taken file false) last_flag ≡ taken file true)
@@ -190,13 +190,13 @@ module _ (c : CommandName) where
           (subst (λ (x : Text). Reads c (a ∷ x ∷ []) a) (sym (is_last b last)) (reads_before a plain))
   reads_file (a ∷ b ∷ d ∷ rest) file is = cc
 
--- ---- the words after `run` that do not have one FILE
+-- ---- The words after `run` that do not have one FILE.
 
--- the walk over them fails, from where it is
+-- The walk over the words fails from this point.
 FailsFrom : Walk → List Text → Type 0
 FailsFrom w rest = walk_fault (leaf run_name) [] w rest ≡ [] → ⊥
 
--- and so does a parse of them, from the start
+-- A parse of the words fails from the beginning.
 Stops : List Text → Type 0
 Stops rest = level_fault (leaf run_name) [] nothing_held rest false [] ≡ [] → ⊥
 
@@ -204,7 +204,7 @@ walk_stops : (rest : List Text) → FailsFrom (walk_from nothing_held) rest → 
 unfolding FailsFrom Stops
 walk_stops rest fails e = fails (nothing_left _ _ e).0
 
--- the walk after one word
+-- The walk after one word.
 goes_on : (w to : Walk) (word : Text) (rest : List Text) → walked (leaf run_name).rules [] w word ≡ to
     → FailsFrom to rest → FailsFrom w (word ∷ rest)
 unfolding FailsFrom
@@ -219,13 +219,13 @@ file_after_mark : (file : Text) → walked (leaf run_name).rules [] (at [] None 
 unfolding walked
 file_after_mark file = refl
 
--- a word after FILE and the mark
+-- A word after FILE and `--`.
 third_fails : (file word : Text) (rest : List Text) → FailsFrom (taken file true) (word ∷ rest)
 unfolding FailsFrom
 third_fails file word rest e =
     let bad : kind.UnknownArgument ∷ [] ≡ [] = (walk_split (leaf run_name) [] (taken file true) word rest e).0 in cc
 
--- a second FILE
+-- A second FILE.
 second_fails : (file word : Text) (rest : List Text) → is_memory_flag word ≡ false → is_last_flag word ≡ false
     → FailsFrom (taken file false) (word ∷ rest)
 unfolding FailsFrom
@@ -254,7 +254,7 @@ only_mark : Stops (last_flag ∷ [])
 unfolding Stops walk_fault defaults_fault walked
 only_mark e = let bad : kind.MissingRequiredArgument ∷ [] ≡ [] = e in cc
 
--- the mark first, and then not one word
+-- `--` first, and then not exactly one word.
 stops_marked : (rest : List Text) → only_file (last_flag ∷ rest) ≡ None → Stops (last_flag ∷ rest)
 stops_marked [] is = only_mark
 stops_marked (b ∷ []) is = cc
@@ -262,7 +262,7 @@ stops_marked (b ∷ d ∷ rest) is =
     walk_stops (last_flag ∷ b ∷ d ∷ rest) (goes_on (at [] None 1 false) (at [] None 1 true) last_flag (b ∷ d ∷ rest) mark_first
     (goes_on (at [] None 1 true) (taken b true) b (d ∷ rest) (file_after_mark b) (third_fails b d rest)))
 
--- a FILE first, and then not the mark alone
+-- A FILE first, and then not only `--`.
 stops_taken : (a : Text) (rest : List Text) → give_memory rest ≡ false → is_last_flag a ≡ false → is_flag a ≡ false
     → only_file (a ∷ rest) ≡ None → FailsFrom (taken a false) rest
 stops_taken a [] none more plain is = let bad : Some a ≡ None = rw plain at is in cc
@@ -299,7 +299,7 @@ pub stops_at : (rest : List Text) → give_memory rest ≡ false → only_file r
 unfolding Stops
 stops_at rest none is = stops rest none is
 
--- ---- a command and the words after it
+-- ---- A command and the words after it.
 
 abbrev meeting : Text → List Text → Walk
 meeting command rest = record (walk_from nothing_held) { stopped = Some (command, rest) }
@@ -319,7 +319,7 @@ command_walk_fault dis_name rest = stopped_fault top names (walk_from nothing_he
 abbrev top_end : Walk → Kinds → Kinds
 top_end w kinds = level_end top w kinds (is_some (entered (built bench_app) w.stopped)) (entered_fault (built bench_app) w.stopped)
 
--- what a parse finds wrong with them
+-- What a parse finds wrong with the words.
 abbrev pub below_fault : CommandName → List Text → Kinds
 below_fault c rest = or_else (level_fault (leaf c) [] nothing_held rest false []) []
 
@@ -332,7 +332,7 @@ command_end dis_name rest = refl
 pub command_fault : (c : CommandName) (name : Text) (rest : List Text) → fault_of bench_app (name ∷ name_text c ∷ rest) ≡ below_fault c rest
 command_fault c name rest = ap₂ top_end (command_walk c rest) (command_walk_fault c rest) ∙ command_end c rest
 
--- and what it holds of them
+-- What a parse keeps of the words.
 abbrev pub rows_below : CommandName → List Text → List Row
 rows_below c rest = finished (leaf c).rules (walk (leaf c).rules [] nothing_held rest).held
 
@@ -352,7 +352,7 @@ command_job run_name file t = refl
 command_job asm_name file t = refl
 command_job dis_name file t = refl
 
--- a FILE alone for a command: the parse takes the words, and meets this job
+-- Only a FILE for a command: the parse accepts the words, and finds this job.
 pub record Meets (words : List Text) (task : Task) (file : Text) : Type 0 where
   pub no_fault : fault_of bench_app words ≡ []
   pub asked : job_asked words ≡ Some (task, file)

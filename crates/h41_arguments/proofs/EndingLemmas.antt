@@ -1,4 +1,4 @@
--- What the program ends with where a parse refuses its words, or an option in them is wrong.
+-- How the program ends if a parse refuses its words, or an option in them is wrong.
 use Rattle.std.proofs.Common.{ap, inl, inr, refl, subst, ℕ, List, [], Option, None, ◌≡◌, ◌≢◌, ◌⊎◌, Result, Err}
 use Rattle.std.specs.Prelude.{IfNone, IsErrAnd}
 use Rattle.clap.specs.Words.{HasKind, HasMatchesOf, Kinds, Row, Text, fault_of, kind_of, subcommand_rows_of}
@@ -14,7 +14,7 @@ use Rattle.h41_arguments.specs.declared.arguments.Task.{Task}
 use Rattle.h41_arguments.specs.Ending.{EndsAtOnce, EndsByKind, EndsWith, GivesJob, IsNoHelp, SaysMistake, kind_status}
 use Rattle.h41_arguments.specs.Ending.{option_mistake}
 
--- the status of an error's kind
+-- The status of an error's kind.
 by_kind : (k : ErrorKind) (ending : Ending) → (k ≡ kind.DisplayHelp → EndsWith 0 ending)
     → (k ≡ kind.DisplayVersion → EndsWith 0 ending) → (IsNoHelp k → EndsWith 2 ending) → EndsWith (kind_status k) ending
 by_kind kind.DisplayHelp ending help version mistake = help refl
@@ -32,7 +32,7 @@ ends_by_kind kinds error ending (inr among) out help version mistake =
       | inr memory ↦ inl memory
     ]
 
--- what is said of a wrong option, by the words
+-- The message about a wrong option, by the words.
 pub said_of : (words : List Text) (m : ArgMatches) (result : Result Job Ending) → HasMatchesOf bench_app words m
     → IfNone (job_in (subcommand_rows_of m)) (IsErrAnd result (SaysMistake (option_mistake (command_in (subcommand_rows_of m)))))
     → IfNone (job_asked words) (IsErrAnd result (SaysMistake (option_mistake (command_asked words))))
@@ -41,10 +41,10 @@ said_of words m result matches said =
     (λ (met : Option (Text × List Row)). IfNone (job_in met) (IsErrAnd result (SaysMistake (option_mistake (command_in met)))))
     (matches refl).1 said
 
--- memory may run out
+-- Allocation may fail.
 pub said_out : (asked : Option Text) (ending : Ending) → ending ≡ endings.OutOfMemory → SaysMistake (option_mistake asked) ending
 said_out asked ending is = rw is tt
 
--- a wrong value of an option ends the program
+-- A wrong value of an option ends the program.
 pub ends_wrong : (asked : Option (Task × Text)) (result : Result Job Ending) → asked ≡ None → GivesJob asked result → EndsAtOnce 2 result
 ends_wrong asked result none gives = rw none at gives

@@ -18,7 +18,7 @@ use Rattle.h41_arguments.proofs.CommandWalks.{CommandName, asm_name, below_fault
 use Rattle.h41_arguments.proofs.CommandWalks.{run_name, taken}
 use Rattle.h41_arguments.proofs.CommandLemmas.{IsRefusal, command_named, first_kinds, one_refusal}
 
--- the option of a command, up to its value
+-- The option of a command, up to its value.
 abbrev pub option_text : CommandName → Text
 option_text run_name = codes "--memory="
 option_text asm_name = codes "--origin="
@@ -30,7 +30,7 @@ conflict = kind.ArgumentConflict ∷ []
 abbrev Fails : CommandName → List Text → Type 0
 Fails c words = walk_fault (leaf c) [] (walk_from nothing_held) words ≡ conflict
 
--- what is held of the option
+-- What a parse keeps of the option.
 abbrev pub held_rows : CommandName → Text → List Row
 held_rows c a = (walked (leaf c).rules [] (at [] None 1 false) (option_text c ++ a)).held.rows
 
@@ -42,7 +42,7 @@ first_given run_name a = (refl, refl)
 first_given asm_name a = (refl, refl)
 first_given dis_name a = (refl, refl)
 
--- where one is held, another is a conflict, with FILE read before or not
+-- If one value is kept, another one is a conflict, whether FILE was read before or not.
 again_given : (c : CommandName) (a b : Text) → turn_fault (leaf c) [] (at (held_rows c a) None 1 false) (option_text c ++ b) ≡ conflict
 unfolding walked
 again_given run_name a b = refl
@@ -56,7 +56,7 @@ again_after run_name a file b = refl
 again_after asm_name a file b = refl
 again_after dis_name a file b = refl
 
--- FILE and then the option
+-- FILE and then the option.
 pub given_after : (c : CommandName) (file a : Text)
     → (turn_fault (leaf c) [] (taken file false) (option_text c ++ a) ≡ [])
     × ((b : Text) → turn_fault (leaf c) [] (walked (leaf c).rules [] (taken file false) (option_text c ++ a)) (option_text c ++ b)
@@ -66,7 +66,7 @@ given_after run_name file a = (refl, λ b. refl)
 given_after asm_name file a = (refl, λ b. refl)
 given_after dis_name file a = (refl, λ b. refl)
 
--- the option and then FILE
+-- The option and then FILE.
 pub file_between : (c : CommandName) (a file : Text) → is_flag file ≡ false
     → (turn_fault (leaf c) [] (at (held_rows c a) None 1 false) file ≡ [])
     × (walked (leaf c).rules [] (at (held_rows c a) None 1 false) file ≡ at (held_rows c a) (Some (codes "FILE", file ∷ [])) 2 false)
@@ -104,7 +104,7 @@ module _ (c : CommandName) (rest : List Text) where
       ∙ ap (λ k. or_else k (walk_fault (leaf c) [] held ((option_text c ++ b) ∷ rest))) second.0
       ∙ ap (λ k. or_else k (walk_fault (leaf c) [] (walked (leaf c).rules [] held (option_text c ++ b)) rest)) (second.1 b)
 
--- a word that gives the option
+-- A word that gives the option.
 pub given_word : (c : CommandName) (word : Text) → gives_option (name_text c) word ≡ true → option_text c ++ drop 9 word ≡ word
 given_word run_name word is =
     ap (λ (front : Text). front ++ drop 9 word) (sym ((bytes_eq-Decides (take 9 word) (codes "--memory=")).0 is)) ∙ take-append-drop 9 word

@@ -1,4 +1,4 @@
--- What one word does where a parse of `clap` takes it for no command: a flag fails, and another word goes to a positional.
+-- What one word does if a parse of `clap` does not take it as a command: a flag fails, and another word is a positional argument.
 use Rattle.std.proofs.Common.{ap, ap₂, sym, refl, ℕ, Bool, true, false, List, Option, Some, None, [], ◌∷◌, ◌≡◌, ◌∙◌}
 use Rattle.std.proofs.Common.{is_some, subst, length, drop, encode_utf8, ◌==◌, ◌&&◌, slice_get, cond}
 use Rattle.std.specs.Option.{option_map_or}
@@ -23,7 +23,7 @@ use Rattle.clap.proofs.FaultLemmas.{fault_ends}
 use Rattle.clap.proofs.WalkLemmas.{both, bundle_ends}
 use Rattle.h41_arguments.specs.CommandLine.{is_flag, is_last_flag}
 
--- ---- one word
+-- ---- One word.
 
 pub nothing_left : (a b : Kinds) → or_else a b ≡ [] → (a ≡ []) × (b ≡ [])
 nothing_left [] b e = (refl, e)
@@ -45,13 +45,13 @@ abbrev pub version : Rule
 version = with_index 1 (filled version_rule)
 
 module _ (rules : List Rule) (again : Bool) where
-  -- no argument has the name, or the one that does answers with a kind
+  -- No argument has the name, or the one that has it answers with a kind of error.
   abbrev pub Refuses : Option Rule → Type 0
   Refuses found = (v : Option Text) (rest : Text) (rows : List Row) (pending : Option (Text × List Text)) (next : Held → Kinds)
       → (long_fault rules again found v (holding rows pending) ≡ [] → ⊥)
       × (short_fault rules again found rest (holding rows pending) next ≡ [] → ⊥)
 
-  -- that holds of all names but the long ones that are known
+  -- That holds for all names except the long ones that are known.
   abbrev pub RefusesAll : (Text → Bool) → Type 0
   RefusesAll known = ((n : Text) → known n ≡ false → Refuses (arg_by_long rules n)) × ((x : ℕ) → Refuses (arg_by_short rules x))
 
@@ -63,7 +63,7 @@ module _ (rules : List Rule) (again : Bool) where
   refuses_version None rest rows pending next = (answered _ kind.DisplayVersion, answered_then _ _ kind.DisplayVersion)
   refuses_version (Some v) rest rows pending next = (λ e. cc, answered_then _ _ kind.DisplayVersion)
 
-  -- the flag for help, else the one for the version, else none
+  -- The flag for help, otherwise the one for the version, otherwise none.
   pub refuses_either : (t u : Bool) → Refuses (cond t (Some help) (cond u (Some version) None))
   refuses_either true u = refuses_help
   refuses_either false true = refuses_version
@@ -84,12 +84,12 @@ unfolding chars
 hyphen_spells [] e = cc
 hyphen_spells (x ∷ xs) e = cc
 
--- a word does not give a long name that is known
+-- A word does not give a long name that is known.
 abbrev pub NamesUnknown : (Text → Bool) → Text → Type 0
 NamesUnknown known word = (rest : Text) → word ≡ 45 ∷ 45 ∷ rest → known (before_first (λ x. x == 61) rest) ≡ false
 
 module _ (rules : List Rule) (again : Bool) (rows : List Row) (pending : Option (Text × List Text)) where
-  -- the first character of a bundle
+  -- The first character of a bundle of flags.
   first_fails : (known : Text → Bool) → RefusesAll rules again known → (o : Option ℕ) (flags : Text) (next : Text → ℕ → Held → Kinds)
       → is_some o ≡ true → bundle_step_fault rules again o flags 0 (holding rows pending) next ≡ [] → ⊥
   first_fails known all None flags next some e = cc
@@ -121,7 +121,7 @@ module _ (rules : List Rule) (again : Bool) (rows : List Row) (pending : Option 
       (all.0 _ other _ [] rows pending (λ h. [])).0 long
   dashed_fails known all d rest some more unknown false is e = bundle_fails known all d rest some (sym (bundle_read d rest is) ∙ e)
 
-  -- a flag fails, whatever is pending
+  -- A flag fails, whatever is pending.
   flag_fails : (known : Text → Bool) → RefusesAll rules again known → (word : Text) → is_flag word ≡ true → is_last_flag word ≡ false
       → NamesUnknown known word → flag_word_fault rules again (long_of word) word (holding rows pending) ≡ [] → ⊥
   flag_fails known all [] flag more unknown e = cc
@@ -132,7 +132,7 @@ module _ (rules : List Rule) (again : Bool) (rows : List Row) (pending : Option 
       → flag_word_fault rules again (long_of (c ∷ d ∷ rest)) (c ∷ d ∷ rest) (holding rows pending) ≡ [] → ⊥ in
       subst P (sym is) (λ more unknown e. dashed_fails known all d rest (both _ _ flag).1 more unknown (d == 45) refl e) more unknown e
 
-  -- a word that is no flag names none
+  -- A word that is not a flag names none.
   abbrev Passes : Text → Type 0
   Passes word = (flag_word_fault rules again (long_of word) word (holding rows pending) ≡ [])
       × (long_or_other rules idle word (long_of word) (holding rows pending) ≡ (holding rows pending, value))
@@ -148,7 +148,7 @@ module _ (rules : List Rule) (again : Bool) (rows : List Row) (pending : Option 
         ap (λ o. long_or_other rules idle (c ∷ rest) o h) long ∙ ap (λ o. short_or_plain rules idle (c ∷ rest) o h) short,
       )
 
-  -- `-` and bytes that spell no character
+  -- `-` and bytes that are not a character.
   dash_alone : (rest : Text) → (o : Option ℕ) → slice_get (chars rest) 0 ≡ o → is_some o ≡ false → Passes (45 ∷ rest)
   dash_alone [] o is none = (refl, refl)
   dash_alone (d ∷ rest) (Some x) is none = cc
@@ -179,7 +179,7 @@ module _ (rules : List Rule) (again : Bool) (rows : List Row) (pending : Option 
           ap (λ t. t && is_some (slice_get (chars rest) 0)) (sym is) ∙ plain in
           subst (λ (c : ℕ). Passes (c ∷ rest)) (sym (eqb-true c 45 is)) (dash_alone rest (slice_get (chars rest) 0) refl none)
 
--- ---- one turn of a walk
+-- ---- One turn of a walk.
 
 abbrev pub last_flag : Text
 last_flag = 45 ∷ 45 ∷ []

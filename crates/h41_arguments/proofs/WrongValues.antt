@@ -1,4 +1,4 @@
--- An option with a wrong value: a parse takes the words, and they ask for no job.
+-- An option with a wrong value: a parse accepts the words, and they ask for no job.
 use Rattle.std.proofs.Common.{ap, ap₂, sym, refl, codes, ℕ, Bool, true, false, List, Option, Some, None, [], ◌∷◌, ◌++◌, ◌≡◌}
 use Rattle.std.proofs.Common.{◌∙◌, ◌&&◌, ◌||◌, ◌⊎◌, drop, inl, inr, is_none, not, option_map, subst}
 use Rattle.std.specs.Prelude.{option_and_then}
@@ -19,13 +19,13 @@ use Rattle.h41_arguments.proofs.CommandWalks.{name_text, run_name, taken}
 use Rattle.h41_arguments.proofs.CommandLemmas.{command_named}
 use Rattle.h41_arguments.proofs.TwiceGiven.{file_between, first_given, given_after, given_word, held_rows, option_text}
 
--- the task that a value asks for
+-- The task that a value asks for.
 abbrev task_of_value : CommandName → Text → Option Task
 task_of_value run_name text = option_map (λ size. tasks.Run size) (size_written text)
 task_of_value asm_name text = option_map (λ origin. tasks.Assemble origin) (origin_value text)
 task_of_value dis_name text = option_map (λ origin. tasks.List origin) (origin_value text)
 
--- the walk over the option and FILE, and over FILE and the option
+-- The walk over the option and FILE, and over FILE and the option.
 abbrev before_file : CommandName → Text → Text → Walk
 before_file c a file = at (held_rows c a) (Some (codes "FILE", file ∷ [])) 2 false
 
@@ -48,7 +48,7 @@ job_behind run_name file a = (refl, refl)
 job_behind asm_name file a = (refl, refl)
 job_behind dis_name file a = (refl, refl)
 
--- a parse takes the words, and they ask for no job
+-- A parse accepts the words, and they ask for no job.
 pub record AsksNothing (words : List Text) : Type 0 where
   pub no_fault : fault_of bench_app words ≡ []
   pub no_job : job_asked words ≡ None
@@ -92,7 +92,7 @@ none_is : {X : Type 0} (o : Option X) → is_none o ≡ true → o ≡ None
 none_is None is = refl
 none_is (Some x) is = cc
 
--- a value of the command is wrong
+-- A value of the command is wrong.
 abbrev is_wrong : CommandName → Text → Bool
 is_wrong run_name text = is_none (size_written text)
 is_wrong asm_name text = is_none (origin_value text)

@@ -1,11 +1,11 @@
--- The sizes that the memory of a run may have, and how a command line names them.
+-- The sizes of main memory that a run can have, and how a command line names them.
 use Rattle.std.specs.Prelude.{ℕ, List, Option, Some, None, codes, if◌then◌else◌}
 use Rattle.std.specs.Str.{bytes_eq}
 use Rattle.h41_arguments.specs.declared.memory.MemorySize.{MemorySize}
 use Rattle.h41_arguments.specs.declared.memory.MemorySize.TheVariants as sizes
 
--- how many registers of main memory there are: 64 in a bare HP-41C, 64 more with each of up to
--- three modules, and 320 in an HP-41CV
+-- The number of main registers: 64 in an HP-41C without modules, 64 more with each of up to three
+-- modules, and 320 in an HP-41CV.
 abbrev pub registers_of : MemorySize → ℕ
 registers_of sizes.BareC = 64
 registers_of sizes.OneModule = 128
@@ -13,7 +13,7 @@ registers_of sizes.TwoModules = 192
 registers_of sizes.ThreeModules = 256
 registers_of sizes.Cv = 320
 
--- the size that a text writes: the number of its registers, in exactly these digits
+-- The size that a text names by its number of registers, in exactly these digits.
 abbrev pub size_written : List ℕ → Option MemorySize
 size_written text =
     if bytes_eq text (codes "64") then Some sizes.BareC

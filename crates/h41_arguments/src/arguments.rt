@@ -1,4 +1,4 @@
-//! Reads the command line.
+//! Reads the words of the command line.
 
 ghost use Rattle.std.specs.Prelude.{◌≡◌, [], true, false, codes, map, IfOk, IfSome, IfNone};
 ghost use Rattle.std.specs.Prelude.{IsErrAnd, option_map};
@@ -29,34 +29,36 @@ use std::alloc::{AllocError, Global};
 /// What a job does with its file.
 #[derive(Clone, Copy, Debug, PartialEq, Eq)]
 pub enum Task {
-    /// Runs the deck in it, on a bench with so much memory.
+    /// Runs the deck in the file, on a bench with this size of memory.
     Run { memory: MemorySize },
-    /// Assembles the source in it, from an address on.
+    /// Assembles the source in the file, from an address on.
     Assemble { origin: u16 },
-    /// Lists the words in it, of which the first stands at an address.
+    /// Lists the words in the file, the first of which is at an address.
     List { origin: u16 },
 }
 
-/// What the command line asks for: a task, and the file that it is for, where `-` is standard input.
+/// What the command line asks for: a task and its file.
 #[derive(Clone, Copy, Debug, PartialEq, Eq)]
 pub struct Job<'a> {
+    /// The task.
     pub task: Task,
+    /// The name of the file; `-` is standard input.
     pub file: &'a str,
 }
 
-/// How the program ends at once.
+/// How the program ends without a job.
 #[derive(Debug, Drop)]
 pub enum Ending {
     /// Help or the version was asked for. The text is for standard output.
     Help(String),
-    /// The words are wrong. The text is for standard error.
+    /// The words are wrong. The text says so and is for standard error.
     Mistake(String),
-    /// No memory is left for the words or for a text.
+    /// Allocation failed, for the words or for a text.
     OutOfMemory,
 }
 
 impl Ending {
-    /// The status that the program ends with: 0, 2 or 3.
+    /// Returns the exit status of the program: 0 for help and the version, 2 for wrong words, 3 if allocation failed.
     pub fn status(&self) -> u8
         ensures { result ≡ status_of self.now }
     {
@@ -68,28 +70,28 @@ impl Ending {
     }
 }
 
-/// The address of the first word where none is given.
+/// The address of the first word if none is given: 8000.
 const ORIGIN: u16 = 0x8000;
 
-/// The memory of a run where none is given.
+/// The memory of a run if none is given: 320 registers.
 const MEMORY: MemorySize = MemorySize::Cv;
 
 /// The version, and the kit that proves it, as `rt version` prints it.
 const VERSION: &str = "0.1.0, proved with rattle-kit-13f logic dac8208d650f15bf";
 
-/// What a wrong origin is answered with.
+/// The message about a wrong origin.
 const WRONG_ORIGIN: &str = "error: wrong value of --origin: expected four hexadecimal digits\n";
 
-/// What a wrong size of memory is answered with.
+/// The message about a wrong size of memory.
 const WRONG_MEMORY: &str = "error: wrong value of --memory: expected 64, 128, 192, 256 or 320\n";
 
-/// How the program is started.
+/// The usage of the program, as help shows it.
 const USAGE: &str = "\
 bench run [--memory N] FILE
        bench asm [--origin HHHH] FILE
        bench dis [--origin HHHH] FILE";
 
-/// What help tells behind the usage.
+/// The text of help after the usage.
 const DECKS: &str = "\
 A deck is a text file of commands, one a line. For example:
 
@@ -142,7 +144,7 @@ In the folder of the sources, README.md is the introduction, docs/DECK.md
 describes the whole deck language with each refusal and its usual causes,
 examples/ has decks to try, and tools/where prints which lines were refused.";
 
-/// What help tells of `asm`, behind the usage.
+/// The text of help for `asm`, after the usage.
 const SOURCES: &str = "\
 A source is a text file of instructions, one a line, in the mnemonics of this
 project's table, docs/PROCESSOR.md. A label ends with a colon, a reference to it
@@ -157,7 +159,7 @@ Its words are printed, each as three hexadecimal digits on a line of its own. If
 the source has an error, a line such as `! 30 BadLine 2` is printed, which gives
 the number of the wrong line, and the status is 1.";
 
-/// What help tells of `dis`, behind the usage.
+/// The text of help for `dis`, after the usage.
 const WORDS: &str = "\
 The words are hexadecimal numbers up to 3FF, separated by spaces, tabs and line
 ends. For example:
@@ -168,7 +170,7 @@ They are printed as instructions, one a line. The origin changes none of them,
 because a jump is printed with its address or its distance. If one of them is no
 such number, nothing is listed and the program ends with status 2.";
 
-/// The command `bench` with its subcommands.
+/// Returns the command `bench` with its subcommands. OutOfMemory (21) if allocation failed.
 fn bench<'a>(alloc: Global) -> Result<Command<'a>, AllocError>
     ensures { IfOk result (λ command. app_of command ≡ bench_app) }
 {
@@ -177,7 +179,7 @@ fn bench<'a>(alloc: Global) -> Result<Command<'a>, AllocError>
     with_task(with_assemble, list_command(alloc))
 }
 
-/// The command `bench` without its subcommands.
+/// Returns the command `bench` without its subcommands.
 fn empty_bench<'a>(alloc: Global) -> Command<'a>
     ensures { app_of result ≡ empty_bench }
 {
@@ -187,7 +189,7 @@ fn empty_bench<'a>(alloc: Global) -> Command<'a>
         .subcommand_required(true)
 }
 
-/// The command with one subcommand more.
+/// Returns the command with one more subcommand. OutOfMemory (21) if allocation failed.
 fn with_task<'a>(
     bench: Command<'a>,
     task: Result<Command<'a>, AllocError>,
@@ -199,7 +201,7 @@ fn with_task<'a>(
     bench.subcommand(task?)
 }
 
-/// The command that runs a deck.
+/// Returns the command that runs a deck. OutOfMemory (21) if allocation failed.
 fn run_command<'a>(alloc: Global) -> Result<Command<'a>, AllocError>
     ensures app { IfOk result (λ command. app_of command ≡ run_app) }
     ensures local { IfOk result (λ command. has_globals command ≡ false) }
@@ -217,7 +219,7 @@ fn run_command<'a>(alloc: Global) -> Result<Command<'a>, AllocError>
     )
 }
 
-/// The command that assembles a source.
+/// Returns the command that assembles a source. OutOfMemory (21) if allocation failed.
 fn assemble_command<'a>(alloc: Global) -> Result<Command<'a>, AllocError>
     ensures app { IfOk result (λ command. app_of command ≡ origin_app (codes "asm")) }
     ensures local { IfOk result (λ command. has_globals command ≡ false) }
@@ -227,7 +229,7 @@ fn assemble_command<'a>(alloc: Global) -> Result<Command<'a>, AllocError>
     option_command(alloc, "asm", "Assembles a source", usage, SOURCES, origin)
 }
 
-/// The command that lists words.
+/// Returns the command that lists words. OutOfMemory (21) if allocation failed.
 fn list_command<'a>(alloc: Global) -> Result<Command<'a>, AllocError>
     ensures app { IfOk result (λ command. app_of command ≡ origin_app (codes "dis")) }
     ensures local { IfOk result (λ command. has_globals command ≡ false) }
@@ -244,7 +246,8 @@ fn list_command<'a>(alloc: Global) -> Result<Command<'a>, AllocError>
     )
 }
 
-/// A command that takes an option beside FILE. Help says what it is about, its usage, and the text behind that.
+/// Returns a command with an option and FILE. Help shows what the command does, its usage, and the text after that. OutOfMemory
+/// (21) if allocation failed.
 fn option_command<'a>(
     alloc: Global,
     name: &'a str,
@@ -263,7 +266,7 @@ fn option_command<'a>(
         .arg(file_argument(alloc))
 }
 
-/// A command that takes nothing yet. Help says what it is about, its usage, and the text behind that.
+/// Returns a command without arguments. Help shows what the command does, its usage, and the text after that.
 fn told_command<'a>(
     alloc: Global,
     name: &'a str,
@@ -280,7 +283,7 @@ fn told_command<'a>(
         .after_help(text)
 }
 
-/// The argument `--origin`.
+/// Returns the argument `--origin`.
 fn origin_argument<'a>(alloc: Global) -> Arg<'a>
     ensures rule { rule_of result ≡ origin_rule }
     ensures local { result.global ≡ false }
@@ -289,7 +292,7 @@ fn origin_argument<'a>(alloc: Global) -> Arg<'a>
     option_argument(alloc, "origin", "HHHH", help)
 }
 
-/// An option by its name, with what help calls its value and says of it.
+/// Returns an option with this name. Help shows the name of its value and what the option is for.
 fn option_argument<'a>(alloc: Global, name: &'a str, value: &'a str, help: &'a str) -> Arg<'a>
     ensures rule { rule_of result ≡ option_rule name.now }
     ensures local { result.global ≡ false }
@@ -301,7 +304,7 @@ fn option_argument<'a>(alloc: Global, name: &'a str, value: &'a str, help: &'a s
         .action(ArgAction::Set)
 }
 
-/// The argument FILE.
+/// Returns the argument FILE.
 fn file_argument<'a>(alloc: Global) -> Arg<'a>
     ensures rule { rule_of result ≡ file_rule }
     ensures local { result.global ≡ false }
@@ -312,7 +315,7 @@ fn file_argument<'a>(alloc: Global) -> Arg<'a>
         .action(ArgAction::Set)
 }
 
-/// The words of the command line, matched.
+/// Matches the words of the command line with the command `bench`.
 fn matched<'a>(alloc: Global, words: &'a [&'a str]) -> Result<ArgMatches<'a>, Error>
     ensures kinds { FailsBy (fault_of bench_app (map (λ w. w.now) words.now)) result }
     ensures matches { IfOk result (HasMatchesOf bench_app (map (λ w. w.now) words.now)) }
@@ -320,7 +323,7 @@ fn matched<'a>(alloc: Global, words: &'a [&'a str]) -> Result<ArgMatches<'a>, Er
     bench(alloc)?.try_get_matches_from(words)
 }
 
-/// The job that the matches have. None where a size of memory or an origin is wrong.
+/// Returns the job in the matches, or `None` if a size of memory or an origin is wrong.
 fn job_of<'a>(matches: &ArgMatches<'a>) -> Option<Job<'a>>
     ensures { option_map parts_of result ≡ job_in (subcommand_rows_of matches.now) }
 {
@@ -330,7 +333,7 @@ fn job_of<'a>(matches: &ArgMatches<'a>) -> Option<Job<'a>>
     Some(Job { task, file })
 }
 
-/// The task that a command's name asks for.
+/// Returns the task that the name of a command asks for, or `None` if its size of memory or its origin is wrong.
 fn task_of(name: &str, command: &ArgMatches<'_>) -> Option<Task>
     ensures { result ≡ task_asked name.now (memory_in command.now) (origin_in command.now) }
 {
@@ -348,7 +351,7 @@ fn task_of(name: &str, command: &ArgMatches<'_>) -> Option<Task>
     }
 }
 
-/// The value of an argument of a command, where it has one.
+/// Returns the value of an argument of a command, if it has one.
 fn value_of<'a>(command: &ArgMatches<'a>, name: &str) -> Option<&'a str>
     ensures { option_map (λ text. text.now) result
         ≡ first_of name.now (rows_of (found_of command.now)) }
@@ -356,7 +359,7 @@ fn value_of<'a>(command: &ArgMatches<'a>, name: &str) -> Option<&'a str>
     command.get_str(name)
 }
 
-/// The size of memory: 320 registers where it is not given. None where the one that is given is no size.
+/// Returns the size of memory: 320 registers if it is not given, or `None` if the given one is not a size.
 fn memory_of(command: &ArgMatches<'_>) -> Option<MemorySize>
     ensures { result ≡ memory_asked (memory_in command.now) }
 {
@@ -366,7 +369,8 @@ fn memory_of(command: &ArgMatches<'_>) -> Option<MemorySize>
     }
 }
 
-/// The address of the first word: 8000 where it is not given. None where the one that is given has not four hexadecimal digits.
+/// Returns the address of the first word: 8000 if it is not given, or `None` if the given one does not have four hexadecimal
+/// digits.
 fn origin_of(command: &ArgMatches<'_>) -> Option<u16>
     ensures { result ≡ origin_asked (origin_in command.now) }
 {
@@ -376,7 +380,7 @@ fn origin_of(command: &ArgMatches<'_>) -> Option<u16>
     }
 }
 
-/// The job that the matches have, or how the program ends where a size of memory or an origin is wrong.
+/// Returns the job in the matches, or how the program ends if a size of memory or an origin is wrong.
 fn job_or_mistake<'a>(alloc: Global, matches: &ArgMatches<'a>) -> Result<Job<'a>, Ending>
     ensures job { GivesJob (job_in (subcommand_rows_of matches.now)) result }
     ensures option { IfNone (job_in (subcommand_rows_of matches.now))
@@ -389,7 +393,7 @@ fn job_or_mistake<'a>(alloc: Global, matches: &ArgMatches<'a>) -> Result<Job<'a>
     }
 }
 
-/// How the program ends where an option of this command is wrong.
+/// Returns how the program ends if the option of this command is wrong.
 fn wrong_option(alloc: Global, command: Option<&str>) -> Ending
     ensures status { EndsWith 2 result }
     ensures text { SaysMistake (option_mistake (option_map (λ name. name.now) command.entry))
@@ -401,7 +405,7 @@ fn wrong_option(alloc: Global, command: Option<&str>) -> Ending
     }
 }
 
-/// What is said of a wrong option of this command.
+/// Returns the message about a wrong option of this command.
 fn wrong_option_text(command: Option<&str>) -> &'static str
     ensures { result.now ≡ option_mistake (option_map (λ name. name.now) command.entry) }
 {
@@ -411,7 +415,7 @@ fn wrong_option_text(command: Option<&str>) -> &'static str
     }
 }
 
-/// How the program ends where the words ask for no job.
+/// Returns how the program ends if the words ask for no job.
 fn make_ending(alloc: Global, error: Error) -> Ending
     ensures memory { kind_of error ≡ kind.OutOfMemory → result ≡ Ending.OutOfMemory }
     ensures help { kind_of error ≡ kind.DisplayHelp → EndsWith 0 result }
@@ -428,13 +432,14 @@ fn make_ending(alloc: Global, error: Error) -> Ending
     }
 }
 
-/// Reads the words of the command line, of which the first is the program's name. They ask for a
-/// run as `run FILE`, with FILE `-` or no flag, or with the mark `--` before or after it, and with a
-/// size of memory; for the other tasks as `asm` and `dis`, with FILE and an origin.
+/// Reads the words of the command line, of which the first is the program's name, and returns the job that they ask for. They
+/// ask for a run as `run FILE`, with FILE `-` or not beginning with a hyphen, or with `--` before or after it, and with an
+/// optional size of memory; for the other tasks as `asm` and `dis`, with FILE and an optional origin.
 ///
 /// # Errors
 ///
-/// `Help` (status 0), `Mistake` (status 2) and `OutOfMemory` (status 3).
+/// `Help` (exit status 0) if help or the version is asked for, `Mistake` (exit status 2) if the words are wrong, and
+/// `OutOfMemory` (exit status 3) if allocation failed.
 pub fn read_words<'a>(alloc: Global, words: &'a [&'a str]) -> Result<Job<'a>, Ending>
     ensures run { IfSome (file_to_run (map (λ w. w.now) words.now)) (AsksToRun result) }
     ensures no_run { give_memory (map (λ w. w.now) words.now) ≡ false
@@ -447,8 +452,8 @@ pub fn read_words<'a>(alloc: Global, words: &'a [&'a str]) -> Result<Job<'a>, En
     ensures twice { gives_twice (map (λ w. w.now) words.now) ≡ true → EndsAtOnce 2 result }
     ensures value { gives_wrong_value (map (λ w. w.now) words.now) ≡ true → EndsAtOnce 2 result }
 
-    // Where a parse refuses the words, the status is that of its error's kind: 0 of help and the version, and 2 of any other.
-    // Where it takes them, the job is that of the command, the FILE and the option in them, and a wrong option ends the program.
+    // If a parse refuses the words, the status is that of its error's kind: 0 for help and the version, and 2 for any other. If
+    // it accepts them, the job is that of the command, the FILE and the option in them, and a wrong option ends the program.
     ensures refused { RefusedByKind (map (λ w. w.now) words.now) result }
     ensures job { GivesJobOf (map (λ w. w.now) words.now) result }
     ensures option { SaysWrongOption (map (λ w. w.now) words.now) result }

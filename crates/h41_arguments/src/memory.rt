@@ -1,24 +1,25 @@
-//! The sizes that the memory of a run may have.
+//! The sizes of main memory that a run can have.
 
 ghost use Rattle.std.specs.Prelude.{◌≡◌};
 ghost use Rattle.h41_arguments.specs.MemorySizes.{size_written};
 
-/// The calculator that a run's deck is for, by its main memory.
+/// The calculator that a run simulates, by the size of its main memory.
 #[derive(Clone, Copy, Debug, PartialEq, Eq)]
 pub enum MemorySize {
-    /// An HP-41C with no memory module: 64 registers.
+    /// An HP-41C without memory modules: 64 registers.
     BareC,
-    /// An HP-41C with one: 128.
+    /// An HP-41C with one memory module: 128 registers.
     OneModule,
-    /// With two: 192.
+    /// An HP-41C with two memory modules: 192 registers.
     TwoModules,
-    /// With three: 256.
+    /// An HP-41C with three memory modules: 256 registers.
     ThreeModules,
-    /// An HP-41CV, or an HP-41C with four modules: 320.
+    /// An HP-41CV, or an HP-41C with four memory modules: 320 registers.
     Cv,
 }
 
-/// The size that a text writes: the number of its registers, in exactly these digits.
+/// Returns the size that a text names by its number of registers, in exactly these digits: `64`,
+/// `128`, `192`, `256` or `320`. `None` for any other text.
 pub fn written_size(text: &str) -> Option<MemorySize>
     ensures { result ≡ size_written text.now }
 {

@@ -1,4 +1,4 @@
--- What was read of an input that is read whole, and what is written of a text.
+-- What was read of an input that is read completely, and what is written of a text.
 use Rattle.std.proofs.Common.{◌≡◌, ℕ, ◌≤◌, Bool, true, nat_le, List, ◌++◌, length, take, Option, Some}
 use Rattle.std.proofs.Common.{None, IfSome, Result, Ok, Err, OnErr, arith, ap, refl, sym, ◌∙◌}
 use Rattle.std.proofs.lemmas.Bool.{leb-true}
@@ -12,7 +12,7 @@ use Rattle.h41_ends.specs.Ends.{most_bytes}
 use Rattle.h41_commands.specs.PageBlocks.{SourceMakes}
 use Rattle.h41_jobs.specs.Inputs.{IsWhole}
 
--- the bytes are the whole input
+-- The bytes are the whole input.
 pub whole_input : (known : Option (List ℕ)) (bytes : List ℕ) (whole : Bool) → IfSome known (λ input. bytes ≡ take most_bytes input)
     → IfSome known (λ input. whole ≡ nat_le (length input) most_bytes) → whole ≡ true → IfSome known (IsWhole bytes)
 whole_input None bytes whole front says is = tt
@@ -20,12 +20,12 @@ whole_input (Some input) bytes whole front says is =
     let short : length input ≤ most_bytes = leb-true _ _ (sym says ∙ is) in
     record { all = front ∙ take_all most_bytes input short; bound = short }
 
--- a source with a fault
+-- A source with an error.
 pub source_refused : (source : List ℕ) (origin line : ℕ) (fault : asm.SourceFault) (why : LineRefusal)
     → assembly_fault source origin ≡ Some (fault, line) → why ≡ Source fault line → SourceMakes source origin (Err why)
 source_refused source origin line fault why found own = rw (found, own) refl
 
--- a text that was written, and then kept, is a front of itself
+-- A text that was written, and then kept, is a prefix of itself.
 pub all_written : (old middle new : Option (List ℕ)) (text : List ℕ) → Appends old middle text → Keeps middle new
     → (count : ℕ) × Appends old new (take count text)
 all_written None middle new text written kept = (0, tt)

@@ -18,7 +18,7 @@ use Rattle.h41_jobs.specs.Texts.{ListReadsAs, ReadsAs, SourceAssemblesTo, ended_
 use Rattle.h41_jobs.specs.WordTexts.{parts_of, word_value}
 use Rattle.h41_jobs.proofs.WordLemmas.{is_wrong}
 
--- what is made of the one answer is one
+-- What is made of the only answer is the only such result.
 made_of_one : {A B : Type 0} (says : A → Type 0) (made : A → B) → HasOne says → HasOne (λ b. (a : A) × says a × (b ≡ made a))
 made_of_one says made one =
     record {
@@ -27,7 +27,7 @@ made_of_one says made one =
       only = λ other is. is.2 ∙ ap made (one.only is.0 is.1);
     }
 
--- what a fault says
+-- What an error says.
 refusal_of : {A B : Type 0} (of : A → B) (found : Option A) → IsSome found → (refusal : B) × (option_map of found ≡ Some refusal)
 refusal_of of None is = cc
 refusal_of of (Some fault) is = (of fault, refl)
@@ -39,7 +39,7 @@ fault_of of (Some fault) refusal is = refl
 same_some : {B : Type 0} (a b : B) → Some a ≡ Some b → a ≡ b
 same_some a b is = cc
 
--- sources
+-- Sources.
 abbrev told : SourceFault × ℕ → LineRefusal
 told found = Source found.0 found.1
 
@@ -97,12 +97,12 @@ module _ (either : HasWordsOrFault) (never : NeverBoth) (same : WordsAreDetermin
       let of_end : ends.0 ≡ Err (Source fault line) = only_refusal source origin (Source fault line) refused ends.0 ends.1.gives in
       (is.2 ∙ ap given_text of_text, ends.2 ∙ ap ended_of_source of_end)
 
--- what the parts of a list say, the first of them with this number
+-- The content of the parts of a list, the first of which has this number.
 abbrev PartsSay : ℕ → List (List ℕ) → Result (List ℕ) ℕ → Type 0
 PartsSay start parts (Ok words) = map word_value parts ≡ map (λ word. Some word) words
 PartsSay start parts (Err number) = position_from is_wrong start parts ≡ Some number
 
--- one word more in front
+-- One more word before the others.
 abbrev with_word : ℕ → Result (List ℕ) ℕ → Result (List ℕ) ℕ
 with_word word (Ok words) = Ok (word ∷ words)
 with_word word (Err number) = Err number
@@ -115,7 +115,7 @@ both_right : (a b : Bool) → (a && b) ≡ true → b ≡ true
 both_right true b is = is
 both_right false b is = cc
 
--- a list says something
+-- A list has a content.
 say_more : (start : ℕ) (part : List ℕ) (parts : List (List ℕ)) (word : ℕ) (said : Result (List ℕ) ℕ) → word_value part ≡ Some word
     → PartsSay (start + 1) parts said → PartsSay start (part ∷ parts) (with_word word said)
 say_more start part parts word (Ok words) is says = λ i. is i ∷ says i
@@ -134,7 +134,7 @@ say : (start : ℕ) (parts : List (List ℕ)) → (said : Result (List ℕ) ℕ)
 say start [] = (Ok [], refl)
 say start (part ∷ parts) = say_part start part parts (word_value part) refl (say (start + 1) parts)
 
--- the first of values, and those behind it
+-- The first of some values, and those after it.
 first_value : (a b : Option ℕ) (all others : List (Option ℕ)) → a ∷ all ≡ b ∷ others → a ≡ b
 first_value a b all others is = cc
 
@@ -144,7 +144,7 @@ more_values a b all others is = cc
 no_value : (a : Option ℕ) (all : List (Option ℕ)) → a ∷ all ≡ [] → ⊥
 no_value a all is = cc
 
--- it says nothing else
+-- A list has no other content.
 same_words : (a b : List ℕ) → map (λ word. Some word) a ≡ map (λ word. Some word) b → a ≡ b
 same_words [] [] is = refl
 same_words [] (y ∷ b) is = absurd (no_value _ _ (sym is))
@@ -170,7 +170,7 @@ same_said start parts (Ok a) (Err number) p q = absurd (not_both start parts a n
 same_said start parts (Err number) (Ok b) p q = absurd (not_both start parts b number q p)
 same_said start parts (Err a) (Err b) p q = ap (λ (number : ℕ). Err number) (same_some a b (sym p ∙ q))
 
--- a text of words
+-- A text of words.
 reads_as : (text : List ℕ) (said : Result (List ℕ) ℕ) → PartsSay 1 (parts_of text) said → ReadsAs text said
 reads_as text (Ok words) says = says
 reads_as text (Err number) says = says
@@ -200,7 +200,7 @@ words_listed list words text ended writes is ends =
     let of_end : ends.0 ≡ Ok words = same_said 1 (parts_of list) ends.0 (Ok words) (parts_say list ends.0 ends.1.says) writes in
     (is.2 ∙ ap list_text of_text, ends.2 ∙ ap ended_of_list of_end)
 
--- where the first wrong one of parts stands
+-- The index of the first wrong part.
 found_at : (start : ℕ) (before : List (List ℕ)) (part : List ℕ) (after : List (List ℕ)) → list_all is_word before ≡ true
     → is_word part ≡ false → position_from is_wrong start (before ++ part ∷ after) ≡ Some (start + length before)
 found_at start [] part after words wrong =

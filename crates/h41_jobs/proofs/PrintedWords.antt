@@ -14,11 +14,11 @@ use Rattle.h41_words.specs.Counts.{word_count}
 use Rattle.h41_jobs.specs.JobLaws.{PrintedWordsAreRead}
 use Rattle.h41_jobs.specs.WordTexts.{is_white_space, parts_of, word_line, word_lines, word_value}
 
--- no digit is white space
+-- No digit is white space.
 is_black : (digit : ℕ) → digit < 16 → is_white_space (digit_glyph true digit) ≡ false
 is_black digit inside = agree_below_at (λ d. is_white_space (digit_glyph true d)) (λ _. false) 16 digit refl inside
 
--- three bytes that are none, and an LF
+-- Three bytes that are not white space, and an LF.
 three_and_end : (a b c : ℕ) (rest : List ℕ) → is_white_space a ≡ false → is_white_space b ≡ false → is_white_space c ≡ false
     → slice_split is_white_space (a ∷ b ∷ c ∷ 10 ∷ rest) ≡ (a ∷ b ∷ c ∷ []) ∷ slice_split is_white_space rest
 three_and_end a b c rest first second third =
@@ -27,14 +27,14 @@ three_and_end a b c rest first second third =
     (slice_split-cons_no is_white_space b (c ∷ 10 ∷ rest) second
     ∙ ap (onto_first b) (slice_split-cons_no is_white_space c (10 ∷ rest) third))
 
--- the parts of a word's line and what follows it
+-- The parts of a word's line and of what follows it.
 line_parts : (word : ℕ) (rest : List ℕ) → parts_of (word_line word ++ rest) ≡ hexadecimal_text 3 word ∷ parts_of rest
 line_parts word rest =
     ap (filter (λ part. not (length part == 0)))
     (three_and_end (digit_glyph true (word / 16 / 16 % 16)) (digit_glyph true (word / 16 % 16)) (digit_glyph true (word % 16)) rest
     (is_black (word / 16 / 16 % 16) (omega arith)) (is_black (word / 16 % 16) (omega arith)) (is_black (word % 16) (omega arith)))
 
--- a word's digits write it
+-- The digits of a word write the word.
 value_of : (text : List ℕ) (word : ℕ) → hexadecimal 3 3 text ≡ Some word → word < word_count → word_value text ≡ Some word
 value_of text word is small = elim (cases_Bool (is_hexadecimal 3 3 text)) [
   | inl good ↦

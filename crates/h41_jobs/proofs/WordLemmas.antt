@@ -1,4 +1,4 @@
--- Numbers as their digits come, and words of a text as its parts come.
+-- Numbers digit by digit, and the words of a text part by part.
 use Rattle.std.proofs.Common.{◌≡◌, ℕ, ◌+◌, ◌<◌, true, false, Bool, List, [], ◌∷◌, map, length, take, get_or, Option}
 use Rattle.std.proofs.Common.{Some, None, is_none, arith, sym, refl, ap, ◌∙◌, add-zero, drop}
 use Rattle.std.specs.Borrow.{Bor}
@@ -9,7 +9,7 @@ use Rattle.h41_jobs.specs.WordTexts.{word_value}
 abbrev pub is_wrong : List ℕ → Bool
 is_wrong part = is_none (word_value part)
 
--- the parts before a wrong one write words
+-- The parts before a wrong one write words.
 pub first_wrong : (start : ℕ) (words : List ℕ) (parts : List (List ℕ)) (part : List ℕ)
     → map word_value (take (length words) parts) ≡ map (λ word. Some word) words → length words < length parts
     → part ≡ get_or parts (length words) part → word_value part ≡ None → position_from is_wrong start parts ≡ Some (start + length words)
@@ -24,19 +24,19 @@ first_wrong start (w ∷ words) (p ∷ parts) part before within at wrong =
     let same : (start + 1) + length words ≡ start + length (w ∷ words) = omega arith in
     rw good (rest ∙ ap (λ (n : ℕ). Some n) same)
 
--- the values of parts, each behind a reference
+-- The values of parts, each of which is a reference.
 pub map_now : (parts : List (Bor (List ℕ))) → map word_value (map (λ part. part.now) parts) ≡ map (λ part. word_value part.now) parts
 map_now [] = refl
 map_now (part ∷ parts) = ap (λ (rest : List (Option ℕ)). word_value part.now ∷ rest) (map_now parts)
 
--- as many words as parts
+-- There are as many words as parts.
 words_counted : (parts : List (Bor (List ℕ))) (words : List ℕ) → map (λ part. word_value part.now) parts ≡ map (λ word. Some word) words
     → length parts ≡ length words
 words_counted parts words same =
     sym (length-map parts (λ part. word_value part.now)) ∙ ap (λ (all : List (Option ℕ)). length all) same
     ∙ length-map words (λ word. Some word)
 
--- the parts so far write words, and the next does not
+-- The parts so far write words, and the next one does not.
 pub first_wrong_at : (front : List (Bor (List ℕ))) (words : List ℕ) (parts : List (List ℕ)) (part : List ℕ)
     → map (λ part. word_value part.now) front ≡ map (λ word. Some word) words → map (λ part. part.now) front ≡ take (length front) parts
     → length front < length parts → part ≡ get_or parts (length front) part → word_value part ≡ None

@@ -1,11 +1,11 @@
--- What the program prints where it ends at once.
+-- What the program prints if it ends without a job.
 use Rattle.std.specs.Prelude.{ℕ, List, string_bytes}
 use Rattle.h41_refusals.specs.declared.refusal.Refusal.TheVariants.{OutOfMemory}
 use Rattle.h41_refusals.specs.Refusals.{heading}
 use Rattle.h41_arguments.specs.declared.arguments.Ending.{Ending}
 use Rattle.h41_arguments.specs.declared.arguments.Ending.TheVariants as endings
 
--- the text of a way to end at once
+-- The text that is printed if the program ends in this way.
 abbrev pub text_of : Ending → List ℕ
 text_of (endings.Help text) = string_bytes text
 text_of (endings.Mistake text) = string_bytes text

@@ -1,8 +1,8 @@
--- What is written where a text is not written to its end.
+-- What is written if a text is not written completely.
 use Rattle.std.specs.Prelude.{ℕ, List, take, Option}
 use Rattle.std.specs.Io.KnownBytes.{Appends}
 
--- a front of the text is written, which may be all of it
+-- A prefix of the text is written, which may be all of it.
 abbrev pub AppendsFront : {W : Type 0} → (W → Option (List ℕ)) → W → W → List ℕ → Type 0
 AppendsFront contents old new text =
     (count : ℕ) × Appends (contents old) (contents new) (take count text)

@@ -1,4 +1,4 @@
-//! What is printed of a source.
+//! What is printed for a source.
 
 ghost use Rattle.std.specs.Prelude.{◌≡◌, ◌≤◌, IfOk, length};
 ghost use Rattle.h41_ends.specs.Ends.{most_bytes};
@@ -13,8 +13,12 @@ use h41_refusals::Refusal;
 use h41_words::Word;
 use std::alloc::{AllocError, Global};
 
-/// The words that a source spells at the origin, each three hexadecimal digits on a line of its own, or the line of its refusal and
-/// nothing else. Refuses only memory.
+/// Returns the words of a source that is assembled at the origin, each as three hexadecimal digits on a line of its own; or the
+/// line of its refusal (30 to 35) and nothing else.
+///
+/// # Errors
+///
+/// OutOfMemory (21) if allocation failed.
 pub fn assembly(alloc: Global, source: &[u8], origin: u16) -> Result<Answer, AllocError>
     requires { length source.now ≤ most_bytes }
     ensures { IfOk result (AnswersSource origin source.now) }
@@ -35,7 +39,7 @@ pub fn assembly(alloc: Global, source: &[u8], origin: u16) -> Result<Answer, All
     }
 }
 
-/// The lines of words.
+/// Returns the lines of words. OutOfMemory (21) if allocation failed.
 fn word_lines(alloc: Global, words: &[Word]) -> Result<Vec<u8>, AllocError>
     ensures { IfOk result (λ lines. lines.items ≡ word_lines words.now) }
 {
@@ -46,7 +50,7 @@ fn word_lines(alloc: Global, words: &[Word]) -> Result<Vec<u8>, AllocError>
     Ok(lines)
 }
 
-/// The line of a word: three hexadecimal digits in upper case, and LF.
+/// Returns the line of a word: three hexadecimal digits in upper case, and LF.
 fn word_line(word: Word) -> [u8; 4]
     ensures { result ≡ word_line word }
 {

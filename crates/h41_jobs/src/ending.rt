@@ -1,4 +1,4 @@
-//! What the program prints where it ends at once.
+//! What the program prints if it ends without a job.
 
 ghost use Rattle.std.specs.Prelude.{◌≡◌};
 ghost use Rattle.h41_jobs.specs.Endings.{text_of};
@@ -6,7 +6,8 @@ ghost use Rattle.h41_jobs.specs.Endings.{text_of};
 use h41_arguments::Ending;
 use h41_refusals::Refusal;
 
-/// The text that the program prints. Where memory is refused, it is the fault's line without its end.
+/// Returns the text that the program prints if it ends without a job. For `OutOfMemory` (21) it is
+/// the line of the error without its line end.
 pub fn text_of(ending: &Ending) -> &str
     ensures { result.now ≡ text_of ending.now }
 {

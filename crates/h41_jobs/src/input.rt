@@ -1,4 +1,4 @@
-//! Reads an input whole, or refuses it where it is too long.
+//! Reads an input completely, or refuses it if it is too long.
 
 ghost use Rattle.std.specs.Prelude.{◌≡◌, ◌≢◌, ◌≤◌, true, false, Err, IfOk, IfSome, vec_len};
 ghost use Rattle.h41_ends.specs.Ends.{most_bytes};
@@ -8,11 +8,12 @@ use h41_ends::{Source, read_whole};
 use h41_refusals::Fault;
 use std::alloc::Global;
 
-/// All bytes of an input.
+/// Returns all bytes of an input, at most 67,108,864.
 ///
 /// # Errors
 ///
-/// `ReadFault` (22) where a read fails, or the input has more than 67,108,864 bytes; `OutOfMemory` (21).
+/// `ReadFault` (22) if a read fails, or the input has more than 67,108,864 bytes; `OutOfMemory` (21) if
+/// allocation failed.
 pub fn read_input<R: Source>(alloc: Global, reader: &mut R) -> Result<Vec<u8>, Fault>
     requires { R.failed reader.old ≡ false }
     ensures bytes { IfOk result (λ bytes. IfSome (R.remaining reader.old) (IsWhole bytes.items)) }

@@ -1,4 +1,4 @@
-//! Laws of what is printed: each is the contract of a function with nothing to do but to call the laws it rests on.
+//! Laws of what is printed. Each law is the contract of a function whose body only calls the laws that it depends on.
 
 ghost use Rattle.h41_jobs.specs.JobLaws.{FaultIsPrinted, ListHasOneEnd, ListHasOneText};
 ghost use Rattle.h41_jobs.specs.JobLaws.{PrintedWordsAreRead, SourceHasOneEnd, SourceHasOneText};
@@ -7,8 +7,8 @@ ghost use Rattle.h41_jobs.specs.JobLaws.{WordsAreListed, WordsArePrinted, WrongW
 use h41_asm::laws::{words_are_determined, words_or_fault};
 use h41_lines::laws::hexadecimal_round_trip;
 
-/// Each source within the bound has one text (`text`), and ends in one way (`end`), at each origin: the lines of the words that it
-/// spells (`words`), or its first fault with that line's number (`fault`).
+/// States that each source within the limit has one text (`text`) and ends in one way (`end`) at each origin: with the lines of
+/// its words (`words`), or with its first error and the number of the source line (`fault`).
 pub fn source_has_one_text()
     ensures text { SourceHasOneText }
     ensures end { SourceHasOneEnd }
@@ -19,8 +19,8 @@ pub fn source_has_one_text()
     words_are_determined();
 }
 
-/// Each list of words within the bound has one text (`text`), and ends in one way (`end`): with the listing of the words that it
-/// writes (`words`), or with the number of its first part that is no word, and no text (`wrong`).
+/// States that each list of words within the limit has one text (`text`) and ends in one way (`end`): with the listing of its
+/// words (`words`), or with the number of its first part that is not a word, and no text (`wrong`).
 pub fn list_has_one_text()
     ensures text { ListHasOneText }
     ensures end { ListHasOneEnd }
@@ -28,7 +28,8 @@ pub fn list_has_one_text()
     ensures wrong { WrongWordIsTold }
 {}
 
-/// The lines that are printed of the words of a source are a list of these words.
+/// States that the lines that are printed for the words of a source are a list of these words, so that `dis` reads what `asm`
+/// prints.
 pub fn printed_words_are_read()
     ensures { PrintedWordsAreRead }
 {

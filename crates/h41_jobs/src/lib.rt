@@ -1,5 +1,4 @@
-//! What the bench makes of an input that is read whole: a source is assembled, words are listed; and what a job prints and how it
-//! ends.
+//! The jobs whose input is read completely: assembling a source and listing words. For each: what it prints and how it ends.
 #![tactic(auto)]
 
 mod assemble;

@@ -1,4 +1,4 @@
-//! What is printed of a list of words.
+//! What is printed for a list of words.
 
 ghost use Rattle.std.specs.Prelude.{◌≡◌, ◌≤◌, IfOk, length};
 ghost use Rattle.h41_ends.specs.Ends.{most_bytes};
@@ -11,8 +11,12 @@ use h41_dis::disassemble;
 use h41_words::Word;
 use std::alloc::{AllocError, Global};
 
-/// The listing of the words that a text writes, which white space parts: a line for each instruction. Nothing where a word is wrong.
-/// Refuses only memory.
+/// Returns the listing of the words in a text, which white space separates: a line for each instruction. If a word is wrong the
+/// text is empty.
+///
+/// # Errors
+///
+/// OutOfMemory (21) if allocation failed.
 pub fn listing(alloc: Global, text: &[u8], origin: u16) -> Result<Answer, AllocError>
     requires { length text.now ≤ most_bytes }
     ensures { IfOk result (AnswersList text.now) }
@@ -29,7 +33,7 @@ pub fn listing(alloc: Global, text: &[u8], origin: u16) -> Result<Answer, AllocE
     }
 }
 
-/// The words that a text writes, or the number of the first that is wrong, counted from 1. Refuses only memory.
+/// Returns the words in a text, or the number of the first that is wrong, counted from 1. OutOfMemory (21) if allocation failed.
 fn words_in(alloc: Global, text: &[u8]) -> Result<Result<Vec<Word>, usize>, AllocError>
     ensures { IfOk result (λ said. ReadsAs text.now (words_or_number said)) }
 {
@@ -46,7 +50,7 @@ fn words_in(alloc: Global, text: &[u8]) -> Result<Result<Vec<Word>, usize>, Allo
     Ok(Ok(words))
 }
 
-/// A byte that parts words: a tab, LF, FF, CR or a blank.
+/// Returns whether a byte separates words: a tab, LF, FF, CR or a space.
 fn is_white_space(byte: u8) -> bool
     ensures { result ≡ is_white_space byte }
 {

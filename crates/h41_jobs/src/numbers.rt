@@ -1,4 +1,4 @@
-//! The words that hexadecimal digits write.
+//! Reads words that are written in hexadecimal.
 
 ghost use Rattle.std.specs.Prelude.{◌≡◌};
 ghost use Rattle.h41_jobs.specs.WordTexts.{word_value};
@@ -6,10 +6,11 @@ ghost use Rattle.h41_jobs.specs.WordTexts.{word_value};
 use h41_lines::numbers::number_up_to;
 use h41_words::Word;
 
-/// The greatest number of a word.
+/// The greatest number of a word: 3FF, because a word has ten bits.
 const GREATEST_WORD: u32 = 0x3FF;
 
-/// The word that hexadecimal digits write, of either case and with any count of leading zeros: a number up to 3FF.
+/// Returns the word that hexadecimal digits write, of either case and with any number of leading zeros, or `None`
+/// if they are not a number up to 3FF.
 pub fn word_value(digits: &[u8]) -> Option<Word>
     ensures { result ≡ word_value digits.now }
 {

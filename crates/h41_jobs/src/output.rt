@@ -1,4 +1,4 @@
-//! Writes a text, or an answer's, and passes it on.
+//! Writes a text, or the text of an answer, and flushes it.
 
 ghost use Rattle.std.specs.Prelude.{◌≡◌, true, false, IfOk, OnOk, OnErr};
 ghost use Rattle.h41_ends.specs.Ends.{Appended};
@@ -7,11 +7,11 @@ ghost use Rattle.h41_jobs.specs.Outputs.{AppendsFront};
 use crate::ended::{Answer, Ended};
 use h41_ends::{Sink, WriteFault, flush, write_whole};
 
-/// Writes a text whole, and flushes it.
+/// Writes a text completely, and flushes it.
 ///
 /// # Errors
 ///
-/// `WriteFault` (23) where a write or the flush fails. A front of the text is then written, or all of it.
+/// `WriteFault` (23) if a write or the flush fails. A prefix of the text, or all of it, is written then.
 pub fn write_text<W: Sink>(writer: &mut W, text: &[u8]) -> Result<(), WriteFault>
     requires { W.failed writer.old ≡ false }
     ensures text { OnOk result (Appended W.contents writer.old writer.new text.now) }
@@ -24,11 +24,11 @@ pub fn write_text<W: Sink>(writer: &mut W, text: &[u8]) -> Result<(), WriteFault
     flush(writer)
 }
 
-/// Writes an answer's text likewise, and tells how the job ended.
+/// Writes the text of an answer completely, flushes it, and returns how the job ended.
 ///
 /// # Errors
 ///
-/// `WriteFault` (23), as above.
+/// `WriteFault` (23) if a write or the flush fails. A prefix of the text, or all of it, is written then.
 pub fn write_answer<W: Sink>(writer: &mut W, answer: &Answer) -> Result<Ended, WriteFault>
     requires { W.failed writer.old ≡ false }
     ensures ended { IfOk result (λ ended. ended ≡ answer.now.ended) }

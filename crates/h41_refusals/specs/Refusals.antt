@@ -1,5 +1,5 @@
--- The refusals, each with its number, its name and the address or the line that it tells. Numbers,
--- names and form are this project's own.
+-- The refusals, each with its number, its name and the address or the line number that it prints.
+-- Numbers, names and form are this project's own.
 use Rattle.std.specs.Prelude.{ℕ, List, [], ◌++◌, Option, Some, None, codes}
 use Rattle.std.specs.Fmt.{decimal}
 use Rattle.h41_digits.specs.Register.{hexadecimal_text}
@@ -33,7 +33,7 @@ use Rattle.h41_refusals.specs.declared.refusal.Refusal.TheVariants.{WriteFault}
 use Rattle.h41_refusals.specs.declared.fault.Fault.{Fault}
 use Rattle.h41_refusals.specs.declared.fault.Fault.TheVariants as faults
 
--- each refusal's number and name: a word's
+-- The number and the name of a refused word.
 abbrev pub word_name : word.WordRefusal → List ℕ
 word_name (UndefinedWord address) = codes "06 UndefinedWord"
 word_name (WordNotInProfile address) = codes "07 WordNotInProfile"
@@ -43,13 +43,13 @@ word_name (PeripheralNotHeld address) = codes "10 PeripheralNotHeld"
 word_name (Asleep address) = codes "11 Asleep"
 word_name (ReadOnly address) = codes "12 ReadOnly"
 
--- program memory's
+-- Those of a refusal of program memory.
 abbrev pub program_name : program.ProgramRefusal → List ℕ
 program_name BrokenProgram = codes "14 BrokenProgram"
 program_name NoRoom = codes "16 NoRoom"
 program_name SizeTooLarge = codes "17 SizeTooLarge"
 
--- the calculator's
+-- Those of a refusal of the calculator.
 abbrev pub calculator_name : CalculatorRefusal → List ℕ
 calculator_name (Word refusal) = word_name refusal
 calculator_name NotInProfile = codes "13 NotInProfile"
@@ -58,7 +58,7 @@ calculator_name MemoryLost = codes "15 MemoryLost"
 calculator_name KeyNotHeld = codes "18 KeyNotHeld"
 calculator_name Busy = codes "24 Busy"
 
--- a source's
+-- Those of an error of a source.
 abbrev pub source_name : source.SourceFault → List ℕ
 source_name BadLine = codes "30 BadLine"
 source_name BadOperand = codes "31 BadOperand"
@@ -67,7 +67,7 @@ source_name NoLabel = codes "33 NoLabel"
 source_name TooFar = codes "34 TooFar"
 source_name TooLong = codes "35 TooLong"
 
--- those of lines
+-- Those of refused lines.
 abbrev pub line_name : LineRefusal → List ℕ
 line_name BadImage = codes "04 BadImage"
 line_name (Source fault line) = source_name fault
@@ -77,7 +77,7 @@ line_name BadNumber = codes "51 BadNumber"
 line_name NoEnd = codes "52 NoEnd"
 line_name LineTooLong = codes "53 LineTooLong"
 
--- and all
+-- Those of each refusal.
 abbrev pub number_and_name : Refusal → List ℕ
 number_and_name NoSuchPage = codes "01 NoSuchPage"
 number_and_name Occupied = codes "02 Occupied"
@@ -90,7 +90,7 @@ number_and_name OutOfMemory = codes "21 OutOfMemory"
 number_and_name ReadFault = codes "22 ReadFault"
 number_and_name WriteFault = codes "23 WriteFault"
 
--- what a refusal tells: the address of a word's, the line of a source's or a text's
+-- The address that the refusal of a word prints.
 abbrev pub word_detail : word.WordRefusal → ℕ
 word_detail (UndefinedWord address) = address
 word_detail (WordNotInProfile address) = address
@@ -100,40 +100,46 @@ word_detail (PeripheralNotHeld address) = address
 word_detail (Asleep address) = address
 word_detail (ReadOnly address) = address
 
+-- The detail that a refusal of the calculator prints: the address of a word, otherwise none.
 abbrev pub calculator_detail : CalculatorRefusal → Option Detail
 calculator_detail (Word refusal) = Some (details.Address (word_detail refusal))
 calculator_detail refusal = None
 
+-- The detail that refused lines print: the line number of a source or a text, otherwise none.
 abbrev pub line_detail : LineRefusal → Option Detail
 line_detail (Source fault line) = Some (details.Line line)
 line_detail (BadText line) = Some (details.Line line)
 line_detail refusal = None
 
+-- The detail that a refusal prints.
 abbrev pub detail : Refusal → Option Detail
 detail (Calculator refusal) = calculator_detail refusal
 detail (Line refusal) = line_detail refusal
 detail refusal = None
 
--- a blank, and the address of four hexadecimal digits or the line's number
+-- A space, and the address in four hexadecimal digits, or the line number.
 abbrev pub detail_text : Option Detail → List ℕ
 detail_text None = []
 detail_text (Some (details.Address address)) = codes " " ++ hexadecimal_text 4 address
 detail_text (Some (details.Line line)) = codes " " ++ decimal line
 
--- how a refusal is printed: without its detail, whole, and with the line's end
+-- A refusal without its detail, from its number and name.
 abbrev pub heading_of : List ℕ → List ℕ
 heading_of name = codes "! " ++ name
 
+-- A refusal without its detail.
 abbrev pub heading : Refusal → List ℕ
 heading refusal = heading_of (number_and_name refusal)
 
+-- A refusal with its detail.
 abbrev pub refusal_text : Refusal → List ℕ
 refusal_text refusal = heading refusal ++ detail_text (detail refusal)
 
+-- The line of a refusal.
 abbrev pub refusal_line : Refusal → List ℕ
 refusal_line refusal = refusal_text refusal ++ codes "\n"
 
--- the refusal that a fault of a deck is
+-- The refusal that reports an error of a deck.
 abbrev pub of_fault : Fault → Refusal
 of_fault faults.OutOfMemory = OutOfMemory
 of_fault faults.ReadFault = ReadFault

@@ -1,4 +1,4 @@
-//! What ends a deck before its last command: the faults of memory, reading and writing.
+//! The errors that end a deck before its last command: failed allocation, reading and writing.
 
 ghost use Rattle.std.specs.Prelude.{◌≡◌, ◌≤◌, length};
 ghost use Rattle.h41_refusals.specs.Refusals.{of_fault, heading};
@@ -12,28 +12,28 @@ use std::alloc::AllocError;
 use std::error::Error;
 use std::fmt;
 
-/// Why a command was not answered to its end.
+/// Why a command was not answered completely.
 #[derive(Clone, Copy, Debug, PartialEq, Eq)]
 pub enum CommandFault {
-    /// 21: no memory is left. Nothing was changed and nothing written.
+    /// OutOfMemory (21): allocation failed. Nothing was changed and nothing was written.
     OutOfMemory,
-    /// 23: the output cannot be written. The command was carried out.
+    /// WriteFault (23): a write failed. The command was executed.
     WriteFault,
 }
 
-/// What ends a deck.
+/// The errors that end a deck.
 #[derive(Clone, Copy, Debug, PartialEq, Eq)]
 pub enum Fault {
-    /// 21: no memory is left.
+    /// OutOfMemory (21): allocation failed.
     OutOfMemory,
-    /// 22: the input cannot be read, or is too long.
+    /// ReadFault (22): a read failed, or the input is too long.
     ReadFault,
-    /// 23: the output cannot be written.
+    /// WriteFault (23): a write failed.
     WriteFault,
 }
 
 impl Fault {
-    /// The refusal that it is.
+    /// Returns the refusal that reports this error.
     pub fn refusal(self) -> Refusal
         ensures { result ≡ of_fault self }
     {

@@ -1,4 +1,5 @@
-//! Why the bench refuses a command, and what ends a deck: each refusal with its number, its name and its line.
+//! Why the bench refuses a command, and which errors end a deck: each refusal with its number, its name and
+//! its line.
 #![tactic(auto)]
 
 mod fault;

@@ -1,4 +1,4 @@
-//! The refusals: those of the calculator, of lines, and of the deck's own, each with its number and name, and the line that
+//! The refusals: those of the calculator, of lines, and of the deck itself, each with its number and name, and the line that
 //! prints it. Numbers, names and form are this project's own.
 
 ghost use Rattle.std.specs.Prelude.{◌≡◌};
@@ -13,29 +13,31 @@ mod line;
 
 pub use line::Detail;
 
-/// Why a command was refused, or what ends a deck (21 to 23). A refused command changes nothing, but for the steps before the
-/// one that is refused.
+/// Why a command was refused, or which error ends a deck (21 to 23). A refused command changes nothing, except that the steps
+/// or keys before the refused one remain in effect.
 #[derive(Clone, Copy, Debug, PartialEq, Eq)]
 pub enum Refusal {
-    /// 1: the page is not 4 to F, or its bank is not 1 to 4.
+    /// NoSuchPage (01): the page is not 4 to F, or its bank is not 1 to 4.
     NoSuchPage,
-    /// 2: something is plugged at the page's bank.
+    /// Occupied (02): the bank of the page is plugged already.
     Occupied,
-    /// 3: nothing is plugged at the page's bank, or, where the page is to be unplugged, at any of its banks.
+    /// NotPlugged (03): the bank of the page is not plugged, or, if the page is to be unplugged, none of its banks is.
     NotPlugged,
-    /// 6 to 8 and 10 to 17, and 24: the calculator refuses it. 8 and 9: an address whose word cannot be read.
+    /// 06 to 18, and 24: the calculator refuses it. SystemRom (08) and EmptyPage (09) are also reported for an address whose
+    /// word cannot be read.
     Calculator(CalculatorRefusal),
-    /// 4, 30 to 35, 41 and 50 to 53: its lines are refused. 4: words that leave their page.
+    /// 04, 30 to 35, 41 and 50 to 53: its lines are refused. BadImage (04) is also reported for words that extend beyond
+    /// their page.
     Line(LineRefusal),
-    /// 19: 16 other breakpoints are set.
+    /// BreakFull (19): 16 other breakpoints are set.
     BreakFull,
-    /// 20: the breakpoint is not set.
+    /// NoBreak (20): the breakpoint is not set.
     NoBreak,
-    /// 21: no memory is left.
+    /// OutOfMemory (21): allocation failed.
     OutOfMemory,
-    /// 22: the input cannot be read, or is too long.
+    /// ReadFault (22): a read failed, or the input is too long.
     ReadFault,
-    /// 23: the output cannot be written.
+    /// WriteFault (23): a write failed.
     WriteFault,
 }
 

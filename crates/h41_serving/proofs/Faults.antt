@@ -1,4 +1,4 @@
--- What is told of a job's fault, with what the system said behind it.
+-- What is reported of a job's error, with the operating system's message after it.
 use Rattle.std.proofs.Common.{◌≡◌, ◌≤◌, ℕ, true, false, List, [], ◌++◌, arith, refl, subst, sym, ◌∙◌}
 use Rattle.std.proofs.lemmas.List.{append-nil}
 use Rattle.h41_ends.specs.declared.sink.Sink as sinks
@@ -10,7 +10,7 @@ use Rattle.h41_serving.specs.Statuses.{IsTold, fault_line}
 use Rattle.h41_serving.specs.Tasks.{Tells}
 use Rattle.h41_serving.proofs.Told.{tells_both}
 
--- the status of a fault is no other
+-- The status of an error is no other.
 pub no_silence : {X : Type 0} {status : ℕ} → status ≡ 3 → status ≤ 1 → X
 no_silence is few = let bad : 3 ≤ 1 = rw is at few in absurd (omega (arith, bad))
 
@@ -19,7 +19,7 @@ no_word is two = let bad : 3 ≡ 2 = sym is ∙ two in absurd (omega (arith, bad
 
 module _ {R W E : Type 0} (source : sources.Ghosts R) (sink : sinks.Ghosts W) (told : sinks.Ghosts E) (before after : R) (old new : W)
     (told_old told_mid told_new : E) (status : ℕ) (job : Job) where
-  -- a read failed
+  -- A read failed.
   pub fault_said : IsTold job.task source sink told before after old new told_old told_mid → source.failed after ≡ true
       → SaysCause told told_mid told_new job.file.now → TellsFaultOf source sink told before after old new told_old told_new status job
   fault_said is set says = record {
@@ -32,7 +32,7 @@ module _ {R W E : Type 0} (source : sources.Ghosts R) (sink : sinks.Ghosts W) (t
 
 module _ {R W E : Type 0} (source : sources.Ghosts R) (sink : sinks.Ghosts W) (told : sinks.Ghosts E) (before after : R) (old new : W)
     (told_old told_new : E) (status : ℕ) (job : Job) where
-  -- none did
+  -- No read failed.
   pub fault_alone : IsTold job.task source sink told before after old new told_old told_new → source.failed after ≡ false
       → TellsFaultOf source sink told before after old new told_old told_new status job
   fault_alone is unset = record {

@@ -1,4 +1,4 @@
--- What the program does, by what reading the words of its command line answers.
+-- What the program does, by the result of reading the words of its command line.
 use Rattle.std.proofs.Common.{inl, inr, ◌≡◌, ◌≢◌, ◌⊎◌, ℕ, Bool, true, false, List, [], ◌∷◌, Option, Some, None, Result, Ok, Err}
 use Rattle.std.proofs.Common.{IfNone, IfSome, String, ap, codes, refl, string_bytes, subst, sym, ◌∙◌}
 use Rattle.std.specs.Borrow.{Bor}
@@ -58,7 +58,7 @@ module _ {O R X W E : Type 0} (opener : Mut O (Bor (List ℕ) × Unit {0}) (Resu
   abbrev Inputs : Type 0
   Inputs = LeavesInputs opener source sink told opener_old opener_new input_old input_new old new told_old told_new status
 
-  -- memory may run out, whatever the words
+  -- Allocation may fail for any words.
   pub answers_out : (words : List (List ℕ)) → Out → Words words
   answers_out words out = record {
     job = λ passed. if_some (job_asked words) _ (λ parts is. inl out);
@@ -66,7 +66,7 @@ module _ {O R X W E : Type 0} (opener : Mut O (Bor (List ℕ) × Unit {0}) (Resu
     refused = λ other. inl out;
   }
 
-  -- the words gave a job, which is done
+  -- The words gave a job, which is done.
   pub answers_job : (words : List (List ℕ)) (job : Job) → RefusedByKind words (Ok job) → GivesJobOf words (Ok job)
       → DoesJob opener source sink told opener_old opener_new input_old input_new old new told_old told_new status job → Words words
   answers_job words job refused given does = record {
@@ -79,7 +79,7 @@ module _ {O R X W E : Type 0} (opener : Mut O (Bor (List ℕ) × Unit {0}) (Resu
     refused = λ other. absurd (refused other);
   }
 
-  -- they gave none, since help or the version was asked for
+  -- The words gave none, because help or the version was asked for.
   printed_kinds : (kinds : Kinds) (text : List ℕ) → (kind : ErrorKind) × IsAmong kind kinds × (0 ≡ kind_status kind)
       → Printed text → Refused kinds
   printed_kinds kinds text found prints = record {
@@ -100,18 +100,18 @@ module _ {O R X W E : Type 0} (opener : Mut O (Bor (List ℕ) × Unit {0}) (Resu
     mistaken = λ is. tells;
   }
 
-  -- a job was asked for, and not given
+  -- A job was asked for, and not given.
   not_given : (asked : Option (Task × List ℕ)) (ending : Ending) (parts : Task × List ℕ) → asked ≡ Some parts
       → GivesJob asked (Err ending) → ending ≡ endings.OutOfMemory
   not_given asked ending parts is gives = subst (λ (of : Option (Task × List ℕ)). GivesJob of (Err ending)) is gives
 
-  -- the option's value is wrong
+  -- The value of the option is wrong.
   wrong_option : (asked : Option (Task × List ℕ)) (ending : Ending) (text : List ℕ) → asked ≡ None
       → IfNone asked (SaysMistake text ending) → SaysMistake text ending
   wrong_option asked ending text is says =
       subst (λ (of : Option (Task × List ℕ)). IfNone of (SaysMistake text ending)) is says
 
-  -- what the words are answered with in place of a job
+  -- What the program does instead of a job.
   pub answers_ending : (words : List (List ℕ)) (ending : Ending) → RefusedByKind words (Err ending)
       → GivesJobOf words (Err ending) → SaysWrongOption words (Err ending) → Inputs
       → EndsAtOnce sink told old new told_old told_new status ending → Words words
@@ -140,9 +140,9 @@ module _ {O R X W E : Type 0} (opener : Mut O (Bor (List ℕ) × Unit {0}) (Resu
         ];
       }
 
-  -- ---- in plain words
+  -- ---- The same without reference to a parse.
 
-  -- a job without an option
+  -- A job without an option.
   plain_job : (c : CommandName) (words : List (List ℕ)) → Words words
       → IfSome (file_for (name_text c) words) (λ file. Out ⊎ Of (task_named c, file))
   plain_job c words answers =
@@ -150,7 +150,7 @@ module _ {O R X W E : Type 0} (opener : Mut O (Bor (List ℕ) × Unit {0}) (Resu
       let meets = file_meets c words file is in
       subst (λ (of : Option (Task × List ℕ)). IfSome of (λ parts. Out ⊎ Of parts)) meets.asked (answers.job meets.no_fault))
 
-  -- one kind, of which the status is known
+  -- One kind of error, whose status is known.
   one_kind : (words : List (List ℕ)) (k : ErrorKind) → fault_of bench_app words ≡ k ∷ [] → Words words → Out ⊎ Refused (k ∷ [])
   one_kind words k is answers =
       subst (λ (kinds : Kinds). Out ⊎ Refused kinds) is (answers.refused (λ none. let bad : k ∷ [] ≡ [] = sym is ∙ none in cc))
@@ -162,7 +162,7 @@ module _ {O R X W E : Type 0} (opener : Mut O (Bor (List ℕ) × Unit {0}) (Resu
     | inr none ↦ absurd none
   ]
 
-  -- a kind that is no answer has status 2
+  -- A kind of error that is neither help nor the version has status 2.
   mistake_kind : (k : ErrorKind) → (k ≡ kind.DisplayHelp → ⊥) × (k ≡ kind.DisplayVersion → ⊥) → kind_status k ≡ 2
   mistake_kind kind.DisplayHelp other = absurd (other.0 refl)
   mistake_kind kind.DisplayVersion other = absurd (other.1 refl)

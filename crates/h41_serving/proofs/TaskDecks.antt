@@ -1,4 +1,4 @@
--- What carrying out a deck leaves.
+-- What performing a deck leaves.
 use Rattle.std.proofs.Common.{inl, inr, ◌≡◌, ◌≢◌, ◌⊎◌, ℕ, true, false, List, Option, Some, None, Result, Ok, Err}
 use Rattle.std.proofs.Common.{IfSome, ap, refl, sym, ◌∙◌}
 use Rattle.h41_arguments.specs.declared.memory.MemorySize.{MemorySize}
@@ -15,7 +15,7 @@ use Rattle.h41_jobs.specs.Texts.{HasNoWrongWord}
 use Rattle.h41_serving.specs.Tasks.{LeavesTooLong, TaskEnds, WritesFrontOfRead, WritesOfRead, ended_of_deck}
 use Rattle.h41_serving.specs.private.CarriedOut.{CarriesOut}
 
--- a deck ends as its outcome tells
+-- A deck ends as its outcome says.
 ends_known : (size : MemorySize) (outcome : Outcome) (known : Option (List ℕ)) → decks.EndsKnown (registers_of size) known outcome
     → IfSome known (TaskEnds (tasks.Run size) (ended_of_deck outcome))
 ends_known size outcome None ends = tt

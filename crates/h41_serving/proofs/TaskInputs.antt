@@ -1,4 +1,4 @@
--- What a task leaves whose input is read whole.
+-- What a task whose input is read completely leaves.
 use Rattle.std.proofs.Common.{inl, inr, ◌≡◌, ◌≢◌, ◌⊎◌, ℕ, ◌<◌, true, false, List, [], length, take, Option, Some}
 use Rattle.std.proofs.Common.{None, Result, Err, Ok, IfErr, IfSome, refl, sym, subst, ◌∙◌}
 use Rattle.std.proofs.lemmas.List.{append-nil}
@@ -16,13 +16,13 @@ use Rattle.h41_jobs.specs.Texts.{ListingEnds, ListingText}
 use Rattle.h41_serving.specs.Tasks.{IsTooLong, WritesFrontOf, WritesTextOf}
 use Rattle.h41_serving.specs.private.CarriedOut.{CarriesOut, CarriesOutWhole}
 
--- what holds of the bytes holds of the input that they are
+-- What holds of the bytes holds of the input, because they are the whole of it.
 whole_holds : (known : Option (List ℕ)) (bytes : List ℕ) (P : List ℕ → Type 0) → IfSome known (IsWhole bytes)
     → P bytes → IfSome known P
 whole_holds None bytes P read holds = tt
 whole_holds (Some input) bytes P read holds = subst P read.all holds
 
--- a text of theirs is written, or a front of it
+-- A text of the bytes is written, or a prefix of it.
 whole_text : (text_of : List ℕ → List ℕ → Type 0) (known old new : Option (List ℕ)) (bytes text : List ℕ)
     → IfSome known (IsWhole bytes) → text_of bytes text → Appends old new text → IfSome known (WritesTextOf text_of old new)
 whole_text text_of known old new bytes text read has written =
@@ -34,7 +34,7 @@ whole_front : (text_of : List ℕ → List ℕ → Type 0) (known old new : Opti
 whole_front text_of known old new bytes text read has front =
     whole_holds known bytes (WritesFrontOf text_of old new) read (text, has, front.0, front.1)
 
--- nothing is written of an input that is too long
+-- Nothing is written for an input that is too long.
 nothing_long : (known old new : Option (List ℕ)) → Keeps old new → IfSome known (λ input. most_bytes < length input)
     → IfSome known (WritesTextOf IsTooLong old new)
 nothing_long None old new kept long = tt
@@ -43,7 +43,7 @@ nothing_long (Some input) (Some before) None kept long = absurd kept
 nothing_long (Some input) (Some before) (Some after) kept long =
     ([], record { too_long = long; nothing = refl }, kept ∙ sym (append-nil before))
 
--- why an input was not read whole, with nothing written
+-- Why an input was not read completely, with nothing written.
 why_unread : {F G : Type 0} (known old new : Option (List ℕ)) → Keeps old new
     → F ⊎ (G × IfSome known (λ input. most_bytes < length input)) → F ⊎ (G × IfSome known (WritesTextOf IsTooLong old new))
 why_unread known old new kept unread = elim unread [
@@ -51,20 +51,20 @@ why_unread known old new kept unread = elim unread [
   | inr long ↦ inr (long.0, nothing_long known old new kept long.1)
 ]
 
--- of such a task nothing has to be passed on
+-- For such a task nothing has to be flushed.
 passed_none : (result : Result Ended Fault) → IfErr result (λ fault. fault ≢ WriteFault → Unit {0})
 passed_none (Ok ended) = tt
 passed_none (Err fault) = λ other. tt
 
 module _ {R W : Type 0} (result : Result Ended Fault) (source : sources.Ghosts R) (sink : sinks.Ghosts W) (before after : R)
     (old new : W) where
-  -- but for a fault of writing nothing is written
+  -- Unless writing failed, nothing is written.
   kept : result ≡ Err ReadFault → IfErr result (λ fault. fault ≢ WriteFault → Keeps (sink.contents old) (sink.contents new))
       → Keeps (sink.contents old) (sink.contents new)
   kept is nothing = subst (λ (of : Result Ended Fault). IfErr of
       (λ fault. fault ≢ WriteFault → Keeps (sink.contents old) (sink.contents new))) is nothing (λ other. cc)
 
-  -- what is promised of a source is what a task promises, and what is promised of a list of words
+  -- What is promised for a source, or for a list of words, is what a task promises.
   pub assembled : (origin : ℕ)
       → CarriesOutWhole (AssemblyText origin) (AssemblyEnds origin) HasNoWrongWord result source sink before after old new
       → CarriesOut (tasks.Assemble origin) result source sink before after old new
@@ -103,7 +103,7 @@ module _ {R W : Type 0} (result : Result Ended Fault) (source : sources.Ghosts R
 module _ {R W : Type 0} (text_of : List ℕ → List ℕ → Type 0) (ends_of : Ended → List ℕ → Type 0) (may_end : Ended → Type 0)
     (source : sources.Ghosts R) (sink : sinks.Ghosts W) (before after : R) (old new : W) (bytes text : List ℕ)
     (read : IfSome (source.remaining before) (IsWhole bytes)) (has : text_of bytes text) (reader : source.failed after ≡ false) where
-  -- writing the text fails
+  -- Writing the text fails.
   pub not_written : (count : ℕ) × Appends (sink.contents old) (sink.contents new) (take count text) → sink.failed new ≡ true
       → CarriesOutWhole text_of ends_of may_end (Err WriteFault) source sink before after old new
   not_written front mark = record {
@@ -119,7 +119,7 @@ module _ {R W : Type 0} (text_of : List ℕ → List ℕ → Type 0) (ends_of : 
     writer = λ other. absurd (other refl);
   }
 
-  -- all of it is written
+  -- The text is written completely.
   pub written_whole : (ended : Ended) → ends_of ended bytes → may_end ended
       → Appends (sink.contents old) (sink.contents new) text → sink.flushed new ≡ true → sink.failed new ≡ false
       → CarriesOutWhole text_of ends_of may_end (Ok ended) source sink before after old new

@@ -1,4 +1,4 @@
--- What writing a text tells, and a text behind others.
+-- What writing a text reports, and what a text after others does.
 use Rattle.std.proofs.Common.{◌≡◌, Bool, true, false, List, ℕ, ◌+◌, ◌≤◌, ◌++◌, length, take, min, Option, Some, None, arith}
 use Rattle.std.proofs.Common.{Result, Ok, Err, OnErr, OnOk, ap₂, append_assoc, drop, refl, subst, sym, ◌∙◌}
 use Rattle.std.proofs.Math.Seq.{take-add}
@@ -20,7 +20,7 @@ written_tells (Ok done) told old new text whole front flushed clear mark =
 written_tells (Err fault) told old new text whole front flushed clear mark =
     record { whole = λ is. cc; flushed = λ is. cc; front = λ is. front }
 
--- a front of a text is one of a longer text
+-- A prefix of a text is a prefix of a longer text.
 front_of_more : (n : ℕ) (a b : List ℕ) → take (min n (length a)) (a ++ b) ≡ take n a
 front_of_more n a b = grind (arith, common_steps)
 
@@ -55,7 +55,7 @@ module _ {E : Type 0} (told : sinks.Ghosts E) (old mid new : E) (a b : List ℕ)
         (sym (front_behind front.0 a b)) (appends_both _ _ _ a (take front.0 b) first front.1),
   )
 
-  -- a text and then one behind it
+  -- A text followed by another one.
   pub tells_both : Tells told old mid a → TellsOn told mid new b → Tells told old new (a ++ b)
   tells_both first second = go (told.failed mid) refl
     where
@@ -77,7 +77,7 @@ module _ {E : Type 0} (told : sinks.Ghosts E) (old mid new : E) (a b : List ℕ)
           }
 
 module _ {E : Type 0} (told : sinks.Ghosts E) (old mid new : E) (a b : List ℕ) where
-  -- the same behind others
+  -- The same after other texts.
   pub tells_on_both : TellsOn told old mid a → TellsOn told mid new b → TellsOn told old new (a ++ b)
   tells_on_both first second = record {
     clear = λ unset. tells_both told old mid new a b (first.clear unset) second;
@@ -86,7 +86,7 @@ module _ {E : Type 0} (told : sinks.Ghosts E) (old mid new : E) (a b : List ℕ)
         second.failed (subst (λ (of : E). told.failed of ≡ true) (sym same) set) ∙ same;
   }
 
--- a choice that is made
+-- A choice that is made.
 pub chosen : (b : Bool) (P Q : Type 0) → b ≡ true → P → MatchBool b P Q
 chosen true P Q is holds = holds
 chosen false P Q is holds = cc

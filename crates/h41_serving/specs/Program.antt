@@ -1,4 +1,4 @@
--- What the program does with the words of its command line: what it reads, prints and tells, and
+-- What the program does with the words of its command line: what it reads, prints and reports, and
 -- its status.
 use Rattle.std.specs.Prelude.{◌≡◌, ◌≢◌, ◌⊎◌, ℕ, ◌≤◌, Bool, true, false, List, [], ◌∷◌, ◌++◌, codes}
 use Rattle.std.specs.Prelude.{drop, Result, IfNone, IfSome, MatchBool, MatchResult, string_bytes}
@@ -29,64 +29,65 @@ use Rattle.h41_serving.specs.Statuses.{EndsJob, IsCause, IsTaskStatus, TellsMark
 use Rattle.h41_serving.specs.Tasks.{JobBegun, JobLeavesFront, JobLeavesUnread, JobPassedOn}
 use Rattle.h41_serving.specs.Tasks.{JobWritesText, Tells, TellsWord}
 
--- the words, of which the first is the program's own name, whatever that was
+-- The words with the program's own name as the first, whatever that was.
 abbrev pub behind_name : List (List ℕ) → List (List ℕ)
 behind_name words = codes "bench" ∷ drop 1 words
 
--- what is said where a word is no text
+-- The message if a word is not UTF-8.
 abbrev pub no_text : List ℕ
 no_text = codes "error: a word of the command line is not UTF-8\n"
 
--- the status where a text is told of wrong words, and where a text is printed that was asked for: 3
--- where the end for it failed
+-- The status after a message about wrong words: 3 if it could not be written.
 abbrev pub mistake_status : Bool → ℕ
 mistake_status false = 2
 mistake_status true = 3
 
+-- The status after a text that was asked for: 3 if it could not be printed.
 abbrev pub print_status : Bool → ℕ
 print_status false = 0
 print_status true = 3
 
--- a fault's line, and then what the system said of a file that cannot be opened
+-- A file cannot be opened: the line of ReadFault (22), followed by the operating system's message.
 abbrev pub TellsUnopened : {E : Type 0} → sinks.Ghosts E → E → E → List ℕ → Type 0
 TellsUnopened told old new file =
     (cause : List ℕ) × Tells told old new (fault_line ReadFault ++ cause_line file cause)
 
--- ---- where there is no job
+-- ---- There is no job.
 
 module _ {W E : Type 0} (sink : sinks.Ghosts W) (told : sinks.Ghosts E) (old new : W)
     (told_old told_new : E) (status : ℕ) where
-  -- a text is printed that was asked for, and where that fails the fault is told
+  -- A text that was asked for is printed. If that fails, the error is reported.
   pub record PrintsText (text : List ℕ) : Type 0 where
     pub ends : status ≡ print_status (sink.failed new)
     pub printed : Tells sink old new text
     pub silent : sink.failed new ≡ false → told_new ≡ told_old
     pub fault : sink.failed new ≡ true → Tells told told_old told_new (fault_line WriteFault)
 
-  -- a text is told of wrong words, and nothing printed
+  -- A message about wrong words is written, and nothing is printed.
   pub record TellsWrong (text : List ℕ) : Type 0 where
     pub ends : status ≡ mistake_status (told.failed told_new)
     pub line : Tells told told_old told_new text
     pub silent : new ≡ old
 
-  -- it is told that memory ran out, and nothing printed
+  -- OutOfMemory (21) is reported, and nothing is printed.
   pub record TellsOut : Type 0 where
     pub ends : status ≡ 3
     pub line : Tells told told_old told_new (fault_line OutOfMemory)
     pub silent : new ≡ old
 
+  -- What the program does instead of a job.
   abbrev pub EndsAtOnce : Ending → Type 0
   EndsAtOnce (endings.Help text) = PrintsText (string_bytes text)
   EndsAtOnce (endings.Mistake text) = TellsWrong (string_bytes text)
   EndsAtOnce endings.OutOfMemory = TellsOut
 
--- ---- a job over what a reader gives
+-- ---- A job with the bytes of a reader.
 
 module _ {R W E : Type 0} (source : sources.Ghosts R) (sink : sinks.Ghosts W)
     (told : sinks.Ghosts E) (before after : R) (old new : W) (told_old told_new : E)
     (status : ℕ) where
-  -- a fault came for its cause, and its line is told, with what the system said of the job's file
-  -- behind it where a read failed
+  -- The error says correctly what failed, and its line is reported, followed by the operating
+  -- system's message about the job's file if a read failed.
   pub record TellsFaultOf (job : Job) : Type 0 where
     pub fault : Fault
     pub cause : IsCause fault job.task source sink before after old new
@@ -94,7 +95,7 @@ module _ {R W E : Type 0} (source : sources.Ghosts R) (sink : sinks.Ghosts W)
     pub says : IsSaid job.file.now (source.failed after) said
     pub line : Tells told told_old told_new (fault_line fault ++ said)
 
-  -- what `serve` promises, with that
+  -- What `serve` promises, with such reports of errors.
   pub record ServesNamed (job : Job) : Type 0 where
     pub ends : IsTaskStatus job.task status
     pub text : JobWritesText status job source sink before old new
@@ -110,39 +111,40 @@ module _ {R W E : Type 0} (source : sources.Ghosts R) (sink : sinks.Ghosts W)
     pub passed : JobPassedOn status job (sink.failed new) (sink.flushed new)
     pub fault : status ≡ 3 → TellsFaultOf job
 
--- ---- the program, with what opens a file, standard input, the output and the end for faults
+-- ---- The program, with the function that opens a file, standard input, the output and the stream
+-- for errors.
 
 module _ {O R X W E : Type 0} (opener : Mut O (Bor (List ℕ) × Unit {0}) (Result R X))
     (source : sources.Ghosts (FromRead R)) (sink : sinks.Ghosts W) (told : sinks.Ghosts E)
     (opener_old opener_new : O) (input_old input_new : FromRead R) (old new : W)
     (told_old told_new : E) (status : ℕ) where
-  -- no file is opened, and nothing read of standard input
+  -- No file is opened, and standard input is not read.
   pub record LeavesInputs : Type 0 where
     pub unopened : opener_new ≡ opener_old
     pub unread : input_new ≡ input_old
 
-  -- memory ran out before there was anything to do
+  -- Allocation failed before there was anything to do.
   pub record RunsOut : Type 0 where
     pub inputs : LeavesInputs
     pub out : TellsOut sink told old new told_old told_new status
 
-  -- a text is printed that was asked for
+  -- A text that was asked for is printed.
   pub record EndsPrinted (text : List ℕ) : Type 0 where
     pub inputs : LeavesInputs
     pub prints : PrintsText sink told old new told_old told_new status text
 
-  -- the words are wrong, which a text says
+  -- The words are wrong, which a message says.
   pub record EndsMistaken (text : List ℕ) : Type 0 where
     pub inputs : LeavesInputs
     pub tells : TellsWrong sink told old new told_old told_new status text
 
-  -- a job over standard input, and no file is opened
+  -- A job with standard input; no file is opened.
   pub record DoesJobOfInput (job : Job) : Type 0 where
     pub unopened : opener_new ≡ opener_old
     pub serves :
         ServesNamed source sink told input_old input_new old new told_old told_new status job
 
-  -- a job over a file that was opened, from its begin
+  -- A job with an opened file, from its beginning.
   pub record DoesJobOver (job : Job) (file : R) : Type 0 where
     pub before : FromRead R
     pub after : FromRead R
@@ -150,30 +152,31 @@ module _ {O R X W E : Type 0} (opener : Mut O (Bor (List ℕ) × Unit {0}) (Resu
     pub clear : has_read_failed before ≡ false
     pub serves : ServesNamed source sink told before after old new told_old told_new status job
 
-  -- the file cannot be opened
+  -- The file cannot be opened.
   pub record IsUnopened (job : Job) : Type 0 where
     pub ends : status ≡ 3
     pub silent : new ≡ old
     pub line : TellsUnopened told told_old told_new job.file.now
 
-  -- a job over the file of its name, which is opened, and nothing is read of standard input
+  -- A job with the file that it names, which is opened; standard input is not read.
   pub record DoesJobOfFile (job : Job) : Type 0 where
     pub unread : input_new ≡ input_old
     pub opened : Result R X
     pub opens : CalledAt opener opener_old job.file.now opened opener_new
     pub does : MatchResult opened (DoesJobOver job) (λ error. IsUnopened job)
 
-  -- the name of standard input is `-`
+  -- The name of standard input is `-`.
   abbrev pub DoesJob : Job → Type 0
   DoesJob job =
       MatchBool (bytes_eq job.file.now (codes "-")) (DoesJobOfInput job) (DoesJobOfFile job)
 
+  -- A job with this task and this file is done.
   pub record DoesJobOf (parts : Task × List ℕ) : Type 0 where
     pub job : Job
     pub parts_are : parts_of job ≡ parts
     pub does : DoesJob job
 
-  -- a parse refuses the words, by an error of one of these kinds
+  -- A parse refuses the words, with an error of one of these kinds.
   pub record EndsRefused (kinds : Kinds) : Type 0 where
     pub kind : ErrorKind
     pub among : IsAmong kind kinds
@@ -181,8 +184,9 @@ module _ {O R X W E : Type 0} (opener : Mut O (Bor (List ℕ) × Unit {0}) (Resu
     pub asked : kind_status kind ≡ 0 → EndsPrinted text
     pub mistaken : kind_status kind ≡ 2 → EndsMistaken text
 
-  -- what is done for the words of any command line: the job that a parse of them meets, where it
-  -- takes them, or what is said of the option's wrong value; else help, the version or a mistake
+  -- What is done for the words of any command line: the job that a parse finds in them, or if the
+  -- value of its option is wrong, a message that says so; if the parse refuses them, help, the
+  -- version or a message.
   pub record AnswersWords (words : List (List ℕ)) : Type 0 where
     pub job :
         fault_of bench_app words ≡ []
@@ -194,8 +198,9 @@ module _ {O R X W E : Type 0} (opener : Mut O (Bor (List ℕ) × Unit {0}) (Resu
     pub refused :
         fault_of bench_app words ≢ [] → RunsOut ⊎ EndsRefused (fault_of bench_app words)
 
-  -- and in plain words, where help, the version or a job without an option is asked for, or a
-  -- command or FILE is missing, or there are two, or the option is given twice or has a wrong value
+  -- The same without reference to a parse, for plain command lines: help, the version or a job
+  -- without an option is asked for; or a command or FILE is missing, there are two FILEs, or the
+  -- option is given twice or has a wrong value.
   pub record AnswersPlainly (words : List (List ℕ)) : Type 0 where
     pub run :
         IfSome (file_for (codes "run") words)

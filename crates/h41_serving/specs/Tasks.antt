@@ -1,5 +1,5 @@
--- What a job makes of its input: the text that it prints, how it ends, and what is said where it
--- goes wrong.
+-- What a job makes of its input: the text that it prints, how it ends, and what is reported if
+-- something fails.
 use Rattle.std.specs.Prelude.{◌≡◌, ◌≢◌, ◌⊎◌, ℕ, ◌<◌, Bool, true, false, List, [], length, take}
 use Rattle.std.specs.Prelude.{Option, IfSome}
 use Rattle.std.specs.Io.KnownBytes.{Appends, Consumes, Keeps}
@@ -20,41 +20,41 @@ use Rattle.h41_jobs.specs.Outputs.{AppendsFront}
 use Rattle.h41_jobs.specs.Texts.{AssemblyEnds, AssemblyText, HasNoWrongWord, IsNotRefused}
 use Rattle.h41_jobs.specs.Texts.{ListingEnds, ListingText, mistake_line}
 
--- the text that a task prints of an input; the listing of words is the same at each origin
+-- The text that a task prints for an input. The listing of words is the same for each origin.
 abbrev pub HasText : Task → List ℕ → List ℕ → Type 0
 HasText (tasks.Run size) = decks.Deck (registers_of size)
 HasText (tasks.Assemble origin) = AssemblyText origin
 HasText (tasks.List origin) = ListingText
 
--- what is written is a text that the input has
+-- What is written is a text of the input.
 abbrev pub WritesTextOf : (List ℕ → List ℕ → Type 0) → Option (List ℕ) → Option (List ℕ) → List ℕ
     → Type 0
 WritesTextOf text_of old new input = (text : List ℕ) × text_of input text × Appends old new text
 
--- a front of such a text, which may be all of it
+-- A prefix of such a text is written, which may be all of it.
 abbrev pub WritesFrontOf : (List ℕ → List ℕ → Type 0) → Option (List ℕ) → Option (List ℕ) → List ℕ
     → Type 0
 WritesFrontOf text_of old new input =
     (text : List ℕ) × text_of input text × (count : ℕ) × Appends old new (take count text)
 
--- where the input is known, its text is written
+-- If the input is known, its text is written.
 abbrev pub WritesTaskText : {W : Type 0} → Task → Option (List ℕ) → (W → Option (List ℕ)) → W → W
     → Type 0
 WritesTaskText task known contents old new =
     IfSome known (WritesTextOf (HasText task) (contents old) (contents new))
 
--- and so where a job's status is not that of a fault
+-- The same unless the status of the job is 3.
 abbrev pub JobWritesText : {R W : Type 0} → ℕ → Job → sources.Ghosts R → sinks.Ghosts W → R → W → W
     → Type 0
 JobWritesText status job source sink before old new =
     status ≢ 3 → WritesTaskText job.task (source.remaining before) sink.contents old new
 
--- how a deck ends
+-- How a job ends, by the outcome of its deck.
 abbrev pub ended_of_deck : Outcome → Ended
 ended_of_deck outcomes.Accepted = Accepted
 ended_of_deck outcomes.Refused = Refused
 
--- how a task ends over an input
+-- How a task ends for an input.
 abbrev pub TaskEnds : Task → Ended → List ℕ → Type 0
 TaskEnds (tasks.Run size) ended input =
     (outcome : Outcome)
@@ -63,18 +63,18 @@ TaskEnds (tasks.Run size) ended input =
 TaskEnds (tasks.Assemble origin) ended input = AssemblyEnds origin ended input
 TaskEnds (tasks.List origin) ended input = ListingEnds ended input
 
--- how a task may end
+-- How a task can end.
 abbrev pub MayEnd : Task → Ended → Type 0
 MayEnd (tasks.Run size) = HasNoWrongWord
 MayEnd (tasks.Assemble origin) = HasNoWrongWord
 MayEnd (tasks.List origin) = IsNotRefused
 
--- an input that is too long, of which nothing is printed
+-- An input that is too long, for which nothing is printed.
 pub record IsTooLong (input text : List ℕ) : Type 0 where
   pub too_long : most_bytes < length input
   pub nothing : text ≡ []
 
--- of what was read of a deck within the bound, when a fault ended it, such a text is written
+-- After an error, such a text is written for the bytes of a deck that were read within the limit.
 pub record WritesOfRead {R W : Type 0} (text_of : List ℕ → List ℕ → Type 0)
     (source : sources.Ghosts R) (sink : sinks.Ghosts W) (before after : R) (old new : W)
     : Type 0 where
@@ -82,8 +82,8 @@ pub record WritesOfRead {R W : Type 0} (text_of : List ℕ → List ℕ → Type
   pub read : Consumes (source.remaining before) (source.remaining after) bytes
   pub written : WritesTextOf text_of (sink.contents old) (sink.contents new) (bytes_within bytes)
 
--- more of a deck was read than the bound, and the replies to the commands that have their end
--- within it are written and passed on
+-- More of a deck was read than the limit, and the replies to the commands whose last line end is
+-- within the limit are written and flushed.
 pub record LeavesTooLong {R W : Type 0} (registers : ℕ) (source : sources.Ghosts R)
     (sink : sinks.Ghosts W) (before after : R) (old new : W) : Type 0 where
   pub bytes : List ℕ
@@ -95,7 +95,7 @@ pub record LeavesTooLong {R W : Type 0} (registers : ℕ) (source : sources.Ghos
       (bytes_within bytes)
   pub flushed : sink.flushed new ≡ true
 
--- more was read of another input than the bound, and nothing is printed
+-- More of another input was read than the limit, and nothing is printed.
 abbrev pub LeavesNothing : {R W : Type 0} → sources.Ghosts R → sinks.Ghosts W → R → R → W → W
     → Type 0
 LeavesNothing source sink before after old new =
@@ -103,7 +103,7 @@ LeavesNothing source sink before after old new =
     × IfSome (source.remaining before)
     (WritesTextOf IsTooLong (sink.contents old) (sink.contents new))
 
--- why reading is said to have failed where no read did: a deck is too long, or another input
+-- Why ReadFault (22) is reported although no read failed: a deck or another input is too long.
 abbrev pub TooLong : {R W : Type 0} → Task → sources.Ghosts R → sinks.Ghosts W → R → R → W → W
     → Type 0
 TooLong (tasks.Run size) source sink before after old new =
@@ -113,14 +113,14 @@ TooLong (tasks.Assemble origin) source sink before after old new =
 TooLong (tasks.List origin) source sink before after old new =
     LeavesNothing source sink before after old new
 
--- why reading ends with a fault: a read failed, or the input is too long
+-- Why reading ends with an error: a read failed, or the input is too long.
 abbrev pub FailedOrTooLong : {R W : Type 0} → Task → sources.Ghosts R → sinks.Ghosts W → R → R → W
     → W → Type 0
 FailedOrTooLong task source sink before after old new =
     (source.failed after ≡ true) ⊎ TooLong task source sink before after old new
 
--- what a task leaves written where its input or memory failed: of a deck the replies to some first
--- commands of what was read, of a source and of a list of words nothing
+-- What a task leaves written if reading or allocation failed: of a deck the replies to the first
+-- commands that were read, of a source or a list of words nothing.
 abbrev pub LeavesBegun : {R W : Type 0} → Task → sources.Ghosts R → sinks.Ghosts W → R → R → W → W
     → Type 0
 LeavesBegun (tasks.Run size) source sink before after old new =
@@ -130,8 +130,7 @@ LeavesBegun (tasks.Assemble origin) source sink before after old new =
 LeavesBegun (tasks.List origin) source sink before after old new =
     Keeps (sink.contents old) (sink.contents new)
 
--- and where reading failed: of a deck the replies to the commands that have their end in what was
--- read
+-- The same if reading failed: of a deck the replies to all commands whose last line end was read.
 abbrev pub LeavesUnread : {R W : Type 0} → Task → sources.Ghosts R → sinks.Ghosts W → R → R → W → W
     → Type 0
 LeavesUnread (tasks.Run size) source sink before after old new =
@@ -141,7 +140,7 @@ LeavesUnread (tasks.Assemble origin) source sink before after old new =
 LeavesUnread (tasks.List origin) source sink before after old new =
     Keeps (sink.contents old) (sink.contents new)
 
--- of what was read of a deck a front of the replies to some first commands is written
+-- A prefix of the replies to the first commands of a deck that were read is written.
 pub record WritesFrontOfRead {R W : Type 0} (registers : ℕ) (source : sources.Ghosts R)
     (sink : sinks.Ghosts W) (before after : R) (old new : W) : Type 0 where
   pub bytes : List ℕ
@@ -150,7 +149,8 @@ pub record WritesFrontOfRead {R W : Type 0} (registers : ℕ) (source : sources.
       WritesFrontOf (decks.FirstText registers) (sink.contents old) (sink.contents new)
       (bytes_within bytes)
 
--- and where the output failed: a front of these replies, or of their text
+-- What a task leaves written if the output failed: a prefix of these replies, or of the text of the
+-- source or list.
 abbrev pub LeavesFront : {R W : Type 0} → Task → sources.Ghosts R → sinks.Ghosts W → R → R → W → W
     → Type 0
 LeavesFront (tasks.Run size) source sink before after old new =
@@ -162,49 +162,52 @@ LeavesFront (tasks.List origin) source sink before after old new =
     IfSome (source.remaining before)
     (WritesFrontOf ListingText (sink.contents old) (sink.contents new))
 
--- but for a fault of writing all that is written of a deck is passed on; of a source and of a list
--- of words nothing is written
+-- Unless writing failed, everything that is written for a deck is flushed. For a source and a list
+-- of words nothing is written.
 abbrev pub IsPassedOn : Task → Bool → Type 0
 IsPassedOn (tasks.Run size) flushed = flushed ≡ true
 IsPassedOn (tasks.Assemble origin) flushed = Unit {0}
 IsPassedOn (tasks.List origin) flushed = Unit {0}
 
+-- The same for a job with status 3.
 abbrev pub JobPassedOn : ℕ → Job → Bool → Bool → Type 0
 JobPassedOn status job failed flushed = status ≡ 3 → failed ≡ false → IsPassedOn job.task flushed
 
--- where a job has the status of a fault, and the output did not fail, or did, or a read failed
+-- If a job has status 3 and the output did not fail, it leaves this written.
 abbrev pub JobBegun : {R W : Type 0} → ℕ → Job → sources.Ghosts R → sinks.Ghosts W → R → R → W → W
     → Type 0
 JobBegun status job source sink before after old new =
     status ≡ 3 → sink.failed new ≡ false
     → LeavesBegun job.task source sink before after old new
 
+-- If a read failed, the job leaves this written.
 abbrev pub JobLeavesUnread : {R W : Type 0} → Job → sources.Ghosts R → sinks.Ghosts W → R → R → W
     → W → Type 0
 JobLeavesUnread job source sink before after old new =
     source.failed after ≡ true → LeavesUnread job.task source sink before after old new
 
+-- If a job has status 3 and the output failed, it leaves this written.
 abbrev pub JobLeavesFront : {R W : Type 0} → ℕ → Job → sources.Ghosts R → sinks.Ghosts W → R → R → W
     → W → Type 0
 JobLeavesFront status job source sink before after old new =
     status ≡ 3 → sink.failed new ≡ true
     → LeavesFront job.task source sink before after old new
 
--- a text is told: it is written whole and flushed, or where the end for faults fails a front of it
--- is written, and nothing after that
+-- A text is written completely and flushed. If the stream fails, a prefix of it is written, and
+-- nothing after that.
 pub record Tells {E : Type 0} (told : sinks.Ghosts E) (old new : E) (text : List ℕ) : Type 0 where
   pub whole : told.failed new ≡ false → Appended told.contents old new text
   pub flushed : told.failed new ≡ false → told.flushed new ≡ true
   pub front : told.failed new ≡ true → AppendsFront told.contents old new text
 
--- the number of the wrong word is told, and nothing else
+-- The number of the wrong word is reported, and nothing else.
 abbrev pub TellsMistake : {E : Type 0} → Task → Option (List ℕ) → sinks.Ghosts E → E → E → Type 0
 TellsMistake task known told old new =
     (number : ℕ)
     × IfSome known (TaskEnds task (WrongWord number))
     × Tells told old new (mistake_line number)
 
--- where a job has the status of a wrong word
+-- A job with status 2 reports a wrong word.
 abbrev pub TellsWord : {R E : Type 0} → ℕ → Job → sources.Ghosts R → sinks.Ghosts E → R → E → E
     → Type 0
 TellsWord status job source told before old new =

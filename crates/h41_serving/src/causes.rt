@@ -1,4 +1,4 @@
-//! What is said of a file that cannot be read.
+//! Reports why a file cannot be read.
 
 ghost use Rattle.std.specs.Prelude.{◌≡◌};
 ghost use Rattle.h41_serving.specs.Causes.{SaysCause, TellsOn};
@@ -9,13 +9,15 @@ use h41_ends::Sink;
 use std::fmt::Write;
 use std::io;
 
-/// The program's name, as help and the texts for the end for faults have it.
+/// The program's name, as it begins lines on standard error and appears in help.
 pub(crate) const NAME: &str = "bench";
 
-/// The most bytes of what the system says: its own message has up to 255, and a number up to 11.
+/// The most bytes of the operating system's message about a file: its text has up to 255, and the error
+/// number up to 11.
 const CAUSE: usize = 288;
 
-/// Tells what the system said of a file, behind the fault's line, as far as the end for faults takes it.
+/// Writes the operating system's message about a file to `faults`, after the line of the error. Nothing
+/// is written if `faults` has failed before.
 pub(crate) fn tell_cause<E: Sink>(file: &str, error: &io::Error, faults: &mut E)
     ensures { SaysCause E.Sink faults.old faults.new file.now }
 {
@@ -29,7 +31,7 @@ pub(crate) fn tell_cause<E: Sink>(file: &str, error: &io::Error, faults: &mut E)
     tell_on("\n", faults);
 }
 
-/// Tells a text behind others. Where the end for faults has failed, it is left alone.
+/// Writes a text after others. Nothing is written if `faults` has failed before.
 fn tell_on<E: Sink>(text: &str, faults: &mut E)
     ensures { TellsOn E.Sink faults.old faults.new text.now }
 {

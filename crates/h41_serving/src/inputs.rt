@@ -1,4 +1,4 @@
-//! Carries out the tasks whose input is read whole.
+//! Performs the tasks whose input is read completely before anything is written.
 
 ghost use Rattle.std.specs.Prelude.{◌≡◌, false};
 ghost use Rattle.h41_jobs.specs.Texts.{AssemblyEnds, AssemblyText, HasNoWrongWord};
@@ -10,7 +10,11 @@ use h41_jobs::{Ended, assembly, listing, read_input, write_answer};
 use h41_refusals::Fault;
 use std::alloc::Global;
 
-/// Assembles a source.
+/// Assembles a source from an origin on, and writes its words or its refusal.
+///
+/// # Errors
+///
+/// `ReadFault` (22), `WriteFault` (23) and `OutOfMemory` (21).
 pub(crate) fn assemble_source<R: Source, W: Sink>(
     alloc: Global,
     origin: u16,
@@ -27,7 +31,12 @@ pub(crate) fn assemble_source<R: Source, W: Sink>(
     Ok(write_answer(writer, &answer)?)
 }
 
-/// Lists words.
+/// Lists words from an origin on, and writes the listing. If a word is wrong, nothing is written
+/// and the result has its number.
+///
+/// # Errors
+///
+/// `ReadFault` (22), `WriteFault` (23) and `OutOfMemory` (21).
 pub(crate) fn list_words<R: Source, W: Sink>(
     alloc: Global,
     origin: u16,

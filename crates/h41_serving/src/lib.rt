@@ -1,4 +1,5 @@
-//! Does the jobs of the bench: runs a deck, assembles a source, lists words; and tells by a status how it went.
+//! Does the jobs of the bench: runs a deck, assembles a source or lists words, and returns a status that says
+//! how it ended.
 #![tactic(auto)]
 
 mod causes;

@@ -1,4 +1,4 @@
-//! Runs a deck with the memory that a size has.
+//! Runs a deck with a given size of memory.
 
 ghost use Rattle.std.specs.Prelude.{◌≡◌, ◌≢◌, true, false, Err, IfOk, OnOk};
 ghost use Rattle.h41_deck.specs.Deck.{EndsKnown, LeavesDeck, PassedOn, WritesDeck};
@@ -10,7 +10,11 @@ use h41_ends::{Sink, Source};
 use h41_refusals::Fault;
 use std::alloc::Global;
 
-/// Runs a deck on a bench whose memory has this size, as `run_deck` does; its contract is proved there, once for all sizes.
+/// Runs a deck on a bench whose memory has this size, as `run_deck` does. Its contract is proved there once for all sizes.
+///
+/// # Errors
+///
+/// `ReadFault` (22), `WriteFault` (23) and `OutOfMemory` (21).
 pub(crate) fn run_with<R: Source, W: Sink>(
     alloc: Global,
     size: MemorySize,

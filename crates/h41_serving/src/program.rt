@@ -17,13 +17,14 @@ use h41_refusals::Fault;
 use std::alloc::{AllocError, Global};
 use std::io::{self, ErrorKind, Read};
 
-/// What is said where a word of the command line is no text.
+/// The message if a word of the command line is not UTF-8.
 const NO_TEXT: &str = "error: a word of the command line is not UTF-8\n";
 
-/// Does what the words of the command line ask for, of which the first is the program's name: a job over the file that
-/// it names, which `open_file` opens, or over standard input where its name is `-`. What it prints goes to `output`, as do help and the
-/// version; what is wrong with the words, and faults, go to `faults`. The marks of the three ends are clear before. Answers the
-/// program's status: that of the job, 0 of help and the version, 2 of wrong words, 3 where memory or an end failed.
+/// Does what the words of the command line ask for, of which the first is the program's name, and returns the exit status. A job
+/// reads the file that it names, which `open_file` opens, or standard input if the name is `-`. What the job prints goes to
+/// `output`, and so do help and the version. Messages about wrong words, and I/O errors, go to `faults`. The error flags of the
+/// three streams must be clear. The status is that of the job, 0 for help and the version, 2 for wrong words, and 3 if allocation
+/// or a stream failed.
 pub fn run_program<O: FnMut(&str) -> io::Result<R>, R: Read + Drop, W: Sink, E: Sink>(
     alloc: Global,
     words: io::Result<Vec<String>>,
@@ -61,7 +62,7 @@ pub fn run_program<O: FnMut(&str) -> io::Result<R>, R: Read + Drop, W: Sink, E: 
     }
 }
 
-/// The same, where each word is a text.
+/// Does what the words ask for, each of which is UTF-8, and returns the status.
 fn run_words<O: FnMut(&str) -> io::Result<R>, R: Read + Drop, W: Sink, E: Sink>(
     alloc: Global,
     words: &[String],
@@ -89,7 +90,7 @@ fn run_words<O: FnMut(&str) -> io::Result<R>, R: Read + Drop, W: Sink, E: Sink>(
     }
 }
 
-/// The words with the program's own name for the first, under whatever name it was started.
+/// Returns the words with `bench` as the first, whatever name the program was started under.
 fn named(alloc: Global, words: &[String]) -> Result<Vec<&str>, AllocError>
     ensures { IfOk result (λ all. map (λ w. w.now) all.items
         ≡ behind_name (map string_bytes words.now)) }
@@ -104,7 +105,7 @@ fn named(alloc: Global, words: &[String]) -> Result<Vec<&str>, AllocError>
     Ok(named)
 }
 
-/// Prints or tells what there is to say in place of a job. Answers the status.
+/// Prints help or the version, or reports wrong words or failed allocation, and returns the status.
 fn end<W: Sink, E: Sink>(ending: &Ending, output: &mut W, faults: &mut E) -> u8
     requires output_clear { W.failed output.old ≡ false }
     requires faults_clear { E.failed faults.old ≡ false }
@@ -118,7 +119,7 @@ fn end<W: Sink, E: Sink>(ending: &Ending, output: &mut W, faults: &mut E) -> u8
     }
 }
 
-/// Prints a text that was asked for. Answers the status 0, or 3 where the output fails, which is told.
+/// Prints a text that was asked for. Returns the status 0, or 3 if the output fails; the failure is reported.
 fn print<W: Sink, E: Sink>(text: &str, output: &mut W, faults: &mut E) -> u8
     requires output_clear { W.failed output.old ≡ false }
     requires faults_clear { E.failed faults.old ≡ false }
@@ -132,7 +133,7 @@ fn print<W: Sink, E: Sink>(text: &str, output: &mut W, faults: &mut E) -> u8
     }
 }
 
-/// Tells what is wrong with the words. Answers the status 2, or 3 where it cannot be told.
+/// Reports what is wrong with the words. Returns the status 2, or 3 if the message cannot be written.
 fn tell_wrong<E: Sink>(text: &str, faults: &mut E) -> u8
     requires { E.failed faults.old ≡ false }
     ensures status { result ≡ mistake_status (E.failed faults.new) }
@@ -142,7 +143,7 @@ fn tell_wrong<E: Sink>(text: &str, faults: &mut E) -> u8
     if faults.failed() { FAILED } else { MISTAKEN }
 }
 
-/// Does the job over its file, or over standard input where the file's name is `-`. Answers its status.
+/// Does the job with its file, or with standard input if the name of the file is `-`. Returns the status.
 fn run_job<O: FnMut(&str) -> io::Result<R>, R: Read + Drop, W: Sink, E: Sink>(
     alloc: Global,
     job: Job<'_>,
@@ -168,7 +169,7 @@ fn run_job<O: FnMut(&str) -> io::Result<R>, R: Read + Drop, W: Sink, E: Sink>(
     }
 }
 
-/// Tells that a file cannot be opened, and what the system said of it. Answers the status 3.
+/// Reports that a file cannot be opened, with the operating system's message. Returns the status 3.
 fn tell_unopened<E: Sink>(file: &str, error: &io::Error, faults: &mut E) -> u8
     requires { E.failed faults.old ≡ false }
     ensures status { result ≡ 3 }
@@ -179,7 +180,8 @@ fn tell_unopened<E: Sink>(file: &str, error: &io::Error, faults: &mut E) -> u8
     status
 }
 
-/// Does the job with what a reader gives, and tells what the system said of the file where a read failed. Answers the job's status.
+/// Does the job with the bytes of a reader, and reports the operating system's message about the file if a read failed. Returns
+/// the status.
 fn serve_named<R: Read, W: Sink, E: Sink>(
     alloc: Global,
     job: Job<'_>,

@@ -1,4 +1,4 @@
-//! Does a job from one end to another, and tells how it went by a status.
+//! Does a job from its input to its output, and returns a status that says how it ended.
 
 ghost use Rattle.std.specs.Prelude.{◌≡◌, ◌≢◌, ◌≤◌, true, false, IfSome};
 ghost use Rattle.std.specs.Io.KnownBytes.{Keeps};
@@ -18,22 +18,21 @@ use h41_jobs::{Ended, mistake_line, write_text};
 use h41_refusals::Fault;
 use std::alloc::Global;
 
-/// The status of a job that was carried out and printed no refusal.
+/// The status of a job that printed no refusal: 0.
 pub const ACCEPTED: u8 = 0;
 
-/// The status of a job that printed a refusal.
+/// The status of a job that printed a refusal: 1.
 pub const REFUSED: u8 = 1;
 
-/// The status where reading, writing or memory failed.
+/// The status if reading, writing or allocation failed: 3.
 pub const FAILED: u8 = 3;
 
-/// The status of a job whose input has a wrong word.
+/// The status of a job whose input has a wrong word: 2.
 pub const MISTAKEN: u8 = 2;
 
-/// Does the job with what `reader` gives: writes what it prints to `writer`. Where a word of a list is wrong, the text that
-/// tells it goes to `faults`, and where reading, writing or memory fails, the line of that fault. All three ends' marks are clear
-/// before. Answers the status that the program ends with: 0, 1 where a refusal was printed, 2 where a word of a list is wrong,
-/// 3 where something failed.
+/// Does the job with the bytes of `reader`, writes what it prints to `writer`, and returns the exit status. If a word of a list
+/// is wrong, or if reading, writing or allocation fails, a line that says so goes to `faults`. The error flags of the three
+/// streams must be clear. The status is 0, 1 if a refusal was printed, 2 if a word of a list is wrong, or 3 if something failed.
 pub fn serve<R: Source, W: Sink, E: Sink>(
     alloc: Global,
     job: Job<'_>,
@@ -46,22 +45,22 @@ pub fn serve<R: Source, W: Sink, E: Sink>(
     requires faults_clear { E.failed faults.old ≡ false }
     ensures status { IsTaskStatus job.entry.task result }
 
-    // Where nothing failed, the task's text was written, and the status tells how it ended.
+    // If nothing failed, the text of the task was written, and the status says how it ended.
     ensures text { JobWritesText result job.entry R.Source W.Sink reader.old writer.old writer.new }
     ensures flushed { result ≢ 3 → W.flushed writer.new ≡ true }
     ensures outcome { result ≢ 3 → IfSome (R.remaining reader.old) (EndsJob job.entry result) }
 
-    // A wrong word is told by its number, if it can be, and where nothing is wrong nothing is told.
+    // A wrong word is reported by its number, if `faults` accepts the line. If nothing is wrong, nothing is reported.
     ensures silent { result ≤ 1 → Keeps (E.contents faults.old) (E.contents faults.new) }
     ensures mistake { TellsWord result job.entry R.Source E.Sink reader.old faults.old faults.new }
 
-    // A read or a write that failed gives status 3.
+    // A read or a write that failed has status 3.
     ensures reader { TellsMark result (R.failed reader.new) }
     ensures writer { TellsMark result (W.failed writer.new) }
 
-    // Where something failed, the replies to some first commands of a deck are written, and nothing of a source or of a list; or
-    // where writing failed a front of these replies or of its text. What is written is passed on before the fault is told. It came
-    // for its cause, and its line is told, if it can be.
+    // If something failed, the replies to the first commands of a deck are written, and nothing of a source or of a list. If
+    // writing failed, it is a prefix of these replies, or of the text of the source or list. What is written is flushed before
+    // the error is reported. The error says correctly what failed, and its line is reported if `faults` accepts it.
     ensures begun { JobBegun result job.entry R.Source W.Sink
         reader.old reader.new writer.old writer.new }
     ensures unread { JobLeavesUnread job.entry R.Source W.Sink
@@ -80,7 +79,11 @@ pub fn serve<R: Source, W: Sink, E: Sink>(
     }
 }
 
-/// Carries a task out.
+/// Performs a task.
+///
+/// # Errors
+///
+/// `ReadFault` (22), `WriteFault` (23) and `OutOfMemory` (21).
 fn carry_out<R: Source, W: Sink>(
     alloc: Global,
     task: Task,
@@ -98,7 +101,7 @@ fn carry_out<R: Source, W: Sink>(
     }
 }
 
-/// How a job ends whose deck ends so.
+/// Returns how a job ends, by the outcome of its deck.
 fn ended(outcome: Outcome) -> Ended
     ensures { result ≡ ended_of_deck outcome }
 {
@@ -108,7 +111,7 @@ fn ended(outcome: Outcome) -> Ended
     }
 }
 
-/// Tells a wrong word by its number, as far as the end for faults takes the line. Answers the status 2.
+/// Reports a wrong word by its number, as far as `faults` accepts the line. Returns the status 2.
 fn tell_mistake<E: Sink>(number: usize, faults: &mut E) -> u8
     requires { E.failed faults.old ≡ false }
     ensures status { result ≡ 2 }
@@ -118,7 +121,7 @@ fn tell_mistake<E: Sink>(number: usize, faults: &mut E) -> u8
     MISTAKEN
 }
 
-/// Tells a fault, as far as the end for faults takes its line. Answers the status 3.
+/// Reports an error that ended a job, as far as `faults` accepts its line. Returns the status 3.
 pub fn tell<E: Sink>(fault: Fault, faults: &mut E) -> u8
     requires { E.failed faults.old ≡ false }
     ensures status { result ≡ 3 }
@@ -128,7 +131,7 @@ pub fn tell<E: Sink>(fault: Fault, faults: &mut E) -> u8
     FAILED
 }
 
-/// Writes a text to the end for faults, and flushes it. Where that end fails, nothing more is written to it.
+/// Writes a text to `faults` and flushes it. If that fails, nothing more is written to it.
 pub(crate) fn tell_text<E: Sink>(text: &str, faults: &mut E)
     requires { E.failed faults.old ≡ false }
     ensures { Tells E.Sink faults.old faults.new text.now }

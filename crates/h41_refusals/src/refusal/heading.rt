@@ -14,7 +14,7 @@ impl Refusal {
     ghost use Rattle.std.specs.Prelude.{◌≡◌, ◌≤◌, length};
     ghost use Rattle.h41_refusals.specs.Refusals.{heading};
 
-    /// `! NN Name`.
+    /// Returns the refusal as `! NN Name`, for example `! 24 Busy`, at most 22 bytes.
     pub fn heading(self) -> &'static str
         ensures text { result.now ≡ heading self }
         ensures short { length result.now ≤ 22 }
@@ -34,7 +34,7 @@ impl Refusal {
     }
 }
 
-/// Of a refusal of the calculator.
+/// Returns `! NN Name` of a refusal of the calculator.
 fn calculator_heading(refusal: CalculatorRefusal) -> &'static str
     ensures text { result.now ≡ spec.heading_of (spec.calculator_name refusal) }
     ensures short { length result.now ≤ 22 }
@@ -49,7 +49,7 @@ fn calculator_heading(refusal: CalculatorRefusal) -> &'static str
     }
 }
 
-/// Of a refusal of a word.
+/// Returns `! NN Name` of a refusal of a word.
 fn word_heading(refusal: WordRefusal) -> &'static str
     ensures text { result.now ≡ spec.heading_of (spec.word_name refusal) }
     ensures short { length result.now ≤ 22 }
@@ -65,7 +65,7 @@ fn word_heading(refusal: WordRefusal) -> &'static str
     }
 }
 
-/// Of a refusal of program memory.
+/// Returns `! NN Name` of a refusal of program memory.
 fn program_heading(refusal: ProgramRefusal) -> &'static str
     ensures text { result.now ≡ spec.heading_of (spec.program_name refusal) }
     ensures short { length result.now ≤ 22 }
@@ -77,7 +77,7 @@ fn program_heading(refusal: ProgramRefusal) -> &'static str
     }
 }
 
-/// Of a refusal of lines.
+/// Returns `! NN Name` of a refusal of lines.
 fn line_heading(refusal: LineRefusal) -> &'static str
     ensures text { result.now ≡ spec.heading_of (spec.line_name refusal) }
     ensures short { length result.now ≤ 22 }
@@ -93,7 +93,7 @@ fn line_heading(refusal: LineRefusal) -> &'static str
     }
 }
 
-/// Of a fault of a source.
+/// Returns `! NN Name` of an error of a source.
 fn source_heading(fault: SourceFault) -> &'static str
     ensures text { result.now ≡ spec.heading_of (spec.source_name fault) }
     ensures short { length result.now ≤ 22 }

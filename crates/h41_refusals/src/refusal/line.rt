@@ -1,4 +1,4 @@
-//! The line that prints a refusal, and what it tells beside the name.
+//! The line that prints a refusal, and the detail after the name.
 
 ghost use Rattle.std.specs.Prelude.{◌≡◌, ◌≤◌, ◌<◌, ◌++◌};
 ghost use Rattle.arrayvec.specs.ArrayString.{array_string_len};
@@ -12,10 +12,10 @@ use h41_nut::WordRefusal;
 use h41_xrom::CalculatorRefusal;
 use itoa::Buffer;
 
-/// The most bytes of a refusal's line: 22 without its detail, a blank, the 20 digits of a line's number, and LF.
+/// The most bytes of the line of a refusal: 22 without its detail, a space, the 20 digits of a line number, and LF.
 const LINE: usize = 44;
 
-/// What a refusal tells beside its name.
+/// The detail that a refusal prints after its name.
 #[derive(Clone, Copy, Debug, PartialEq, Eq)]
 pub enum Detail {
     /// An address.
@@ -28,8 +28,9 @@ impl Refusal {
     ghost use Rattle.std.specs.Prelude.{◌≡◌};
     ghost use Rattle.h41_refusals.specs.Refusals.{detail, refusal_line};
 
-    /// The line that prints it, with its end: `! NN Name`, and a blank and the address in four hexadecimal digits or the line's
-    /// number, where it tells one. It takes no memory, so that a refusal can be told whatever else fails.
+    /// Returns the line that prints the refusal, with its LF: `! NN Name`, followed by a space and the address in four
+    /// hexadecimal digits, or the line number, if it has such a detail. It allocates no memory, so that a refusal can be
+    /// printed whatever else fails.
     pub fn line(self) -> ArrayString<LINE>
         ensures { result.bytes ≡ refusal_line self }
     {
@@ -40,7 +41,7 @@ impl Refusal {
         line
     }
 
-    /// The address or the line that it tells, where it tells one.
+    /// Returns the address or the line number of the refusal, if it has one.
     pub fn detail(self) -> Option<Detail>
         ensures { result ≡ detail self }
     {
@@ -56,7 +57,7 @@ impl Refusal {
     }
 }
 
-/// The address that a refusal of a word tells.
+/// Returns the address of a refused word.
 fn word_address(refusal: WordRefusal) -> u16
     ensures { result ≡ word_detail refusal }
 {
@@ -71,7 +72,7 @@ fn word_address(refusal: WordRefusal) -> u16
     }
 }
 
-/// Appends what a refusal tells.
+/// Appends a space and the detail, if there is one.
 fn push_detail(line: &mut ArrayString<LINE>, detail: Option<Detail>)
     requires { array_string_len line.old ≤ 22 }
     ensures written { line.new.bytes ≡ line.old.bytes ++ detail_text detail }

@@ -1,4 +1,4 @@
--- What carrying a task out leaves.
+-- What performing a task leaves.
 use Rattle.std.specs.Prelude.{◌≡◌, ◌≢◌, ℕ, true, false, List, Result, Err, IfErr, IfOk, IfSome}
 use Rattle.std.specs.Prelude.{OnOk}
 use Rattle.std.specs.Io.KnownBytes.{Keeps}
@@ -13,7 +13,7 @@ use Rattle.h41_serving.specs.Tasks.{FailedOrTooLong, IsPassedOn, LeavesBegun, Le
 use Rattle.h41_serving.specs.Tasks.{LeavesUnread, MayEnd, TaskEnds, WritesFrontOf, WritesTaskText}
 use Rattle.h41_serving.specs.Tasks.{WritesTextOf}
 
--- how a task ends, and what it leaves written and read
+-- How a task ends, and what it leaves written and read.
 pub record CarriesOut {R W : Type 0} (task : Task) (result : Result Ended Fault)
     (source : sources.Ghosts R) (sink : sinks.Ghosts W) (before after : R) (old new : W)
     : Type 0 where
@@ -32,8 +32,8 @@ pub record CarriesOut {R W : Type 0} (task : Task) (result : Result Ended Fault)
   pub reader : result ≢ Err ReadFault → source.failed after ≡ false
   pub writer : result ≢ Err WriteFault → sink.failed new ≡ false
 
--- of an input that is read whole before anything is written: what text it has, how it may end over
--- it, and how at all
+-- A task whose input is read completely before anything is written: which text the input has, how
+-- the task ends for it, and how it can end at all.
 pub record CarriesOutWhole {R W : Type 0} (text_of : List ℕ → List ℕ → Type 0)
     (ends_of : Ended → List ℕ → Type 0) (may_end : Ended → Type 0) (result : Result Ended Fault)
     (source : sources.Ghosts R) (sink : sinks.Ghosts W) (before after : R) (old new : W)

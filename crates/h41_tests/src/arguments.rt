@@ -1,4 +1,4 @@
-//! Rows of command lines.
+//! Tests of command lines.
 
 use crate::judge::wants;
 use h41_jobs::{MemorySize, Task, read_words, text_of};
@@ -86,7 +86,7 @@ fn takes_an_origin(rt: HostRuntime) {
     takes(&rt, rt.alloc(), &words, Task::List { origin: 0xC000 }, "-");
 }
 
-/// The words give this job.
+/// Requires that the words give this job.
 fn takes<'a>(rt: &impl Abort, alloc: Global, words: &'a [&'a str], task: Task, file: &str) {
     let holds = match read_words(alloc, words) {
         Ok(job) => job.task == task && job.file == file,
@@ -103,7 +103,7 @@ fn refuses_an_origin(rt: HostRuntime) {
     is_mistake(&rt, rt.alloc(), &["bench", "asm", "--origin"]);
 }
 
-/// The words end the program with status 2.
+/// Requires that the words end the program with status 2.
 fn is_mistake<'a>(rt: &impl Abort, alloc: Global, words: &'a [&'a str]) {
     let holds = match read_words(alloc, words) {
         Ok(_) => false,
@@ -112,12 +112,13 @@ fn is_mistake<'a>(rt: &impl Abort, alloc: Global, words: &'a [&'a str]) {
     assert!(rt; holds, "at {words:?}");
 }
 
-/// The words end the program with the status, and the text shows how `bench` is used.
+/// Requires that the words end the program with the status, and that the text shows the usage of
+/// `bench`.
 fn ends<'a>(rt: &impl Abort, alloc: Global, words: &'a [&'a str], status: u8) {
     tells(rt, alloc, words, status, "Usage: bench");
 }
 
-/// The words end the program with the status, and the text has this part.
+/// Requires that the words end the program with the status, and that the text contains this part.
 fn tells<'a>(rt: &impl Abort, alloc: Global, words: &'a [&'a str], status: u8, part: &str) {
     let holds = match read_words(alloc, words) {
         Ok(_) => false,

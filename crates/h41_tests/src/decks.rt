@@ -1,4 +1,4 @@
-//! Decks over ends that cut and fail, and at the bound of their length.
+//! Tests of decks over streams that deliver pieces and fail, and at the limit of a deck's length.
 
 use crate::ends::{Long, reader, writer};
 use crate::judge::wants;
@@ -32,7 +32,8 @@ fn runs_in_pieces(rt: HostRuntime) -> Result<(), Fail> {
     Ok(())
 }
 
-/// Where commands of `DECK` end, and how much of `TEXT` is theirs and that of those before them.
+/// The number of bytes of `DECK` up to the end of a command, and the number of bytes of `TEXT` up to
+/// the end of its reply.
 const ENDS: [(usize, usize); 5] = [
     (48, 10),
     (56, 50),
@@ -41,7 +42,8 @@ const ENDS: [(usize, usize); 5] = [
     (75, TEXT.len()),
 ];
 
-/// How much of `TEXT` is that of the commands whose last line end is in so many bytes of `DECK`.
+/// Returns how many bytes of `TEXT` belong to the commands whose last line end is in the first `read`
+/// bytes of `DECK`.
 fn text_within(read: usize) -> usize {
     let mut count = 0;
     for (end, text) in &ENDS {
@@ -105,7 +107,8 @@ fn stops_where_a_write_takes_nothing(rt: HostRuntime) {
     wants(&rt, "a sink that is full", is_told && is_full && is_front);
 }
 
-/// The deck of these bytes, of blanks up to so many bytes in all, and of more bytes ends and prints so.
+/// Requires that a deck of the bytes `before`, spaces up to `count` bytes, and the bytes `after`, ends
+/// as expected and prints the text.
 fn ends_at_the_bound(
     rt: &impl Abort,
     alloc: Global,

@@ -1,4 +1,5 @@
-//! Readers and writers that give and take a little at a time, and fail at a call.
+//! Readers and writers for tests, which deliver and accept a few bytes at a time, and fail at a given
+//! call.
 
 ghost use Rattle.std.specs.Prelude.{◌≡◌, ◌+◌, ◌-◌, ◌≤◌, ◌<◌, ℕ, false, min, None, Some, take, drop};
 ghost use Rattle.std.specs.Prelude.{length};
@@ -8,13 +9,18 @@ use std::alloc::Global;
 use std::io;
 use std::io::ErrorKind;
 
-/// A source over a slice, which gives at most `most` bytes a call and fails once `calls` is spent.
+/// A source over a slice, which delivers at most `most` bytes per call and fails after `calls` calls.
 #[derive(Drop)]
 pub struct SourceInPieces<'a> {
+    /// The bytes that remain.
     pub rest: &'a [u8],
+    /// The most bytes of one call.
     pub most: usize,
+    /// The number of calls before one fails.
     pub calls: usize,
+    /// The error flag.
     pub has_failed: bool,
+    /// The number of bytes delivered, counted up to one more than the limit of an input.
     pub given: usize,
     ghost some: { 0 < most },
 }
@@ -44,20 +50,26 @@ impl Source for SourceInPieces<'_> {
     }
 }
 
-/// How many bytes were given with so many more, counted up to one more than an input may have.
+/// Returns the number of bytes delivered after `count` more, counted up to one more than the limit of an
+/// input.
 pub fn given_with(given: usize, count: usize) -> usize
     ensures { result ≡ min 67108865 (given + count) }
 {
     given.saturating_add(count).min(67_108_865)
 }
 
-/// A sink of at most `most` bytes a call, which fails once `calls` is spent.
+/// A sink that accepts at most `most` bytes per call, and fails after `calls` calls.
 #[derive(Drop)]
 pub struct Slow {
+    /// The bytes that were accepted.
     pub taken: Vec<u8>,
+    /// The most bytes of one call.
     pub most: usize,
+    /// The number of calls before one fails.
     pub calls: usize,
+    /// The error flag.
     pub has_failed: bool,
+    /// Whether it was flushed after its last write.
     pub is_flushed: bool,
 }
 
@@ -100,7 +112,7 @@ impl Sink for Slow {
     }
 }
 
-/// A text in pieces of so many bytes, up to a call that fails.
+/// Returns a source that delivers a text, at most `most` bytes per call, and fails after `calls` calls.
 pub fn reader<'a>(text: &'a str, most: usize, calls: usize) -> SourceInPieces<'a>
     requires { 0 < most }
     ensures { result.has_failed ≡ false }
@@ -114,7 +126,7 @@ pub fn reader<'a>(text: &'a str, most: usize, calls: usize) -> SourceInPieces<'a
     }
 }
 
-/// A sink of so many bytes a call, up to a call that fails.
+/// Returns a sink that accepts at most `most` bytes per call, and fails after `calls` calls.
 pub fn writer(alloc: Global, most: usize, calls: usize) -> Slow
     ensures { result.has_failed ≡ false }
 {
@@ -127,12 +139,17 @@ pub fn writer(alloc: Global, most: usize, calls: usize) -> Slow
     }
 }
 
-/// A source of some bytes, so many blanks, and other bytes. It does not tell its bytes, and no call fails.
+/// A source of some bytes, a number of spaces, and other bytes. Its bytes are not known to contracts, and
+/// no call fails.
 #[derive(Drop)]
 pub struct Long<'a> {
+    /// The bytes before the spaces that remain.
     pub before: &'a [u8],
+    /// The number of spaces that remain.
     pub blanks: usize,
+    /// The bytes after the spaces that remain.
     pub after: &'a [u8],
+    /// The number of bytes delivered, counted up to one more than the limit of an input.
     pub given: usize,
 }
 

@@ -1,10 +1,10 @@
-//! What a test wants.
+//! What a test requires.
 
 ghost use Rattle.std.specs.Prelude.{IsTrue};
 
 use std::process::Abort;
 
-/// Stops the test where something does not hold, by the name of its row.
+/// Ends the test with the name of the row if something does not hold.
 pub fn wants(rt: &impl Abort, row: &str, holds: bool)
     ensures { IsTrue holds }
 {

@@ -1,5 +1,6 @@
-//! Tests of the bench: what no clause says. Labels that are kept, a deck at each size of memory,
-//! and jobs over ends that cut and fail. What the program can run stands in the repository's folder `rows`.
+//! Tests of the bench, of what no contract states: the label cache, a deck at each size of memory, and jobs
+//! over streams that deliver pieces and fail. Tests that the program itself can run are in the repository's
+//! folder `rows`.
 #![tactic(auto)]
 
 #[cfg(test)]

@@ -1,4 +1,4 @@
-//! Known values of the calculator, by which its definitions can be judged: what decks do not print.
+//! Known values of the calculator, to check its definitions with: what decks do not print.
 
 mod calculator_labels;
 mod kept_labels;

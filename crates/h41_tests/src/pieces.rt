@@ -1,5 +1,5 @@
-//! Decks in pieces: over readers that cut their bytes anywhere, decks that are cut, ends that fail once, and what is passed on
-//! when a reader is asked for more.
+//! Tests of decks in pieces: over readers that cut their bytes anywhere, decks that end early, streams that fail once, and
+//! what is flushed before a reader is asked for more.
 
 use crate::ends::Long;
 use crate::judge::wants;
@@ -23,7 +23,7 @@ const STEPPED: [(&str, &str); 4] = [
     ("show cpu\n", CPU),
 ];
 
-/// What it shows.
+/// What `show cpu` prints after these steps.
 const CPU: &str = "A=00000000000000 B=00000000000000 C=00000000000124\n\
     M=00000000000000 N=00000000000000\nG=00 T=00 ST=0000 P=0 Q=0 PT=P\n\
     PC=8003 CY=0 MODE=HEX RAM=000 KY=00 KF=0\nRTN=00F0 0000 0000 0000\n";
@@ -67,10 +67,10 @@ const REFUSED: [(&str, &str); 3] = [
 
 const DECKS: [Commands; 4] = [&STEPPED, &PROGRAM, &REWRITTEN, &REFUSED];
 
-/// Those whose commands all have their end.
+/// The decks whose commands all have their end.
 const ENDED: [Commands; 3] = [&STEPPED, &PROGRAM, &REWRITTEN];
 
-/// The lines of a deck.
+/// Returns the lines of a deck.
 fn lines_of(alloc: Global, deck: Commands) -> Result<Vec<u8>, AllocError> {
     let mut all = Vec::new(alloc);
     for (lines, _) in deck {
@@ -79,7 +79,7 @@ fn lines_of(alloc: Global, deck: Commands) -> Result<Vec<u8>, AllocError> {
     Ok(all)
 }
 
-/// The replies to the commands whose last line end is in the first so many bytes of a deck.
+/// Returns the replies to the commands whose last line end is in the first `read` bytes of a deck.
 fn text_within(alloc: Global, deck: Commands, read: usize) -> Result<Vec<u8>, AllocError> {
     let mut text = Vec::new(alloc);
     let mut end = 0usize;
@@ -92,7 +92,7 @@ fn text_within(alloc: Global, deck: Commands, read: usize) -> Result<Vec<u8>, Al
     Ok(text)
 }
 
-/// How a deck ends that is given in pieces of so many bytes, and whether it writes a text.
+/// Runs a deck that is delivered in pieces of at most `most` bytes, and returns how it ends and whether it writes this text.
 fn writes(alloc: Global, lines: &[u8], most: usize, text: &[u8]) -> Result<(Outcome, bool), Fault> {
     let mut reader = Reader::new(lines, most, None);
     let mut writer = Writer::new(alloc, 4096, None);
@@ -113,7 +113,7 @@ fn writes_the_same_in_any_pieces(rt: HostRuntime) -> Result<(), Fail> {
     Ok(())
 }
 
-/// How a deck ends that is cut after so many bytes or fewer, but for those of the rows before.
+/// The text of `STEPPED` if it ends after so many bytes, or fewer, but more than in the row before.
 const CUTS: [(usize, &str); 11] = [
     (0, ""),
     (4, "! 50 BadCommand\n"),
@@ -128,7 +128,7 @@ const CUTS: [(usize, &str); 11] = [
     (54, CPU),
 ];
 
-/// The text of a deck that is cut after so many bytes.
+/// Returns the text of `STEPPED` if it ends after so many bytes.
 fn text_after(cut: usize) -> &'static str {
     for (last, text) in CUTS {
         if cut <= last {
@@ -138,7 +138,7 @@ fn text_after(cut: usize) -> &'static str {
     ""
 }
 
-/// The first so many bytes, or all.
+/// Returns the first `count` bytes, or all if there are fewer.
 fn front(bytes: &[u8], count: usize) -> &[u8] {
     if count < bytes.len() {
         &bytes[..count]
@@ -167,20 +167,24 @@ const RUN: Job<'static> = Job {
     file: "-",
 };
 
-/// How a run ends of which a read or a write may fail.
+/// How a run ends if a read or a write may fail.
 #[derive(Clone, Copy, Debug, PartialEq, Eq)]
 struct Ended {
-    /// The fault's line is told, with status 3.
+    /// Whether the line of the error is reported, with status 3.
     is_told: bool,
-    /// A text is written, or a front of it, and passed on.
+    /// Whether the expected text is written completely.
     is_whole: bool,
+    /// Whether a prefix of the expected text is written.
     is_front: bool,
+    /// Whether what is written is flushed.
     is_passed_on: bool,
+    /// The number of reads.
     reads: usize,
+    /// The number of writes and flushes.
     writes: usize,
 }
 
-/// The run of a deck by such ends, of so many bytes a call.
+/// Runs a deck over streams with so many bytes per call, of which a call may fail, and returns how the run ends.
 fn served(
     alloc: Global,
     lines: &[u8],

@@ -1,4 +1,4 @@
-//! The program's command lines, over files and ends of a test: what is read, printed and told, and the status.
+//! Tests of the program's command lines, over files and streams for tests: what is read, printed and reported, and the status.
 
 use crate::decks::{DECK, TEXT};
 use crate::ends::writer;
@@ -10,7 +10,7 @@ use std::io::{self, ErrorKind, Read};
 use std::process::Abort;
 use std::test::Fail;
 
-/// A file, or standard input, of which each read after `calls` of them fails.
+/// A file, or standard input. Reads fail after `calls` calls.
 #[derive(Drop)]
 struct Text {
     rest: &'static [u8],
@@ -30,7 +30,7 @@ impl Read for Text {
     }
 }
 
-/// A text whose reads do not fail.
+/// Returns a text whose reads do not fail.
 fn sound_text(of: &'static str) -> Text {
     Text {
         rest: of.as_bytes(),
@@ -38,7 +38,7 @@ fn sound_text(of: &'static str) -> Text {
     }
 }
 
-/// The file of a name.
+/// Returns the file with this name.
 fn open(name: &str) -> io::Result<Text> {
     match name {
         "deck" => Ok(sound_text(DECK)),
@@ -53,8 +53,8 @@ fn open(name: &str) -> io::Result<Text> {
     }
 }
 
-/// The words behind the program's name; how many calls the output and the end for faults take; the status, what is printed, and
-/// what is told. A text that ends in `..` is a part of it.
+/// The words after the program's name; how many calls the output and the stream for errors accept; the status, what is printed,
+/// and what is reported. A text that ends in `..` is a part of the expected one.
 type ProgramRow = (
     &'static [&'static str],
     usize,
@@ -64,23 +64,25 @@ type ProgramRow = (
     &'static str,
 );
 
-/// Standard input is a deck of one wrong command.
+/// Standard input: a deck with one wrong command.
 const INPUT: &str = "fly\n";
 
-/// What it prints.
+/// What the deck in `INPUT` prints.
 const REPLY: &str = "! 50 BadCommand\n";
 
-/// What is told of a file that is missing.
+/// What is reported of a file that does not exist.
 const MISSING: &str = "! 22 ReadFault\nbench: none: there is none\n";
 
-/// What is told of a wrong size of memory, and of a wrong origin.
+/// What is reported of a wrong size of memory.
 const MEMORY: &str = "error: wrong value of --memory: expected 64, 128, 192, 256 or 320\n";
 
+/// What is reported of a wrong origin.
 const ORIGIN: &str = "error: wrong value of --origin: expected four hexadecimal digits\n";
 
+/// A part of the usage in help and in messages.
 const USAGE: &str = "Usage: bench..";
 
-/// Each row ends so.
+/// Requires that the program ends as each row says.
 fn end(rt: &impl Abort, alloc: Global, rows: &[ProgramRow]) -> Result<(), Fail> {
     for (words, writes, tells, status, printed, told) in rows {
         let mut open_file = |name: &str| open(name);
@@ -103,7 +105,7 @@ fn end(rt: &impl Abort, alloc: Global, rows: &[ProgramRow]) -> Result<(), Fail> 
     Ok(())
 }
 
-/// The program's own name and these words.
+/// Returns the program's own name and these words.
 fn strings(alloc: Global, words: &[&str]) -> Result<Vec<String>, AllocError> {
     let mut all = Vec::new(alloc);
     all.push(String::from_str(alloc, "/bin/bench")?)?;
@@ -113,7 +115,7 @@ fn strings(alloc: Global, words: &[&str]) -> Result<Vec<String>, AllocError> {
     Ok(all)
 }
 
-/// The bytes are this text, or have this part.
+/// Returns whether the bytes are this text, or contain it if it ends in `..`.
 fn is_text(bytes: &[u8], text: &str) -> bool {
     match text.strip_suffix("..") {
         Some(part) => match std::str::from_utf8(bytes) {

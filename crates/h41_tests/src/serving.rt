@@ -1,4 +1,4 @@
-//! Jobs over ends that cut and fail: the status, what stands on the output, and what is told.
+//! Tests of jobs over streams that deliver pieces and fail: the status, what is on the output, and what is reported.
 
 use crate::decks::{DECK, TEXT};
 use crate::ends::{reader, writer};
@@ -16,20 +16,20 @@ const ASSEMBLE: Task = Task::Assemble { origin: 0x8000 };
 
 const LIST: Task = Task::List { origin: 0x8000 };
 
-/// A job over an input.
+/// A job with its input.
 #[derive(Clone, Copy)]
 struct GivenInput {
     task: Task,
     text: &'static str,
-    /// What it prints.
+    /// What the job prints.
     output: &'static str,
 }
 
-/// The calls that the input, the output and the end for faults take, each write a byte; the status, how many bytes stand on
-/// the output, and what is told.
+/// How many calls the input, the output and the stream for errors accept; each write accepts one byte. Then the status, how many
+/// bytes are on the output, and what is reported.
 type ServedRow = (usize, usize, usize, u8, usize, &'static str);
 
-/// Each row ends so.
+/// Requires that the job ends as each row says.
 fn end(rt: &impl Abort, alloc: Global, input: &GivenInput, rows: &[ServedRow]) {
     let job = Job {
         task: input.task,

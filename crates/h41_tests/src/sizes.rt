@@ -1,4 +1,5 @@
-//! A deck at each size of memory: where its registers end, how many there are at the start, and how much room there is.
+//! Tests of a deck at each size of memory: where its registers end, how many there are in the initial state, and how much room
+//! there is for programs.
 
 ghost use Rattle.std.specs.Prelude.{◌≤◌};
 
@@ -9,20 +10,24 @@ use std::alloc::{AllocError, Global};
 use std::process::Abort;
 use std::test::Fail;
 
-/// A size of memory, with what it makes of the deck.
+/// A size of memory, with the results of the deck.
 struct Size {
     registers: u16,
-    /// Register c at the start, and how many registers are free then.
+    /// Register c in the initial state.
     start: &'static str,
+    /// How many registers are free in the initial state.
     free: u16,
-    /// The last address of memory, and the next.
+    /// The last address of memory.
     last: u16,
+    /// The address after the last.
     above: u16,
-    /// How many data registers are left by a program that counts through them, the number that it begins with, what it leaves in the
-    /// last of them, and how many steps it makes.
+    /// How many data registers there are for a program that counts through them.
     counted: u16,
+    /// The number that the program begins with.
     limit: &'static str,
+    /// What the program leaves in the last data register.
     register: &'static str,
+    /// How many steps the program makes.
     steps: u16,
 }
 
@@ -128,7 +133,7 @@ static SIZES: [Size; 9] = [
     },
 ];
 
-/// So many bytes of RCL 05, as the lines of a block.
+/// Returns `count` bytes of RCL 05, as the lines of a block.
 fn recalls(alloc: Global, count: u16) -> Result<String, AllocError> {
     let mut lines = String::new(alloc);
     for byte in 0..count {
@@ -137,7 +142,8 @@ fn recalls(alloc: Global, count: u16) -> Result<String, AllocError> {
     Ok(lines)
 }
 
-/// What is asked of the start, of the ends of memory, of its data registers, and of its room for programs.
+/// Returns the deck of a size: commands about the initial state, the limits of memory, its data registers, and its room for
+/// programs.
 fn deck_of(alloc: Global, size: &Size) -> Result<String, AllocError> {
     let Size {
         registers,
@@ -162,7 +168,7 @@ fn deck_of(alloc: Global, size: &Size) -> Result<String, AllocError> {
     )
 }
 
-/// What is printed then.
+/// Returns what the deck of a size prints.
 fn text_of(alloc: Global, size: &Size) -> Result<String, AllocError> {
     let Size {
         start,
@@ -181,7 +187,7 @@ fn text_of(alloc: Global, size: &Size) -> Result<String, AllocError> {
     )
 }
 
-/// The deck prints this text at the size.
+/// Requires that the deck prints its text at the size.
 fn answers<const REGS: usize>(rt: &impl Abort, alloc: Global, size: &Size) -> Result<(), Fail>
     requires at_least { 64 ≤ REGS }
     requires at_most { REGS ≤ 320 }

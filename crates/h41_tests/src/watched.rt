@@ -1,4 +1,4 @@
-//! Ends that fail once, and a reader that watches what was passed on.
+//! Streams that fail once, and a reader that watches what was flushed.
 
 ghost use Rattle.std.specs.Prelude.{◌≡◌, ◌<◌, ◌≤◌, false, None, Some, length};
 
@@ -10,7 +10,7 @@ use std::cell::Cell;
 use std::io;
 use std::io::ErrorKind;
 
-/// A source over bytes, of so many a call at most. One of its calls fails, if that is asked for.
+/// A source over bytes, which delivers at most `most` of them per call. One of its calls fails, if that is wanted.
 #[derive(Drop)]
 pub struct Reader<'a> {
     rest: &'a [u8],
@@ -25,7 +25,8 @@ pub struct Reader<'a> {
 }
 
 impl<'a> Reader<'a> {
-    /// Of these bytes; each call gives one at least.
+    /// Returns a source of these bytes. Each call delivers at least one, as long as there are some. Call number
+    /// `fails`, counted from 0, fails.
     pub fn new(bytes: &'a [u8], most: usize, fails: Option<usize>) -> Self
         ensures { result.has_failed ≡ false }
     {
@@ -42,25 +43,25 @@ impl<'a> Reader<'a> {
         }
     }
 
-    /// Has it watch that at each read the replies to all commands are passed on that have their end in what was given.
+    /// Makes the source watch that, at each read, the replies to all commands whose end was delivered are flushed.
     pub fn watch(&mut self, deck: Commands, passed: &'a Cell<usize>)
         ensures { self.new.has_failed ≡ self.old.has_failed }
     {
         self.watched = Some((deck, passed));
     }
 
-    /// Whether they always were.
+    /// Returns whether they always were.
     pub fn was_in_time(&self) -> bool {
         !self.was_late
     }
 
-    /// How many calls there were.
+    /// Returns how many calls there were.
     pub fn calls(&self) -> usize {
         self.calls
     }
 }
 
-/// How many bytes the replies have to the commands that have their end in the first so many bytes of a deck.
+/// Returns how many bytes the replies have to the commands whose end is in the first `given` bytes of a deck.
 fn count_within(deck: Commands, given: usize) -> usize {
     let mut end = 0usize;
     let mut count = 0usize;
@@ -109,13 +110,15 @@ impl Source for Reader<'_> {
 pub enum Once {
     /// It fails.
     Fails,
-    /// It takes no byte; a flush fails.
+    /// It accepts no byte; a flush fails.
     TakesNothing,
 }
 
-/// A sink of so many bytes a call. One of its calls, writes and flushes, fails or takes nothing, if that is asked for.
+/// A sink that accepts at most `most` bytes per call. One of its calls, writes and flushes counted together, fails or
+/// accepts nothing, if that is wanted.
 #[derive(Drop)]
 pub struct Writer<'a> {
+    /// The bytes that were accepted.
     pub taken: Vec<u8>,
     most: usize,
     fails: Option<(usize, Once)>,
@@ -127,7 +130,7 @@ pub struct Writer<'a> {
 }
 
 impl<'a> Writer<'a> {
-    /// One that has taken nothing.
+    /// Returns a sink that has accepted nothing.
     pub fn new(alloc: Global, most: usize, fails: Option<(usize, Once)>) -> Self
         ensures { result.has_failed ≡ false }
     {
@@ -143,29 +146,29 @@ impl<'a> Writer<'a> {
         }
     }
 
-    /// Has it tell how many bytes were passed on.
+    /// Makes the sink store the number of flushed bytes in a cell.
     pub fn tell(&mut self, passed: &'a Cell<usize>)
         ensures { self.new.has_failed ≡ self.old.has_failed }
     {
         self.told = Some(passed);
     }
 
-    /// How many calls there were.
+    /// Returns how many calls there were.
     pub fn calls(&self) -> usize {
         self.calls
     }
 
-    /// How many of them were flushes.
+    /// Returns how many of the calls were flushes.
     pub fn flushes(&self) -> usize {
         self.flushes
     }
 
-    /// Whether what was taken is passed on.
+    /// Returns whether everything that was accepted is flushed.
     pub fn is_passed_on(&self) -> bool {
         self.is_flushed
     }
 
-    /// What the next call does but for its work.
+    /// Counts a call, and returns what it does instead of its work, if anything.
     fn next_call(&mut self) -> Option<Once>
         ensures taken { self.new.taken ≡ self.old.taken }
         ensures mark { self.new.has_failed ≡ self.old.has_failed }

@@ -8,7 +8,7 @@ use Rattle.h41_views.proofs.Ranges.{range_more}
 use Rattle.h41_lines.specs.Characters.{two_digits}
 use Rattle.h41_views.specs.Views.{flags_below}
 
--- a text, and a blank behind it where it is not empty
+-- A text, followed by a space if it is not empty.
 abbrev parted : List ℕ → List ℕ
 parted [] = []
 parted (byte ∷ bytes) = (byte ∷ bytes) ++ 32 ∷ []
@@ -16,7 +16,7 @@ parted (byte ∷ bytes) = (byte ∷ bytes) ++ 32 ∷ []
 abbrev joined : List ℕ → List ℕ
 joined numbers = join_with_byte 32 (map two_digits numbers)
 
--- one piece more behind others
+-- One more piece after others.
 joined-more : (first : ℕ) (numbers : List ℕ) (last : ℕ)
     → joined ((first ∷ numbers) ++ last ∷ []) ≡ joined (first ∷ numbers) ++ 32 ∷ two_digits last
 joined-more first [] last = refl
@@ -37,7 +37,7 @@ parted-joined (first ∷ []) last = refl
 parted-joined (first ∷ second ∷ numbers) last =
     joined-more first (second ∷ numbers) last ∙ sym (append_assoc (joined (first ∷ second ∷ numbers)) (32 ∷ []) (two_digits last))
 
--- a flag that is clear changes nothing
+-- A flag that is clear changes nothing.
 pub clear_flag : (ram : RegisterMap) (flag next : ℕ) → next ≡ flag + 1 → flag_of ram flag ≡ false
     → flags_below next ram ≡ flags_below flag ram
 clear_flag ram flag next e clear =
@@ -46,7 +46,7 @@ clear_flag ram flag next e clear =
     ∙ ap joined
     (below-more ram flag ∙ ap (λ (b : Bool). filter (flag_of ram) (range_with_len 0 flag) ++ cond b (flag ∷ []) []) clear ∙ append-nil _)
 
--- one that is set is the last, behind a blank where others stand before it
+-- A flag that is set is the last, after a space if others precede it.
 set_flag : (ram : RegisterMap) (flag next : ℕ) → next ≡ flag + 1 → flag_of ram flag ≡ true
     → flags_below next ram ≡ parted (flags_below flag ram) ++ two_digits flag
 set_flag ram flag next e on =

@@ -19,7 +19,7 @@ one_more_line bytes count =
     ∙ ap (λ rest. flat_map (image_line bytes) (range_with_len 0 count) ++ rest) (append-nil (image_line bytes (0 + count)))
     ∙ (let z : 0 + count ≡ count = omega arith in ap (λ n. flat_map (image_line bytes) (range_with_len 0 count) ++ image_line bytes n) z)
 
--- a line's bytes are those between its first and its last
+-- The bytes of a line are those between its first and its last.
 pub line_of : (bytes : List ℕ) (line start last : ℕ) → start ≡ 32 * line → last ≡ start + 32
     → take (last - start) (drop start bytes) ≡ take 32 (drop (32 * line) bytes)
 line_of bytes line start last first end =

@@ -10,7 +10,7 @@ use Rattle.h41_program.specs.ProgramLines.{IsFirst, LinesFrom, NoneFrom, Reads, 
 use Rattle.h41_ram.specs.RegisterMap.{RegisterMap, is_sound}
 use Rattle.h41_views.specs.ProgramListing.{ListsProgram, listed_line}
 
--- the list from a line on that is .END., and from one that is not
+-- The list from a line on that is .END., and from one that is not.
 reads_last : (bytes : List ℕ) (final at next : ℕ) (listed : ListedLine) → IsFirst bytes final at listed next
     → is_final_end listed.line ≡ true → Reads bytes final at (listed ∷ [])
 reads_last bytes final at next listed is last =
@@ -29,7 +29,7 @@ from_sound : (memory : RegisterMap) (at : ℕ) (lines : List ListedLine) → is_
     → Reads (program_bytes memory) (final_position memory) at lines → LinesFrom memory at lines
 from_sound memory at lines sound reads = record { sound = λ _. reads; lost = λ lost. absurd (true≢false (sym sound ∙ lost)) }
 
--- these lines were listed, none of them .END., and the list goes on from a position
+-- These lines were listed, none of them .END., and the list continues from a position.
 pub record Listed (memory : RegisterMap) (listing : List ℕ) (at : ℕ) : Type 0 where
   pub lines : List ListedLine
   pub text : listing ≡ flat_map listed_line lines

@@ -2,7 +2,7 @@
 use Rattle.std.proofs.Common.{◌≡◌, ℕ, zero, suc, ◌+◌, [], ◌∷◌, ◌++◌, arith, ap, ◌∙◌}
 use Rattle.std.specs.List.{range_with_len}
 
--- one number more
+-- One number more.
 pub range_more : (first count : ℕ) → range_with_len first (suc count) ≡ range_with_len first count ++ (first + count) ∷ []
 range_more first zero = let at : first ≡ first + 0 = omega arith in ap (λ n. n ∷ []) at
 range_more first (suc count) =

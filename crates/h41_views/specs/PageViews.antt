@@ -8,39 +8,42 @@ use Rattle.h41_pages.specs.PageMap.{PageMap, bank_numbered, image_at}
 use Rattle.h41_pages.specs.declared.functions.ModuleFunction.{ModuleFunction}
 use Rattle.h41_lines.specs.Characters.{characters_text, two_digits}
 
--- a name by its characters, and `-` where there is none
+-- The characters of a name, or `-` if there is none.
 abbrev pub name_text : Option (List ℕ) → List ℕ
 name_text None = codes "-"
 name_text (Some name) = characters_text name
 
--- a function by its two numbers and its name
+-- The line of a function: its two numbers and its name.
 unfoldable pub function_line : ModuleFunction → List ℕ
 function_line function =
     codes "XROM " ++ two_digits function.number ++ codes "," ++ two_digits function.entry
     ++ codes " " ++ name_text function.name ++ codes "\n"
 
+-- The lines of functions.
 abbrev pub functions_text : List ModuleFunction → List ℕ
 functions_text functions = flat_map function_line functions
 
--- bytes as two hexadecimal digits each, with the line's end
+-- Bytes as two hexadecimal digits each.
 abbrev pub bytes_text : List ℕ → List ℕ
 bytes_text bytes = flat_map (hexadecimal_text 2) bytes
 
+-- The line of some bytes.
 abbrev pub bytes_line : List ℕ → List ℕ
 bytes_line bytes = bytes_text bytes ++ codes "\n"
 
--- the line of an image, of 32 bytes
+-- A line of an image, with 32 bytes.
 abbrev pub image_line : List ℕ → ℕ → List ℕ
 image_line bytes line = bytes_line (take 32 (drop (32 * line) bytes))
 
--- so many lines of 32 bytes each; an image has 256
+-- So many lines of 32 bytes each.
 unfoldable pub image_lines : List ℕ → ℕ → List ℕ
 image_lines bytes count = flat_map (image_line bytes) (range_with_len 0 count)
 
+-- An image has 256 lines.
 abbrev pub image_text : List ℕ → List ℕ
 image_text bytes = image_lines bytes 256
 
--- the image at a page's bank
+-- The image in a bank of a page.
 abbrev pub image_at_text : PageMap → ℕ → ℕ → List ℕ
 image_at_text pages page bank =
     option_map_or (λ image. image_text (image_bytes image.words))

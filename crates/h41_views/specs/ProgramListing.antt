@@ -6,16 +6,16 @@ use Rattle.h41_program.specs.ProgramLines.{LinesFrom}
 use Rattle.h41_ram.specs.RegisterMap.{RegisterMap}
 use Rattle.h41_text.specs.LineText as text
 
--- a byte of program memory by its last four decimal digits
+-- The last four decimal digits of a position in program memory.
 abbrev pub byte_digits : ℕ → List ℕ
 byte_digits byte = two_digits (byte / 100 % 100) ++ two_digits (byte % 100)
 
--- a line of the list by its position and its text
+-- A line of the listing: its position and its text.
 unfoldable pub listed_line : ListedLine → List ℕ
 listed_line listed =
     byte_digits listed.position ++ codes " " ++ text.line_text listed.line ++ codes "\n"
 
--- the lines of memory from the first on; memory that is not sound has none
+-- The lines of memory from the first on. Memory that is not sound has none.
 abbrev pub ListsProgram : RegisterMap → List ℕ → Type 0
 ListsProgram memory listing =
     (lines : List ListedLine) × LinesFrom memory 0 lines × (listing ≡ flat_map listed_line lines)

@@ -9,7 +9,8 @@ use h41_lines::characters::character_text;
 use h41_pages::{ModuleFunction, Name, Pages};
 use std::alloc::{AllocError, Global};
 
-/// A line for each function, with its two numbers and its name. 21 where memory is refused.
+/// Returns a line for each function of the plugged modules, with its two numbers and its name.
+/// OutOfMemory (21) if allocation failed.
 pub fn functions_text(alloc: Global, pages: &Pages) -> Result<Vec<u8>, AllocError>
     ensures { IfOk result (λ text. text.items ≡ spec.functions_text (functions pages.now)) }
 {
@@ -21,7 +22,7 @@ pub fn functions_text(alloc: Global, pages: &Pages) -> Result<Vec<u8>, AllocErro
     Ok(text)
 }
 
-/// Appends the line of a function.
+/// Appends the line of a function. OutOfMemory (21) if allocation failed.
 #[tactic(auto, unfolding(crate::specs::PageViews::function_line))]
 fn push_function(text: &mut Vec<u8>, function: &ModuleFunction) -> Result<(), AllocError>
     ensures { OnOk result (text.new.items ≡ text.old.items ++ spec.function_line function.now) }
@@ -35,14 +36,14 @@ fn push_function(text: &mut Vec<u8>, function: &ModuleFunction) -> Result<(), Al
     text.extend_from_slice(b"\n")
 }
 
-/// Appends the two decimal digits of a number below 100.
+/// Appends a number below 100 as two decimal digits. OutOfMemory (21) if allocation failed.
 fn push_number(text: &mut Vec<u8>, number: u8) -> Result<(), AllocError>
     ensures { OnOk result (text.new.items ≡ text.old.items ++ two_digits number) }
 {
     text.extend_from_slice(&[b'0' + number / 10, b'0' + number % 10])
 }
 
-/// Appends a name, and `-` where there is none.
+/// Appends a name, or `-` if there is none. OutOfMemory (21) if allocation failed.
 fn push_name(text: &mut Vec<u8>, name: &Option<Name>) -> Result<(), AllocError>
     ensures { OnOk result (text.new.items ≡ text.old.items ++ spec.name_text name.now) }
 {
@@ -52,7 +53,7 @@ fn push_name(text: &mut Vec<u8>, name: &Option<Name>) -> Result<(), AllocError>
     }
 }
 
-/// Appends characters as they are printed.
+/// Appends characters as they are printed. OutOfMemory (21) if allocation failed.
 fn push_printed(text: &mut Vec<u8>, characters: &[u8]) -> Result<(), AllocError>
     ensures { OnOk result (text.new.items ≡ text.old.items ++ characters_text characters.now) }
 {

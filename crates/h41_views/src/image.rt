@@ -1,4 +1,4 @@
-//! The image of a page's bank, as `show image` prints it.
+//! The image in a bank of a page, as `show image` prints it.
 
 ghost use Rattle.std.specs.Prelude.{◌≡◌, ◌<◌, ◌≤◌, ◌+◌, ◌*◌, ◌++◌, IfOk, OnOk, length, take, drop};
 ghost use Rattle.h41_pages.specs.Images.{image_size};
@@ -7,12 +7,14 @@ ghost use Rattle.h41_views.specs.PageViews as spec;
 use h41_lines::characters::byte_digits;
 use std::alloc::{AllocError, Global};
 
-/// How many lines an image has, and how many bytes a line.
+/// The number of lines of an image.
 const LINES: usize = 256;
 
+/// The number of bytes in a line of an image.
 const LINE_BYTES: usize = 32;
 
-/// The lines of an image's bytes, 32 bytes each. 21 where memory is refused.
+/// Returns the lines of an image's bytes, 32 bytes each in hexadecimal. OutOfMemory (21) if
+/// allocation failed.
 pub fn image_text(alloc: Global, bytes: &[u8]) -> Result<Vec<u8>, AllocError>
     requires { length bytes.now ≡ image_size }
     ensures { IfOk result (λ text. text.items ≡ spec.image_text bytes.now) }
@@ -26,7 +28,7 @@ pub fn image_text(alloc: Global, bytes: &[u8]) -> Result<Vec<u8>, AllocError>
     Ok(text)
 }
 
-/// Appends bytes as one line.
+/// Appends bytes as one line. OutOfMemory (21) if allocation failed.
 fn push_line(text: &mut Vec<u8>, bytes: &[u8]) -> Result<(), AllocError>
     ensures { OnOk result (text.new.items ≡ text.old.items ++ spec.bytes_line bytes.now) }
 {

@@ -1,4 +1,4 @@
-//! What the bench shows of memory, the processor and the pages: the texts of views.
+//! The texts of views: what the bench shows of memory, the processor and the pages.
 #![tactic(auto)]
 
 mod functions;

@@ -1,4 +1,4 @@
-//! The memory as `show ram`, `show stack` and `show flags` print it.
+//! The memory, as `show ram`, `show stack` and `show flags` print it.
 
 ghost use Rattle.std.specs.Prelude.{◌≡◌, ◌+◌, ◌*◌, ◌<◌, ◌≤◌, ◌++◌, IfOk, Some};
 ghost use Rattle.std.specs.Fmt.{WritesOnOk};
@@ -16,13 +16,14 @@ use h41_ram::Ram;
 use std::alloc::{AllocError, Global};
 use std::fmt;
 
-/// How many flags there are.
+/// The number of flags: 56.
 const FLAGS: usize = 56;
 
-/// The most bytes of their numbers: two digits and a blank each.
+/// The most bytes of the numbers of set flags: two digits and a space for each flag.
 const FLAGS_TEXT: usize = 168;
 
-/// The line of the register at an address. 21 where memory is refused.
+/// Returns the line of the register at an address, for example `0C0=00000000000000`. OutOfMemory
+/// (21) if allocation failed.
 pub fn register_text<const REGS: usize>(
     alloc: Global,
     ram: &Ram<REGS>,
@@ -34,14 +35,15 @@ pub fn register_text<const REGS: usize>(
     text_of(alloc, RegisterLine { address, register })
 }
 
-/// The stack from T down, and L. 21 where memory is refused.
+/// Returns the lines of the stack from T to X, and of L. OutOfMemory (21) if allocation failed.
 pub fn stack_text<const REGS: usize>(alloc: Global, ram: &Ram<REGS>) -> Result<Vec<u8>, AllocError>
     ensures { IfOk result (λ text. text.items ≡ spec.stack_text ram.now.registers) }
 {
     text_of(alloc, StackLines::of(ram))
 }
 
-/// The line of the numbers of the flags that are set. 21 where memory is refused.
+/// Returns the line with the numbers of the flags that are set. OutOfMemory (21) if allocation
+/// failed.
 #[tactic(auto, unfolding(crate::specs::Views::flags_line))]
 pub fn flags_text<const REGS: usize>(alloc: Global, ram: &Ram<REGS>) -> Result<Vec<u8>, AllocError>
     ensures { IfOk result (λ text. text.items ≡ spec.flags_line ram.now.registers) }
@@ -51,7 +53,7 @@ pub fn flags_text<const REGS: usize>(alloc: Global, ram: &Ram<REGS>) -> Result<V
     Ok(line)
 }
 
-/// A register with its address, of three hexadecimal digits.
+/// A register with its address, which is printed with three hexadecimal digits.
 #[derive(Clone, Copy)]
 struct RegisterLine {
     address: u16,
@@ -71,7 +73,7 @@ impl fmt::Display for RegisterLine {
     }
 }
 
-/// The stack from T down, and L.
+/// The stack from T to X, and L.
 #[derive(Clone, Copy)]
 struct StackLines {
     t: Reg,
@@ -82,7 +84,7 @@ struct StackLines {
 }
 
 impl StackLines {
-    /// Those of a memory.
+    /// Returns the stack and L of a memory.
     fn of<const REGS: usize>(ram: &Ram<REGS>) -> Self
         ensures t { result.t ≡ register_at ram.now.registers 0 }
         ensures z { result.z ≡ register_at ram.now.registers 1 }
@@ -116,7 +118,7 @@ impl fmt::Display for StackLines {
     }
 }
 
-/// A level of the stack, or L, by its name.
+/// Writes the line of a stack register or L, with its name.
 #[tactic(auto, unfolding(crate::specs::Views::level_line))]
 fn write_level<W: fmt::Write>(f: &mut fmt::Formatter<W>, name: &str, register: Reg) -> fmt::Result
     ensures { WritesOnOk W.write_str_gives f.old result (level_line name.now register) f.new }
@@ -124,7 +126,7 @@ fn write_level<W: fmt::Write>(f: &mut fmt::Formatter<W>, name: &str, register: R
     writeln!(f, "{name}={register}")
 }
 
-/// The numbers of the flags that are set, parted by blanks.
+/// Returns the numbers of the flags that are set, separated by spaces.
 fn set_flags<const REGS: usize>(ram: &Ram<REGS>) -> ArrayString<FLAGS_TEXT>
     ensures { result.bytes ≡ flags_below 56 ram.now.registers }
 {

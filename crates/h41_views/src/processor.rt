@@ -1,4 +1,4 @@
-//! The processor as `show cpu` prints it.
+//! The processor, as `show cpu` prints it.
 
 ghost use Rattle.std.specs.Prelude.{◌≡◌, IfOk, Some};
 ghost use Rattle.std.specs.Fmt.{WritesOnOk};
@@ -14,14 +14,14 @@ use h41_nut::{Base, Cpu, Keys};
 use std::alloc::{AllocError, Global};
 use std::fmt;
 
-/// The processor's five lines. 21 where memory is refused.
+/// Returns the five lines of the processor. OutOfMemory (21) if allocation failed.
 pub fn processor_text(alloc: Global, cpu: &Cpu, keys: &Keys) -> Result<Vec<u8>, AllocError>
     ensures { IfOk result (λ text. text.items ≡ spec.processor_text cpu.now keys.now) }
 {
     text_of(alloc, Processor { cpu, keys })
 }
 
-/// The processor as it is printed: five lines, each with its end.
+/// The processor as it is printed: five lines, each with its line end.
 #[derive(Clone, Copy)]
 struct Processor<'a> {
     cpu: &'a Cpu,
@@ -44,7 +44,7 @@ impl fmt::Display for Processor<'_> {
     }
 }
 
-/// A, B and C.
+/// Writes the line of A, B and C.
 #[tactic(auto, unfolding(crate::specs::Views::registers_line))]
 fn write_registers<W: fmt::Write>(f: &mut fmt::Formatter<W>, cpu: &Cpu) -> fmt::Result
     ensures { WritesOnOk W.write_str_gives f.old result (registers_line cpu.now) f.new }
@@ -53,7 +53,7 @@ fn write_registers<W: fmt::Write>(f: &mut fmt::Formatter<W>, cpu: &Cpu) -> fmt::
     writeln!(f, "A={a} B={b} C={c}")
 }
 
-/// M and N.
+/// Writes the line of M and N.
 #[tactic(auto, unfolding(crate::specs::Views::memories_line))]
 fn write_memories<W: fmt::Write>(f: &mut fmt::Formatter<W>, cpu: &Cpu) -> fmt::Result
     ensures { WritesOnOk W.write_str_gives f.old result (memories_line cpu.now) f.new }
@@ -62,7 +62,7 @@ fn write_memories<W: fmt::Write>(f: &mut fmt::Formatter<W>, cpu: &Cpu) -> fmt::R
     writeln!(f, "M={m} N={n}")
 }
 
-/// G, T, the status bits and the pointers.
+/// Writes the line of G, T, the status bits and the pointers.
 #[tactic(auto, unfolding(crate::specs::Views::pointers_line))]
 fn write_pointers<W: fmt::Write>(f: &mut fmt::Formatter<W>, cpu: &Cpu) -> fmt::Result
     ensures { WritesOnOk W.write_str_gives f.old result (pointers_line cpu.now) f.new }
@@ -76,7 +76,8 @@ fn write_pointers<W: fmt::Write>(f: &mut fmt::Formatter<W>, cpu: &Cpu) -> fmt::R
     writeln!(f, "G={g} T={t} ST={status} P={p} Q={q} PT={active}")
 }
 
-/// The address, the carry, the modes and the keys.
+/// Writes the line of the address, the carry, the arithmetic mode, the selected register and the
+/// keyboard.
 #[tactic(auto, unfolding(crate::specs::Views::modes_line))]
 fn write_modes<W: fmt::Write>(f: &mut fmt::Formatter<W>, cpu: &Cpu, keys: &Keys) -> fmt::Result
     ensures { WritesOnOk W.write_str_gives f.old result (modes_line cpu.now keys.now) f.new }
@@ -93,7 +94,7 @@ fn write_modes<W: fmt::Write>(f: &mut fmt::Formatter<W>, cpu: &Cpu, keys: &Keys)
     )
 }
 
-/// The return addresses, the newest first.
+/// Writes the line of the return addresses, the newest first.
 #[tactic(auto, unfolding(crate::specs::Views::returns_line))]
 fn write_returns<W: fmt::Write>(f: &mut fmt::Formatter<W>, cpu: &Cpu) -> fmt::Result
     ensures { WritesOnOk W.write_str_gives f.old result (returns_line cpu.now) f.new }
@@ -106,21 +107,21 @@ fn write_returns<W: fmt::Write>(f: &mut fmt::Formatter<W>, cpu: &Cpu) -> fmt::Re
     writeln!(f, "RTN={newest} {second} {third} {fourth}")
 }
 
-/// The digits of a number of 8 bits.
+/// Returns the two hexadecimal digits of a byte.
 fn byte_digits(byte: u8) -> Digits<2>
     ensures { text result ≡ hexadecimal_text 2 byte }
 {
     Digits::holding(u64::from(byte))
 }
 
-/// The digits of a number of 16 bits.
+/// Returns the four hexadecimal digits of a number of 16 bits.
 fn word_digits(word: u16) -> Digits<4>
     ensures { text result ≡ hexadecimal_text 4 word }
 {
     Digits::holding(u64::from(word))
 }
 
-/// `P` or `Q`.
+/// Returns the name of a pointer: `P` or `Q`.
 fn pointer_name(pointer: Pointer) -> &'static str
     ensures { result.now ≡ pointer_text pointer }
 {
@@ -130,7 +131,7 @@ fn pointer_name(pointer: Pointer) -> &'static str
     }
 }
 
-/// `HEX` or `DEC`.
+/// Returns the name of an arithmetic mode: `HEX` or `DEC`.
 fn base_name(base: Base) -> &'static str
     ensures { result.now ≡ base_text base }
 {
@@ -140,7 +141,7 @@ fn base_name(base: Base) -> &'static str
     }
 }
 
-/// `0` or `1`.
+/// Returns a bit as `0` or `1`.
 fn bit(bit: bool) -> &'static str
     ensures { result.now ≡ bit_text bit }
 {

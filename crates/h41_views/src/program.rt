@@ -12,8 +12,8 @@ use h41_ram::Ram;
 use h41_text::write_line;
 use std::alloc::{AllocError, Global};
 
-/// The lines of memory from the first on, each with its position and its text; memory that is not sound has none. 21 where
-/// memory is refused.
+/// Returns the lines of program memory from the first on, each with its position and its text. If memory is not sound, the
+/// text is empty. OutOfMemory (21) if allocation failed.
 pub fn program_text<const REGS: usize>(
     alloc: Global,
     ram: &Ram<REGS>,
@@ -35,14 +35,14 @@ pub fn program_text<const REGS: usize>(
     Ok(listing)
 }
 
-/// Whether a line is the last of program memory, `.END.`.
+/// Returns whether a line is the last of program memory, `.END.`.
 fn is_last(listed: &ListedLine) -> bool
     ensures { result ≡ lines.is_final_end listed.now.line }
 {
     is_final_end(listed.line)
 }
 
-/// Appends a line by its position and its text.
+/// Appends a line with its position and its text. OutOfMemory (21) if allocation failed.
 #[tactic(auto, unfolding(crate::specs::ProgramListing::listed_line))]
 fn push_line(listing: &mut Vec<u8>, listed: &ListedLine) -> Result<(), AllocError>
     requires { listed.now.position < 10000 }
@@ -54,7 +54,7 @@ fn push_line(listing: &mut Vec<u8>, listed: &ListedLine) -> Result<(), AllocErro
     listing.extend_from_slice(b"\n")
 }
 
-/// The last four decimal digits of the index of a byte of program memory.
+/// Returns the last four decimal digits of a position in program memory.
 pub fn byte_digits(byte: u16) -> ArrayString<4>
     ensures { result.bytes ≡ spec.byte_digits byte }
 {

@@ -1,14 +1,15 @@
-//! What is printed of a value.
+//! The printed text of a value.
 
 ghost use Rattle.std.specs.Prelude.{◌≡◌, IfOk, IfSome};
 
 use std::alloc::{AllocError, Global};
 use std::fmt;
 
-/// Room in bytes for what is printed of a value, the processor with its five lines among them. A longer text takes more.
+/// How many bytes are reserved for the text of a value, enough for the five lines of the processor. A longer text
+/// reserves more.
 const ROOM: usize = 256;
 
-/// What is printed of a value. 21 where memory is refused.
+/// Returns the printed text of a value. OutOfMemory (21) if allocation failed.
 pub fn text_of<D: fmt::Display + Drop>(alloc: Global, shown: D) -> Result<Vec<u8>, AllocError>
     ensures { IfOk result (λ text. IfSome (D.output shown) (λ bytes. text.items ≡ bytes)) }
 {

@@ -1,4 +1,4 @@
-//! h41_xrom and h41_debug: labels that a calculator keeps.
+//! h41_xrom and h41_debug: the label cache of a calculator.
 
 use crate::judge::wants;
 use h41_codes::Parameter;
@@ -7,13 +7,14 @@ use h41_keys::Key;
 use std::process::Abort;
 use std::test::Fail;
 
-/// The kept answer for LBL 02 behind the fourth byte, where the program's GTO 02 has it looked for.
+/// Returns the cached position of LBL 02 for a search from byte 4, at which the search of the
+/// program's GTO 02 begins.
 fn kept(bench: &Bench<320>) -> Option<Option<u16>> {
     let label = Parameter::new(2);
     bench.calculator().focal().cache().kept_local(4, label)
 }
 
-/// Whether lines are carried out one by one, and the label is kept behind each.
+/// Requires that lines are executed one by one, and that the label is in the cache after each.
 fn keeps(rt: &impl Abort, bench: &mut Bench<320>, lines: usize) {
     for _line in 0..lines {
         wants(rt, "a line", bench.step().is_ok());

@@ -1,4 +1,4 @@
-//! h41_focal and h41_labels: labels that are kept, and found as if none were.
+//! h41_focal and h41_labels: labels in the cache are found as if there were no cache.
 
 ghost use Rattle.std.specs.Prelude.{◌<◌};
 
@@ -15,7 +15,8 @@ use h41_ram::{Ram, StatusRegister};
 use std::marker::Model;
 use std::test::Fail;
 
-/// The machine of a calculator: each label that it keeps is where its search finds it, or its mark is set.
+/// The machine of a calculator. Each label in its cache is where a search finds it, or the dirty flag of
+/// memory is set.
 #[derive(Drop)]
 struct Kept {
     machine: Machine<320>,
@@ -33,16 +34,16 @@ impl Model for Kept {
 
 /// What is done to a machine.
 enum Act {
-    /// The line at the position.
+    /// The line at the position is executed.
     Step,
-    /// The line that bytes begin with is typed.
+    /// The line at the beginning of the bytes is typed.
     Type(&'static [u8]),
-    /// A function in microcode has written a register, and its line is passed.
+    /// A function in microcode has written a register, and the program moves on to the next line.
     Write(u16, u64),
 }
 
 impl Kept {
-    /// The start, with programs that are loaded.
+    /// Returns a machine in its initial state, with programs loaded, or `None` if they cannot be loaded.
     fn with(bytes: &[u8]) -> Option<Self> {
         let mut ram = Ram::<320>::new();
         if !ram.is_sound() || load(&mut ram, bytes).is_err() {
@@ -53,7 +54,7 @@ impl Kept {
         Some(Kept { machine })
     }
 
-    /// Does something.
+    /// Performs an act, and returns whether it was not refused.
     fn does(&mut self, pages: &Pages, act: &Act) -> bool {
         match act {
             Act::Step => self.machine.step(pages).is_ok(),
@@ -68,30 +69,30 @@ impl Kept {
         }
     }
 
-    /// A register is written.
+    /// Writes a register.
     fn writes(&mut self, address: u16, register: Reg) {
         kept_answers_stay_right();
         self.machine.ram.write(address, register);
     }
 
-    /// A register is written with what it holds.
+    /// Writes the value that a register has into it again, which sets the dirty flag.
     fn writes_again(&mut self, address: u16) {
         let register = self.machine.ram.read(address);
         self.writes(address, register);
     }
 
-    /// The line at the position is passed.
+    /// Moves a program on to the next line. Returns whether this was not refused.
     fn passes(&mut self, pages: &Pages) -> bool {
         kept_answers_stay_right();
         self.machine.pass(pages).is_ok()
     }
 
-    /// Whether the next line stands at a byte of memory.
+    /// Returns whether the next line is at a byte of memory.
     fn is_at(&self, byte: u16) -> bool {
         self.machine.focal.position == Position::Memory(byte)
     }
 
-    /// The kept answer for a local label from a byte on.
+    /// Returns the cached position of a local label for a search from a byte on.
     fn kept(&self, at: u16, label: u8) -> Option<Option<u16>>
         requires { label < 128 }
     {
@@ -102,7 +103,7 @@ impl Kept {
     }
 }
 
-/// The line that bytes begin with; STOP where they begin with none.
+/// Returns the line at the beginning of the bytes, or STOP if they are not a line.
 fn line(bytes: &[u8]) -> Line {
     match decode(bytes) {
         Ok((line, _)) => line,
@@ -110,7 +111,7 @@ fn line(bytes: &[u8]) -> Line {
     }
 }
 
-/// Whether two machines agree, in all but what they keep.
+/// Returns whether two machines agree, except for their label caches.
 fn agree(kept: &Kept, other: &Kept) -> bool {
     let (one, two) = (&kept.machine, &other.machine);
     for address in 0..0x200 {
@@ -124,7 +125,7 @@ fn agree(kept: &Kept, other: &Kept) -> bool {
         && one.focal.lift == two.focal.lift
 }
 
-/// Rows of programs by their bytes, and what is done to them, each with the position behind it.
+/// Programs by their bytes, and what is done to each, with the position afterwards.
 static ROWS: [(&str, &[u8], &[(Act, u16)]); 3] = [
     (
         "a loop",
@@ -188,7 +189,7 @@ fn forgotten_before_each_step(rt: HostRuntime) -> Result<(), Fail> {
         let mut kept = Kept::with(bytes).ok_or("the row's program")?;
         let mut other = Kept::with(bytes).ok_or("the row's program")?;
         for (act, position) in *acts {
-            // Register c sets the mark, so that the next line forgets.
+            // Writing register c sets the dirty flag, so that the next line empties the cache.
             other.writes_again(StatusRegister::C.address());
             let is_done = kept.does(&pages, act);
             assert!(rt; is_done == other.does(&pages, act), "{name}");

@@ -1,4 +1,4 @@
--- Lines that are inserted, or come in the place of others.
+-- Lines that are inserted, or replace others.
 use Rattle.std.proofs.Common.{◌≡◌, ℕ, true, List, Option, Some, None, Result, Ok, Err, MatchBool, inl, inr, refl, sym}
 use Rattle.h41_codes.specs.ByteLaws.{ByteRoundTrip, OneLine}
 use Rattle.h41_codes.specs.declared.line.Line.{Line}
@@ -59,7 +59,7 @@ put_instead line inner = record {
 }
 
 module _ (again : ByteRoundTrip) (one : OneLine) (lists : OneList) (edits : EditHasOneOutcome) where
-  -- how many lines stand before the line of a position
+  -- How many lines are before the line of a position.
   counts : (memory : RegisterMap) (at : ℕ) (first : ListedLine) → FirstFrom (program_bytes memory) (final_position memory) at first
       → Counts memory at (count_before first.position (lists memory 0).lines)
   counts memory at first stands =

@@ -1,4 +1,4 @@
--- Answers that are there, by a test or alone.
+-- Answers that exist, by a test or without one.
 use Rattle.std.proofs.Common.{◌≡◌, Bool, true, false, MatchBool, refl}
 use Rattle.h41_laws_numbers.specs.HasOne.{HasOne}
 use Rattle.h41_laws_numbers.proofs.Answering.{Has}

@@ -25,7 +25,7 @@ use Rattle.h41_laws_lines.specs.LineOutcomes.{TypedFailureHasOneOutcome, TypedHa
 use Rattle.h41_laws_calculator.specs.LineEnds.{LineHasOneEnd, NameHasOneFunction}
 use Rattle.h41_laws_calculator.proofs.Chosen.{alone, either, one_there}
 
--- a function begins
+-- A function starts.
 abbrev Begun : LineSource → PageMap → ℕ → Machine → Result Ended FocalRefusal → Type 0
 Begun source pages address machine ended =
     (after : Result Machine FocalRefusal) × PassesFrom source pages machine after × (ended ≡ begun_at address after)
@@ -51,7 +51,7 @@ module _ (steps : StepHasOneOutcome) (typed : TypedHasOneOutcome) (failures : Fa
       let left = failed source pages machine in
       record { answer = end_of_answer left.answer; right = (left.answer, left.right, refl) }
 
-  -- a module's program is entered
+  -- A module's program is called.
   enters : (source : LineSource) (pages : PageMap) (address : ℕ) (machine : Machine) → Has (EntersFrom source pages address machine)
   enters sources.Program pages address machine =
       let after = enterings pages address machine in

@@ -1,4 +1,4 @@
--- What a key makes.
+-- The result of a key.
 use Rattle.std.proofs.Common.{◌≡◌, ℕ, Bool, true, false, List, Option, Some, None, Result, Ok, Err, MatchOption, refl}
 use Rattle.std.specs.Prelude.{◌&&◌, ◌||◌, not, IfSome, IsOkAnd}
 use Rattle.std.specs.Bool.{then_some}
@@ -63,14 +63,14 @@ use Rattle.h41_laws_calculator.proofs.Chosen.{alone, either, one_there}
 use Rattle.h41_laws_calculator.proofs.Loading.{becomes, becomes-right, same_left}
 use Rattle.h41_laws_calculator.proofs.Numbered.{are_numbers}
 
--- what an action makes
+-- The result of an action.
 abbrev Made : Type 0
 Made = Result KeyOutcome CalculatorRefusal
 
 edits : (Edit : Machine → Result Machine ProgramRefusal → Type 0) (machine : Machine) → Has (Edit machine) → Has (Edits Edit machine)
 edits Edit machine edited = record { answer = edit_effect edited.answer; right = (edited.answer, edited.right, refl) }
 
--- a number that is typed is always worth one, so it has a register
+-- A number that is typed always has a value, so it has a register.
 never_fault : (characters : List Character) (sign : Sign) (ignored : Bool) (fault : LineFault) (answer : Result Ten DecimalFault)
     → IsOkAnd answer (IsNumberOf characters) → Kept sign ignored answer (Err fault) → ⊥
 never_fault characters sign ignored fault (Ok number) is kept = kept
@@ -107,7 +107,7 @@ module _ (ends : LineHasOneEnd) (names : NameHasOneFunction) (labels : MemoryHas
       let of = register_of text machine.memory found.answer found.right in
       record { answer = Ok (Leaves (with_number_changed machine of.0)); right = (of.0, of.1, refl) }
 
-  -- the line that is stored, which is one that programs have too
+  -- The line that is stored, which is one that programs can contain.
   abbrev Stored : (Line → Type 0) → Type 0
   Stored IsStored = (stored : Line) × IsStored stored × IsInner stored
 
@@ -144,7 +144,7 @@ module _ (ends : LineHasOneEnd) (names : NameHasOneFunction) (labels : MemoryHas
       let made = edits (Inserts pages stored.0) machine (one_there (insertion pages stored.0 machine stored.2 sound)) in
       record { answer = made.answer; right = (stored.0, stored.1, made.right) }
 
-  -- each action
+  -- Each action.
   acts : (pages : PageMap) (program_mode : Bool) (action : Action) (machine : Machine) → StoresInner action
       → is_sound machine.memory ≡ true → Has (Acts pages program_mode action machine)
   acts pages program_mode actions.Nothing machine inner sound = alone _
@@ -170,7 +170,7 @@ module _ (ends : LineHasOneEnd) (names : NameHasOneFunction) (labels : MemoryHas
   acts pages program_mode actions.TakeLetter machine inner sound = alone _
   acts pages program_mode actions.ClearAlpha machine inner sound = alone _
 
-  -- what a key makes, in a mode
+  -- The result of a key, in a mode.
   abbrev Makes : CalculatorState → Key → Action → Input → Result CalculatorState CalculatorRefusal → Type 0
   Makes s key action input made =
       (effect : Made) × Acts s.nut.pages input.program_mode action (machine_of s) effect
@@ -193,7 +193,7 @@ module _ (ends : LineHasOneEnd) (names : NameHasOneFunction) (labels : MemoryHas
       makes s key press.action press.input (acts s.nut.pages press.input.program_mode press.action (machine_of s) inner is)
   made_if false s key press is inner = alone (Err MemoryLost)
 
-  -- where something runs, a key stops it or only tells its code
+  -- While something runs, a key stops it or only stores its code.
   while_run : (s : CalculatorState) (key : Key) (meaning : Meaning) → Has (MakesIn modes.Run s key (while_running s.input meaning))
   while_run s key meanings.Nothing = alone (Err KeyNotHeld)
   while_run s key meanings.RunStop = makes s key actions.Stop s.input (alone _)
@@ -224,7 +224,7 @@ module _ (ends : LineHasOneEnd) (names : NameHasOneFunction) (labels : MemoryHas
   key_makes s key None made = record { answer = made.answer; right = made.right }
   key_makes s key (Some press) made = record { answer = made.answer; right = made.right }
 
-  -- where the shown line stands
+  -- Where the shown line is.
   module _ (positions : PositionHasOne LineAt) (last : MemoryHasOneAnswer (Result Bool ProgramRefusal)) where
     placed : (pages : PageMap) (machine : Machine) (at : Position) → Has (IsPlace pages machine at)
     placed pages machine (Memory byte) = alone places.Memory
@@ -256,7 +256,7 @@ module _ (ends : LineHasOneEnd) (names : NameHasOneFunction) (labels : MemoryHas
               same_left other (becomes made.answer s) same.0 same.1;
         }
 
--- a key that was pressed
+-- A key that was pressed.
 pub one_pressed : KeyIsDetermined → (key : Key) (s t : CalculatorState) (refusal : Option CalculatorRefusal) → Presses key s t refusal
     → HasOne (KeyLeaves key s)
 one_pressed determined key s t refusal presses = record {

@@ -1,4 +1,4 @@
--- What a load and a new size leave, and the text of the display.
+-- The result of a load and of a new size, and the text of the display.
 use Rattle.std.proofs.Common.{◌≡◌, ℕ, List, [], Option, Some, None, Result}
 use Rattle.std.proofs.Common.{Err, MatchOption, refl, ap, ◌∙◌}
 use Rattle.std.specs.Prelude.{◌++◌}
@@ -22,7 +22,7 @@ use Rattle.h41_laws_calculator.specs.CalculatorAnswers as answers
 use Rattle.h41_laws_calculator.specs.CalculatorAnswers.{DisplayHasOneText, SizeHasOneOutcome}
 use Rattle.h41_laws_calculator.proofs.Chosen.{alone, either}
 
--- a state and a refusal as one
+-- A state and a refusal as a pair.
 abbrev Left : Type 0
 Left = CalculatorState × Option CalculatorRefusal
 
@@ -32,7 +32,7 @@ left t why = (t, why)
 pub same_left : (x y : Left) → x.0 ≡ y.0 → x.1 ≡ y.1 → x ≡ y
 same_left x y p q = ap (λ (t : CalculatorState). left t x.1) p ∙ ap (λ (why : Option CalculatorRefusal). left y.0 why) q
 
--- what was made, as a state and a refusal
+-- What was made, as a state and a refusal.
 pub becomes : Result CalculatorState CalculatorRefusal → CalculatorState → Left
 becomes made s = left (result_unwrap_or made s) (result_err made)
 
@@ -53,7 +53,7 @@ one_size count s = record {
   only = only_becomes (size_makes s count) s;
 }
 
--- a load
+-- A load.
 module _ (loads : LoadHasOneOutcome) where
   abbrev Made : CalculatorState → List ℕ → Result CalculatorState CalculatorRefusal → Type 0
   Made s bytes made =
@@ -81,7 +81,7 @@ module _ (loads : LoadHasOneOutcome) where
             same_left other (becomes made.answer s) same.0 same.1;
       }
 
--- the display
+-- The display.
 module _ (programs : (pages : PageMap) (machine : Machine) → Has (ShowsProgram pages machine)) where
   shown_line : (pages : PageMap) (machine : Machine) (entry : TypedEntry) → Has (ShowsShownLine pages machine entry)
   shown_line pages machine entry =

@@ -1,4 +1,4 @@
--- What keys do in program mode, and what it shows.
+-- The result of keys in program mode, and the text that it shows.
 use Rattle.std.proofs.Common.{◌≡◌, ℕ, List, Option, Some, None, Result, Ok, Err, MatchBool, inl, inr, refl}
 use Rattle.std.specs.Option.{option_map}
 use Rattle.h41_editor.specs.Changes.{Changed, Deletes, DeletesAt, DeletesLine, ShowsFront, shown_in_front}
@@ -31,7 +31,7 @@ use Rattle.h41_laws_programs.specs.ProgramChanges.{ChangeHasOneAnswer, EditHasOn
 use Rattle.h41_laws_calculator.specs.ProgramMode.{MoveHasOneOutcome}
 use Rattle.h41_laws_calculator.proofs.Chosen.{alone, either}
 
--- what a move or a change leaves
+-- The result of a move or a change.
 abbrev Moved : Type 0
 Moved = Result Machine ProgramRefusal
 
@@ -54,7 +54,7 @@ module _ (lines : PositionHasOne LineAt) (numbers : PositionHasOne NumberAt) whe
       let found = numbered_in pages memory first.answer in
       record { answer = found.answer; right = (first.answer, first.right, found.right) }
 
-  -- the text of the program
+  -- The text of the program.
   shows_line : (pages : PageMap) (machine : Machine) → Has (ShowsLine pages machine)
   shows_line pages machine =
       let found = numbered pages machine.memory machine.focal.position in
@@ -75,7 +75,7 @@ module _ (lines : PositionHasOne LineAt) (numbers : PositionHasOne NumberAt) whe
         let start = starts pages machine.memory machine.focal.position in
         record { answer = _; right = (start.answer, start.right, refl) }
 
-    -- SST
+    -- The key SST.
     module _ (nexts : PositionHasOne NextAt) (onward : LinesHaveNext) where
       abbrev Next : PageMap → Machine → Type 0
       Next pages machine = (next : Position) × NextAt pages machine.memory machine.focal.position (Ok next)
@@ -121,7 +121,7 @@ module _ (lines : PositionHasOne LineAt) (numbers : PositionHasOne NumberAt) whe
           either machine.focal.at_line_00 (λ moved. moved ≡ Ok (at_line machine.focal.position machine)) (ShowsFrom pages machine)
           (alone (Ok (at_line machine.focal.position machine))) (shows_from pages machine)
 
-    -- BST
+    -- The key BST.
     module _ (ends : PositionHasOne EndOf) (befores : PositionHasOne LineBefore) where
       shows_end : (pages : PageMap) (machine : Machine) (first : PlacedLine) → Has (ShowsEnd pages machine first)
       shows_end pages machine first =
@@ -151,7 +151,7 @@ module _ (lines : PositionHasOne LineAt) (numbers : PositionHasOne NumberAt) whe
           let moved = shows_before_line pages machine found.answer in
           record { answer = moved.answer; right = (found.answer, found.right, moved.right) }
 
--- GTO . .
+-- The keys GTO . .
 module _ (lists : OneList) where
   ends_by : (machine : Machine) (lines : List ListedLine) (closed : Changed) → Has (EndsBy machine lines closed)
   ends_by machine lines (Ok closed) =
@@ -166,7 +166,7 @@ module _ (lists : OneList) where
       let moved = ends_by machine all.lines (close_behind machine.memory (before_end all.lines)) in
       record { answer = moved.answer; right = (all.lines, all.from, moved.right) }
 
--- BACK
+-- The key BACK.
 abbrev Gone : Machine → ℕ → Changed → Type 0
 Gone machine at changed = EditGives machine.memory without_deleted at changed
 

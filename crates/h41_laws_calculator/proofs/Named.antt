@@ -14,7 +14,7 @@ use Rattle.h41_xrom.proofs.StepLaws.{same_function}
 use Rattle.h41_laws_numbers.proofs.Answering.{Has}
 use Rattle.h41_laws_calculator.specs.LineEnds.{NameHasOneFunction}
 
--- all functions, ten in a row
+-- All functions, ten in a row.
 abbrev rows : List (List Function)
 rows =
     (functions.Add ∷ functions.Subtract ∷ functions.Multiply ∷ functions.Divide ∷ functions.TestXLessThanY

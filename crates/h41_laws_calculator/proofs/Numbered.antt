@@ -1,4 +1,4 @@
--- A function of a module has numbers that a line can have.
+-- A function of a module has numbers that a line can contain.
 use Rattle.std.proofs.Common.{◌≡◌, ℕ, ◌<◌, ◌≤◌, Bool, true, false, List, [], ◌∷◌, Option, Some, None, arith}
 use Rattle.std.proofs.Common.{if◌then◌else◌, length, refl, slice_index}
 use Rattle.std.specs.Prelude.{◌&&◌, IfSome, find, nat_le, option_map, All}
@@ -32,7 +32,7 @@ three true true false is = cc
 three true false c is = cc
 three false b c is = cc
 
--- the entries of a page
+-- The table entries of a page.
 counted : (words : List ℕ) (has : Bool) → has_functions words ≡ has → (k : ℕ) → k < (if has then slice_index words 1 else 0)
     → IsNumbered (function_in words k)
 counted words true is k less =

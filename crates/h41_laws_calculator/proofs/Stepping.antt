@@ -1,4 +1,4 @@
--- What a step leaves, or why it is refused.
+-- The result of a step, or why it is refused.
 use Rattle.std.proofs.Common.{◌≡◌, Option, Some, None, Result, Ok, Err, MatchOption, refl, ap, ◌∙◌, subst}
 use Rattle.std.specs.Prelude.{option_map}
 use Rattle.std.specs.Result.{result_err}
@@ -21,7 +21,7 @@ use Rattle.h41_laws_calculator.specs.CalculatorAnswers.{AcceptedStepHasOneState,
 use Rattle.h41_laws_calculator.specs.LineEnds.{LineHasOneEnd}
 use Rattle.h41_laws_calculator.proofs.Chosen.{alone}
 
--- a state and a refusal as one
+-- A state and a refusal as a pair.
 abbrev Left : Type 0
 Left = Option CalculatorRefusal × CalculatorState
 
@@ -59,7 +59,7 @@ module _ (ends : LineHasOneEnd) where
       let found = refusal_in s.mode s in
       record { answer = found.answer; right = found.right; only = λ other again. determined s other found.answer again found.right }
 
-  -- a line that is not refused has an end
+  -- A line that is not refused has an end.
   line_behind : (s : CalculatorState) (end : Result Ended FocalRefusal) → CarriesHere sources.Program s end
       → None ≡ option_map of_line (result_err end) → Has (StepsByLine s)
   line_behind s (Ok end) carries none = record { answer = after_line (not_typing s) end; right = (end, carries, refl) }
@@ -81,7 +81,7 @@ module _ (ends : LineHasOneEnd) where
         let found = state_in s.mode s has none in
         record { answer = found.answer; right = found.right; only = λ other again. determined s other found.answer again found.right }
 
--- both in one
+-- Both as a pair.
 module _ (refusals : StepHasOneRefusal) (states : AcceptedStepHasOneState) where
   abbrev Leaves : CalculatorState → Option CalculatorRefusal → CalculatorState → Type 0
   Leaves s why t = MatchOption why (Step s t) (λ why. t ≡ s)

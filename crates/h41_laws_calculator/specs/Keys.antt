@@ -1,4 +1,4 @@
--- What a key does exists.
+-- A key has a result.
 use Rattle.std.specs.Prelude.{Option, Some, None}
 use Rattle.h41_keys.specs.declared.action.Action.{Action}
 use Rattle.h41_keys.specs.declared.action.Action.TheVariants.{Insert, Replace}
@@ -11,22 +11,23 @@ use Rattle.h41_xrom.specs.KeyActions.{HasFlags, Presses, press_of}
 use Rattle.h41_xrom.specs.declared.refusal.CalculatorRefusal.{CalculatorRefusal}
 use Rattle.h41_laws_numbers.specs.HasOne.{HasOne}
 
--- the line that an action stores, where it stores one, has bytes, and is one that programs have
+-- The line that an action stores, if it stores one, can be encoded in bytes, and is one that
+-- programs can contain.
 abbrev pub StoresInner : Action → Type 0
 StoresInner (Insert line) = IsInner line
 StoresInner (Replace line) = IsInner line
 StoresInner other = Unit {0}
 
--- so it is of a key that is accepted
+-- The action of an accepted key stores only such lines.
 abbrev pub PressStoresInner : Option Pressed → Type 0
 PressStoresInner None = Unit {0}
 PressStoresInner (Some press) = StoresInner press.action
 
--- a state and a refusal are those of a key
+-- A state and a refusal are those of a key.
 abbrev pub KeyLeaves : Key → CalculatorState → CalculatorState × Option CalculatorRefusal → Type 0
 KeyLeaves key s left = Presses key s left.0 left.1
 
--- each key has one outcome from each state: a change, or a refusal
+-- Each key has exactly one outcome from each state: a change, or a refusal.
 abbrev pub KeyHasOneOutcome : Type 0
 KeyHasOneOutcome =
     (key : Key) (s : CalculatorState)

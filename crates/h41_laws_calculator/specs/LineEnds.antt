@@ -1,4 +1,4 @@
--- How a line ends exists, where it may call what memory does not have.
+-- A line has an end, even if it calls something outside memory.
 use Rattle.std.specs.Prelude.{ℕ, List}
 use Rattle.h41_positions.specs.FocalState.{Machine}
 use Rattle.h41_pages.specs.PageMap.{PageMap}
@@ -6,11 +6,11 @@ use Rattle.h41_xrom.specs.Lines.{CarriesLine, IsNamed}
 use Rattle.h41_xrom.specs.declared.lines.LineSource.{LineSource}
 use Rattle.h41_laws_numbers.specs.HasOne.{HasOne}
 
--- any characters name one function of the calculator, or none
+-- Any characters name exactly one function of the calculator, or none.
 abbrev pub NameHasOneFunction : Type 0
 NameHasOneFunction = (name : List ℕ) → HasOne (IsNamed name)
 
--- the line at the position, and one that was typed, have one end, whatever is plugged
+-- The line at the position, or a typed one, has exactly one end, whatever is plugged.
 abbrev pub LineHasOneEnd : Type 0
 LineHasOneEnd =
     (source : LineSource) (pages : PageMap) (machine : Machine)

@@ -1,4 +1,4 @@
-//! The laws: each is the contract of a function with nothing to do but to call the laws that it rests on.
+//! The laws. Each law is the contract of a function whose body only calls the laws that it depends on.
 
 ghost use Rattle.h41_laws_numbers.specs.HasOne.{HasOne};
 ghost use Rattle.h41_editor.specs.Changes.{Deletes, Inserts, Replaces};
@@ -32,7 +32,7 @@ use h41_xrom::laws::{
     display_is_determined, key_is_determined, load_is_determined, step_is_determined,
 };
 
-/// Any characters name one function of the calculator, or none.
+/// States that any characters name exactly one function of the calculator, or none.
 pub fn names_have_one_function()
     ensures { NameHasOneFunction }
 {
@@ -40,8 +40,8 @@ pub fn names_have_one_function()
     line_text_round_trip();
 }
 
-/// A line that stands at the position or was typed has one end, whatever is plugged: it answers, or a module's function begins, or
-/// it is refused. A line that enters a module's program answers.
+/// States that a line at the position, or a typed one, has exactly one end, whatever is plugged: it answers, or it starts a
+/// module's function, or it is refused. A line that calls a module's program answers.
 pub fn line_has_one_end()
     ensures { LineHasOneEnd }
 {
@@ -51,8 +51,8 @@ pub fn line_has_one_end()
     line_text_round_trip();
 }
 
-/// SST, BST, `GTO . .` and BACK have one outcome each in program mode, from any machine, in memory and in any pages; so have a line
-/// that is inserted and one that comes in the place of another, where memory is sound.
+/// States that SST, BST, `GTO . .` and BACK have exactly one outcome each in program mode, for any machine, in memory and in any
+/// pages; and that a line that is inserted, or replaces another, does if memory is sound.
 pub fn program_mode_has_one_outcome()
     ensures next { (pages : PageMap) → MoveHasOneOutcome (ShowsNext pages) }
     ensures before { (pages : PageMap) → MoveHasOneOutcome (ShowsBefore pages) }
@@ -70,8 +70,8 @@ pub fn program_mode_has_one_outcome()
     changes_are_determined();
 }
 
-/// A step has one refusal or none, from any state; from one whose registers A, B and C are registers it leaves one state, where it
-/// is not refused (`state`), and with the refusal (`outcome`).
+/// States that a step from any state has exactly one refusal, or none; and that from a state whose registers A, B and C are
+/// registers it leaves exactly one state, if it is not refused (`state`), and with the refusal (`outcome`).
 pub fn step_has_one_outcome()
     ensures refusal { StepHasOneRefusal }
     ensures state { AcceptedStepHasOneState }
@@ -82,7 +82,7 @@ pub fn step_has_one_outcome()
     step_is_determined();
 }
 
-/// A load of any bytes has one outcome, and so has a new number of data registers, from any state.
+/// States that a load of any bytes has exactly one outcome from any state, and that a new number of data registers has.
 pub fn load_has_one_outcome()
     ensures load { LoadHasOneOutcome }
     ensures size { SizeHasOneOutcome }
@@ -91,7 +91,7 @@ pub fn load_has_one_outcome()
     load_is_determined();
 }
 
-/// The display shows one text, from any state.
+/// States that the display shows exactly one text in any state.
 pub fn display_has_one_text()
     ensures { DisplayHasOneText }
 {
@@ -99,7 +99,8 @@ pub fn display_has_one_text()
     display_is_determined();
 }
 
-/// A key has one outcome from any state, a change or a refusal, where the line that it stores, if it stores one, has bytes.
+/// States that a key has exactly one outcome from any state, a change or a refusal, if the line that it stores, if it stores one,
+/// can be encoded in bytes.
 pub fn key_has_one_outcome()
     ensures { KeyHasOneOutcome }
 {
@@ -112,7 +113,8 @@ pub fn key_has_one_outcome()
     key_is_determined();
 }
 
-/// So each key has from each calculator that there is: the lines that a keyboard stores have bytes.
+/// States that each key has exactly one outcome from each calculator that can exist, because the lines that a keyboard stores can
+/// be encoded in bytes.
 pub fn key_has_one_effect<const REGS: usize>(calculator: &mut Calculator<REGS>, key: Key)
     ensures { HasOne (KeyLeaves key calculator.old) }
 {

@@ -1,4 +1,5 @@
-//! Laws of existence for the calculator: how a line ends, a step, a load, a size and the display have one answer each.
+//! Laws of existence for the calculator: the end of a line, a step, a load, a new size and the text of the display
+//! each have exactly one result.
 #![tactic(auto)]
 
 pub mod laws;

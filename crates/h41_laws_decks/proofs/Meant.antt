@@ -1,4 +1,4 @@
--- What the lines of a program's block mean.
+-- The meaning of the lines of a program's block.
 use Rattle.std.proofs.Common.{◌≡◌, ◌≢◌, ◌⊎◌, ℕ, zero, suc, ◌<◌, ◌≤◌, List, [], ◌∷◌, Option, Some, None, Result, Ok, Err, length}
 use Rattle.std.proofs.Common.{inl, inr, refl, sym, ap, ◌∙◌, subst, drop, arith}
 use Rattle.std.specs.Option.{option_map}
@@ -27,7 +27,7 @@ use Rattle.h41_laws_numbers.specs.HasOne.{HasOne}
 use Rattle.h41_laws_decks.specs.DeckAnswers.{ProgramBlockMeansOne}
 use Rattle.h41_laws_decks.proofs.Said.{given}
 
--- a fact that holds or does not
+-- A fact that holds or does not.
 abbrev Either : Type 0 → Type 0
 Either A = A ⊎ (A → ⊥)
 
@@ -42,7 +42,7 @@ both (inl a) (inl b) = inl (a, b)
 both (inl a) (inr lacks) = inr (λ pair. lacks pair.1)
 both (inr lacks) other = inr (λ pair. lacks pair.0)
 
--- whether a line has bytes
+-- Whether a line can be encoded in bytes.
 operand_either : (operand : Operand) → Either (IsOperand operand)
 operand_either (Direct parameter) = below parameter 128
 operand_either (Indirect parameter) = below parameter 128
@@ -94,7 +94,7 @@ has_either line = elim (both (valid_either line) (null_either line)) [
   | inr lacks ↦ inr (λ has. lacks (has.valid, has.shown))
 ]
 
--- whether bytes are the same
+-- Whether bytes are the same.
 bytes_either : (bytes others : List ℕ) → Either (bytes ≡ others)
 bytes_either [] [] = inl refl
 bytes_either [] (other ∷ others) = inr (λ same. cc)
@@ -108,14 +108,14 @@ bytes_either (byte ∷ bytes) (other ∷ others) = elim (cases_eq byte other) [
 ]
 
 module _ (once : CanonicalOnce) where
-  -- whether a text is that of the one line that can have it
+  -- Whether a text is that of the only line that can have it.
   of_either : (text : List ℕ) (line : Line) → Either (IsTextOf text (canonical_line line))
   of_either text line = elim (both (has_either (canonical_line line)) (bytes_either (line_text (canonical_line line)) text)) [
     | inl of ↦ inl (record { has = of.0; shortest = once line; same = of.1 })
     | inr lacks ↦ inr (λ of. lacks (of.has, of.same))
   ]
 
-  -- and of any
+  -- Whether a text is that of any line.
   abbrev HasLine : List ℕ → Type 0
   HasLine text = (line : Line) × IsTextOf text line
 
@@ -135,7 +135,7 @@ module _ (once : CanonicalOnce) where
   line_either : (text : List ℕ) → Either (HasLine text)
   line_either text = found_either text (candidate_line text) refl
 
-  -- the lines that texts say in turn, or the first that says none
+  -- The lines that texts define in turn, or the first text that defines none.
   abbrev Lines : Type 0
   Lines = Result (List Line) LineRefusal
 
@@ -186,7 +186,7 @@ module _ (once : CanonicalOnce) where
     all_said number ((byte ∷ rest) ∷ texts) =
         one_said number byte rest texts (line_either (byte ∷ rest)) (all_said (suc number) texts)
 
-    -- what a block means
+    -- The meaning of a block.
     pub one_meaning : ProgramBlockMeansOne
     one_meaning kinds.Bytes values = given (Ok values)
     one_meaning kinds.Text source =

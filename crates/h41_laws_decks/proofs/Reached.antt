@@ -1,4 +1,4 @@
--- The states that decks come to, and what their commands rest on there.
+-- The states that decks lead to, and the results that their commands depend on there.
 use Rattle.std.proofs.Common.{◌≡◌, ℕ, Bool, zero, suc, List, [], ◌∷◌, Option, Some, None, Result, Ok, Err, flat_map}
 use Rattle.std.proofs.Common.{refl, sym, subst, ap, ◌∙◌}
 use Rattle.std.specs.Prelude.{MatchOption, option_map}
@@ -32,7 +32,7 @@ use Rattle.h41_laws_runs.specs.BenchOutcomes.{KeysLeave, LeadsToRegisters}
 use Rattle.h41_laws_states.specs.WholeCalculators.{CallLeavesWhole, LoadLeavesWhole, PlugLeavesWhole, PressLeavesWhole, ResetLeavesWhole}
 use Rattle.h41_laws_states.specs.WholeCalculators.{SizeLeavesWhole, StartIsWhole, StepLeavesWhole, UnplugLeavesWhole, WholeKeyHasOneOutcome}
 
--- a change that is made unless there is a refusal
+-- A change that is made unless there is a refusal.
 unless_whole : (refusal : Option Refusal) (changed s : BenchState) → IsWholeBench s → (refusal ≡ None → IsWholeBench changed)
     → IsWholeBench (state_unless refusal changed s)
 unless_whole None changed s whole makes = makes refl
@@ -78,7 +78,7 @@ module _ (presses : PressLeavesWhole) where
       key_made keys s t is.0 refusal is.1 (presses key s.calculator is.0 is.1 whole is.2)
       (λ from from_whole more. keys_whole keys from t refusal from_whole more) is.3
 
-  -- a state and a refusal as one
+  -- A state and a refusal as a pair.
   abbrev Left : Type 0
   Left = BenchState × Option CalculatorRefusal
 
@@ -161,7 +161,7 @@ module _ (steps : StepLeavesWhole) (presses : PressLeavesWhole) (loads : LoadLea
   reply_whole (Ok given) s t answer whole is = replied given.0 given.1 s t answer whole is
   reply_whole (Err refusal) s t answer whole is = subst IsWholeBench (sym is.0) whole
 
--- WHAT COMMANDS REST ON
+-- WHAT COMMANDS DEPEND ON
 module _ (steps : StepLeavesWhole) (meant : ProgramBlockMeansOne)
     (keys : (keys : List Key) (s : BenchState) → IsWholeBench s → HasOne (KeysLeave keys s)) where
   load_rests : (kind : ProgramKind) (values : List ℕ) → LoadRestsOn kind values

@@ -1,4 +1,4 @@
--- What commands answer.
+-- The answers of commands.
 use Rattle.std.proofs.Common.{◌≡◌, ℕ, Bool, List, Option, Result, Ok, Err, refl, ap, ◌∙◌, subst}
 use Rattle.std.specs.Prelude.{option_map}
 use Rattle.h41_commands.specs.PageBlocks.{Fills}
@@ -22,7 +22,7 @@ use Rattle.h41_laws_runs.specs.BenchOutcomes.{RunHasOneOutcome, StepsHaveOneOutc
 use Rattle.h41_laws_decks.specs.DeckAnswers.{LoadRestsOn, PageBlockSaysOne, ReplyHasOneAnswer, ViewHasOneText}
 use Rattle.h41_laws_decks.proofs.Said.{given}
 
--- a state and an answer as one
+-- A state and an answer as a pair.
 abbrev Left : Type 0
 Left = BenchState × Answer
 
@@ -32,7 +32,7 @@ left t answer = (t, answer)
 same_left : (x y : Left) → x.0 ≡ y.0 → x.1 ≡ y.1 → x ≡ y
 same_left x y p q = ap (λ (t : BenchState). left t x.1) p ∙ ap (λ (answer : Answer). left y.0 answer) q
 
--- both are given by equations
+-- Both are given by equations.
 pub both_given : (t : BenchState) (answer : Answer) → HasOne {A = Left} (λ other. (other.0 ≡ t) × (other.1 ≡ answer))
 both_given t answer = record {
   answer = left t answer;
@@ -40,7 +40,7 @@ both_given t answer = record {
   only = λ other is. same_left other (left t answer) is.0 is.1;
 }
 
--- a call of the calculator
+-- A call of the calculator.
 abbrev Does : Type 1
 Does = CalculatorState → CalculatorState → Option CalculatorRefusal → Type 0
 
@@ -62,7 +62,7 @@ called does s found =
           (is.3 ∙ ap (λ (after : CalculatorState × Option CalculatorRefusal). ends after.1) same);
     }
 
--- blocks
+-- Blocks.
 plugged : (page bank : ℕ) (writable : Bool) (words : Result (List ℕ) LineRefusal) (s : BenchState)
     → HasOne {A = Left} (λ other. PlugsWords page bank writable words s other.0 other.1)
 plugged page bank writable (Ok words) s = both_given _ _
@@ -73,7 +73,7 @@ loaded : LoadHasOneOutcome → (bytes : Result (List ℕ) LineRefusal) (s : Benc
 loaded loads (Ok bytes) s = called (Loads bytes) s (loads bytes s.calculator)
 loaded loads (Err refusal) s = both_given _ _
 
--- what a block says, and what is done with it
+-- The content of a block, and what is done with it.
 with_said : {A : Type 0} (Says : A → Type 0) (does : A → BenchState → BenchState → Answer → Type 0) (s : BenchState)
     → HasOne Says → ((said : A) → HasOne {A = Left} (λ other. does said s other.0 other.1))
     → HasOne {A = Left} (λ other. (said : A) × Says said × does said s other.0 other.1)
@@ -90,7 +90,7 @@ says : (kind : ProgramKind) (values : List ℕ) → LoadRestsOn kind values → 
 says Bytes values rests = given (Ok values)
 says Text source rests = rests
 
--- each command
+-- Each command.
 pub one_reply : ViewHasOneText → PageBlockSaysOne → LoadHasOneOutcome → SizeHasOneOutcome → StepsHaveOneOutcome → RunHasOneOutcome
     → TraceHasOneOutcome → ReplyHasOneAnswer
 one_reply views blocks loads sizes steps runs traces (commands.Plug kind page bank writable) values s rests =

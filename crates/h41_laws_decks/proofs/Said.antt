@@ -1,4 +1,4 @@
--- What views and blocks say.
+-- The contents of views and blocks.
 use Rattle.std.proofs.Common.{◌≡◌, ◌⊎◌, ℕ, List, Option, Some, None, Result, Ok, Err, flat_map}
 use Rattle.std.proofs.Common.{inl, inr, refl, sym, ap, ◌∙◌}
 use Rattle.std.proofs.Common.{arith}
@@ -20,11 +20,11 @@ use Rattle.h41_laws_numbers.specs.HasOne.{HasOne}
 use Rattle.h41_laws_calculator.specs.CalculatorAnswers.{DisplayHasOneText}
 use Rattle.h41_laws_decks.specs.DeckAnswers.{PageBlockSaysOne, ViewHasOneText}
 
--- an answer that an equation gives
+-- An answer that an equation gives.
 pub given : {A : Type 0} (other : A) → HasOne (λ answer. answer ≡ other)
 given other = record { answer = other; right = refl; only = λ answer is. is }
 
--- views
+-- Views.
 pub one_view : OneList → ListsAreDetermined → DisplayHasOneText → ViewHasOneText
 one_view lists same display views.Lines s =
     let all = lists s.calculator.nut.ram 0 in
@@ -45,7 +45,7 @@ one_view lists same display views.Display s =
     }
 one_view lists same display view s = given _
 
--- what a fault says
+-- The refusal for an error.
 refusal_of : {A B : Type 0} (of : A → B) (found : Option A) → IsSome found → (refusal : B) × (option_map of found ≡ Some refusal)
 refusal_of of None is = cc
 refusal_of of (Some fault) is = (of fault, refl)
@@ -57,7 +57,7 @@ fault_of of (Some fault) refusal is = refl
 same_some : {B : Type 0} (a b : B) → Some a ≡ Some b → a ≡ b
 same_some a b is = cc
 
--- sources
+-- Sources.
 abbrev told : SourceFault × ℕ → LineRefusal
 told found = Source found.0 found.1
 

@@ -1,4 +1,4 @@
--- What views and blocks say, and what commands answer, exists.
+-- Views, blocks and commands have a result.
 use Rattle.std.specs.Prelude.{ℕ, List}
 use Rattle.h41_commands.specs.PageBlocks.{Fills}
 use Rattle.h41_commands.specs.ProgramBlocks.{Means}
@@ -15,28 +15,29 @@ use Rattle.h41_deck.specs.Views.{Shows}
 use Rattle.h41_laws_numbers.specs.HasOne.{HasOne}
 use Rattle.h41_laws_runs.specs.BenchOutcomes.{KeysLeave, LeadsToRegisters}
 
--- each view has one text, or one refusal, from any state
+-- Each view has exactly one text, or one refusal, in any state.
 abbrev pub ViewHasOneText : Type 0
 ViewHasOneText = (view : View) (s : BenchState) → HasOne (Shows view s)
 
--- a block for a page says one list of words, or one refusal, whatever its values
+-- A block for a page defines exactly one list of words, or one refusal, whatever its values.
 abbrev pub PageBlockSaysOne : Type 0
 PageBlockSaysOne = (kind : PageKind) (page : ℕ) (values : List ℕ) → HasOne (Fills kind page values)
 
--- a block of a program's bytes or text means one program, or one refusal
+-- A block of a program's bytes or text means exactly one program, or one refusal.
 abbrev pub ProgramBlockMeansOne : Type 0
 ProgramBlockMeansOne = (kind : ProgramKind) (values : List ℕ) → HasOne (Means kind values)
 
--- a state and an answer are those of a command
+-- A state and an answer are those of a command.
 abbrev pub ReplyLeaves : Command → List ℕ → BenchState → BenchState × Answer → Type 0
 ReplyLeaves command values s left = Reply command values s left.0 left.1
 
--- what an answer rests on: a program's text on what it says, keys on what they do, steps on
--- registers of 14 digits in A, B and C wherever they lead
+-- The results that a load depends on: the text of a program must have a meaning.
 abbrev pub LoadRestsOn : ProgramKind → List ℕ → Type 0
 LoadRestsOn Bytes values = Unit {0}
 LoadRestsOn Text source = HasOne (Means Text source)
 
+-- The results that a command depends on: the meaning of a program's text, the outcome of keys, and
+-- for steps that A, B and C have 14 digits in each state that they lead to.
 abbrev pub RestsOn : Command → List ℕ → BenchState → Type 0
 RestsOn (commands.Load kind) values s = LoadRestsOn kind values
 RestsOn (commands.Key keys) values s = HasOne (KeysLeave keys s)
@@ -45,7 +46,7 @@ RestsOn (commands.Run limit) values s = LeadsToRegisters s
 RestsOn (commands.Trace count) values s = LeadsToRegisters s
 RestsOn command values s = Unit {0}
 
--- each command has one reply from each state: one state, and one answer
+-- Each command has exactly one reply from each state: one state, and one answer.
 abbrev pub ReplyHasOneAnswer : Type 0
 ReplyHasOneAnswer =
     (command : Command) (values : List ℕ) (s : BenchState) → RestsOn command values s

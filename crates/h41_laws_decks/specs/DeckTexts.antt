@@ -1,4 +1,4 @@
--- The text of a deck exists where what its commands rest on does.
+-- A deck has a text if the results that its commands depend on exist.
 use Rattle.std.specs.Prelude.{ℕ, ◌≤◌, List, [], ◌∷◌, length, Ok, Err}
 use Rattle.h41_commands.specs.Items.{Spelled, commands}
 use Rattle.h41_debug.specs.Bench.{BenchState, start}
@@ -10,25 +10,25 @@ use Rattle.h41_lines.specs.Lines.{lines}
 use Rattle.h41_laws_decks.specs.DeckAnswers.{RestsOn}
 use Rattle.h41_laws_numbers.specs.HasOne.{HasOne}
 
--- what the answer to a command rests on has its one answer; lines that are refused rest on nothing
+-- The results that a command depends on exist. Lines that are refused depend on nothing.
 abbrev pub ItemRestsOn : Spelled → BenchState → Type 0
 ItemRestsOn (Ok given) s = RestsOn given.0 given.1 s
 ItemRestsOn (Err refusal) s = Unit {0}
 
--- and so it is for each command in turn, in the state that the ones before it leave
+-- They exist for each command in turn, in the state that the commands before it leave.
 abbrev pub InTurnRestsOn : List Spelled → BenchState → Type 0
 InTurnRestsOn [] s = Unit {0}
 InTurnRestsOn (item ∷ items) s =
     ItemRestsOn item s
     × ((t : BenchState) (answer : Answer) → ItemReply item s t answer → InTurnRestsOn items t)
 
--- commands in turn have one list of answers then
+-- Commands in turn then have exactly one list of answers.
 abbrev pub AnswersHaveOneList : Type 0
 AnswersHaveOneList =
     (items : List Spelled) (s : BenchState) → InTurnRestsOn items s
     → HasOne (AnswersInTurn items s)
 
--- and a deck within the bound has one text, and ends in one way
+-- A deck within the limit then has exactly one text, and ends in one way.
 abbrev pub DeckHasOneText : Type 0
 DeckHasOneText =
     (registers : ℕ) (deck : List ℕ) → length deck ≤ most_bytes

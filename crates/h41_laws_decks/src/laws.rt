@@ -1,4 +1,4 @@
-//! The laws: each is the contract of a function with nothing to do but to call the laws that it rests on.
+//! The laws. Each law is the contract of a function whose body only calls the laws that it depends on.
 
 ghost use Rattle.h41_laws_decks.specs.DeckAnswers.{PageBlockSaysOne, ReplyHasOneAnswer};
 ghost use Rattle.h41_laws_decks.specs.DeckAnswers.{ViewHasOneText};
@@ -20,7 +20,7 @@ use h41_laws_states::laws::{
 use h41_program::laws::{lists_are_determined, one_list};
 use h41_text::laws::line_text_round_trip;
 
-/// Each view has one text or one refusal, from any state.
+/// States that each view has exactly one text or one refusal, in any state.
 pub fn view_has_one_text()
     ensures { ViewHasOneText }
 {
@@ -29,7 +29,7 @@ pub fn view_has_one_text()
     display_has_one_text();
 }
 
-/// A block for a page says one list of words or one refusal, whatever its values, sources among them.
+/// States that a block for a page defines exactly one list of words or one refusal, whatever its values, sources included.
 pub fn page_block_says_one()
     ensures { PageBlockSaysOne }
 {
@@ -37,7 +37,7 @@ pub fn page_block_says_one()
     words_are_determined();
 }
 
-/// A block of a program's bytes or text means one program, or one refusal, whatever its values.
+/// States that a block of a program's bytes or text means exactly one program, or one refusal, whatever its values.
 pub fn program_block_means_one()
     ensures { ProgramBlockMeansOne }
 {
@@ -45,7 +45,8 @@ pub fn program_block_means_one()
     line_text_round_trip();
 }
 
-/// Each command has one reply from each state, a state and an answer, where what it rests on has one.
+/// States that each command has exactly one reply from each state, a state and an answer, if the results that it depends on
+/// exist.
 pub fn reply_has_one_answer()
     ensures { ReplyHasOneAnswer }
 {
@@ -55,8 +56,8 @@ pub fn reply_has_one_answer()
     runs_have_one_outcome();
 }
 
-/// Commands in turn have one list of answers, and a deck within the bound one text and one end, where what each command rests on,
-/// in the state that the ones before it leave, has its one answer.
+/// States that commands in turn have exactly one list of answers, and a deck within the limit one text and one end, if the
+/// results that each command depends on exist in the state that the commands before it leave.
 pub fn deck_follows_its_replies()
     ensures answers { AnswersHaveOneList }
     ensures text { DeckHasOneText }
@@ -64,8 +65,8 @@ pub fn deck_follows_its_replies()
     reply_has_one_answer();
 }
 
-/// Each command leaves a bench whose calculator is as each that there is (`leaves`), and what it rests on there has its one answer
-/// (`rests`).
+/// States that each command leaves a bench whose calculator is well-formed (`leaves`), and that the results that it depends on
+/// exist there (`rests`).
 pub fn replies_leave_whole()
     ensures leaves { ReplyLeavesWhole }
     ensures rests { WholeBenchRests }
@@ -80,9 +81,9 @@ pub fn replies_leave_whole()
     program_block_means_one();
 }
 
-/// Each deck within the bound has one text, and ends in one way, with each size of memory (`text`); any bytes, those of a longer deck
-/// too, have one text of the commands that end in them (`front`), and the replies to some first commands go on to the deck's text
-/// (`rest`).
+/// States that each deck within the limit has exactly one text, and ends in one way, with each size of memory (`text`); that any
+/// bytes, even those of a longer deck, have exactly one text of the commands that end in them (`front`); and that the replies to
+/// the first commands are a prefix of the deck's text (`rest`).
 pub fn deck_has_one_text()
     ensures text { EachDeckHasOneText }
     ensures front { EachFrontHasOneText }

@@ -1,4 +1,5 @@
-//! Laws of existence for decks: views, blocks for pages, and the replies of commands.
+//! Laws of existence for decks: views, blocks, the replies of commands, and whole decks each have
+//! exactly one result.
 #![tactic(auto)]
 
 pub mod laws;

@@ -1,4 +1,4 @@
--- What lines leave.
+-- The outcomes of lines.
 use Rattle.std.proofs.Common.{◌≡◌, ℕ, Bool, true, false, List, Option, Some, None, Result, Ok, Err, MatchBool, inl, inr, refl}
 use Rattle.h41_codes.specs.declared.functions.Function.{Function}
 use Rattle.h41_codes.specs.declared.line.Line.{Line}
@@ -42,7 +42,7 @@ use Rattle.h41_laws_lines.specs.LineOutcomes.{TypedHasOneOutcome}
 use Rattle.h41_laws_lines.proofs.Leads.{NextOrNone, goes}
 use Rattle.h41_pages.specs.PageMap.{PageMap}
 
--- either of two answers, by a test
+-- Either of two answers, by a test.
 either : {A : Type 0} (t : Bool) (Then Else : A → Type 0) → Has Then → Has Else → Has (λ answer. MatchBool t (Then answer) (Else answer))
 either true Then Else first second = first
 either false Then Else first second = second
@@ -50,7 +50,7 @@ either false Then Else first second = second
 alone : {A : Type 0} (other : A) → Has (λ answer. answer ≡ other)
 alone other = record { answer = other; right = refl }
 
--- where a test has to hold for one answer
+-- A test must hold for one answer.
 where_true : {A : Type 0} (t : Bool) (Then : A → Type 0) (other : A) → Has Then → Has (λ answer. MatchBool t (Then answer) (answer ≡ other))
 where_true t Then other found = either t Then (λ answer. answer ≡ other) found (alone other)
 
@@ -123,7 +123,7 @@ module _ (values : ValueHasOneRegister) (next_or_none : NextOrNone) (onward : Li
   stands_at pages true memory at is = let first = lines pages memory at in stands_in pages memory at first.answer is first.right
   stands_at pages false memory at is = record { answer = Err MemoryLost; right = rw is refl }
 
-  -- what is done with the line at a position
+  -- What is done with the line at a position.
   by_standing : {A : Type 0} (pages : PageMap) (does : Result (Line × Position) FocalRefusal → A → Type 0)
       → ((standing : Result (Line × Position) FocalRefusal) → Has (does standing)) → (machine : Machine)
       → Has (λ done. (standing : Result (Line × Position) FocalRefusal) × Stands pages machine standing × does standing done)

@@ -16,7 +16,7 @@ use Rattle.h41_laws_numbers.proofs.Answering.{Has}
 use Rattle.h41_laws_programs.specs.ProgramAnswers.{MemoryHasOneAnswer, PositionHasOne, PositionHasOneEach}
 use Rattle.h41_pages.specs.PageMap.{PageMap}
 
--- there is a next position, or none
+-- There is a next position, or none.
 abbrev pub NextOrNone : Type 0
 NextOrNone =
     (pages : PageMap) (memory : RegisterMap) (at : Position)

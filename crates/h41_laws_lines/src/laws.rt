@@ -1,4 +1,4 @@
-//! The laws: each is the contract of a function with nothing to do but to call the laws that it rests on.
+//! The laws. Each law is the contract of a function whose body only calls the laws that it depends on.
 
 ghost use Rattle.h41_laws_lines.specs.LineOutcomes.{EnteringHasOneOutcome, FailureHasOneOutcome};
 ghost use Rattle.h41_laws_lines.specs.LineOutcomes.{PassingHasOneOutcome};
@@ -11,8 +11,9 @@ use h41_laws_values::laws::value_has_one_register;
 use h41_positions::laws::positions_are_read;
 use h41_program::laws::each_is_listed;
 
-/// A line has one outcome, whatever the machine and pages hold: what it leaves and its answer, or its refusal. So it is stepped, typed,
-/// failed from outside, stepped or typed, passed, and entered.
+/// States that a line has exactly one outcome, the state and answer that it leaves or its refusal, whatever the machine and the
+/// pages contain. This holds for a line that is stepped (`step`), typed (`typed`), made to fail (`failure`, `typed_failure`),
+/// passed (`passing`), or that calls a program of a page (`entering`).
 pub fn line_has_one_outcome()
     ensures step { StepHasOneOutcome }
     ensures typed { TypedHasOneOutcome }

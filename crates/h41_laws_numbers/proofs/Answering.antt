@@ -1,4 +1,4 @@
--- What is asked of decimals has its answer.
+-- Questions about decimals have answers.
 use Rattle.std.proofs.Common.{◌≡◌, ℕ, zero, suc, ◌+◌, ◌-◌, ◌*◌, ◌/◌, ◌%◌, ◌^◌, ◌<◌, ◌≤◌, sym, refl, arith, Result, Ok, Err}
 use Rattle.std.specs.Prelude.{ℤ, pos, negsuc, ◌*ℤ◌, unsigned_abs}
 use Rattle.std.proofs.Math.Nat.{mul-pos, div-mul-le_self, lt-div-mul-add}
@@ -23,7 +23,7 @@ use Rattle.h41_decimal.proofs.Tens.{size_pos}
 use Rattle.h41_decimal.proofs.Floors.{rest_of_same, rest_of_apart, rest_of_apart_none, rest_of_zero, modulo_by}
 use Rattle.h41_laws_numbers.proofs.Rounding.{fraction_rounded, root_rounded, ten_of, units-ten_of}
 
--- there is an answer
+-- There is an answer.
 pub record Has {A : Type 0} (IsRight : A → Type 0) : Type 0 where
   pub answer : A
   pub right : IsRight answer
@@ -58,7 +58,7 @@ quotient x (pos zero) = record { answer = Err Data; right = refl }
 quotient x (pos (suc n)) = quotient_some x (pos (suc n)) (omega arith)
 quotient x (negsuc n) = quotient_some x (negsuc n) (omega arith)
 
--- what is left by a divisor with a sign
+-- The remainder for a divisor with a sign.
 rest_same : (s : Sign) (Y X : ℕ) → 0 < X → Has (RoundsRest (with_sign s Y) (with_sign s X))
 rest_same s Y X some =
     let found = nearest (with_sign s (Y % X)) 1 (omega arith) in
@@ -97,7 +97,7 @@ modulo (Nonzero s y) (Nonzero t x) =
     let rest = modulo_rest s t y x in
     record { answer = rest.answer; right = modulo_by (Nonzero s y) t x (with_sign s (size y)) rest.answer refl rest.right }
 
--- a number rounded to steps
+-- A number rounded to steps.
 half_up : (step number k : ℕ) → k * (2 * step) ≤ 2 * number + step → 2 * number + step < k * (2 * step) + 2 * step
     → (2 * (k * step) ≤ 2 * number + step) × (2 * number + step < 2 * ((k + 1) * step))
 half_up step number k low high = (omega arith, omega arith)
@@ -114,7 +114,7 @@ of_steps step number some =
       right = record { steps = k; not_above = bounds.0; next_above = bounds.1; value = found.right };
     }
 
--- the parts of a number
+-- The parts of a number.
 next_one : (n k : ℕ) → n < k * one + one → n < (k + 1) * one
 next_one n k less = omega arith
 
@@ -136,7 +136,7 @@ fraction number =
     let part = integer_part number in
     record { answer = _; right = record { part = part.answer; integer = part.right; rest = refl } }
 
--- a number from its digits
+-- A number from its digits.
 greatest : (sign : Sign) → Ten
 greatest sign = ten_of sign 9999999999 198 record { at_least = omega arith; below = omega arith } (omega arith)
 

@@ -11,7 +11,7 @@ use Rattle.h41_arith.specs.DigitRuleLaws.{IsDetermined}
 use Rattle.h41_arith.proofs.Carries.{CarriedTo, carried_none, carried_more, carried_all, carry_le}
 use Rattle.h41_laws_numbers.specs.DigitAnswers.{HasOneResult}
 
--- one place has its digit and its carry
+-- A place has its digit and its carry.
 pub record HasDigit (rule : ℕ → ℕ → ℕ → ℕ → ℕ → Type 0) (x y carry : ℕ) : Type 0 where
   pub digit : ℕ
   pub out : ℕ
@@ -68,7 +68,7 @@ sum_gives decimal = sum_digit (base_of decimal) (base_small decimal)
 pub difference_gives : (decimal : Bool) → GivesDigits (DifferenceDigit (base_of decimal))
 difference_gives decimal = difference_digit (base_of decimal)
 
--- so many places are done
+-- So many places are done.
 record SoFar (rule : ℕ → ℕ → ℕ → ℕ → ℕ → Type 0) (into x y : List ℕ) (carry_in lo next : ℕ) : Type 0 where
   z : List ℕ
   carry : ℕ
@@ -124,7 +124,7 @@ so_many rule gives into x y carry_in lo (suc count) valid x_valid bit inside =
     (one_more rule gives into x y carry_in lo (lo + count) x_valid (omega arith) (omega arith)
     (so_many rule gives into x y carry_in lo count valid x_valid bit (omega arith)))
 
--- a carry as a bit
+-- A carry as a bit.
 record AsBit (carry : ℕ) : Type 0 where
   bit : Bool
   is : carry ≡ carry_digit bit

@@ -1,11 +1,11 @@
--- Powers of ten between which a number stands, and whole square roots.
+-- The powers of ten around a number, and whole square roots.
 use Rattle.std.proofs.Common.{◌≡◌, ℕ, zero, suc, ◌+◌, ◌*◌, ◌^◌, ◌<◌, ◌≤◌, inl, inr, arith}
 use Rattle.std.proofs.Math.Nat.{pow-suc}
 use Rattle.std.proofs.lemmas.Nat.{pow-add}
 use Rattle.std.proofs.lemmas.Bool.{cases_lt}
 use Rattle.h41_decimal.proofs.Nearest.{ten_pow_pos}
 
--- a number has one digit more than this count
+-- A number has one digit more than this count.
 pub record HasDigits (number : ℕ) : Type 0 where
   pub count : ℕ
   pub least : 10 ^ count ≤ number
@@ -22,14 +22,14 @@ has_digits (suc number) =
       | inr more ↦ record { count = before.count + 1; least = omega arith; next = omega (arith, before.next) }
     ]
 
--- a number is below its power of ten
+-- A number is below its power of ten.
 pub below_power : (number : ℕ) → number < 10 ^ number
 below_power zero = omega arith
 below_power (suc number) =
     let power : 10 ^ (suc number) ≡ 10 ^ number * 10 = pow-suc 10 number in
     omega (arith, below_power number)
 
--- the whole square root of a number
+-- The whole square root of a number.
 pub record HasRoot (number : ℕ) : Type 0 where
   pub root : ℕ
   pub least : root * root ≤ number

@@ -19,7 +19,7 @@ use Rattle.h41_decimal.proofs.Nearest.{near_at, ten_pow_pos, below_more, at_leas
 use Rattle.h41_decimal.proofs.Cuts.{power_parts}
 use Rattle.h41_laws_numbers.proofs.Powers.{HasDigits, has_digits, has_root, below_power}
 
--- an exact size lies between a whole number of eleven digits and the next one, in steps of a power of ten
+-- An exact size is between a whole number of eleven digits and the next one, in steps of a power of ten.
 record HasEleven (v : Exact) : Type 0 where
   whole : ℕ
   scale : ℕ
@@ -29,7 +29,7 @@ record HasEleven (v : Exact) : Type 0 where
   at_least : IsAtLeast v (whole * 10 ^ scale) (10 ^ bar)
   below : IsBelow v ((whole + 1) * 10 ^ scale) (10 ^ bar)
 
--- of more digits the first eleven
+-- The first eleven of more digits.
 first_eleven : (v : Exact) (whole bar count : ℕ) → 10 ^ 10 ≤ whole → 10 ^ count ≤ whole → whole < 10 ^ (count + 1) → 10 ≤ count
     → IsAtLeast v whole (10 ^ bar) → IsBelow v (whole + 1) (10 ^ bar) → HasEleven v
 first_eleven v whole bar count long least next enough at_least below =
@@ -104,7 +104,7 @@ root_eleven n n_pos =
     let w = has_root (n * (10 ^ 10 * 10 ^ 10)) in
     from_whole (RootOf n) w.root 10 (root_long n w.root n_pos w.next) w.least w.next
 
--- the answer within the bounds
+-- The answer within the bounds.
 pub record HasBounded (sign : Sign) (digits : ℕ) (exponent : ℤ) : Type 0 where
   pub answer : Result Ten DecimalFault
   pub bounded : IsBounded sign digits exponent answer
@@ -137,7 +137,7 @@ has_bounded sign digits (pos steps) ten = elim (cases_lt 198 steps) [
       record { answer = answer; bounded = subst P (sym t) (units-ten_of sign digits steps ten within) }
 ]
 
--- which is rounded
+-- The rounded answer.
 pub record HasRounded (sign : Sign) (v : Exact) : Type 0 where
   pub answer : Result Ten DecimalFault
   pub rounded : IsRounded sign v answer
@@ -190,11 +190,11 @@ rounded_from sign v cut m n place low high m_size ten link = elim (cases_lt plac
       }
 ]
 
--- the place of the tenth digit
+-- The place of the tenth digit.
 next_place : (n scale : ℕ) → n * 10 ^ (scale + 1) ≡ n * (10 * 10 ^ scale)
 next_place n scale = ap (λ t. n * t) (pow-add 10 scale 1 ∙ omega arith)
 
--- and of the ninth
+-- The place of the ninth digit.
 second_place : (scale : ℕ) → 1000000000 * 10 ^ (scale + 2) ≡ 10000000000 * (10 * 10 ^ scale)
 second_place scale = ap (λ t. 1000000000 * t) (pow-add 10 scale 2) ∙ omega arith
 

@@ -1,4 +1,5 @@
--- A decimal is written to a register, and what is read from one is a decimal.
+-- A decimal is written to a register, and the value of a register that contains a number is a
+-- decimal.
 use Rattle.std.proofs.Common.{◌≡◌, ℕ, zero, suc, ◌+◌, ◌-◌, ◌*◌, ◌/◌, ◌%◌, ◌^◌, ◌<◌, ◌≤◌, inl, inr, sym, ◌∙◌, ap, refl, subst, arith}
 use Rattle.std.proofs.Common.{List, map, length, Option, Some, None, Bool, true, false}
 use Rattle.std.specs.Prelude.{ℤ, pos, ◌==◌, if◌then◌else◌, nat_le, nat_lt, slice_index, slice_index_or, ◌&&◌}
@@ -23,7 +24,7 @@ use Rattle.h41_laws_numbers.specs.DecimalAnswers.{HoldsNumber}
 use Rattle.h41_laws_numbers.proofs.Answering.{Has}
 use Rattle.h41_laws_numbers.proofs.Rounding.{ten_of, units-ten_of}
 
--- the digit of a place, of a mantissa, an exponent and a sign
+-- The digit at a place, from the mantissa, the exponent and the sign.
 abbrev digit_at : ℕ → ℕ → ℕ → ℕ → ℕ
 digit_at mantissa exponent sign place =
     if nat_lt place 3 then exponent / 10 ^ place % 10
@@ -63,7 +64,7 @@ written_register mantissa exponent sign small = record {
       subst (λ (n : ℕ). n < 16) (sym (written_at mantissa exponent sign place d within)) (digit_small mantissa exponent sign place small);
 }
 
--- digits are read as their number
+-- The digits of a number are read as the number.
 put : (digit n rest : ℕ) (others : Option ℕ) → digit ≤ 9 → others ≡ Some rest → digit + 10 * rest ≡ n
     → (if nat_le digit 9 then option_map (λ rest. digit + 10 * rest) others else None) ≡ Some n
 put digit n rest others small is sum =
@@ -110,7 +111,7 @@ high_place mantissa exponent sign k low =
     ∙ (ap (λ b. if b then exponent / 10 ^ (3 + k) % 10 else if nat_lt (3 + k) 13 then mantissa / 10 ^ (3 + k - 3) % 10 else sign) s
     ∙ (ap (λ b. if b then mantissa / 10 ^ (3 + k - 3) % 10 else sign) t ∙ ap (λ n. mantissa / 10 ^ n % 10) at))
 
--- the exponent and the sign as digits
+-- The exponent and the sign as digits.
 record HasExponent (steps : ℕ) : Type 0 where
   exponent : ℕ
   small : exponent < 1000
@@ -160,7 +161,7 @@ in_register (Nonzero sign x) = nonzero sign x.mantissa.digits x.exponent.biased 
           };
         }
 
--- what is read is worth a decimal
+-- The value that is read is that of a decimal.
 steps_small : (exponent steps : ℕ) → exponent < 1000 → steps_in exponent ≡ Some steps → steps ≤ 198
 steps_small exponent steps small is = within (nat_le exponent 99) (nat_le 901 exponent) refl is
   where

@@ -1,4 +1,4 @@
--- Nearest decimals exist, and what else is asked of decimals has its answer.
+-- Nearest decimals exist, and the other questions about decimals have answers.
 use Rattle.std.specs.Prelude.{◌≡◌, ℕ, ◌<◌, List, Some, ℤ}
 use Rattle.h41_digits.specs.Register.{IsRegister}
 use Rattle.h41_decimal.specs.Holding.{Number, holding_of, number_in}
@@ -12,48 +12,51 @@ use Rattle.h41_decimal.specs.declared.sign.Sign.{Sign}
 use Rattle.h41_decimal.specs.declared.ten.Ten.{Ten}
 use Rattle.h41_laws_numbers.specs.HasOne.{HasOne}
 
--- a fraction has one nearest decimal, whatever its size: a sum, a difference, a product
+-- A fraction has exactly one nearest decimal, whatever its size. Sums, differences and products are
+-- such fractions.
 abbrev pub FractionHasOneNearest : Type 0
 FractionHasOneNearest = (above : ℤ) (below : ℕ) → 0 < below → HasOne (Nearest above below)
 
--- so has a square root
+-- A square root has exactly one nearest decimal.
 abbrev pub RootHasOneNearest : Type 0
 RootHasOneNearest = (number : ℤ) → HasOne (NearestRoot number)
 
--- and a quotient, the divisor zero among them
+-- A quotient has exactly one answer, even if the divisor is zero.
 abbrev pub QuotientHasOneNearest : Type 0
 QuotientHasOneNearest = (x y : ℤ) → HasOne (NearestQuotient x y)
 
--- what a division leaves
+-- The remainder of a division has exactly one answer.
 abbrev pub ModuloHasOneNearest : Type 0
 ModuloHasOneNearest = (y x : Ten) → HasOne (NearestModulo y x)
 
--- a number that is rounded to steps
+-- A number is rounded to steps in exactly one way.
 abbrev pub NumberHasOneOfSteps : Type 0
 NumberHasOneOfSteps = (step : ℕ) (number : ℤ) → 0 < step → HasOne (RoundsTo step number)
 
--- an integer part, and a fraction
+-- A number has exactly one integer part.
 abbrev pub NumberHasOneInteger : Type 0
 NumberHasOneInteger = (number : ℤ) → HasOne (IsIntegerPart number)
 
+-- A number has exactly one fraction.
 abbrev pub NumberHasOneFraction : Type 0
 NumberHasOneFraction = (number : ℤ) → HasOne (IsFraction number)
 
--- a number from its digits
+-- Digits with an exponent are exactly one number.
 abbrev pub TypedHasOneNumber : Type 0
 TypedHasOneNumber =
     (sign : Sign) (digits places : ℕ) (exponent : Exponent)
     → HasOne (IsTyped sign digits places exponent)
 
--- the register of a decimal
+-- The register contains a number.
 pub record HoldsNumber (number : ℤ) (register : List ℕ) : Type 0 where
   pub valid : IsRegister 14 register
   pub holds : holding_of register ≡ Number number
 
+-- A decimal has exactly one register.
 abbrev pub DecimalHasOneRegister : Type 0
 DecimalHasOneRegister = (number : Ten) → HasOne (HoldsNumber (units number))
 
--- what a register is worth is worth a decimal
+-- The value of a register that contains a number is that of exactly one decimal.
 abbrev pub RegisterHoldsDecimal : Type 0
 RegisterHoldsDecimal =
     (register : List ℕ) (number : ℤ) → number_in register ≡ Some number

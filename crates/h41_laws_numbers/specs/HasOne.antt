@@ -1,7 +1,7 @@
--- There is one answer, and no other.
+-- There is exactly one answer.
 use Rattle.std.specs.Prelude.{◌≡◌}
 
--- one answer is right, and each that is right is that one
+-- One answer is right, and every right answer is that one.
 pub record HasOne {A : Type 0} (IsRight : A → Type 0) : Type 0 where
   pub answer : A
   pub right : IsRight answer

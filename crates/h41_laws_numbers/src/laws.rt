@@ -1,4 +1,4 @@
-//! The laws: each is the contract of a function with nothing to do but to call the laws that it rests on.
+//! The laws. Each law is the contract of a function whose body only calls the laws that it depends on.
 
 ghost use Rattle.h41_laws_numbers.specs.DigitAnswers.{SumHasOneResult, DifferenceHasOneResult};
 ghost use Rattle.h41_laws_numbers.specs.DecimalAnswers.{FractionHasOneNearest, RootHasOneNearest};
@@ -15,35 +15,38 @@ use h41_decimal::laws::{
     units_are_injective,
 };
 
-/// Two registers and a carry have one sum, a register and a carry, in any span of places and in both bases, for all digits.
+/// States that two registers and a carry have exactly one sum, a register and a carry, in any range of digits and in both
+/// bases, for all digits from 0 to F.
 pub fn sum_has_one_result()
     ensures { SumHasOneResult }
 {
     sum_is_determined();
 }
 
-/// And they have one difference, with its borrow.
+/// States that two registers and a borrow have exactly one difference, a register and a borrow, in any range of digits and
+/// in both bases.
 pub fn difference_has_one_result()
     ensures { DifferenceHasOneResult }
 {
     difference_is_determined();
 }
 
-/// A fraction of units has one nearest decimal, or is out of range.
+/// States that a fraction of units has exactly one nearest decimal, or is out of range.
 pub fn fraction_has_one_nearest()
     ensures { FractionHasOneNearest }
 {
     nearest_is_determined();
 }
 
-/// So has the square root of a number of units; a negative number has none, and that is told.
+/// States that the square root of a number of units has exactly one nearest decimal. A negative number has none, which is
+/// its answer.
 pub fn root_has_one_nearest()
     ensures { RootHasOneNearest }
 {
     nearest_root_is_determined();
 }
 
-/// A quotient and what a division leaves have one answer.
+/// States that a quotient, and the remainder of a division, have exactly one answer.
 pub fn quotients_have_one_nearest()
     ensures quotient { QuotientHasOneNearest }
     ensures modulo { ModuloHasOneNearest }
@@ -51,14 +54,14 @@ pub fn quotients_have_one_nearest()
     quotients_are_determined();
 }
 
-/// A number is rounded to steps of any size in one way.
+/// States that a number is rounded to steps of any size in exactly one way.
 pub fn number_has_one_of_steps()
     ensures { NumberHasOneOfSteps }
 {
     steps_are_determined();
 }
 
-/// A number has one integer part and one fraction.
+/// States that a number has exactly one integer part and one fraction.
 pub fn number_has_parts()
     ensures integer { NumberHasOneInteger }
     ensures fraction { NumberHasOneFraction }
@@ -66,14 +69,15 @@ pub fn number_has_parts()
     parts_are_determined();
 }
 
-/// What is typed is one number.
+/// States that the digits that are typed are exactly one number.
 pub fn typed_has_one_number()
     ensures { TypedHasOneNumber }
 {
     typed_is_determined();
 }
 
-/// A decimal has one register, and a register that holds a number holds that of a decimal.
+/// States that a decimal has exactly one register, and that the value of a register that contains a number is that of
+/// exactly one decimal.
 pub fn decimal_has_one_register()
     ensures register { DecimalHasOneRegister }
     ensures decimal { RegisterHoldsDecimal }

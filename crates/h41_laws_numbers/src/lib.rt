@@ -1,4 +1,4 @@
-//! Laws of existence for numbers: the digit rule and the nearest decimals leave one answer for each question, and there is one.
+//! Laws of existence for numbers: the digit rule and the nearest decimals have exactly one answer to each question.
 #![tactic(auto)]
 
 pub mod laws;

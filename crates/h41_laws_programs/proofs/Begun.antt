@@ -9,7 +9,7 @@ use Rattle.h41_program.specs.declared.listed_line.ListedLine.{ListedLine}
 
 module _ (firsts : EachHasFirst) (each : EachIsListed) (determined : FirstIsDetermined) (read : ReadIsDetermined)
     (code begins : List ℕ) (at : ℕ) where
-  -- a function reaches the offset, or does not
+  -- A function reaches the offset, or does not.
   reaches : (begin : ℕ) → Reaches code at begin ⊎ (Reaches code at begin → ⊥)
   reaches begin = elim (firsts code (length code) at) [
     | inr none ↦ inr (λ again. none again.first again.stands)
@@ -38,7 +38,7 @@ module _ (firsts : EachHasFirst) (each : EachIsListed) (determined : FirstIsDete
     ]
   ]
 
-  -- the least of the first few that do, or none of them does
+  -- The least of the first few that do, or that none of them does.
   abbrev IsLeastOf : ℕ → ℕ → Type 0
   IsLeastOf n start =
       ((k : ℕ) × (k < n) × (slice_index begins k ≡ start)) × Reaches code at start

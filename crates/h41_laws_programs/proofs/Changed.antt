@@ -1,4 +1,4 @@
--- What changes of lists give.
+-- The results of changes of lists.
 use Rattle.std.proofs.Common.{ℕ, List, length, Option, Some, None, Err, inl, inr, refl}
 use Rattle.h41_codes.specs.declared.line.Line.{Line}
 use Rattle.h41_ram.specs.RegisterMap.{RegisterMap}

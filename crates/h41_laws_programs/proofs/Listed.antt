@@ -1,4 +1,4 @@
--- Lists of lines, and answers by them.
+-- Lists of lines, and answers from them.
 use Rattle.std.proofs.Common.{ℕ, Bool, List, refl}
 use Rattle.h41_codes.specs.declared.line.Line.{Line}
 use Rattle.h41_program.specs.ProgramLaws.{EachIsListed, OneList, ReadIsDetermined}

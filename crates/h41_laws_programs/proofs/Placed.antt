@@ -22,7 +22,7 @@ use Rattle.h41_laws_numbers.proofs.Answering.{Has}
 use Rattle.h41_laws_programs.proofs.Begun.{start_some}
 use Rattle.h41_laws_programs.specs.ProgramAnswers.{PositionHasOne}
 
--- one that is there is one where there are not two
+-- If there is an answer and there are not two, there is exactly one.
 pub one_of : {A : Type 0} (answers : Finding A) → HasOneAnswer answers
     → ((pages : PageMap) (memory : RegisterMap) (at : Position) → Has (answers pages memory at)) → PositionHasOne answers
 one_of answers determined some pages memory at =
@@ -110,7 +110,7 @@ module _ (firsts : EachHasFirst) where
       let found = next_in (code_at pages address) (offset_of address) in
       record { answer = found_as (in_page (page_of address)) found.answer; right = (found.answer, found.right, refl) }
 
-  -- there is a next position, or none
+  -- There is a next position, or none.
   pub next_or_none : (pages : PageMap) (memory : RegisterMap) (at : Position)
       → ((next : Position) × NextAt pages memory at (Ok next)) ⊎ NextAt pages memory at (Err BrokenProgram)
   next_or_none pages memory (Memory at) = elim (first memory at) [

@@ -1,4 +1,4 @@
--- Lists of lines, and what is found in them, exist.
+-- Lists of lines exist, and so does what is found in them.
 use Rattle.std.specs.Prelude.{ℕ, List, Bool}
 use Rattle.h41_codes.specs.declared.line.Line.{Line}
 use Rattle.h41_ram.specs.RegisterMap.{RegisterMap}
@@ -10,29 +10,29 @@ use Rattle.h41_positions.specs.PositionLaws.{Finding}
 use Rattle.h41_positions.specs.declared.position.Position.{Position}
 use Rattle.h41_laws_numbers.specs.HasOne.{HasOne}
 
--- bytes have one list of lines from each position on, wherever their last three begin and whichever
--- lines end it, as in memory or in a page
+-- Bytes have exactly one list of lines from each position on, wherever their last three bytes begin
+-- and whichever lines end it, as in memory or in a page.
 abbrev pub BytesHaveOneList : Type 0
 BytesHaveOneList =
     (ends : Line → Bool) (bytes : List ℕ) (final at : ℕ) → HasOne (ReadsTo ends bytes final at)
 
--- what is asked of the list of lines from a position on has one answer
+-- A question about the list of lines from a position on has exactly one answer.
 abbrev pub MemoryHasOneAnswer : Type 0 → Type 0
 MemoryHasOneAnswer A =
     (answer : List ListedLine → A) (memory : RegisterMap) (at : ℕ)
     → HasOne (AnswersOf answer memory at)
 
--- and so has what is asked of the program of a position
+-- A question about the program of a position has exactly one answer.
 abbrev pub ProgramHasOneAnswer : Type 0 → Type 0
 ProgramHasOneAnswer A =
     (answer : List ListedLine → A) (memory : RegisterMap) (at : ℕ)
     → HasOne (AnswersProgram answer memory at)
 
--- each position has one answer of a kind, in any pages and memory
+-- Each position in any pages and memory has exactly one answer of this kind.
 abbrev pub PositionHasOne : {A : Type 0} → Finding A → Type 0
 PositionHasOne answers =
     (pages : PageMap) (memory : RegisterMap) (at : Position) → HasOne (answers pages memory at)
 
--- so it is for each number
+-- The same for each number.
 abbrev pub PositionHasOneEach : {A : Type 0} → (ℕ → Finding A) → Type 0
 PositionHasOneEach answers = (n : ℕ) → PositionHasOne (answers n)

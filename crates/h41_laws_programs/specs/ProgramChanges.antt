@@ -1,4 +1,4 @@
--- What changes of the list of lines give exists.
+-- Changes of the list of lines have a result.
 use Rattle.std.specs.Prelude.{ℕ, List}
 use Rattle.h41_codes.specs.declared.line.Line.{Line}
 use Rattle.h41_ram.specs.RegisterMap.{RegisterMap}
@@ -8,17 +8,17 @@ use Rattle.h41_program.specs.ProgramLines.{FirstFrom}
 use Rattle.h41_program.specs.declared.listed_line.ListedLine.{ListedLine}
 use Rattle.h41_laws_numbers.specs.HasOne.{HasOne}
 
--- a change at any position has one outcome, a refusal among them
+-- A change at any position has exactly one outcome, which may be a refusal.
 abbrev pub EditHasOneOutcome : Type 0
 EditHasOneOutcome =
     (memory : RegisterMap) (change : ℕ → ListedLine → List Line) (at : ℕ)
     → HasOne (EditGives memory change at)
 
--- so has a load of any bytes
+-- A load of any bytes has exactly one outcome.
 abbrev pub LoadHasOneOutcome : Type 0
 LoadHasOneOutcome = (memory : RegisterMap) (bytes : List ℕ) → HasOne (LoadGives memory bytes)
 
--- what is asked of a changed list, where a line stands at the position, has one answer
+-- A question about a changed list has exactly one answer, if there is a line at the position.
 abbrev pub ChangeHasOneAnswer : Type 0 → Type 0
 ChangeHasOneAnswer A =
     (answer : ℕ → List ListedLine → A) (memory : RegisterMap) (at : ℕ) (new : RegisterMap)

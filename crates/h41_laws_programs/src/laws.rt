@@ -1,4 +1,4 @@
-//! The laws: each is the contract of a function with nothing to do but to call the laws that it rests on.
+//! The laws. Each law is the contract of a function whose body only calls the laws that it depends on.
 
 ghost use Rattle.std.specs.Prelude.{ℕ, Bool, Option, Result};
 ghost use Rattle.h41_laws_programs.specs.ProgramAnswers.{BytesHaveOneList, MemoryHasOneAnswer};
@@ -16,8 +16,8 @@ use h41_program::laws::{
     each_is_listed, edits_are_determined, lists_are_determined, one_list, searches_are_determined,
 };
 
-/// Bytes are read as one list of lines from each position on, whatever they are, wherever their last line stands and whichever lines
-/// end a list: those of memory, and those of a page.
+/// States that bytes are read as exactly one list of lines from each position on, whatever they are, wherever their last line is
+/// and whichever lines end a list: those of memory, and those of a page.
 pub fn bytes_have_one_list()
     ensures { BytesHaveOneList }
 {
@@ -25,8 +25,8 @@ pub fn bytes_have_one_list()
     lists_are_determined();
 }
 
-/// What is asked of memory's list of lines has one answer: where programs begin, where names stand, whether the last program is
-/// open; and what is asked of the program of a position.
+/// States that each question about the list of lines in memory has exactly one answer: the beginning of a program, the position
+/// of a name, whether the last program is open, and the questions about the program of a position.
 pub fn searches_have_one_answer()
     ensures start { MemoryHasOneAnswer ℕ }
     ensures global { MemoryHasOneAnswer (Option ℕ) }
@@ -37,8 +37,9 @@ pub fn searches_have_one_answer()
     searches_are_determined();
 }
 
-/// Each position of any pages and memory, sound or not, has one line or refusal, one next position or refusal, one start of its program,
-/// one place of each local label, one end, one line before and one number, some of them that there is none.
+/// States that each position in any pages and memory, sound or not, has exactly one line, one next position, one start of its
+/// program, one position of each local label, one end, one line before it and one line number. Each of these may be a refusal, or
+/// that there is none.
 pub fn positions_have_one_answer()
     ensures line { PositionHasOne LineAt }
     ensures next { PositionHasOne NextAt }
@@ -54,8 +55,8 @@ pub fn positions_have_one_answer()
     positions_are_read();
 }
 
-/// A change of the list, and a load of any bytes, have one outcome: a memory, or a refusal. What is asked of a changed list has
-/// one answer.
+/// States that a change of the list, and a load of any bytes, have exactly one outcome, a memory or a refusal; and that each
+/// question about a changed list has exactly one answer.
 pub fn changes_have_one_outcome()
     ensures edit { EditHasOneOutcome }
     ensures load { LoadHasOneOutcome }

@@ -1,4 +1,5 @@
-//! Laws of existence for program memory: lists of lines, what is found in them, and what changes of them give.
+//! Laws of existence for program memory: lists of lines, what is found in them, and the results of changes
+//! each exist exactly once.
 #![tactic(auto)]
 
 pub mod laws;

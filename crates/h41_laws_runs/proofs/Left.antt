@@ -1,4 +1,4 @@
--- What is left is one, where there are not two.
+-- If there is an outcome and there are not two, there is exactly one.
 use Rattle.std.proofs.Common.{◌≡◌, ℕ, zero, suc, List, [], ◌++◌, Option, refl, ap, ◌∙◌}
 use Rattle.h41_keys.specs.declared.key.Key.{Key}
 use Rattle.h41_xrom.specs.declared.refusal.CalculatorRefusal.{CalculatorRefusal}
@@ -43,7 +43,7 @@ one_of_runs determined limit s t made why run = record {
       both other (t, (made, why)) same.0 (both other.1 (made, why) same.1 same.2);
 }
 
--- a trace of steps
+-- A trace of steps.
 abbrev Traced : ℕ → BenchState → BenchState → Option CalculatorRefusal → Type 0
 Traced count s t refusal = (lines : List ℕ) × Traces count s t lines refusal
 

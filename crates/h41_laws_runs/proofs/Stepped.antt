@@ -1,4 +1,4 @@
--- Steps in turn and runs, where each step has its answer.
+-- Steps in turn and runs, if each step has an outcome.
 use Rattle.std.proofs.Common.{◌≡◌, ℕ, zero, suc, ◌+◌, Bool, true, false, Option, Some, None, refl, sym, subst, arith}
 use Rattle.std.proofs.Common.{zero-add}
 use Rattle.std.specs.Prelude.{nat_lt}
@@ -16,14 +16,14 @@ use Rattle.h41_debug.proofs.Runs.{ends_at_limit, ends_refused, goes_on, made_mor
 use Rattle.h41_laws_calculator.specs.CalculatorAnswers.{AcceptedStepHasOneState, StepHasOneRefusal}
 use Rattle.h41_laws_runs.specs.BenchOutcomes.{LeadsToRegisters}
 
--- behind a step
+-- After a step.
 some_made : (made : ℕ) → nat_lt 0 (made + 1) ≡ true
 some_made made = grind (arith, nat_tests)
 
 behind_one : (made : ℕ) (t : BenchState) (stop : Option Stop) → stop_at t ≡ stop → stop_behind (nat_lt 0 (made + 1)) t ≡ stop
 behind_one made t stop is = subst (λ (behind : Bool). stop_behind behind t ≡ stop) (sym (some_made made)) is
 
--- steps in turn, and a run, that there are
+-- Steps in turn, and a run, that exist.
 pub record Stepped (count : ℕ) (s : BenchState) : Type 0 where
   pub t : BenchState
   pub refusal : Option CalculatorRefusal
@@ -53,7 +53,7 @@ module _ (refusals : StepHasOneRefusal) (states : AcceptedStepHasOneState) where
       stepped_by count (stepped count) s leads why.answer why.right
 
   module _ (same_refusal : StepRefusalIsDetermined) (same_step : StepIsDetermined) where
-    -- so many steps were made, and as many are left
+    -- So many steps were made, and as many remain.
     abbrev Runs : ℕ → Type 0
     Runs left =
         (limit made : ℕ) (s t : BenchState) → made + left ≡ limit → LeadsToRegisters s → is_idle s.calculator.mode ≡ false

@@ -1,4 +1,4 @@
--- What comes next has one text.
+-- The next step has exactly one description.
 use Rattle.std.proofs.Common.{◌≡◌, ℕ, Bool, true, false, List, ◌++◌, codes, Result, MatchBool, refl, ap, ◌∙◌}
 use Rattle.h41_breakpoints.specs.declared.location.Location.{Location}
 use Rattle.h41_breakpoints.specs.declared.location.Location.TheVariants.{Line, Word}

@@ -1,4 +1,4 @@
--- What a bench leaves after keys and steps in turn, a run and a trace.
+-- The outcomes of keys and steps in turn, of a run and of a trace.
 use Rattle.std.specs.Prelude.{ℕ, List, None, Option}
 use Rattle.h41_keys.specs.declared.key.Key.{Key}
 use Rattle.h41_xrom.specs.declared.refusal.CalculatorRefusal.{CalculatorRefusal}
@@ -10,40 +10,42 @@ use Rattle.h41_debug.specs.declared.run.Stop.{Stop}
 use Rattle.h41_laws_numbers.specs.HasOne.{HasOne}
 use Rattle.h41_laws_words.specs.WordAnswers.{HasRegisters}
 
--- a state and a refusal, or none, are those of steps in turn
+-- A state and a refusal, or none, are those of steps in turn.
 abbrev pub StepsLeave : ℕ → BenchState → BenchState × Option CalculatorRefusal → Type 0
 StepsLeave count s left = Steps count s left.0 left.1
 
--- of keys in turn
+-- A state and a refusal, or none, are those of keys in turn.
 abbrev pub KeysLeave : List Key → BenchState → BenchState × Option CalculatorRefusal → Type 0
 KeysLeave keys s left = PressesInTurn keys s left.0 left.1
 
--- a state, a count of steps and a reason to stop are those of a run
+-- A state, a count of steps and a reason to stop are those of a run.
 abbrev pub RunLeaves : ℕ → BenchState → BenchState × (ℕ × Stop) → Type 0
 RunLeaves limit s left = runs.Run limit s left.0 left.1.0 left.1.1
 
--- a state, a text and a refusal, or none, are those of a trace
+-- A state, a text and a refusal, or none, are those of a trace.
 abbrev pub TraceLeaves : ℕ → BenchState → BenchState × (List ℕ × Option CalculatorRefusal) → Type 0
 TraceLeaves count s left = traces.Traces count s left.0 left.1.0 left.1.1
 
--- from each state what comes next has one text
+-- In each state the next step has exactly one description.
 abbrev pub StateHasOneText : Type 0
 StateHasOneText = (s : BenchState) → HasOne (TellsStep s)
 
--- each state to which single steps lead has registers of 14 digits in A, B and C, as each that a
--- bench has
+-- In each state that single steps lead to, A, B and C have 14 digits, as in each bench that can
+-- exist.
 abbrev pub LeadsToRegisters : BenchState → Type 0
 LeadsToRegisters s =
     (made : ℕ) (t : BenchState) → Steps made s t None → HasRegisters t.calculator.nut.processor
 
--- from such a state so many steps have one outcome, a run of any limit, and a trace
+-- From such a state so many steps have exactly one outcome.
 abbrev pub StepsHaveOneOutcome : Type 0
 StepsHaveOneOutcome =
     (count : ℕ) (s : BenchState) → LeadsToRegisters s → HasOne (StepsLeave count s)
 
+-- From such a state a run of any limit has exactly one outcome.
 abbrev pub RunHasOneOutcome : Type 0
 RunHasOneOutcome = (limit : ℕ) (s : BenchState) → LeadsToRegisters s → HasOne (RunLeaves limit s)
 
+-- From such a state a trace has exactly one outcome.
 abbrev pub TraceHasOneOutcome : Type 0
 TraceHasOneOutcome =
     (count : ℕ) (s : BenchState) → LeadsToRegisters s → HasOne (TraceLeaves count s)

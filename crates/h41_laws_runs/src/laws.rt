@@ -1,4 +1,5 @@
-//! The laws: each is the contract of a function that calls the laws it rests on, and the bench's own calls, which take no memory.
+//! The laws. Each law is the contract of a function that only calls the laws that it depends on, and calls of the bench that
+//! allocate no memory.
 
 ghost use Rattle.h41_laws_numbers.specs.HasOne.{HasOne};
 ghost use Rattle.h41_laws_runs.specs.BenchOutcomes.{KeysLeave, RunLeaves, StateHasOneText};
@@ -16,8 +17,8 @@ use h41_laws_calculator::laws::step_has_one_outcome;
 use h41_laws_programs::laws::positions_have_one_answer;
 use h41_xrom::laws::step_is_determined;
 
-/// From each state from which single steps lead to registers of 14 digits alone, steps in turn, a run of any limit and a trace have
-/// one outcome each: the definitions alone give it.
+/// States that steps in turn, a run of any limit and a trace have exactly one outcome each, from each state from which single
+/// steps lead only to states with registers of 14 digits. This follows from the definitions alone.
 pub fn runs_have_one_outcome()
     ensures steps { StepsHaveOneOutcome }
     ensures run { RunHasOneOutcome }
@@ -31,7 +32,8 @@ pub fn runs_have_one_outcome()
     traces_are_determined();
 }
 
-/// So many single steps have one outcome from each bench: a state, and the first refusal or none.
+/// States that `count` single steps have exactly one outcome from each bench that can exist: a state, and the first refusal or
+/// none.
 pub fn steps_have_one_outcome<const REGS: usize>(bench: &mut Bench<REGS>, count: u32)
     ensures { HasOne (StepsLeave count bench.old) }
 {
@@ -39,7 +41,7 @@ pub fn steps_have_one_outcome<const REGS: usize>(bench: &mut Bench<REGS>, count:
     let _ = bench.steps(count);
 }
 
-/// So have keys in turn.
+/// States that keys in turn have exactly one outcome from each bench that can exist: a state, and the first refusal or none.
 pub fn keys_have_one_outcome<const REGS: usize>(bench: &mut Bench<REGS>, keys: &[Key])
     ensures { HasOne (KeysLeave keys.now bench.old) }
 {
@@ -47,8 +49,8 @@ pub fn keys_have_one_outcome<const REGS: usize>(bench: &mut Bench<REGS>, keys: &
     let _ = bench.press(keys);
 }
 
-/// A run of at most so many steps, none among them, makes one count of steps from each bench, leaves one state, and stops for one
-/// reason.
+/// States that a run of at most `limit` steps, which may be 0, has exactly one outcome from each bench that can exist: how many
+/// steps it makes, the state that it leaves, and why it stops.
 pub fn run_has_one_outcome<const REGS: usize>(bench: &mut Bench<REGS>, limit: u32)
     ensures { HasOne (RunLeaves limit bench.old) }
 {
@@ -56,14 +58,15 @@ pub fn run_has_one_outcome<const REGS: usize>(bench: &mut Bench<REGS>, limit: u3
     let _ = bench.run(limit);
 }
 
-/// What comes next has one text, from any state.
+/// States that the next step has exactly one description, in any state.
 pub fn next_has_one_text()
     ensures { StateHasOneText }
 {
     positions_have_one_answer();
 }
 
-/// A trace of so many steps has one text from each bench, one state, and the first refusal or none.
+/// States that a trace of `count` steps has exactly one outcome from each bench that can exist: a text, a state, and the first
+/// refusal or none.
 pub fn trace_has_one_outcome<const REGS: usize>(bench: &mut Bench<REGS>, count: u32)
     ensures { HasOne (TraceLeaves count bench.old) }
 {

@@ -1,4 +1,5 @@
-//! Laws of existence for the bench: keys and steps in turn, a run and a trace have one outcome each, and what comes next one text.
+//! Laws of existence for the bench: keys and steps in turn, a run and a trace have exactly one outcome each, and the next step
+//! has exactly one description.
 #![tactic(auto)]
 
 pub mod laws;

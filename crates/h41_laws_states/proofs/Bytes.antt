@@ -31,7 +31,7 @@ use Rattle.h41_laws_words.proofs.Registers.{below_at, digit_at, held_at}
 use Rattle.h41_laws_words.specs.WholeStates.{HoldsRegisters}
 use Rattle.h41_laws_states.specs.WholeMemory.{AreBytes}
 
--- a fact of two things holds of the one that is chosen
+-- A fact about two values holds for the one that is chosen.
 pub chosen : {A : Type 0} (P : A → Type 0) (b : Bool) (one other : A) → (b ≡ true → P one) → (b ≡ false → P other)
     → P (if b then one else other)
 chosen P true one other first second = first refl
@@ -49,11 +49,11 @@ of_text bytes are = All-from_get_or IsByte bytes 0 are
 pub to_text : (bytes : List ℕ) → AreBytes bytes → IsBytes bytes
 to_text bytes all = λ index within. all index 0 within
 
--- one byte
+-- One byte.
 pub alone : (byte : ℕ) → byte < 256 → AreBytes (byte ∷ [])
 alone byte small = All-cons IsByte byte [] small (All-nil IsByte)
 
--- the digits of bytes
+-- The digits of bytes.
 abbrev IsDigit : ℕ → Type 0
 IsDigit digit = digit < 16
 
@@ -74,7 +74,7 @@ digits_count bytes (index ∷ indices) =
 pub register_of : (bytes : List ℕ) (first : ℕ) → AreBytes bytes → IsRegister 14 (digits_from bytes (seven_from first))
 register_of bytes first all = record { size = digits_count bytes (seven_from first); each = digits_small bytes (seven_from first) all }
 
--- the bytes of registers
+-- The bytes of registers.
 pub byte_small : (register : List ℕ) (place : ℕ) → IsRegister 14 register → byte_at register place < 256
 byte_small register place valid =
     let high = digit_at register (2 * place + 1) valid in
@@ -111,7 +111,7 @@ last_bytes bytes all =
     All-drop IsByte (length bytes) (replicate 24 0x00 ++ bytes)
     (All-append IsByte (replicate 24 0x00) bytes (All-replicate IsByte 24 0 (omega arith)) all)
 
--- the texts of numbers
+-- The texts of numbers.
 glyph_small : (upper : Bool) (digit : ℕ) → digit < 16 → digit_glyph upper digit < 256
 glyph_small upper digit small =
     chosen IsByte (nat_lt digit 10) (48 + digit) (if upper then 55 + digit else 87 + digit) (λ low. omega arith)
@@ -221,7 +221,7 @@ number_bytes format value =
     All-append IsByte (sign_text (sign_of value)) (size_text format (unsigned_abs value)) (sign_bytes (sign_of value))
     (notation_bytes format.notation format (unsigned_abs value))
 
--- the text of a register as it comes into ALPHA
+-- The text of a register as it is put into ALPHA.
 turned : (register : List ℕ) → All IsDigit register → All IsDigit (reverse register)
 turned register all =
     All-from_get_or IsDigit (reverse register) 0 (λ index within.

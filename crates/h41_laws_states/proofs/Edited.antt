@@ -1,4 +1,4 @@
--- Keys in program mode leave memory as calculators have it.
+-- Keys in program mode leave memory well-formed.
 use Rattle.std.proofs.Common.{◌≡◌, ℕ, List, Option, Some, None, Result, Ok, Err, sym, subst}
 use Rattle.h41_codes.specs.declared.line.Line.{Line}
 use Rattle.h41_editor.specs.Changes.{Changed, Deletes, DeletesAt, DeletesLine, Inserts, InsertsBefore, InsertsBy, Replaces, ReplacesAt}
@@ -25,7 +25,7 @@ use Rattle.h41_laws_states.specs.WholeMemory.{IsWholeMemory}
 use Rattle.h41_laws_states.proofs.Lines.{matched}
 use Rattle.h41_laws_states.proofs.Programs.{Kept, closed, edited}
 
--- what a key leaves, where it leaves something
+-- The result of a key, if there is one.
 abbrev pub MachineKept : Result Machine ProgramRefusal → Type 0
 MachineKept (Ok machine) = IsWholeMemory machine.memory
 MachineKept (Err refusal) = Unit {0}

@@ -1,4 +1,4 @@
--- Lines that are carried out leave memory as calculators have it.
+-- Lines that are executed leave memory well-formed.
 use Rattle.std.proofs.Common.{◌≡◌, ℕ, Bool, true, false, List, Option, Some, None, Result, Ok, Err, MatchBool, sym, subst}
 use Rattle.h41_codes.specs.ByteGrammar.{IsLine}
 use Rattle.h41_codes.specs.declared.functions.Function.{Function}
@@ -52,12 +52,12 @@ use Rattle.h41_laws_states.specs.WholeMemory.{IsWholeMemory}
 use Rattle.h41_laws_states.proofs.Bytes.{chosen}
 use Rattle.h41_laws_states.proofs.Memories.{ChangesWhole, flagged, line_puts, row_kept}
 
--- by a test
+-- By a test.
 pub matched : (t : Bool) (A B C : Type 0) → MatchBool t A B → (A → C) → (B → C) → C
 matched true A B C is first second = first is
 matched false A B C is first second = second is
 
--- what a line leaves, where it leaves something
+-- The result of a line, if there is one.
 abbrev pub Leaves : Result Left FocalRefusal → Type 0
 Leaves (Ok left) = IsWholeMemory left.machine.memory
 Leaves (Err refusal) = Unit {0}
@@ -66,7 +66,7 @@ abbrev pub LeavesMachine : Result Machine FocalRefusal → Type 0
 LeavesMachine (Ok machine) = IsWholeMemory machine.memory
 LeavesMachine (Err refusal) = Unit {0}
 
--- the register that a row computes
+-- The register that a row computes.
 abbrev pub IsComputed : Result (List ℕ) LineFault → Type 0
 IsComputed (Ok register) = IsRegister 14 register
 IsComputed (Err fault) = Unit {0}
@@ -96,7 +96,7 @@ worked memory named row result works =
     matched (are_numbers memory named (rows.numbers_of row)) (ComputesIn memory named row.value result) (result ≡ Err AlphaData)
     (IsComputed result) works (computed memory named row.value result) (λ fails. subst IsComputed (sym fails) tt)
 
--- a line that fails
+-- A line that fails.
 fault_left : (how : Manner) (machine : Machine) (fault : LineFault) → IsWholeMemory machine.memory
     → IsWholeMemory (left_by_fault how machine fault).machine.memory
 fault_left (Stepped next) machine fault whole =
@@ -112,7 +112,7 @@ fails_left : (how : Manner) (machine : Machine) (fault : LineFault) (carried : R
     → FailsIn how machine fault carried → Leaves carried
 fails_left how machine fault carried whole is = subst Leaves (sym is) (fault_left how machine fault whole)
 
--- a line that goes on
+-- A line that continues.
 ends_left : (how : Manner) (old new : Machine) (answer : Answer) (to : Destination) (carried : Result Left FocalRefusal)
     → IsWholeMemory old.memory → IsWholeMemory new.memory → Ends how old new answer to carried → Leaves carried
 ends_left how old new answer (Arrives position returns) carried before behind is = subst Leaves (sym is) behind
@@ -125,7 +125,7 @@ ends_left how old new answer (Seeks name) carried before behind is = subst Leave
 ends_left how old new answer HasNoLabel carried before behind is = fails_left how old Nonexistent carried before is
 ends_left how old new answer HasNoLine carried before behind is = subst Leaves (sym is) tt
 
--- a row
+-- A row.
 applied_with : (pages : PageMap) (how : Manner) (row : rows.LineRow) (named : ℕ) (machine : Machine) (result : Result (List ℕ) LineFault)
     (carried : Result Left FocalRefusal) → ChangesWhole row.alpha → IsWholeMemory machine.memory → IsComputed result
     → AppliesWith pages how row named machine result carried → Leaves carried
@@ -139,7 +139,7 @@ applied : (pages : PageMap) (how : Manner) (row : rows.LineRow) (named : ℕ) (m
 applied pages how row named machine carried puts whole is =
     applied_with pages how row named machine is.0 carried puts whole (worked machine.memory named row is.0 is.1) is.2
 
--- a line that has bytes
+-- A line that can be encoded in bytes.
 applied_to : (pages : PageMap) (how : Manner) (line : Line) (machine : Machine) (meant : Result Meant LineFault)
     (carried : Result Left FocalRefusal) → IsLine line → IsWholeMemory machine.memory → AppliesTo pages how line machine meant carried
     → Leaves carried
@@ -165,7 +165,7 @@ typed_line pages line machine carried valid whole is =
     matched (is_sound machine.memory) (TakesLine pages Typed line machine carried) (carried ≡ Err refusals.MemoryLost) (Leaves carried) is
     (taken pages Typed line machine carried valid whole) (λ lost. subst Leaves (sym lost) tt)
 
--- a line that stands at a position has bytes
+-- A line at a position can be encoded in bytes.
 first_valid : (memory : RegisterMap) (at : ℕ) (found : Result ListedLine ProgramRefusal) (first : PlacedLine)
     → AnswersFirst memory at found → Ok first ≡ found_as in_memory found → IsLine first.line
 first_valid memory at (Ok listed) first stands is =
@@ -192,7 +192,7 @@ as_valid : (function : Option Function) (line : Line) → IsLine line → IsLine
 as_valid None line valid = valid
 as_valid (Some function) line valid = tt
 
--- a line that is stepped
+-- A line that is stepped.
 stepped_as : (pages : PageMap) (function : Option Function) (machine : Machine) (standing : Result (Line × Position) FocalRefusal)
     (carried : Result Left FocalRefusal) → IsWholeMemory machine.memory → Stands pages machine standing
     → StepsAs pages function machine standing carried → Leaves carried
@@ -207,7 +207,7 @@ stepped_line : (pages : PageMap) (function : Option Function) (machine : Machine
     → IsWholeMemory machine.memory → StepsLine pages function machine carried → Leaves carried
 stepped_line pages function machine carried whole is = stepped_as pages function machine is.0 carried whole is.1 is.2
 
--- THE LINES OF THE CALCULATOR. A line that was typed has bytes
+-- THE LINES OF THE CALCULATOR. A typed line can be encoded in bytes.
 abbrev pub IsWholeSource : LineSource → Type 0
 IsWholeSource sources.Program = Unit {0}
 IsWholeSource (sources.Keys line) = IsLine line
@@ -241,7 +241,7 @@ passed_from : (source : LineSource) (pages : PageMap) (machine : Machine) (after
 passed_from sources.Program pages machine after whole is = passed_with machine is.0 after whole is.2
 passed_from (sources.Keys line) pages machine after whole is = subst LeavesMachine (sym is) whole
 
--- how a line ends
+-- How a line ends.
 abbrev pub EndsWhole : Result Ended FocalRefusal → Type 0
 EndsWhole (Ok (Answers left)) = IsWholeMemory left.machine.memory
 EndsWhole (Ok (Begins machine address)) = IsWholeMemory machine.memory
@@ -317,7 +317,7 @@ goes_on_from source pages machine (Ok left) ended valid whole after is =
     goes_on source pages machine left left.answer ended valid whole after is
 goes_on_from source pages machine (Err refusal) ended valid whole after is = subst EndsWhole (sym is) tt
 
--- a line leaves memory whole
+-- A line leaves memory well-formed.
 pub line_leaves : (source : LineSource) (pages : PageMap) (machine : Machine) (ended : Result Ended FocalRefusal) → IsWholeSource source
     → IsWholeMemory machine.memory → CarriesLine source pages machine ended → EndsWhole ended
 line_leaves source pages machine ended valid whole is =

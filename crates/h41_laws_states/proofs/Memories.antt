@@ -1,4 +1,4 @@
--- Memory that is changed stays as calculators have it.
+-- Memory that is changed remains well-formed.
 use Rattle.std.proofs.Common.{◌≡◌, ℕ, zero, suc, ◌-◌, ◌/◌, ◌%◌, ◌^◌, ◌<◌, Bool, true, false, List, [], ◌∷◌, ◌++◌, map}
 use Rattle.std.proofs.Common.{length}
 use Rattle.std.proofs.Common.{drop, replicate, slice_index, slice_set, if◌then◌else◌, Option, Some, None, refl}
@@ -36,7 +36,7 @@ use Rattle.h41_laws_states.specs.WholeMemory.{AreBytes, IsWholeMemory}
 use Rattle.h41_laws_states.proofs.Bytes.{IsByte, alpha_bytes, chosen, digits_count, digits_small, last_bytes, nulls_passed, of_text}
 use Rattle.h41_laws_states.proofs.Bytes.{recalled_bytes, register_of}
 
--- a register that is read, and one that is written
+-- A register that is read, and one that is written.
 pub read : (memory : RegisterMap) (address : ℕ) → IsWholeMemory memory → IsRegister 14 (register_at memory address)
 read memory address whole = held_at memory address whole.holds
 
@@ -61,7 +61,7 @@ written memory address register whole valid = record {
   most = omega (arith, size_with memory address register, whole.most);
 }
 
--- a flag
+-- A flag.
 bit_small : (digit place : ℕ) (on : Bool) → place < 4 → digit < 16 → digit_with digit (2 ^ place) on < 16
 bit_small digit zero true four small = omega arith
 bit_small digit (suc zero) true four small = omega arith
@@ -89,7 +89,7 @@ all_flagged [] memory whole = whole
 all_flagged (change ∷ changes) memory whole =
     all_flagged changes (with_flag memory change.flag change.on) (flagged memory change.flag change.on whole)
 
--- ALPHA
+-- The ALPHA register.
 p_register : (memory : RegisterMap) (text : List ℕ) → IsWholeMemory memory → AreBytes text
     → IsRegister 14 (digits_from text (0 ∷ 1 ∷ 2 ∷ []) ++ drop 6 (p_of memory))
 p_register memory text whole all =
@@ -120,7 +120,7 @@ alpha_written memory text whole all =
 pub alpha_of_bytes : (memory : RegisterMap) → IsWholeMemory memory → AreBytes (alpha_of memory)
 alpha_of_bytes memory whole = alpha_bytes memory whole.holds
 
--- what becomes of ALPHA is bytes
+-- The new contents of ALPHA are bytes.
 abbrev pub IsWholeChange : rows.AlphaChange → Type 0
 IsWholeChange (rows.Becomes characters) = AreBytes characters
 IsWholeChange (rows.Appends characters) = AreBytes characters
@@ -151,7 +151,7 @@ alpha_changed old named None memory old_whole is whole = whole
 alpha_changed old named (Some change) memory old_whole is whole =
     alpha_written memory (alpha_after old named change) whole (alpha_bytes_after old named change old_whole is)
 
--- registers that are taken
+-- Registers that are computed.
 text_is_register : (characters : List ℕ) → AreBytes characters → IsRegister 14 (text_register characters)
 text_is_register characters all =
     let filled = replicate (6 - length characters) 0x00 ++ characters in
@@ -184,7 +184,7 @@ all_taken old named result (taken ∷ others) memory old_whole valid whole =
     (written memory (place_address named taken.place) (taken_from old named result taken.source) whole
     (source_register old named result taken.source old_whole valid))
 
--- registers of main memory, each by its address
+-- Main registers, each by its address.
 pub main_written : (memory : RegisterMap) (status : List (List ℕ)) (register : ℕ → List ℕ) → IsWholeMemory memory
     → All (IsRegister 14) status → ((address : ℕ) → IsRegister 14 (register address))
     → IsWholeMemory (record { status = status; main = map register (range_with_len main_start (length memory.main)) })
@@ -206,7 +206,7 @@ data_cleared_if : (clears : Bool) (memory : RegisterMap) → IsWholeMemory memor
 data_cleared_if true memory whole = data_cleared memory whole
 data_cleared_if false memory whole = whole
 
--- memory behind a row
+-- Memory after a row.
 pub row_kept : (row : rows.LineRow) (named : ℕ) (result : List ℕ) (lift : Bool) (memory : RegisterMap) → ChangesWhole row.alpha
     → IsRegister 14 result → IsWholeMemory memory → IsWholeMemory (memory_after row named result lift memory)
 row_kept row named result lift memory is valid whole =
@@ -218,7 +218,7 @@ row_kept row named result lift memory is valid whole =
     let changed_whole : IsWholeMemory changed = alpha_changed memory named row.alpha cleared whole is cleared_whole in
     all_flagged row.flags changed changed_whole
 
--- the characters that rows put into ALPHA are those of lines
+-- The characters that rows put into ALPHA are those of lines.
 count_silent : (function : ParameterFunction) (count : ℕ) → ChangesWhole (count_row function count).alpha
 count_silent parameters.Fixed count = tt
 count_silent function count = tt

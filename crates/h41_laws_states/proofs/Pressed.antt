@@ -1,4 +1,4 @@
--- Keys leave calculators as calculators are.
+-- Keys leave calculators whole.
 use Rattle.std.proofs.Common.{◌≡◌, ℕ, ◌<◌, Bool, true, false, List, [], ◌∷◌, ◌++◌, take, Option, Some, None, Result, Ok, Err, refl, sym}
 use Rattle.std.proofs.Common.{subst, arith}
 use Rattle.std.specs.Prelude.{IfSome, not}
@@ -53,7 +53,7 @@ use Rattle.h41_laws_states.proofs.Lines.{EndsWhole, IsWholeSource, computed_by, 
 use Rattle.h41_laws_states.proofs.Memories.{all_taken, alpha_of_bytes, alpha_written, flagged}
 use Rattle.h41_laws_states.proofs.States.{MadeWhole, becomes_whole, by_refusal, line_left, machine_set, memory_of}
 
--- what an action makes, where it makes something
+-- The result of an action, if there is one.
 abbrev Made : Type 0
 Made = Result KeyOutcome CalculatorRefusal
 
@@ -64,7 +64,7 @@ LeavesWhole (Ok (Stops machine)) = IsWholeMemory machine.memory
 LeavesWhole (Ok (Starts machine)) = IsWholeMemory machine.memory
 LeavesWhole (Err refusal) = Unit {0}
 
--- lines
+-- Lines.
 line_made : (ended : Result Ended FocalRefusal) → EndsWhole ended → LeavesWhole (line_effect ended)
 line_made (Ok ended) whole = whole
 line_made (Err refusal) whole = tt
@@ -74,7 +74,7 @@ carried : (source : LineSource) (pages : PageMap) (machine : Machine) (effect : 
 carried source pages machine effect valid whole is =
     subst LeavesWhole (sym is.2) (line_made is.0 (line_leaves source pages machine is.0 valid whole is.1))
 
--- program mode
+-- Program mode.
 edit_made : (made : Result Machine ProgramRefusal) → MachineKept made → LeavesWhole (edit_effect made)
 edit_made (Ok machine) whole = whole
 edit_made (Err refusal) whole = tt
@@ -83,7 +83,7 @@ edited : (Edit : Machine → Result Machine ProgramRefusal → Type 0) (machine 
     → ((made : Result Machine ProgramRefusal) → Edit machine made → MachineKept made) → Edits Edit machine effect → LeavesWhole effect
 edited Edit machine effect kept is = subst LeavesWhole (sym is.2) (edit_made is.0 (kept is.0 is.1))
 
--- a line that is stored
+-- A line that is stored.
 stored_function : (line : Line) (function : Option Function) (stored : Line) → IsInner line → StoredFunction line function stored
     → IsInner stored
 stored_function line (Some function) stored inner is = subst IsInner (sym is) (record { valid = tt; inner = refl })
@@ -113,7 +113,7 @@ stores pages line machine effect inner whole is =
     edited (Inserts pages is.0) machine effect
     (λ made. inserted_kept pages is.0 machine made (stored_as pages machine.memory line is.0 inner is.1) whole) is.2
 
--- numbers
+-- Numbers.
 number_taken : (memory : RegisterMap) (lift : Bool) (register : List ℕ) → IsWholeMemory memory → IsRegister 14 register
     → IsWholeMemory (taken_in memory lift register)
 number_taken memory lift register whole valid =
@@ -133,7 +133,7 @@ changes text machine effect whole is =
     let valid = computed_by (Written text) machine.memory 0 (Ok is.0) is.1 in
     subst LeavesWhole (sym is.2) (number_taken machine.memory false is.0 whole valid)
 
--- ALPHA
+-- The ALPHA register.
 text_set : (memory : RegisterMap) (text : List ℕ) → IsWholeMemory memory → AreBytes text → IsWholeMemory (with_text memory text)
 text_set memory text whole all = alpha_written memory (last_24 text) whole (last_bytes text all)
 
@@ -181,7 +181,7 @@ acts pages program_mode actions.TakeLetter machine effect valid whole is =
 acts pages program_mode actions.ClearAlpha machine effect valid whole is =
     subst LeavesWhole (sym is) (text_set machine.memory [] whole (All-nil IsByte))
 
--- A KEY. Its code is a byte
+-- A KEY. Its code is a byte.
 code_small : (key : Key) → code_of key < 256
 code_small keyboard.On = omega arith
 code_small key = omega arith
@@ -241,7 +241,7 @@ module _ (keys : KeyLeavesWhole) where
       makes s key (press_of s key flags) made whole (keys s.input key (activity_of s.mode) flags whole.input) is.3 in
       subst IsWholeCalculator (sym is.4.0) (becomes_whole made s whole of)
 
-  -- and what it stores has bytes
+  -- What it stores can be encoded in bytes.
   stores_inner : (action : Action) → IsWholeAction action → StoresInner action
   stores_inner (actions.Insert line) valid = valid
   stores_inner (actions.Replace line) valid = valid

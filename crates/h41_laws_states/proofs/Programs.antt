@@ -1,4 +1,4 @@
--- Memory whose program is changed stays as calculators have it.
+-- Memory whose program is changed remains well-formed.
 use Rattle.std.proofs.Common.{◌≡◌, ℕ, ◌+◌, ◌-◌, ◌*◌, ◌/◌, ◌%◌, ◌<◌, ◌≤◌, Bool, true, false, List, [], ◌∷◌, ◌++◌, map, length}
 use Rattle.std.proofs.Common.{replicate, slice_set, if◌then◌else◌, Option, Some, None, Result, Ok, Err, inl, inr, refl, sym}
 use Rattle.std.proofs.Common.{subst, ◌∙◌}
@@ -54,7 +54,7 @@ use Rattle.h41_laws_states.specs.WholeMemory.{AreBytes, IsWholeMemory}
 use Rattle.h41_laws_states.proofs.Bytes.{IsByte, alone, chosen, of_text, register_of}
 use Rattle.h41_laws_states.proofs.Memories.{main_written, read}
 
--- THE BYTES OF LINES. Codes
+-- THE BYTES OF LINES. Codes.
 code_small : (function : Function) → function_code function < 256
 code_small functions.Add = omega arith
 code_small function = omega arith
@@ -133,7 +133,7 @@ spelled (lines.BranchTo branch distance backwards label) valid =
     (omega arith) (label_small backwards label valid.1)
 spelled (lines.Text text) valid = text_spelled 15 text (omega arith) valid
 
--- and of programs
+-- The bytes of programs.
 gap_bytes : (line : Line) (others : List Line) → AreBytes (gap line others)
 gap_bytes line [] = All-nil IsByte
 gap_bytes line (next ∷ others) =
@@ -154,7 +154,7 @@ packing_bytes program inner =
     (All-append IsByte packed nulls (packed_bytes program inner) (All-replicate IsByte (filler (length packed)) 0 (omega arith)))
     (three 0xC0 0x00 0x20 (omega arith) (omega arith) (omega arith))
 
--- MEMORY WITH ANOTHER PROGRAM. Three digits of a register
+-- MEMORY WITH ANOTHER PROGRAM. Three digits of a register.
 three_small : (register : List ℕ) (place : ℕ) → IsRegister 14 register → three_digits register place < 4096
 three_small register place valid =
     let low = digit_at register place valid in
@@ -196,7 +196,7 @@ rewritten memory bytes whole all =
     (three_set (c_of memory) 0 (end_after memory bytes) c (omega (arith, three_small (c_of memory) 3 c))) whole.holds.status)
     (λ address. rewritten_valid memory bytes address whole all)
 
--- what a call leaves, where it leaves a memory
+-- The memory that a call leaves, if it leaves one.
 abbrev pub Kept : {A : Type 0} → Result (RegisterMap × A) ProgramRefusal → Type 0
 Kept (Ok outcome) = IsWholeMemory outcome.0
 Kept (Err refusal) = Unit {0}
@@ -216,7 +216,7 @@ answered : {A : Type 0} (answer : A) (made : Result RegisterMap ProgramRefusal) 
 answered answer (Ok memory) whole = whole
 answered answer (Err refusal) whole = tt
 
--- a list of lines that is changed
+-- A list of lines that is changed.
 listed_inner : (memory : RegisterMap) (change : ListedLine → List Line) (listed : List ListedLine) → KeepsInner change
     → LinesFrom memory 0 listed → All IsInner (flat_map change listed)
 listed_inner memory change listed keeps from = elim (cases_Bool (is_sound memory)) [
@@ -240,7 +240,7 @@ edited memory change at outcome keeps whole (inl found) =
 edited memory change at outcome keeps whole (inr none) =
     subst (λ (of : Result (RegisterMap × Unit {0}) ProgramRefusal). Kept of) (sym none.1) tt
 
--- the lines before .END.
+-- The lines before .END.
 own_inner : (memory : RegisterMap) (listed before : List ListedLine) → LinesFrom memory 0 listed → before_end listed ≡ Some before
     → All IsInner (lines_of before)
 own_inner memory listed before from own = elim (cases_Bool (is_sound memory)) [
@@ -248,7 +248,7 @@ own_inner memory listed before from own = elim (cases_Bool (is_sound memory)) [
   | inr lost ↦ absurd (let none : ◌≡◌ {A = Option (List ListedLine)} None (Some before) = ap before_end (sym (from.lost lost)) ∙ own in cc)
 ]
 
--- a load
+-- A load.
 load_of : (memory : RegisterMap) (before : List ListedLine) (loaded : Option (List Line)) → IsWholeMemory memory
     → All IsInner (lines_of before) → ((program : List Line) → loaded ≡ Some program → All IsInner program)
     → Kept (load_outcome memory before loaded)
@@ -281,7 +281,7 @@ pub loaded : (memory : RegisterMap) (bytes : List ℕ) (outcome : Result (Regist
     → LoadGives memory bytes outcome → Kept outcome
 loaded memory bytes outcome whole gives = loads_behind memory bytes gives.0 (before_end gives.0) outcome whole gives.1 refl gives.2
 
--- the last program closed
+-- The last program is closed.
 close_of : (memory : RegisterMap) (own : Option (List ListedLine)) (listed : List ListedLine) → IsWholeMemory memory
     → LinesFrom memory 0 listed → before_end listed ≡ own → Kept (close_behind memory own)
 close_of memory None listed whole from is = tt
@@ -297,7 +297,7 @@ pub closed : (memory : RegisterMap) (listed : List ListedLine) → IsWholeMemory
     → Kept (close_behind memory (before_end listed))
 closed memory listed whole from = close_of memory (before_end listed) listed whole from refl
 
--- ANOTHER NUMBER OF DATA REGISTERS, where memory is sound
+-- ANOTHER NUMBER OF DATA REGISTERS, if memory is sound.
 record Bounds (memory : RegisterMap) : Type 0 where
   pub end : end_of memory < curtain_of memory
   pub curtain : curtain_of memory ≤ top_of memory

@@ -1,4 +1,4 @@
--- Calculators stay as calculators are.
+-- Calculators remain whole.
 use Rattle.std.proofs.Common.{◌≡◌, ℕ, ◌+◌, ◌-◌, ◌<◌, ◌≤◌, Bool, true, false, [], ◌∷◌, Option, Some, None, Result, Ok, Err, refl}
 use Rattle.std.proofs.Common.{sym, subst, ap, ◌∙◌}
 use Rattle.std.proofs.Common.{arith, length, replicate, slice_set}
@@ -56,11 +56,11 @@ use Rattle.h41_laws_states.proofs.Lines.{EndsWhole, line_leaves}
 use Rattle.h41_laws_states.proofs.Memories.{size_with}
 use Rattle.h41_laws_states.proofs.Programs.{Kept, loaded, sized, three_set}
 
--- its memory
+-- The memory of a calculator.
 pub memory_of : (s : CalculatorState) → IsWholeCalculator s → IsWholeMemory s.nut.ram
 memory_of s whole = record { holds = whole.nut.memory; most = whole.most }
 
--- the processor, by the display alone
+-- The processor with another state of the display.
 displayed : (on : Bool) (s : Processor) → HasAllRegisters s → HasAllRegisters (with_display on s)
 displayed on s has = record {
   abc = record { a = has.abc.a; b = has.abc.b; c = has.abc.c };
@@ -74,7 +74,7 @@ answered : (answer : Answer) (s : Processor) → HasAllRegisters s → HasAllReg
 answered answers.TurnedOff s has = displayed false s has
 answered answer s has = has
 
--- and where a function begins
+-- The address where a function begins.
 addresses : (address : ℕ) → address < address_count → All (λ address. address < address_count) (address ∷ 0 ∷ 0 ∷ 0 ∷ [])
 addresses address small =
     All-from_recursion (λ address. address < address_count) (address ∷ 0 ∷ 0 ∷ 0 ∷ [])
@@ -98,7 +98,7 @@ initial = record {
   returns = addresses 0 (omega arith);
 }
 
--- LINES. What no word reads changes, and memory
+-- LINES. Only memory and what no word reads change.
 pub machine_set : (machine : Machine) (s : CalculatorState) → IsWholeCalculator s → IsWholeMemory machine.memory
     → IsWholeCalculator (with_machine machine s)
 machine_set machine s whole memory = record {
@@ -140,7 +140,7 @@ line_left s (Answers left) whole memory =
 line_left s (Begins machine address) whole memory =
     function_begun address (with_machine machine s) (machine_set machine s whole memory)
 
--- WORDS keep the size of memory
+-- WORDS do not change the size of memory.
 ram_size : (row : Row) (s : Nut) → length (ram_after row s).main ≡ length s.ram.main
 ram_size rows.WriteData s = size_with s.ram s.processor.selected s.processor.c
 ram_size (rows.Write register) s = size_with s.ram (block_address register s.processor) s.processor.c
@@ -177,7 +177,7 @@ module _ (words : WordLeavesWhole) where
 pub call_whole : CallLeavesWhole
 call_whole address s whole = function_begun address (not_typing s) (typing_ended s whole)
 
--- PROGRAMS. What is made, where something is
+-- PROGRAMS. The result, if there is one.
 abbrev pub MadeWhole : Result CalculatorState CalculatorRefusal → Type 0
 MadeWhole (Ok made) = IsWholeCalculator made
 MadeWhole (Err refusal) = Unit {0}
@@ -271,7 +271,7 @@ unplugs_whole page s whole none =
     pages_set (without_images pages page) s whole
     (choice_changed emptied page _ (page_changed pages page no_banks whole.nut.pages below refl (none_held page)))
 
--- THE START
+-- THE INITIAL STATE
 curtain_small : (registers : ℕ) → registers ≤ 320 → start_curtain registers ≤ 512
 curtain_small registers most = omega (arith, most)
 

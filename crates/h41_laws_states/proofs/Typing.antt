@@ -1,4 +1,5 @@
--- The lines that keys store and carry out have bytes, and what a keyboard keeps stays so.
+-- The lines that keys store and execute can be encoded in bytes, and what a keyboard remembers
+-- remains well-formed.
 use Rattle.std.proofs.Common.{◌≡◌, ℕ, ◌+◌, ◌-◌, ◌*◌, ◌<◌, ◌≤◌, Bool, true, false, List, [], ◌∷◌, ◌++◌, length, take, Option, Some, None}
 use Rattle.std.proofs.Common.{refl, arith}
 use Rattle.std.specs.Prelude.{IfSome, ◌&&◌, ◌==◌, nat_le, nat_lt, not}
@@ -105,7 +106,7 @@ named function (letter ∷ []) text =
     (λ other. naming function (letter ∷ []) text)
 named function (letter ∷ second ∷ rest) text = naming function (letter ∷ second ∷ rest) text
 
--- texts, a character longer or shorter
+-- Texts, one character longer or shorter.
 text_more : (most : ℕ) (text : List ℕ) (letter : ℕ) → IsText most text → letter < 256 → length text < most
     → IsText most (text ++ letter ∷ [])
 text_more most text letter is small less = record {
@@ -128,7 +129,7 @@ appended letter small = record {
   bytes = to_text (0x7F ∷ letter ∷ []) (All-cons IsByte 0x7F (letter ∷ []) (omega arith) (alone letter small));
 }
 
--- LETTERS are bytes
+-- LETTERS are bytes.
 abbrev IsSmall : Meaning → Type 0
 IsSmall (meanings.Letter letter) = letter < 256
 IsSmall other = Unit {0}
@@ -176,7 +177,7 @@ meaning_small key false true = plain_shifted_small key
 meaning_small key true false = letter_small key
 meaning_small key true true = shifted_small key
 
--- PROMPTS. What a key makes of one types such a line, or leaves such a prompt
+-- PROMPTS. A key in a prompt types such a line, or leaves such a prompt.
 abbrev IsWholeStep : Option PromptStep → Type 0
 IsWholeStep (Some (steps.Types line)) = IsInner line
 IsWholeStep (Some (steps.Becomes prompt)) = IsWholeTyped prompt.typed
@@ -296,7 +297,7 @@ prompt_step prompt (typed.Name name) shift key whole is =
     with_name_typed prompt name shift (row_of key).plain (row_of key).letter (row_of key).shifted_letter is (letter_small key)
     (shifted_small key)
 
--- KEYS. What is typed from then on
+-- KEYS. What is being typed afterwards.
 entered : (input : Input) (entry : TypedEntry) → IsWholeInput input → IsWholeEntry entry → IsWholeInput (press.with_entry input entry)
 entered input entry whole is = record { entry = is; prompt = whole.prompt }
 
@@ -317,7 +318,7 @@ function_typed : (input : Input) (function : Function) → IsWholeInput input �
 function_typed input function whole =
     line_typed input input.program_mode (lines.Plain function) whole (record { valid = tt; inner = refl })
 
--- numbers
+-- Numbers.
 number_begun : (input : Input) (program_mode : Bool) (text : List Character) → IsWholeInput input → 1 ≤ length text → length text ≤ 16
     → IsWholePress (press.number_begun input program_mode text)
 number_begun input true text whole some few =
@@ -378,7 +379,7 @@ back_pressed input (entries.Number text) whole few =
     number_becomes input text (without_last text) whole (omega (arith, length-take (length text - 1) text))
 back_pressed input other whole is = press_of_clear input input.program_mode whole
 
--- texts
+-- Texts.
 text_typed : (input : Input) (text : List ℕ) → IsWholeInput input → IsText 15 text
     → IsWholeInput (press.with_entry input (entries.TextLine text))
 text_typed input text whole is = entered input (entries.TextLine text) whole is
@@ -419,7 +420,7 @@ run_pressed : (input : Input) (program_mode : Bool) → IsWholeInput input → I
 run_pressed input true whole = function_typed input functions.Stop whole
 run_pressed input false whole = (tt, ended input whole)
 
--- a key that is accepted
+-- A key that is accepted.
 abbrev IfPressed : Option Pressed → Type 0
 IfPressed pressed = IfSome pressed IsWholePress
 
@@ -478,7 +479,7 @@ while_in_microcode : (input : Input) (meaning : Meaning) → IsWholeInput input 
 while_in_microcode input meanings.Nothing whole = tt
 while_in_microcode input other whole = (tt, whole)
 
--- a key that is left does what it did
+-- A key that remains supported does what it did.
 held_in_page : (deletes_nothing puts_end : Bool) (pressed : Option Pressed) → IfPressed pressed
     → IfPressed (press.held_in_page deletes_nothing puts_end pressed)
 held_in_page deletes_nothing puts_end (Some pressed) whole =

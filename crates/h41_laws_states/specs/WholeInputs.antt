@@ -1,5 +1,5 @@
--- What a keyboard keeps, as each that there is has it, and what it has the calculator do: the lines
--- that it stores and carries out have bytes.
+-- What a keyboard can remember, and what it makes the calculator do: the lines that it stores and
+-- executes can be encoded in bytes.
 use Rattle.std.specs.Prelude.{ℕ, ◌≤◌, ◌<◌, length, Option, Some, None, IfSome}
 use Rattle.h41_codes.specs.ByteGrammar.{IsLine, IsText}
 use Rattle.h41_codes.specs.Counts.{number_most, text_most}
@@ -18,30 +18,33 @@ use Rattle.h41_keys.specs.declared.prompt.Typed.{Typed}
 use Rattle.h41_keys.specs.declared.prompt.Typed.TheVariants as typed
 use Rattle.h41_program.specs.ProgramLaws.{IsInner}
 
--- a number that is being typed has at most 16 characters, a text at most 15 bytes
+-- A number that is being typed has at most 16 characters, and a text at most 15 bytes.
 abbrev pub IsWholeEntry : TypedEntry → Type 0
 IsWholeEntry (entries.Number text) = length text ≤ number_most
 IsWholeEntry (entries.TextLine text) = IsText text_most text
 IsWholeEntry entry = Unit {0}
 
--- the most characters of a name that is typed
+-- The most characters of a typed name.
 abbrev pub typed_name_most : ℕ
 typed_name_most = 7
 
+-- The characters typed for a prompt are a name of at most 7 bytes, or something else.
 abbrev pub IsWholeTyped : Typed → Type 0
 IsWholeTyped (typed.Name name) = IsText typed_name_most name
 IsWholeTyped other = Unit {0}
 
+-- There is no prompt, or what is typed for it is well-formed.
 abbrev pub IsWholePrompt : Option Prompt → Type 0
 IsWholePrompt None = Unit {0}
 IsWholePrompt (Some prompt) = IsWholeTyped prompt.typed
 
+-- What a keyboard can remember.
 pub record IsWholeInput (input : Input) : Type 0 where
   pub entry : IsWholeEntry input.entry
   pub prompt : IsWholePrompt input.prompt
 
--- a line that is stored has bytes, and is one that programs have; one that is carried out has
--- bytes; a letter is a byte
+-- A line that is stored can be encoded in bytes, and is one that programs can contain; a line that
+-- is executed can be encoded in bytes; a letter is a byte.
 abbrev pub IsWholeAction : Action → Type 0
 IsWholeAction (actions.Insert line) = IsInner line
 IsWholeAction (actions.Replace line) = IsInner line
@@ -50,10 +53,11 @@ IsWholeAction (actions.BeginText letter) = letter < 256
 IsWholeAction (actions.AddLetter letter) = letter < 256
 IsWholeAction other = Unit {0}
 
+-- A key leads to such an action, and leaves such a keyboard.
 abbrev pub IsWholePress : Pressed → Type 0
 IsWholePress press = IsWholeAction press.action × IsWholeInput press.input
 
--- from such a keyboard a key that is accepted leads to such an action, and leaves such a keyboard
+-- A key that such a keyboard accepts does so.
 abbrev pub KeyLeavesWhole : Type 0
 KeyLeavesWhole =
     (input : Input) (key : Key) (activity : Activity) (flags : Flags) → IsWholeInput input

@@ -1,4 +1,6 @@
-//! The laws: each is the contract of a function with nothing to do but to call the laws that it rests on.
+//! The laws. Each law is the contract of a function whose body only calls the laws that it depends on. A
+//! calculator is called whole if it is well-formed: its registers have 14 digits, its memory is not
+//! larger than a calculator's, and its keyboard remembers only what a keyboard can.
 
 ghost use Rattle.h41_laws_states.specs.WholeCalculators.{CallLeavesWhole, LoadLeavesWhole};
 ghost use Rattle.h41_laws_states.specs.WholeCalculators.{PlugLeavesWhole, PressLeavesWhole};
@@ -10,25 +12,27 @@ ghost use Rattle.h41_laws_states.specs.WholeInputs.{KeyLeavesWhole};
 use h41_laws_calculator::laws::key_has_one_outcome;
 use h41_laws_words::laws::word_leaves_whole;
 
-/// A key that a keyboard accepts leads to an action whose lines have bytes, and leaves such a keyboard.
+/// States that a key that a keyboard accepts leads to an action whose lines can be encoded in bytes, and
+/// leaves such a keyboard.
 pub fn key_leaves_whole()
     ensures { KeyLeavesWhole }
 {}
 
-/// A calculator is whole at its start, with any memory that there is, and after a reset.
+/// States that a calculator is whole in its initial state, with any size of memory, and after a reset.
 pub fn start_is_whole()
     ensures start { StartIsWhole }
     ensures reset { ResetLeavesWhole }
 {}
 
-/// A step leaves it so, of a word as of a line.
+/// States that a step, of a word or of a line, leaves a calculator whole.
 pub fn step_leaves_whole()
     ensures { StepLeavesWhole }
 {
     word_leaves_whole();
 }
 
-/// A key leaves it so, accepted or refused, and each key has one outcome there, a change or a refusal.
+/// States that a key, accepted or refused, leaves a calculator whole, and that each key has exactly one
+/// outcome there, a change or a refusal.
 pub fn press_leaves_whole()
     ensures press { PressLeavesWhole }
     ensures outcome { WholeKeyHasOneOutcome }
@@ -37,14 +41,14 @@ pub fn press_leaves_whole()
     key_has_one_outcome();
 }
 
-/// So do a load of any bytes, a new number of data registers and a call.
+/// States that a load of any bytes, a new number of data registers and a call leave a calculator whole.
 pub fn programs_leave_whole()
     ensures load { LoadLeavesWhole }
     ensures size { SizeLeavesWhole }
     ensures call { CallLeavesWhole }
 {}
 
-/// And so do words that are plugged, and a page that is unplugged.
+/// States that plugging words and unplugging a page leave a calculator whole.
 pub fn pages_leave_whole()
     ensures plug { PlugLeavesWhole }
     ensures unplug { UnplugLeavesWhole }

@@ -1,4 +1,5 @@
-//! Laws on the states that a calculator comes to: registers of 14 digits stay such, and a keyboard stores lines that have bytes.
+//! Laws about the states that a calculator can reach: registers of 14 digits remain such, and a keyboard stores only lines that
+//! can be encoded in bytes.
 #![tactic(auto)]
 
 pub mod laws;

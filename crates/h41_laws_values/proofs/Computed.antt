@@ -1,4 +1,4 @@
--- What lines compute has its answer, and that its register.
+-- What lines compute has an answer, and the answer has a register.
 use Rattle.std.proofs.Common.{◌≡◌, ℕ, ◌-◌, ◌*◌, ◌<◌, List, Option, Some, None, Result, Ok, Err, Bool, true, false}
 use Rattle.std.proofs.Common.{MatchBool, IsOkAnd, refl, sym, ◌∙◌, subst, arith}
 use Rattle.std.specs.Prelude.{ℤ, pos, neg_ℤ, ◌+ℤ◌, ◌-ℤ◌, ◌*ℤ◌, unsigned_abs}
@@ -36,17 +36,17 @@ use Rattle.h41_laws_numbers.proofs.Answering.{Has}
 use Rattle.h41_laws_numbers.proofs.Rounding.{ten_of, units-ten_of}
 use Rattle.h41_laws_values.specs.LineValues.{NumberLineHasOneNumber, ValueHasOneAnswer, ValueHasOneRegister}
 
--- what has one answer has one
+-- What has exactly one answer has one.
 some : {A : Type 0} (IsRight : A → Type 0) → HasOne IsRight → Has IsRight
 some IsRight one = record { answer = one.answer; right = one.right }
 
--- a step is not zero
+-- A step is not zero.
 step_pos : (places : Places) (number : Ten) → 0 < step_of places number
 step_pos (Decimals count) number = ten_pow_pos (108 - count)
 step_pos (Digits count) Zero = omega arith
 step_pos (Digits count) (Nonzero sign x) = ten_pow_pos _
 
--- the decimal of what is worth a number, or zero
+-- The decimal of what has the value of a number, or zero.
 decimal_of : (held : Option ℤ) → ((number : ℤ) → held ≡ Some number → HasOne (λ (decimal : Ten). units decimal ≡ number))
     → Has (λ (decimal : Ten). units decimal ≡ option_map_or (λ number. number) held (pos 0))
 decimal_of None found = record { answer = Zero; right = refl }
@@ -99,7 +99,7 @@ module _ (nearest : FractionHasOneNearest) (root : RootHasOneNearest) (quotient 
       some _ (nearest (option_map_or unit_of (worth (holding_of (register_in memory named a))) (pos 0)) 1 (omega arith))
   is_value (values.Counted way a) memory named = some _ (nearest (number_after way (amount_in memory named a)) 1 (omega arith))
 
-  -- the register of an answer
+  -- The register of an answer.
   of_number : (number : Ten) (n : ℤ) → units number ≡ n → Has (λ (result : Result (List ℕ) LineFault). IsOkAnd result (IsRegisterOf n))
   of_number number n is =
       let found = register number in

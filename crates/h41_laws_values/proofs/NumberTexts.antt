@@ -1,4 +1,4 @@
--- The exponent of a number line is in range, so its characters are worth a number.
+-- The exponent of a number line is in range, so its characters have the value of a number.
 use Rattle.std.proofs.Common.{◌≡◌, ℕ, ◌≤◌, List, [], ◌∷◌, take, refl, arith}
 use Rattle.std.specs.List.{AllByRecursion}
 use Rattle.std.specs.Option.{option_map_or}
@@ -17,7 +17,7 @@ use Rattle.h41_laws_values.specs.LineValues.{NumberLineHasOneNumber}
 abbrev AreDigits : List ℕ → Type 0
 AreDigits digits = AllByRecursion (λ digit. digit ≤ 9) digits
 
--- one character more
+-- One character more.
 one_more : (character : Character) (digits : List ℕ) → AreDigits digits
     → AreDigits (option_map_or (λ digit. digit ∷ digits) (digit_of character) digits)
 one_more characters.Zero digits are = (omega arith, are)

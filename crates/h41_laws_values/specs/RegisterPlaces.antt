@@ -1,16 +1,16 @@
--- Registers stand in places that a row can name, so what is promised of places is promised of each
--- register, and of any two.
+-- A row can name the place of every register, so what is promised for places is promised for each
+-- register, and for any two.
 use Rattle.std.specs.Prelude.{◌≡◌, ℕ}
 use Rattle.h41_ram.specs.NamedFlags.{range_ignore}
 use Rattle.h41_ram.specs.RegisterMap.{RegisterMap, flag_of, register_at}
 use Rattle.h41_rows.specs.Places.{RowPlace, place_address, register_in}
 
--- an address is that of a place
+-- Each address is that of a place.
 abbrev pub AddressHasPlace : Type 0
 AddressHasPlace =
     (address : ℕ) → (named : ℕ) × (place : RowPlace) × (place_address named place ≡ address)
 
--- a memory with the same flag 24 has two registers in places of their own
+-- A memory with the same flag 24 has the two registers in places of their own.
 pub record HasBoth (memory : RegisterMap) (first second : ℕ) : Type 0 where
   pub other : RegisterMap
   pub named : ℕ
@@ -20,6 +20,6 @@ pub record HasBoth (memory : RegisterMap) (first second : ℕ) : Type 0 where
   pub two : register_in other named b ≡ register_at memory second
   pub flag : flag_of other range_ignore ≡ flag_of memory range_ignore
 
--- so it is with any two, which may be one
+-- The same holds for any two registers, which may be one.
 abbrev pub TwoRegistersHavePlaces : Type 0
 TwoRegistersHavePlaces = (memory : RegisterMap) (first second : ℕ) → HasBoth memory first second

@@ -1,4 +1,4 @@
-//! The laws: each is the contract of a function with nothing to do but to call the laws that it rests on.
+//! The laws. Each law is the contract of a function whose body only calls the laws that it depends on.
 
 ghost use Rattle.h41_laws_values.specs.LineValues.{NumberLineHasOneNumber, ValueHasOneRegister};
 ghost use Rattle.h41_laws_values.specs.LineValues.{ValueHasOneAnswer};
@@ -12,7 +12,7 @@ use h41_laws_numbers::laws::{
 use h41_numbers::laws::numbers_are_determined;
 use h41_rows::laws::values_are_determined;
 
-/// Characters of number lines, whatever they are, are one number.
+/// States that the characters of number lines, whatever they are, are exactly one number.
 pub fn number_line_has_one_number()
     ensures { NumberLineHasOneNumber }
 {
@@ -20,7 +20,8 @@ pub fn number_line_has_one_number()
     numbers_are_determined();
 }
 
-/// Each value that a line can ask for is computed in one way: the register of its nearest decimal, or its fault.
+/// States that each value that a line can ask for is computed in exactly one way: it is the register of its
+/// nearest decimal, or an error.
 pub fn value_has_one_register()
     ensures computed { ValueHasOneRegister }
     ensures answered { ValueHasOneAnswer }
@@ -35,7 +36,7 @@ pub fn value_has_one_register()
     values_are_determined();
 }
 
-/// What is promised of the places of a row is promised of each address, and of any two registers.
+/// States that what is promised for the places of a row is promised for each address, and for any two registers.
 pub fn registers_have_places()
     ensures address { AddressHasPlace }
     ensures both { TwoRegistersHavePlaces }

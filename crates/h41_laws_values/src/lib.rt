@@ -1,4 +1,5 @@
-//! Laws of existence for what lines compute: each value has one register, or one fault, whatever memory holds.
+//! Laws of existence for what lines compute: each value has exactly one register, or one error, whatever
+//! memory contains.
 #![tactic(auto)]
 
 pub mod laws;

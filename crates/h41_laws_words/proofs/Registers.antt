@@ -1,4 +1,4 @@
--- Registers that have 14 digits, of the processor and of memory.
+-- Registers of the processor and of memory that have 14 digits.
 use Rattle.std.proofs.Common.{ℕ, ◌+◌, ◌-◌, ◌<◌, Bool, true, false, List, [], ◌∷◌, map, length}
 use Rattle.std.proofs.Common.{slice_index, slice_index_or, slice_set, if◌then◌else◌, inl, inr, refl, sym, subst, ◌∙◌, arith}
 use Rattle.std.specs.Prelude.{◌&&◌, ◌==◌, nat_le, nat_lt, All}
@@ -18,7 +18,7 @@ use Rattle.h41_laws_words.specs.WholeStates.{HoldsRegisters}
 pub zeros_register : IsRegister 14 zeros
 zeros_register = record { size = refl; each = All-replicate (λ digit. digit < 16) 14 0 (omega arith) }
 
--- what stands at an index
+-- The value at an index.
 pub below_at : (most : ℕ) (list : List ℕ) (index : ℕ) → 0 < most → All (λ item. item < most) list → slice_index list index < most
 below_at most list index some all = elim (cases_lt index (length list)) [
   | inl within ↦ all index 0 within
@@ -28,7 +28,7 @@ below_at most list index some all = elim (cases_lt index (length list)) [
 pub digit_at : (x : List ℕ) (place : ℕ) → IsRegister 14 x → slice_index x place < 16
 digit_at x place valid = below_at 16 x place (omega arith) valid.each
 
--- one digit more
+-- One digit more.
 pub register_set : (x : List ℕ) (place digit : ℕ) → IsRegister 14 x → digit < 16 → IsRegister 14 (slice_set x place digit)
 register_set x place digit valid small = record {
   size = length-set x place digit ∙ valid.size;
@@ -41,7 +41,7 @@ digits_set x place [] valid small = valid
 digits_set x place (digit ∷ digits) valid small =
     digits_set (slice_set x place digit) (place + 1) digits (register_set x place digit valid small.0) small.1
 
--- a digit for each place
+-- A digit for each place.
 pub placed : (digit : ℕ → ℕ) → ((place : ℕ) → digit place < 16) → IsRegister 14 (map digit (range_with_len 0 14))
 placed digit small = record {
   size = length-map-range_with_len digit 0 14;
@@ -73,7 +73,7 @@ down into x lo hi valid x_valid =
     places_register into lo hi (λ place. if place == hi then 0 else slice_index x (place + 1)) valid
     (λ place. small_if (place == hi) 0 (slice_index x (place + 1)) (omega arith) (digit_at x (place + 1) x_valid))
 
--- memory
+-- Memory.
 register_in : (list : List (List ℕ)) (index : ℕ) → All (IsRegister 14) list → IsRegister 14 (slice_index_or list index zeros)
 register_in list index all = elim (cases_lt index (length list)) [
   | inl within ↦ all index zeros within

@@ -1,4 +1,4 @@
--- The change that a word makes, where its sums and differences exist.
+-- The change that a word makes, if its sums and differences exist.
 use Rattle.std.proofs.Common.{◌≡◌, ℕ, ◌<◌, ◌≤◌, Bool, true, false, List, Option, Some, None, Result, Ok, Err, refl, ap, ◌∙◌, arith}
 use Rattle.std.specs.Result.{result_err}
 use Rattle.std.proofs.lemmas.List.Elements.{All-replicate}
@@ -31,7 +31,7 @@ use Rattle.h41_laws_words.proofs.Spans.{last_inside}
 zeros_valid : IsRegister 14 zeros
 zeros_valid = record { size = refl; each = All-replicate (λ digit. digit < 16) 14 0 (omega arith) }
 
--- a register and a carry by a rule
+-- A register and a carry by a rule.
 abbrev Gives : (List ℕ → Bool → Type 0) → Type 0
 Gives Rule = (z : List ℕ) × (carry : Bool) × Rule z carry
 
@@ -102,7 +102,7 @@ module _ (ordered : PlacesAreOrdered) (sums : SumHasOneResult) (differences : Di
       let found = accepted s has none in
       record { answer = found.answer; right = found.right; only = λ other again. determined s other found.answer again found.right }
 
--- an answer and a state as one
+-- An answer and a state as a pair.
 abbrev Outcome : Type 0
 Outcome = Result (Unit {0}) WordRefusal × Nut
 
@@ -112,13 +112,13 @@ outcome result t = (result, t)
 same_outcome : (x y : Outcome) → x.0 ≡ y.0 → x.1 ≡ y.1 → x ≡ y
 same_outcome x y p q = ap (λ (r : Result (Unit {0}) WordRefusal). outcome r x.1) p ∙ ap (λ (t : Nut). outcome y.0 t) q
 
--- where a step is accepted
+-- A step that is accepted.
 only_accepted : (s : Nut) (change : HasOne (Micro s)) (result : Result (Unit {0}) WordRefusal) (t : Nut)
     → RefusesOr None Micro result s t → outcome result t ≡ outcome (Ok tt) change.answer
 only_accepted s change (Ok done) t is = same_outcome (Ok done, t) (Ok tt, change.answer) refl (change.only t is.change)
 only_accepted s change (Err why) t is = absurd (let never : Some why ≡ None = is.refusal in cc)
 
--- and where it is refused
+-- A step that is refused.
 only_refused : (s : Nut) (why : WordRefusal) (result : Result (Unit {0}) WordRefusal) (t : Nut)
     → RefusesOr (Some why) Micro result s t → outcome result t ≡ outcome (Err why) s
 only_refused s why (Ok done) t is = absurd (let never : None ≡ Some why = is.refusal in cc)

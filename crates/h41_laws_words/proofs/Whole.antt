@@ -45,7 +45,7 @@ use Rattle.h41_laws_words.proofs.Registers.{zeros_register}
 use Rattle.h41_arith.specs.DigitRule.{DifferenceInto, SumInto, zeros}
 use Rattle.h41_laws_words.specs.WholeStates.{HasAllRegisters, HoldsRegisters, IsWhole, WordLeavesWhole}
 
--- what is fetched is a word
+-- What is fetched is a word.
 word_small : (word : ℕ) → nat_le word last_word ≡ true → word < 1024
 word_small word most = grind (arith, nat_tests)
 
@@ -73,7 +73,7 @@ fetched_small pages address is =
     (in_image page (bank_place (chosen_at pages page)) address (chosen_image pages page)
     (is.each page (bank_place (chosen_at pages page))))
 
--- another C, another A
+-- Another C, another A.
 with_c_kept : (s : Processor) (c : List ℕ) → HasAllRegisters s → IsRegister 14 c → HasAllRegisters (record s { c = c })
 with_c_kept s c has valid = record {
   abc = record { a = has.abc.a; b = has.abc.b; c = valid };
@@ -86,7 +86,7 @@ with_c_kept s c has valid = record {
 word_in_c : (s : Processor) (word : ℕ) → HasAllRegisters s → word < 1024 → IsRegister 14 (with_digits s.c 0 (word_digits word))
 word_in_c s word has small = digits_set s.c 0 (word_digits word) has.abc.c (omega arith, (omega arith, (omega arith, tt)))
 
--- return addresses
+-- Return addresses.
 pushed : (s : Processor) (address : ℕ) → HasAllRegisters s → address < address_count → HasAllRegisters (with_return_pushed address s)
 pushed s address has small = record {
   abc = record { a = has.abc.a; b = has.abc.b; c = has.abc.c };
@@ -122,7 +122,7 @@ address_small s has =
     let six = digit_at s.c 6 has.abc.c in
     omega (arith, three, four, five, six)
 
--- the pointer
+-- The pointer.
 pointed : (active : Pointer) (place : ℕ) (s : Processor) → HasAllRegisters s → HasAllRegisters (with_pointer_at active place s)
 pointed P place s has = record {
   abc = record { a = has.abc.a; b = has.abc.b; c = has.abc.c };
@@ -139,7 +139,7 @@ pointed Q place s has = record {
   returns = has.returns;
 }
 
--- bytes of C
+-- Bytes of C.
 byte_small : (s : Processor) → HasAllRegisters s → byte_at_pointer s < 256
 byte_small s has =
     let low = digit_at s.c (pointer_of s) has.abc.c in
@@ -157,7 +157,7 @@ status_in_c s has =
     register_set (slice_set s.c 0 (status_byte s % 16)) 1 (status_byte s / 16)
     (register_set s.c 0 (status_byte s % 16) has.abc.c (omega arith)) (omega arith)
 
--- copies and exchanges of whole registers
+-- Copies and exchanges of whole registers.
 transferred : (transfer : RegisterTransfer) (s : Processor) → HasAllRegisters s → HasAllRegisters (after_transfer transfer s)
 transferred transfers.CToG s has =
     record {
@@ -198,14 +198,14 @@ transferred transfers.ExchangeStatusT s has =
 transferred transfers.CToStatus s has =
     record { abc = record { a = has.abc.a; b = has.abc.b; c = has.abc.c }; m = has.m; n = has.n; g = has.g; returns = has.returns }
 
--- bits of two registers
+-- Bits of two registers.
 or_small : (x y place : ℕ) → x < 16 → y < 16 → bit_or x y < 16
 or_small x y place x_small y_small = or_lt 4 x y x_small y_small
 
 and_small : (x y : ℕ) → x < 16 → bit_and x y < 16
 and_small x y x_small = omega (arith, and_le_l x y)
 
--- a digit that a word loads is one
+-- A digit that a word loads is a digit.
 abbrev Fits : Row → Type 0
 Fits (rows.LoadDigit digit) = digit < 16
 Fits row = Unit {0}
@@ -215,7 +215,7 @@ unfolding number_of
 fits (rows.LoadDigit digit) word is small = omega (arith, is)
 fits row word is small = tt
 
--- the registers after a word, but for arithmetic
+-- The registers after a word, except arithmetic.
 registers_kept : (row : Row) (s : Nut) → Fits row → IsWhole s → HasAllRegisters (registers_after row s)
 registers_kept (rows.LongJump low_byte) s fit whole =
     kept_if _ (with_return_pushed (address_after_both s.processor) s.processor) s.processor
@@ -315,7 +315,7 @@ registers_kept rows.ReadData s fit whole =
     with_c_kept s.processor _ whole.processor (held_at s.ram s.processor.selected whole.memory)
 registers_kept row s fit whole = whole.processor
 
--- arithmetic
+-- Arithmetic.
 changed : (s : Processor) (a b c : List ℕ) (carry : Bool) → HasAllRegisters s → IsRegister 14 a → IsRegister 14 b → IsRegister 14 c
     → HasAllRegisters (record s { a = a; b = b; c = c; carry = carry })
 changed s a b c carry has a_valid b_valid c_valid = record {
@@ -478,7 +478,7 @@ operated operations.TestADiffersFromC lo hi s t has is =
     has.abc.b
     has.abc.c)
 
--- memory, pages and keyboard
+-- Memory, pages and keyboard.
 memory_kept : (row : Row) (s : Nut) → IsWhole s → HoldsRegisters (ram_after row s)
 memory_kept rows.WriteData s whole = held_with s.ram s.processor.selected s.processor.c whole.memory whole.processor.abc.c
 memory_kept (rows.Write register) s whole =
@@ -508,7 +508,7 @@ key_kept : (row : Row) (s : Nut) → IsWhole s → (keys_after row s).ky < 256
 key_kept rows.ClearKeyFlag s whole = whole.key
 key_kept row s whole = whole.key
 
--- all of it
+-- The whole state.
 state_kept : (row : Row) (s : Nut) → Fits row → IsWhole s → IsWhole (state_after row s)
 state_kept row s fit whole =
     let has = registers_kept row s fit whole in

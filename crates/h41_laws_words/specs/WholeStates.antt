@@ -1,4 +1,4 @@
--- A word leaves registers of 14 digits, so that the next word has its answer too.
+-- A word leaves registers of 14 digits, so that the next word has a result too.
 use Rattle.std.specs.Prelude.{◌<◌, All}
 use Rattle.h41_digits.specs.Register.{IsRegister}
 use Rattle.h41_nut.specs.Addresses.{address_count}
@@ -8,8 +8,8 @@ use Rattle.h41_pages.specs.PageMap.{IsPageMap}
 use Rattle.h41_ram.specs.RegisterMap.{RegisterMap}
 use Rattle.h41_laws_words.specs.WordAnswers.{HasRegisters}
 
--- all registers of the processor from which C can come: A, B, C, M and N have 14 digits, G has a
--- byte, and the return addresses are addresses
+-- The registers of the processor that can be copied to C: A, B, C, M and N have 14 digits, G has a
+-- byte, and the return addresses are addresses.
 pub record HasAllRegisters (s : Processor) : Type 0 where
   pub abc : HasRegisters s
   pub m : IsRegister 14 s.m
@@ -17,18 +17,18 @@ pub record HasAllRegisters (s : Processor) : Type 0 where
   pub g : s.g < 256
   pub returns : All (λ address. address < address_count) s.returns
 
--- memory has registers of 14 digits alone
+-- All registers of memory have 14 digits.
 pub record HoldsRegisters (memory : RegisterMap) : Type 0 where
   pub status : All (IsRegister 14) memory.status
   pub main : All (IsRegister 14) memory.main
 
--- a state as each processor, memory and keyboard, and all pages that there are, have it
+-- A state that a processor, memory, keyboard and pages can have.
 pub record IsWhole (s : Nut) : Type 0 where
   pub processor : HasAllRegisters s.processor
   pub memory : HoldsRegisters s.ram
   pub pages : IsPageMap s.pages
   pub key : s.keys.ky < 256
 
--- from such a state a word leaves such a state
+-- From such a state a word leaves such a state.
 abbrev pub WordLeavesWhole : Type 0
 WordLeavesWhole = (s t : Nut) → IsWhole s → Micro s t → IsWhole t

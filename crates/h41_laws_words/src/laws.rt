@@ -1,4 +1,4 @@
-//! The laws: each is the contract of a function with nothing to do but to call the laws that it rests on.
+//! The laws. Each law is the contract of a function whose body only calls the laws that it depends on.
 
 ghost use Rattle.h41_laws_words.specs.FieldPlaces.{FieldHasPlace};
 ghost use Rattle.h41_laws_words.specs.WholeStates.{WordLeavesWhole};
@@ -9,13 +9,13 @@ use h41_laws_numbers::laws::{difference_has_one_result, sum_has_one_result};
 use h41_nut::laws::micro_is_determined;
 use h41_words::laws::word_table_round_trip;
 
-/// Each field has a place, wherever the pointers are.
+/// States that each field has a place, wherever the pointers are.
 pub fn field_has_place()
     ensures { FieldHasPlace }
 {}
 
-/// A step of the processor has one answer, from each state whose registers A, B and C are registers: its change where it is not
-/// refused (`accepted`), and with the refusal where it is (`answered`).
+/// States that a step of the processor has exactly one result, from each state whose registers A, B and C are registers: the
+/// change that it makes, if it is not refused (`accepted`), or its refusal (`answered`).
 pub fn word_has_one_answer()
     ensures accepted { AcceptedWordHasOneChange }
     ensures answered { WordHasOneAnswer }
@@ -26,8 +26,8 @@ pub fn word_has_one_answer()
     micro_is_determined();
 }
 
-/// A word leaves registers of 14 digits, where all that C can come from are registers, bytes, addresses and words: so the next word
-/// has its answer too.
+/// States that a word leaves registers of 14 digits, if everything that can be copied to C consists of registers, bytes,
+/// addresses and words. Therefore the next word has a result too.
 pub fn word_leaves_whole()
     ensures { WordLeavesWhole }
 {

@@ -65,6 +65,7 @@ const REFUSED: [(&str, &str); 3] = [
     ("words 8\n", "! 52 NoEnd\n"),
 ];
 
+/// All decks of this file.
 const DECKS: [Commands; 4] = [&STEPPED, &PROGRAM, &REWRITTEN, &REFUSED];
 
 /// The decks whose commands all have their end.
@@ -160,6 +161,7 @@ fn a_deck_that_is_cut_has_its_own_text(rt: HostRuntime) -> Result<(), Fail> {
     Ok(())
 }
 
+/// A run of a deck from standard input, with 320 registers of memory.
 const RUN: Job<'static> = Job {
     task: Task::Run {
         memory: MemorySize::Cv,

@@ -8,12 +8,15 @@ use h41_serving::serve;
 use std::alloc::Global;
 use std::process::Abort;
 
+/// The task of a run with 320 registers of memory.
 const RUN: Task = Task::Run {
     memory: MemorySize::Cv,
 };
 
+/// The task of assembling a source at 8000.
 const ASSEMBLE: Task = Task::Assemble { origin: 0x8000 };
 
+/// The task of listing words from 8000 on.
 const LIST: Task = Task::List { origin: 0x8000 };
 
 /// A job with its input.

@@ -31,6 +31,7 @@ struct Size {
     steps: u16,
 }
 
+/// The results of the deck at each size that is tested.
 static SIZES: [Size; 9] = [
     Size {
         registers: 64,

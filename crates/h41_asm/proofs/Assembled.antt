@@ -87,7 +87,7 @@ fault_of_references labels source origin none same =
     fault_by_walks source origin ∙ ap (λ own. option_or own (reference_faults (address_from origin all) 1 origin all)) none
     ∙ ap (λ (labels : Labels). reference_faults labels 1 origin all) these
 
--- It is the first error of a reference, if the table has the labels of the lines.
+-- The first error of a source is that of a reference, if the table has the labels of the lines.
 pub fault_by_labels : (labels : Labels) (source : List ℕ) (origin : ℕ) → let lines = numbered_lines origin (source_lines source) in
     first_fault own_fault_at lines ≡ None → ((name : List ℕ) → labels name ≡ label_address lines name)
     → assembly_fault source origin ≡ first_fault (reference_fault_at labels) lines

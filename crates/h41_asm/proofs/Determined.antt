@@ -84,7 +84,7 @@ labelled_at labels (line ∷ rest) address words name found spelled at = elim (c
       (subst (λ (n : ℕ). LinesSpell labels (address + n) rest spelled.1) long spelled.4) behind
 ]
 
--- So the labels with which a source is spelled are those of its lines.
+-- The labels with which a source is spelled are those of its lines.
 pub labels_agree : (labels : Labels) (source : List ℕ) (origin : ℕ) (words : List ℕ) → AssemblesBy labels source origin words
     → (name : List ℕ) → labels name ≡ address_from origin (source_lines source) name
 labels_agree labels source origin words assembled name = by (address_from origin (source_lines source) name) refl

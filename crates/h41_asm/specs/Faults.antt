@@ -84,7 +84,7 @@ own_fault twice address line =
     option_or (result_err (reading_of line.code)) (option_or (then_some twice LabelTwice)
     (then_some (is_past address line.label (line_length line)) TooLong))
 
--- The same error of a line with its number and address.
+-- The first error, independent of the addresses of labels, of a numbered line.
 abbrev pub own_fault_at : NumberedSourceLine → Option SourceFault
 own_fault_at at = own_fault (is_labelled_twice at.earlier at.line.label) at.address at.line
 

@@ -33,7 +33,7 @@ cut_product m n s t =
     exact_fraction ((m * 10 ^ s) * (n * 10 ^ t)) (10 ^ 108) (m * n) (s + t + 20) (ten_pow_pos 108)
     (product_steps m n (10 ^ s) (10 ^ t) (10 ^ 108) (10 ^ 128) (10 ^ (s + t + 20)) e)
 
--- The same, if the code has the numbers under other names.
+-- A cut remains one if equal numbers replace its own.
 pub same_cut : (v : Exact) (whole whole' scale scale' : ℕ) → whole ≡ whole' → scale ≡ scale' → IsCutFarEnough v whole' scale'
     → IsCutFarEnough v whole scale
 same_cut v whole whole' scale scale' e f cut =

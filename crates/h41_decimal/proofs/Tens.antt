@@ -133,7 +133,7 @@ root_of_negative x = go (size x) (size_pos x)
     go zero n_pos = absurd (omega arith)
     go (suc n) n_pos = refl
 
--- The same results, if the code has the numbers under other names.
+-- A nearest decimal remains one if equal numbers replace its own.
 pub nearest_along : (z z' : ℤ) (d : ℕ) (answer : Result Ten DecimalFault) → z ≡ z' → Nearest z' d answer → Nearest z d answer
 nearest_along z z' d answer e nearest = let P : ℤ → Type 0 = λ t. Nearest t d answer in subst P (sym e) nearest
 

@@ -67,7 +67,7 @@ FocalIsRead =
     → SpellsBy labels source origin words (before ++ focal_line label name ∷ behind)
     → (target : ℕ) × (labels name ≡ Some target) × IsEntryOf (words ++ fill) entry target true
 
--- So a function to whose label 'ENTRY' refers has the name of the 'NAME' before this label, in a
+-- A function to whose label 'ENTRY' refers has the name of the 'NAME' before this label, in a
 -- page that the source fills from its start on.
 abbrev pub FunctionIsRead : Type 0
 FunctionIsRead =

@@ -152,7 +152,7 @@ with_name_typed prompt name false plain letter shifted_letter = name_letter prom
 with_name_typed prompt name true plain letter shifted_letter =
     name_letter prompt name shifted_letter
 
--- The same for the row of a key.
+-- The effect of a key, given as its row of the keyboard, while a name is typed.
 abbrev pub in_name : Prompt → List ℕ → (shift : Bool) → KeyRow → Option PromptStep
 in_name prompt name shift row =
     with_name_typed prompt name shift row.plain row.letter row.shifted_letter

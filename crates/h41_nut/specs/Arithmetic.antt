@@ -39,7 +39,7 @@ IntoA Rule s t = Rule t.a t.carry × (t ≡ record s { a = t.a; carry = t.carry 
 abbrev pub IntoC : (List ℕ → Bool → Type 0) → Processor → Processor → Type 0
 IntoC Rule s t = Rule t.c t.carry × (t ≡ record s { c = t.c; carry = t.carry })
 
--- From a processor whose carry is clear to the processor after the operation.
+-- The effect of an operation on a processor whose carry is clear.
 abbrev pub Operates : Operation → ℕ → ℕ → Processor → Processor → Type 0
 -- A=0, B=0, C=0.
 Operates ClearA lo hi s t = t ≡ record s { a = copy_of s.a zeros lo hi }

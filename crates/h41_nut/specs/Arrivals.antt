@@ -19,7 +19,7 @@ address_after_both s = address_after s.pc 2
 abbrev pub arrival_refusal : ℕ → Option WordRefusal
 arrival_refusal address = then_some (is_closed address) (SystemRom address)
 
--- So no word can continue if the address after it is such an address.
+-- A word cannot continue if no step may go to the address after it.
 abbrev pub refusal_to_go_on : Processor → Option WordRefusal
 refusal_to_go_on s = arrival_refusal (next_address s)
 

@@ -35,7 +35,7 @@ pub record Nut : Type 0 where
   pub pages : PageMap
   pub keys : Keys
 
--- These four parts together.
+-- The processor, the memory, the pages and the keyboard together.
 abbrev pub nut_of : Processor → RegisterMap → PageMap → Keys → Nut
 nut_of processor ram pages keys =
     record { processor = processor; ram = ram; pages = pages; keys = keys }
@@ -217,7 +217,7 @@ pub record Micro (s t : Nut) : Type 0 where
 abbrev pub writes_program : Nut → Bool
 writes_program s = row_writes_program (row_of (word_of s)) s
 
--- From s to t with a result: refused for this reason and not changed, or changed in this way.
+-- The result of a step from s to t: refused for this reason and not changed, or changed so.
 pub record RefusesOr {T : Type 0} (reason : Option WordRefusal) (Change : Nut → Nut → Type 0)
     (result : Result T WordRefusal) (s t : Nut) : Type 0 where
   pub refusal : result_err result ≡ reason

@@ -111,7 +111,7 @@ word_there address image words writable held some =
     ap (λ system. number_of (if system then Err (SystemRom address) else word_in address image)) held
     ∙ ap (λ i. number_of (word_in address i)) some
 
--- With nothing plugged, there are no words.
+-- If nothing is plugged, there are no words.
 pub space_at_start : IsSpaceOf no_pages empty_space
 space_at_start bank address below =
     get_or-replicate space_size (word_place bank address) nothing 0 (omega (arith, below, bank_below bank))
@@ -320,7 +320,7 @@ module _ (pages : PageMap) (numbers : List ℕ) (target word : ℕ) (is : IsPage
       ∙ is.space bank address below
       ∙ sym (same_place bank address apart (cases_eq (page_of address) (page_of target)) (cases_eq (bank_place bank) (bank_place chosen)))
 
--- So what is true of pages and their words at any time is true at the start and after each change.
+-- What is true of pages and their words at any time is true at the start and after each change.
 pub pages_at_start : IsPages no_pages empty_space
 pages_at_start = record { map = none_is_page_map; size = length-replicate space_size nothing; space = space_at_start }
 

@@ -28,7 +28,7 @@ one_more words entry =
     ∙ ap (map (entry_offset words)) (filter-append (is_keystroke words) before (entry ∷ []))
     ∙ map-append (entry_offset words) (filter (is_keystroke words) before) (cond (is_keystroke words entry) (entry ∷ []) [])
 
--- These offsets, as the loop over the entries computes them.
+-- The offsets of the entries so far, as the loop computes them.
 pub record AreOffsets (words : List ℕ) (entry : ℕ) (offsets : List ℕ) : Type 0 where
   pub items : offsets ≡ offsets_before words entry
   pub count : length offsets ≤ entry

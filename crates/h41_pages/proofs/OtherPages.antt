@@ -117,7 +117,7 @@ by_bank : (page other : ℕ) (bank at : Bank) → (other ≢ page) ⊎ (at ≢ b
 by_bank page other bank at (inl different) = inl different
 by_bank page other bank at (inr different) = inr (λ same. different (same_bank at bank same))
 
--- So each call keeps the banks that it does not name.
+-- Each call keeps the banks that it does not name.
 pub plugging_keeps : PluggingKeepsOtherBanks
 plugging_keeps pages page number writable words other bank apart =
     others_changed pages page other (bank_numbered number) bank _ (by_bank page other (bank_numbered number) bank apart)

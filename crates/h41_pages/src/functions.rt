@@ -41,7 +41,7 @@ pub struct ModuleFunction {
     pub number: u8,
     /// The number of its table entry, 0 to 63.
     pub entry: u8,
-    /// Its name, if it has one.
+    /// The name of the function, if it has one.
     pub name: Option<Name>,
 }
 

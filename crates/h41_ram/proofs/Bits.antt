@@ -60,7 +60,7 @@ digit_changed : (digit k : ℕ) (on : Bool) → k < 4 → digit_with digit (2 ^ 
 digit_changed digit k true four = omega (arith, kept_part digit k four)
 digit_changed digit k false four = omega (arith, kept_part digit k four)
 
--- The same change, in the number and in its digit.
+-- Replacing a bit changes the number and its digit in the same way.
 same_change : (new set word digit other was is k weight bit : ℕ) → set + digit * weight ≡ word + other * weight
     → other + was * k ≡ digit + is * k → bit ≡ weight * k → new + was * bit ≡ word + is * bit → set ≡ new
 same_change new set word digit other was is k weight bit in_digits in_digit weighs in_word =

@@ -23,7 +23,7 @@ none_above k (suc n) start size above high =
     sum_by-cons (λ power. cond (nat_le (10 ^ power) size) 1 0) start (range_with_len (start + 1) n)
     ∙ ap (λ b. cond b 1 0 + count_by (λ power. nat_le (10 ^ power) size) (range_with_len (start + 1) n)) test ∙ (omega arith)
 
--- So the powers up to a number's own are counted.
+-- The count of powers up to that of a number's first digit.
 counted : (k n start size : ℕ) → start ≤ k + 1 → k + 1 ≤ start + n → 10 ^ k ≤ size → size < 10 ^ (k + 1)
     → count_by (λ power. nat_le (10 ^ power) size) (range_with_len start n) ≡ k + 1 - start
 counted k zero start size from to low high = omega arith

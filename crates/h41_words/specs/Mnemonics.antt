@@ -213,7 +213,7 @@ operand (rows.Constant number) = Some (hexadecimal_text 3 number)
 operand rows.LoadImmediate = Some (hexadecimal_text 3 (number_of rows.LoadImmediate))
 operand single = None
 
--- An operand after its mnemonic: a space comes first.
+-- An operand after its mnemonic, separated from it by a space.
 abbrev pub behind : Option (List ℕ) → List ℕ
 behind None = []
 behind (Some text) = codes " " ++ text

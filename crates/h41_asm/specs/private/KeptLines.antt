@@ -37,7 +37,7 @@ said_from number [] = []
 said_from number (line ∷ rest) =
     with_words number (reading_of line.code) ++ said_from (suc number) rest
 
--- These lines and names are stored for a source.
+-- The stored lines and names have the meaning of the lines of a source.
 pub record KeepsLines (text : List ℕ)
     (lines : List KeptLine) (names : List (Bor (List ℕ))) : Type 0 where
   pub length : length names ≡ length lines

@@ -22,7 +22,7 @@ ReadsOn most number count character after counted =
     (rest : List Character)
     → read_number most after counted rest ≡ read_number most number count (character ∷ rest)
 
--- The same for the count of digits.
+-- The count of digits after a character was read is continued by the rest in the same way.
 abbrev pub ReadsCount : (most count : ℕ) → Character → (counted : ℕ) → Type 0
 ReadsCount most count character counted =
     (rest : List Character)

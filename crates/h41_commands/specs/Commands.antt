@@ -73,7 +73,7 @@ abbrev pub plug_at : PageKind → List ℕ → ℕ → Bool → Result Command L
 plug_at kind page bank writable =
     and_then (hexadecimal 1 page) (λ page. Ok (Plug kind page bank writable))
 
--- The same with the word for the bank.
+-- A command whose block fills a bank of a page, by the word for the bank.
 abbrev pub plug_at_bank : PageKind → List ℕ → List ℕ → Bool → Result Command LineRefusal
 plug_at_bank kind page bank writable =
     if is_bank_word bank
@@ -208,7 +208,7 @@ view_named what = option_map_or (λ view. Ok view) (named_in views_by_name what)
 abbrev pub image_view : List ℕ → ℕ → Result View LineRefusal
 image_view page bank = and_then (hexadecimal 1 page) (λ page. Ok (views.Image page bank))
 
--- The same with the word for the bank.
+-- The image in a bank of a page, by the word for the bank.
 abbrev pub image_view_at : List ℕ → List ℕ → Result View LineRefusal
 image_view_at page bank =
     if is_bank_word bank

@@ -55,7 +55,7 @@ abbrev pub told_as : List ℕ → LineKind → FirstLine
 told_as line Long = record { kind = Long; name_end = 0 }
 told_as line (Named word) = record { kind = Named word; name_end = name_end line }
 
--- The same for a line that may be skipped.
+-- What a line is, with the end of its first word; none if the line is skipped.
 abbrev pub told_by : List ℕ → Option LineKind → Option FirstLine
 told_by line None = None
 told_by line (Some kind) = Some (told_as line kind)

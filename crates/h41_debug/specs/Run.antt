@@ -28,9 +28,9 @@ turn_of (Refused refusal) = 3
 
 -- A run of at most so many steps: from s it makes some and ends in t, for this reason.
 pub record Run (limit : ℕ) (s t : BenchState) (made : ℕ) (why : Stop) : Type 0 where
-  -- It makes these single steps, none of which is refused.
+  -- The run makes these single steps, none of which is refused.
   pub steps : Steps made s t None
-  -- It stops for this reason, and for none that is tested before.
+  -- The run stops for this reason, and for none that is tested before.
   pub stops : StopsFor limit made t why
   pub first : (other : Stop) → turn_of other < turn_of why → StopsFor limit made t other → ⊥
   -- There was no reason to stop after fewer steps.

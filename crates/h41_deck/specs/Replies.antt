@@ -74,7 +74,7 @@ PlugsWords page bank writable (Ok words) s t answer =
     s t answer
 PlugsWords page bank writable (Err refusal) s t answer = RefusesLines refusal s t answer
 
--- The same with the words that a block's values define.
+-- The bank of a page is plugged with the words that a block's values define, or this is refused.
 abbrev pub Plugs : PageKind → ℕ → ℕ → Bool → List ℕ → BenchState → BenchState → Answer → Type 0
 Plugs kind page bank writable values s t answer =
     (words : Result (List ℕ) LineRefusal)
@@ -86,7 +86,7 @@ abbrev pub LoadsBytes : Result (List ℕ) LineRefusal → BenchState → BenchSt
 LoadsBytes (Ok bytes) s t answer = Calls (Loads bytes) s t answer
 LoadsBytes (Err refusal) s t answer = RefusesLines refusal s t answer
 
--- The same with the bytes that a block's values mean.
+-- The bytes that a block's values mean are loaded, or refused.
 abbrev pub LoadsBlock : ProgramKind → List ℕ → BenchState → BenchState → Answer → Type 0
 LoadsBlock kind values s t answer =
     (bytes : Result (List ℕ) LineRefusal) × Means kind values bytes × LoadsBytes bytes s t answer

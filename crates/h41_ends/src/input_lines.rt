@@ -15,7 +15,8 @@ use h41_lines::lines::without_return;
 /// too long.
 pub const MOST_TOLD: usize = 201;
 
-/// How many bytes of an unfinished line are kept between reads: 202. A longer line is too long even if its last byte is a CR.
+/// How many bytes of an unfinished line are kept between reads: 202. A line with so many bytes is too long even if the last of
+/// them is a CR.
 const KEPT: usize = MOST_TOLD + 1;
 
 /// The size of the buffer, in bytes.

@@ -15,7 +15,8 @@ abbrev pub ItemRestsOn : Spelled → BenchState → Type 0
 ItemRestsOn (Ok given) s = RestsOn given.0 given.1 s
 ItemRestsOn (Err refusal) s = Unit {0}
 
--- They exist for each command in turn, in the state that the commands before it leave.
+-- The results that each command in turn depends on exist, in the state that the commands before it
+-- leave.
 abbrev pub InTurnRestsOn : List Spelled → BenchState → Type 0
 InTurnRestsOn [] s = Unit {0}
 InTurnRestsOn (item ∷ items) s =

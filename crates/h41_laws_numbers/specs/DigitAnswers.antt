@@ -15,6 +15,7 @@ HasOneResult rule =
 abbrev pub SumHasOneResult : Type 0
 SumHasOneResult = (decimal : Bool) → HasOneResult (Sum (base_of decimal))
 
--- A difference has exactly one result, likewise.
+-- A difference has exactly one result, in hexadecimal and in decimal mode, for all digits from 0 to
+-- F.
 abbrev pub DifferenceHasOneResult : Type 0
 DifferenceHasOneResult = (decimal : Bool) → HasOneResult (Difference (base_of decimal))

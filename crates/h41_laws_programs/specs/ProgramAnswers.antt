@@ -33,6 +33,6 @@ abbrev pub PositionHasOne : {A : Type 0} → Finding A → Type 0
 PositionHasOne answers =
     (pages : PageMap) (memory : RegisterMap) (at : Position) → HasOne (answers pages memory at)
 
--- The same for each number.
+-- Each position in any pages and memory has exactly one answer of this kind for each number.
 abbrev pub PositionHasOneEach : {A : Type 0} → (ℕ → Finding A) → Type 0
 PositionHasOneEach answers = (n : ℕ) → PositionHasOne (answers n)

@@ -20,6 +20,7 @@ pub record HasBoth (memory : RegisterMap) (first second : ℕ) : Type 0 where
   pub two : register_in other named b ≡ register_at memory second
   pub flag : flag_of other range_ignore ≡ flag_of memory range_ignore
 
--- The same holds for any two registers, which may be one.
+-- Any two registers of a memory, which may be one, have places of their own in a memory with the
+-- same flag 24.
 abbrev pub TwoRegistersHavePlaces : Type 0
 TwoRegistersHavePlaces = (memory : RegisterMap) (first second : ℕ) → HasBoth memory first second

@@ -198,7 +198,7 @@ module _ {O R X W E : Type 0} (opener : Mut O (Bor (List ℕ) × Unit {0}) (Resu
     pub refused :
         fault_of bench_app words ≢ [] → RunsOut ⊎ EndsRefused (fault_of bench_app words)
 
-  -- The same without reference to a parse, for plain command lines: help, the version or a job
+  -- What is done for plain command lines, without reference to a parse: help, the version or a job
   -- without an option is asked for; or a command or FILE is missing, there are two FILEs, or the
   -- option is given twice or has a wrong value.
   pub record AnswersPlainly (words : List (List ℕ)) : Type 0 where

@@ -43,7 +43,7 @@ abbrev pub WritesTaskText : {W : Type 0} → Task → Option (List ℕ) → (W �
 WritesTaskText task known contents old new =
     IfSome known (WritesTextOf (HasText task) (contents old) (contents new))
 
--- The same unless the status of the job is 3.
+-- If the input is known and the status of the job is not 3, the text of the job's task is written.
 abbrev pub JobWritesText : {R W : Type 0} → ℕ → Job → sources.Ghosts R → sinks.Ghosts W → R → W → W
     → Type 0
 JobWritesText status job source sink before old new =
@@ -130,7 +130,8 @@ LeavesBegun (tasks.Assemble origin) source sink before after old new =
 LeavesBegun (tasks.List origin) source sink before after old new =
     Keeps (sink.contents old) (sink.contents new)
 
--- The same if reading failed: of a deck the replies to all commands whose last line end was read.
+-- What a task leaves written if reading failed: of a deck the replies to all commands whose last
+-- line end was read.
 abbrev pub LeavesUnread : {R W : Type 0} → Task → sources.Ghosts R → sinks.Ghosts W → R → R → W → W
     → Type 0
 LeavesUnread (tasks.Run size) source sink before after old new =
@@ -169,7 +170,8 @@ IsPassedOn (tasks.Run size) flushed = flushed ≡ true
 IsPassedOn (tasks.Assemble origin) flushed = Unit {0}
 IsPassedOn (tasks.List origin) flushed = Unit {0}
 
--- The same for a job with status 3.
+-- If a job has status 3 and the output did not fail, everything that is written for a deck is
+-- flushed.
 abbrev pub JobPassedOn : ℕ → Job → Bool → Bool → Type 0
 JobPassedOn status job failed flushed = status ≡ 3 → failed ≡ false → IsPassedOn job.task flushed
 

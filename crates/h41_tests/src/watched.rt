@@ -108,9 +108,9 @@ impl Source for Reader<'_> {
 /// What one call of a sink does.
 #[derive(Clone, Copy, Debug, PartialEq, Eq)]
 pub enum Once {
-    /// It fails.
+    /// The call fails.
     Fails,
-    /// It accepts no byte; a flush fails.
+    /// A write accepts no byte; a flush fails.
     TakesNothing,
 }
 

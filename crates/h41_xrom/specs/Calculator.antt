@@ -175,7 +175,8 @@ RefusesLine s why =
     × CarriesHere Program s ended
     × (why ≡ option_map of_line (result_err ended))
 
--- The same of a step in a mode: while a function runs, the step is a word.
+-- Why a step in a mode is refused, or that it is not: while a function runs, the step is a word,
+-- otherwise a line.
 abbrev pub RefusesStepIn : Mode → CalculatorState → Option CalculatorRefusal → Type 0
 RefusesStepIn modes.Idle s why = RefusesLine s why
 RefusesStepIn modes.Run s why = RefusesLine s why

@@ -69,11 +69,11 @@ pub data KeyOutcome : Type 0 where
   Stops : Machine → KeyOutcome
   Starts : Machine → KeyOutcome
 
--- The same machine with another memory.
+-- A machine with another memory.
 abbrev pub with_memory : RegisterMap → Machine → Machine
 with_memory memory machine = record machine { memory = memory }
 
--- The same machine with stack lift enabled or disabled.
+-- A machine with stack lift enabled or disabled.
 abbrev pub with_lift : Bool → Machine → Machine
 with_lift lift machine = record machine { focal = record machine.focal { lift = lift } }
 
@@ -281,7 +281,7 @@ after_key s (LineEnds ended) = after_line s ended
 after_key s (Stops machine) = record (with_machine machine s) { mode = modes.Idle }
 after_key s (Starts machine) = record (with_machine machine s) { mode = modes.Run }
 
--- The same for an action that may be refused.
+-- The calculator after the effect of an action, or the refusal of the action.
 abbrev pub after_outcome : CalculatorState → Result KeyOutcome CalculatorRefusal
     → Result CalculatorState CalculatorRefusal
 after_outcome s (Ok effect) = Ok (after_key s effect)

@@ -72,7 +72,7 @@ abbrev pub PassesFrom : LineSource → PageMap → Machine → Result Machine Fo
 PassesFrom sources.Program pages machine after = PassesLine pages machine after
 PassesFrom (sources.Keys line) pages machine after = after ≡ Ok machine
 
--- The same as an end of the line.
+-- A line that fails with NONEXISTENT ends with that answer, or is refused.
 abbrev pub Fails : LineSource → PageMap → Machine → Result Ended FocalRefusal → Type 0
 Fails source pages machine ended =
     (left : Result Left FocalRefusal)
@@ -110,8 +110,8 @@ abbrev pub IsNamed : List ℕ → Option Function → Type 0
 IsNamed name (Some function) = function_name function ≡ name
 IsNamed name None = (function : Function) → function_name function ≡ name → ⊥
 
--- That function is executed in place of the line; if there is none, the line fails with
--- NONEXISTENT.
+-- A function of the calculator is executed in place of the line; if there is none, the line fails
+-- with NONEXISTENT.
 abbrev pub CarriesNamed : LineSource → PageMap → Option Function → Machine
     → Result Ended FocalRefusal → Type 0
 CarriesNamed source pages (Some function) machine ended =
@@ -145,7 +145,7 @@ GoesOn source pages machine left (answers.Calls number entry) ended =
 GoesOn source pages machine left (answers.Seeks name) ended = Seeks source pages name machine ended
 GoesOn source pages machine left answer ended = ended ≡ Ok (Answers left)
 
--- The same for a line that may be refused.
+-- How a line continues after it was executed by itself; a refused line ends with its refusal.
 abbrev pub GoesOnFrom : LineSource → PageMap → Machine → Result Left FocalRefusal
     → Result Ended FocalRefusal → Type 0
 GoesOnFrom source pages machine (Ok left) ended = GoesOn source pages machine left left.answer ended

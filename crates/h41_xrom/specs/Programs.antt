@@ -25,8 +25,8 @@ change_refusal s =
 abbrev pub with_memory : RegisterMap → CalculatorState → CalculatorState
 with_memory memory s = record s { nut = record s.nut { ram = memory } }
 
--- The same, at line 00 of the program that begins at a byte of memory, with an empty return stack.
--- Stack lift and message are unchanged.
+-- The calculator with another memory, at line 00 of the program that begins at a byte of memory,
+-- with an empty return stack. Stack lift and message are unchanged.
 abbrev pub with_program : RegisterMap → ℕ → CalculatorState → CalculatorState
 with_program memory start s =
     record (with_memory memory s) { focal = halted_at (Memory start) s.focal }

@@ -25,9 +25,10 @@ pub enum LineSource {
 /// How a line ends.
 #[derive(Clone, Copy)]
 pub enum LineEnd {
-    /// It was executed, or failed, with this outcome.
+    /// The line was executed, or failed, with this outcome.
     Answers(LineOutcome),
-    /// It starts a function of a module in microcode, whose words begin at this address. A program continues after the line.
+    /// The line starts a function of a module in microcode, whose words begin at this address. A program continues after the
+    /// line.
     Begins(u16),
 }
 

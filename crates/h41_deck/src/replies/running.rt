@@ -15,7 +15,7 @@ use h41_ends::{Sink, WriteFault, write_whole};
 use h41_refusals::Refusal;
 use itoa::Buffer;
 
-/// The most bytes of what `run` prints: `ran`, ten digits, `Refused`, two spaces and LF, which are at most 24.
+/// Room for what `run` prints: `ran`, ten digits, `Refused`, two spaces and LF, which are 23 bytes at most.
 const RAN: usize = 24;
 
 /// The most bytes of a line of a trace, with its LF.

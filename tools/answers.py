@@ -1,5 +1,6 @@
-"""What the page asks the desk for, and its answers, by one request at a time. A bench that has ended is told, and what was
-given to it is kept."""
+"""Answers the requests of the page of tools/calculator, one request at a time.
+
+If the bench ends, the page is told why, and the commands that were given so far are kept."""
 import base64
 import os
 import re
@@ -19,23 +20,23 @@ TOOLS = os.path.join(TOP, "tools")
 LESSONS = os.path.join(TOP, "examples")
 LESSON = re.compile(r"^\| \[([^\]]*)\]\((\S+)\.deck\) \| (.*) \|$", re.M)
 
-# The walks of the documents, which come first among the lessons.
+# The lessons that walk through an example of the documents. They come first in the list of lessons.
 WALKS = {"trace": "A carry on its way", "key-to-byte": "A program, from key to byte", "debugged": "A module's function, found by a break"}
 
-# The seconds that an import or an export may take, and that one answer may carry out what waits.
+# The longest time in seconds for an import or an export, and for one request that executes commands.
 LONGEST_TOOL, LONGEST_GO = 120, 0.25
 MOST_FILES = 16
 
 
 def lessons():
-    """The examples that examples/README.md lists, by their names: the title of each, with the walks first."""
+    """Returns the titles of the lessons by their names: first those of WALKS, then the other examples in the list of examples/README.md."""
     text = bytes_of(os.path.join(LESSONS, "README.md")).decode("utf-8")
     found = {path: f"{name}: {title}" for name, path, title in LESSON.findall(text)}
     return {**WALKS, **{name: title for name, title in found.items() if name not in WALKS}}
 
 
 class Causes:
-    """The usual causes of refusals, as tools/where tells them. Its tables are read beside what else goes on."""
+    """The usual causes of refusals, as tools/where prints them. A thread reads its tables, so that the page does not have to wait."""
 
     def __init__(self):
         self.documents = None
@@ -49,7 +50,8 @@ class Causes:
         self.documents = where.Documents()
 
     def of(self, text, refusal):
-        """Of a refused command or block the line that is meant, and its usual causes: what is told first of each, and why."""
+        """Returns the refused line of a command or block, and the usual causes of the refusal: a list of pairs, what is printed first and
+        its explanation."""
         self.reader.join()
         if self.documents is None:
             return "", []
@@ -61,7 +63,7 @@ class Causes:
 
 
 class Answers:
-    """The desk, and the answers to the page."""
+    """The desk with the bench, and the answers to the requests of the page."""
 
     def __init__(self, memory):
         self.lock, self.causes, self.lessons = threading.RLock(), Causes(), lessons()
@@ -70,18 +72,18 @@ class Answers:
         self.seen = self.desk.look()
 
     def close(self):
-        """Ends the bench. Another one, which is run for the documents, would tell that nothing reads it any more."""
+        """Ends the bench, after the thread that reads the tables: its own run of the bench would otherwise report a closed pipe."""
         self.causes.reader.join()
         self.desk.bench.close()
 
     def calls(self):
-        """The answers by the names that requests have."""
+        """Returns the functions that answer requests, by the names of the requests."""
         return {"state": self.state, "do": self.do, "import": self.bring_in, "export": self.take_out, "deck": self.deck,
                 "version": self.version}
 
     def version(self):
-        """What a page is told at each beat: whether there is something new, and how the bench has ended. While the bench is
-        asked it need not be looked at."""
+        """Returns what the page is told twice a second: the number of the last change, and how the bench has ended, or None.
+        While another request uses the bench, its end is not looked for."""
         if self.lock.acquire(blocking=False):
             try:
                 if self.ended is None:
@@ -91,17 +93,20 @@ class Answers:
         return {"version": self.number, "ended": self.ended}
 
     def deck(self):
+        """Returns the session as the bytes of a deck."""
         with self.lock:
             return self.desk.deck()
 
-    # How all stands.
+    # The state of the session.
 
     def state(self, asked):
-        """How all stands, with what the session has from an entry on that the page has not."""
+        """Returns the state of the bench, and the entries of the session that the page does not have yet."""
         with self.lock:
             return self.told(asked)
 
     def told(self, asked, states=()):
+        """Returns the answer to a request: the state, the entries after those that the page has, and the states after the steps of a
+        trace."""
         desk = self.desk
         is_known = asked.get("session") in (desk.number, str(desk.number))
         since = max(0, int(asked.get("since", 0)) - 1) if is_known else 0
@@ -116,7 +121,7 @@ class Answers:
         return answer
 
     def lesson_told(self, is_known):
-        """The lesson: its name, the place in it, and its parts, where the page has them not."""
+        """Returns the lesson: its name and position, and its parts if the page does not have them; None without a lesson."""
         lesson = self.desk.lesson
         if lesson is None:
             return None
@@ -125,10 +130,10 @@ class Answers:
             told["parts"] = [[part.shown(), part.is_command, part.paragraphs()] for part in lesson["parts"]]
         return told
 
-    # What is asked for.
+    # Requests that change the session.
 
     def do(self, asked):
-        """Carries out what a page asks for."""
+        """Executes a request of the page, and returns the answer."""
         name = asked["do"]
         call = {"give": self.give, "go": self.go, "stop": self.stop, "next": self.next, "lesson": self.open_lesson,
                 "open": self.open, "again": self.again, "begin": self.begin, "causes": self.causes_of}.get(name)
@@ -151,7 +156,7 @@ class Answers:
             return self.told(asked, answer or ())
 
     def end(self, asked):
-        """The bench has ended."""
+        """Records that the bench has ended, drops the commands that wait, and returns the answer."""
         self.number += 1
         self.desk.stop()
         self.desk.bench.close_input()
@@ -159,18 +164,19 @@ class Answers:
         return self.told(asked)
 
     def look(self):
-        """Looks at the bench anew."""
+        """Reads the state of the bench again."""
         self.seen = self.desk.look()
         self.number += 1
 
     def give(self, asked):
-        """Commands and blocks, in front of what waits or behind it, and goes on."""
+        """Adds commands and blocks after those that wait, or before them if the request says so, and starts executing."""
         is_first, waited = asked.get("first") is True, len(self.desk.queue)
         self.desk.give(asked["deck"].encode(), is_first)
         return self.go(asked, len(self.desk.queue) - waited if is_first else None)
 
     def go(self, asked, parts=None):
-        """Carries out what waits, for a while, or only the first parts of it. The states behind steps of a trace."""
+        """Executes commands that wait, for a limited time, or only the first parts of them. Returns the states after the steps of a
+        trace."""
         if self.desk.queue:
             states = self.desk.go(min(max(asked.get("seconds", 0.05), 0.001), LONGEST_GO), asked.get("steps"), parts)
             if states and self.desk.is_seen:
@@ -182,7 +188,7 @@ class Answers:
         return ()
 
     def stop(self, _):
-        """Drops what waits; what has not begun of a lesson goes back to it."""
+        """Drops the commands that wait. Those of a lesson that have not been started go back to the lesson."""
         waiting, lesson = [part for part in self.desk.queue if part.entry is None], self.desk.lesson
         self.desk.stop()
         if lesson:
@@ -190,26 +196,26 @@ class Answers:
         self.look()
 
     def begin(self, _):
-        """An empty bench."""
+        """Starts an empty bench."""
         self.desk.begin()
         self.ended = None
         self.look()
 
     def open(self, asked):
-        """A deck, from an empty bench on."""
+        """Opens a deck on an empty bench. Its commands wait until the page asks for them."""
         deck = base64.b64decode(asked["data"], validate=True)
         parts = parts_of(deck, True)
         self.begin(asked)
         self.desk.queue = parts
 
     def again(self, asked):
-        """The session once more, in a new bench."""
+        """Repeats the session on a new bench."""
         parts = parts_of(self.desk.deck(), True)
         self.begin(asked)
         self.desk.queue = parts
 
     def open_lesson(self, asked):
-        """An example, at its first step."""
+        """Opens a lesson at its first step."""
         name = asked["name"]
         if name not in self.lessons:
             raise Failure(f"unknown lesson '{name}': expected one of {', '.join(self.lessons)}")
@@ -218,7 +224,7 @@ class Answers:
         self.desk.lesson = {"name": name, "title": self.lessons[name], "parts": parts, "left": list(parts)}
 
     def next(self, asked):
-        """The next step of the lesson, its next command, or all that is left of it."""
+        """Executes the next step or the next command of the lesson, or all the rest of it."""
         lesson, how = self.desk.lesson, asked["how"]
         if lesson is None:
             return ()
@@ -236,7 +242,7 @@ class Answers:
         return self.go({**asked, "steps": 1} if is_stepped else asked)
 
     def causes_of(self, asked):
-        """The usual causes of an entry's refusal."""
+        """Returns the usual causes for the refusal of an entry of the session."""
         entry = self.desk.log[int(asked["entry"])]
         refusal = refusal_of(entry.reply)
         if refusal is None:
@@ -248,7 +254,7 @@ class Answers:
     # Files.
 
     def bring_in(self, asked):
-        """Files, by tools/import: what it tells, and the deck that it makes of them, which is carried out."""
+        """Imports files with tools/import. Returns its messages, and adds the deck that it makes to the commands that wait."""
         if len(asked["files"]) > MOST_FILES:
             raise Failure(f"found {len(asked['files'])} files: at most {MOST_FILES} can be imported at once")
         files = [(file_name(file["name"]), base64.b64decode(file["data"], validate=True)) for file in asked["files"]]
@@ -275,7 +281,7 @@ class Answers:
             return {"told": told, "good": True}
 
     def take_out(self, asked):
-        """What the bench holds, by tools/export."""
+        """Exports a page or the programs with tools/export. Returns the bytes of the file."""
         kind, page, label = asked["kind"], asked.get("page") or "", asked.get("label") or ""
         if kind not in ("rom", "source", "raw", "text") or page and page not in list(PAGES):
             raise ValueError(kind)
@@ -291,12 +297,12 @@ class Answers:
 
 
 def file_name(name):
-    """A file's name without its folder, and without what names have not here."""
+    """Returns a safe name for a file: without its folder, and with only letters, digits, `.`, `_` and `-`."""
     return re.sub(r"[^A-Za-z0-9._-]", "_", os.path.basename(name.replace("\\", "/")))[-100:].lstrip(".-")
 
 
 def tool(name, words, folder, given=b""):
-    """A tool's output."""
+    """Runs a tool of tools/, and returns its status and both outputs."""
     try:
         return subprocess.run([sys.executable, os.path.join(os.path.realpath(TOOLS), name), *words], cwd=folder, input=given,
                               capture_output=True, timeout=LONGEST_TOOL)

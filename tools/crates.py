@@ -1,4 +1,4 @@
-"""The crates that the program stands on, and those of laws, by crates.txt: their sources, and what their proofs take."""
+"""The crates of the program and the crates of laws: their sources, and how long their proofs take."""
 import functools
 import hashlib
 import os
@@ -7,28 +7,30 @@ import subprocess
 TOP = os.path.realpath(os.path.join(os.path.dirname(os.path.realpath(__file__)), ".."))
 NAME = "h41_bench"
 
-# How the names of crates of tests begin.
+# The prefix of the names of test crates.
 TESTS = "h41_tests"
 
-# The folders and files of a crate that rt reads.
+# The folders of a crate, and the suffixes of its files, that rt reads.
 PARTS, ENDINGS = ("src", "specs", "proofs"), (".rt", ".antt")
 
 
 class Crate:
-    """A crate of the repository. `on` are the libraries that its line in crates.txt names, the kit's too, and `below` all crates that it
-    stands on, each behind those that it stands on itself."""
+    """A crate of the repository.
+
+    `on` are the libraries that its line in crates.txt lists, including those of the kit. `below` are all crates that it depends on, each
+    after those that it depends on itself."""
 
     def __init__(self, name, below, on):
         self.name, self.below, self.on, self.folder = name, below, on, f"{TOP}/crates/{name}"
         self.lines = sum(text.count(b"\n") for path, text in self.texts() if path.endswith(".rt"))
-        # The seconds of one core that its proof is likely to take: those that it took, or else by its lines and those that are loaded for
-        # it.
+        # The time in seconds that the proof is likely to take on one core: the measured time, or else an estimate from the lines of the
+        # crate and of the crates below it.
         self.work = seconds().get(name) or 12.8 + 0.086 * self.lines + 0.0036 * sum(crate.lines for crate in below)
-        # The work of the longest chain of crates from it up to one that none stands on.
+        # The work of the longest chain of crates that starts with this crate and ends with one on which no other depends.
         self.chain = self.work
 
     def texts(self):
-        """Its sources, by their paths from the top. An editor's files beside them are none."""
+        """Yields the path from the top of the repository and the bytes of each source. Backup files of editors are skipped."""
         paths = [f"{at}/{name}" for part in PARTS for at, _, names in os.walk(f"{self.folder}/{part}")
                  for name in names if name.endswith(ENDINGS) and not name.startswith(".")]
         for path in sorted(paths):
@@ -36,30 +38,30 @@ class Crate:
                 yield os.path.relpath(path, TOP), file.read()
 
     def sums(self):
-        """The checksums of its sources, by their paths."""
+        """Returns the SHA-256 checksums of the sources, by path."""
         return {path: hashlib.sha256(text).hexdigest() for path, text in self.texts()}
 
     def stamp(self):
-        """A sum of all that its proof rests on."""
+        """Returns a checksum of everything that the proof depends on."""
         return hashlib.sha256(repr([kit(), *(crate.sums() for crate in [*self.below, self])]).encode()).hexdigest()
 
 
 @functools.lru_cache(maxsize=None)
 def seconds():
-    """What proofs took, by the names of their crates."""
+    """Returns the measured proof times in seconds, by crate."""
     with open(f"{TOP}/tools/proof-seconds", encoding="utf-8") as file:
         return {name: int(taken) for name, taken in (line.split() for line in file if not line.startswith("#"))}
 
 
 @functools.lru_cache(maxsize=None)
 def kit():
-    """The kit's line."""
+    """Returns the version line of the kit."""
     return subprocess.run(["rt", "version"], stdin=subprocess.DEVNULL, stdout=subprocess.PIPE).stdout
 
 
 def crates_of_program(laws=False):
-    """The crates that the program stands on, each behind those that it stands on itself, and its own behind these. With `laws` those that
-    it does not stand on follow, likewise, but for crates of tests."""
+    """Returns the crates that the program depends on and the program's own crate, each after the crates that it depends on. With `laws`,
+    the other crates follow, except for test crates."""
     rows, crates = {}, {}
     with open(f"{TOP}/crates.txt", encoding="utf-8") as file:
         for line in file:
@@ -84,7 +86,7 @@ def crates_of_program(laws=False):
 
 
 def commit():
-    """The commit that is checked out, and whether its sources have changed; nothing where git does not tell."""
+    """Returns the commit that is checked out, and whether its sources have been changed; None if git does not know."""
     def git(*words):
         ran = subprocess.run(["git", "-C", TOP, *words], stdin=subprocess.DEVNULL, stdout=subprocess.PIPE, stderr=subprocess.DEVNULL)
         return ran.stdout.decode().strip() if ran.returncode == 0 else ""
@@ -99,8 +101,8 @@ def commit():
 
 
 class Record:
-    """What a program was built of: a line with the commit, and the checksums of the program and its sources, as sha256sum writes
-    them. The launcher compares them with what stands."""
+    """What a program was built from: a line with the commit, and the checksums of the program and of its sources in the format of
+    sha256sum. The launcher compares them with the current files."""
 
     PATH = f"{TOP}/crates/{NAME}/out/sources"
 
@@ -112,7 +114,7 @@ class Record:
             self.sums.update(crate.sums())
 
     def write(self, program):
-        """Writes it for a program, which stands beside it."""
+        """Writes the record for a program into the program's folder."""
         with open(program, "rb") as file:
             sums = {**self.sums, os.path.relpath(program, TOP): hashlib.sha256(file.read()).hexdigest()}
         new = f"{self.PATH}.{os.getpid()}"

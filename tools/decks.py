@@ -1,4 +1,4 @@
-"""What the tools share: the lines of a deck, its commands and blocks, and runs of the bench."""
+"""Functions that several tools use: reading the lines, commands and blocks of a deck, and running the bench."""
 import os
 import re
 import signal
@@ -10,34 +10,34 @@ from typed import NoKeys, is_spelled, keys_of
 TOP = os.path.join(os.path.dirname(os.path.realpath(__file__)), "..")
 BENCH = os.path.join(TOP, "bench")
 
-# A line with one of these as its first word opens a block, up to its `end`.
+# Words that begin a block if they are the first word of a line. The block ends with its line `end`.
 OPENERS = {b"words", b"image", b"asm", b"load", b"program"}
 
-# What a text that is saved in UTF-8 or UTF-16 may begin with.
+# Byte order marks at the start of texts in UTF-8 and UTF-16.
 MARK_OF_UTF8 = b"\xef\xbb\xbf"
 MARKS_OF_UTF16 = (b"\xff\xfe", b"\xfe\xff")
 
 LONGEST_LINE = 200
 LONGEST_DECK = 67_108_864
 
-# How many registers of memory a run may have, and how many it has where none are given.
+# The numbers of registers that memory can have, and the default.
 MEMORIES = ("64", "128", "192", "256", "320")
 MEMORY = "320"
 MAIN_START = 0xC0
 
-# The launcher's status where it has no answer.
+# The status of the launcher if there is no answer.
 NO_ANSWER = 70
 
-# What stands before each command, and what it prints. No command prints these two lines in a row.
+# The marker: lines that are put before each command, and their output. No command prints these two lines in a row.
 MARK = b"?\nstep ?\n"
 MARK_ANSWER = [b"! 50 BadCommand", b"! 51 BadNumber"]
 
-# Commands that print a text of the deck's own, which may look like a refusal. They are never refused.
+# Commands that print a text from the deck, which may look like a refusal. They are never refused.
 NEVER_REFUSED = ([b"show", b"alpha"], [b"show", b"display"])
 
 
 class Failure(Exception):
-    """Why a tool ends, and with which status."""
+    """The reason why a tool ends with an error, and its exit status."""
 
     def __init__(self, why, status=1):
         super().__init__(why)
@@ -45,7 +45,7 @@ class Failure(Exception):
 
 
 def bytes_of(path):
-    """The bytes of a file; `-` is standard input."""
+    """Returns the bytes of a file; `-` is standard input."""
     try:
         if path == "-":
             return sys.stdin.buffer.read()
@@ -56,34 +56,35 @@ def bytes_of(path):
 
 
 def end_with_reader():
-    """From here on the tool ends where what reads its output has ended. Not before: the bench may end with input unread."""
+    """Lets the tool end silently when the reader of its output has ended. This must not be called earlier, because the bench may end
+    before it has read all its input."""
     signal.signal(signal.SIGPIPE, signal.SIG_DFL)
 
 
 def lines_of(deck):
-    """The deck's lines with their ends; the last may have none."""
+    """Returns the lines of a deck with their newlines; the last line may have none."""
     return re.findall(rb"[^\n]*\n|[^\n]+", deck)
 
 
 def text_of(line):
-    """The line without its end: an LF, and a CR directly before it."""
+    """Returns a line without its line end, LF or CR LF."""
     return re.sub(rb"\r?\n\Z", b"", line)
 
 
 def words_of(line):
-    """The line's words; none where it is too long."""
+    """Returns the words of a line; none if the line is too long."""
     text = text_of(line)
     return re.findall(rb"[^ \t]+", text) if len(text) <= LONGEST_LINE else []
 
 
 def is_skipped(line):
-    """Whether the line is a comment or blank."""
+    """Returns whether a line is a comment or empty."""
     text = text_of(line)
     return len(text) <= LONGEST_LINE and (text.startswith(b"#") or not text.strip(b" \t"))
 
 
 def items_of(lines):
-    """The deck's commands and blocks: of each the first line and the last, counted from 0."""
+    """Returns the first and the last line of each command and block of a deck, counted from 0."""
     items, first = [], None
     for at, line in enumerate(lines):
         words = words_of(line)
@@ -101,13 +102,14 @@ def items_of(lines):
 
 
 def marked(lines, items):
-    """The deck with the mark before each item but the first. None is needed behind the last, which may lack its end."""
+    """Returns the deck with the marker before each command and block except the first. There is no marker after the last one, because its
+    last line may lack a newline."""
     firsts = {first for first, _ in items[1:]}
     return b"".join(MARK + line if at in firsts else line for at, line in enumerate(lines))
 
 
 def answers_of(output):
-    """The lines that each item has printed, by the output of a marked deck."""
+    """Returns the lines that each command or block has printed, from the output of a deck with markers."""
     answers = [[]]
     for line in output.splitlines():
         answers[-1].append(line)
@@ -118,7 +120,7 @@ def answers_of(output):
 
 
 def names_in(line):
-    """The names of keys that stand for what a key line has behind its `key`, where that has texts or numbers in it."""
+    """Returns the names of the keys of a key line. Texts and numbers in it are replaced by their keys."""
     words = [word.decode("latin-1") for word in words_of(line)]
     if words[:1] != ["key"] or not any(map(is_spelled, words)):
         return words[1:]
@@ -126,8 +128,8 @@ def names_in(line):
 
 
 def with_keys(deck):
-    """The deck with the names of keys in place of the texts and numbers that its key lines have. No line is added or taken
-    away; one whose text no keys write stays, and is refused."""
+    """Returns a deck in which texts and numbers of key lines are replaced by the names of their keys. The number of lines does not
+    change. A line whose text no keys can type stays, and is refused."""
     if b"key" not in deck:
         return deck
     lines = lines_of(deck)
@@ -143,7 +145,7 @@ def with_keys(deck):
 
 
 def memory_in(words):
-    """The registers that `--memory N` among the words gives, and the other words."""
+    """Returns the value of `--memory N` and the other words of a command line."""
     at = words.index("--memory")
     given, others = words[at + 1:at + 2], words[:at] + words[at + 2:]
     if not given or given[0] not in MEMORIES or "--memory" in others:
@@ -153,12 +155,12 @@ def memory_in(words):
 
 
 def running(memory):
-    """The words that run a deck of standard input with so many registers of memory."""
+    """Returns the words of a command line that runs a deck from standard input with so many registers of memory."""
     return ["run", *([] if memory == MEMORY else ["--memory", memory]), "-"]
 
 
 def run(deck, memory=MEMORY):
-    """Runs a deck: the status and what it writes. The program's own faults and the launcher's go to standard error."""
+    """Runs a deck. Returns its status and its output. Error messages of the program and of the launcher go to standard error."""
     deck = with_keys(deck)
     if len(deck) > LONGEST_DECK:
         raise Failure(f"the deck has {len(deck):,} bytes with the commands that this tool adds: at most {LONGEST_DECK:,} can be run", 3)
@@ -169,8 +171,8 @@ def run(deck, memory=MEMORY):
 
 
 def answered(deck, memory=MEMORY):
-    """The status of a deck, and its commands and blocks: of each the first line and the last, counted from 0, and the lines
-    that it has printed."""
+    """Runs a deck. Returns its status, and for each command and block the first and last line, counted from 0, and the lines that it has
+    printed."""
     lines = lines_of(deck)
     items = items_of(lines)
     status, output = run(marked(lines, items), memory)
@@ -181,8 +183,8 @@ def answered(deck, memory=MEMORY):
 
 
 def refused(deck, memory=MEMORY):
-    """The status of a deck, 0 where it has no refusal, and the refused commands and blocks: of each the first line and the
-    last, counted from 0, and the refusal."""
+    """Runs a deck. Returns 0 or 1, or a higher status of the bench, and the refused commands and blocks: for each the first and last
+    line, counted from 0, and the refusal."""
     lines = lines_of(deck)
     status, answers = answered(deck, memory)
     found = [(first, last, answer[-1].decode()) for first, last, answer in answers
@@ -191,8 +193,8 @@ def refused(deck, memory=MEMORY):
 
 
 def refused_key(lines, at, memory=MEMORY):
-    """Which key of the key line at a place, counted from 0, is refused, or why its text has no keys; nothing where it is no key
-    line, or has one key alone. The deck is run up to there with its keys a line each."""
+    """Returns which key of a refused key line is refused, or why its text has no keys; an empty text if the line is not a key line, or
+    has only one key. `at` counts lines from 0. The deck is run up to this line, with a line for each of its keys."""
     if words_of(lines[at])[:1] != [b"key"]:
         return ""
     try:
@@ -206,17 +208,17 @@ def refused_key(lines, at, memory=MEMORY):
 
 
 def hexadecimal(data):
-    """Bytes as lines of a block."""
+    """Returns bytes as lines of hexadecimal digits for a block."""
     return [data[at:at + 32].hex().upper().encode() for at in range(0, len(data), 32)]
 
 
 def block(opener, lines):
-    """A block of a deck, by its lines without their ends."""
+    """Returns a block of a deck, made from its lines without line ends."""
     return b"\n".join([opener, *lines, b"end", b""])
 
 
 def shown(text):
-    """A line as it is told, with what cannot be printed in escapes."""
+    """Returns a line for a message: unprintable characters are escaped, and long lines are cut."""
     text = text.decode(errors="backslashreplace") if isinstance(text, bytes) else text
     text = "".join(letter if letter.isprintable() or letter == "\t" else letter.encode("unicode_escape").decode()
                    for letter in text)

@@ -1,7 +1,7 @@
-"""A desk with the bench on it: one process of `bench run -`, the commands that it was given with their replies, and what its
-`show` commands print. Nothing of the calculator is computed here but by the bench; its replies are cut into parts.
+"""A desk with a bench: one process of `bench run -`, the commands that it was given, and its replies.
 
-Runs, steps and traces are carried out in pieces, so that whoever looks on can stop them."""
+Everything about the calculator is computed by the bench; this module only splits its replies into parts. Runs, steps and traces are
+executed in pieces, so that they can be stopped."""
 import re
 import subprocess
 import tempfile
@@ -14,21 +14,22 @@ from session import Session, is_whole
 from sources import Labels
 from values import text_of
 
-# The seconds that the bench may take for an answer, also on a machine with much else to do, and that a piece of a run should take.
+# The longest time in seconds to wait for an answer of the bench, even on a busy machine, and the intended time for a piece of a run.
 PATIENCE, PIECE = 120, 0.02
 MOST_STEPS = 9_999_999
 
-# The last steps of a long trace are looked at one by one. Of a long reply its first lines are told, and its last.
+# How many of the last steps of a long trace are read one by one; and how many lines of a long reply are kept, and how many of its first
+# and last lines then.
 LAST_STEPS, MOST_LINES, FIRST_LINES = 200, 5000, 100
 
-# Commands that are carried out in pieces.
+# Commands that are executed in pieces.
 IN_PIECES = re.compile(r"(run|step|trace)(?: 0*([0-9]{1,7}))?")
 RAN = re.compile(r"ran ([0-9]+) ([A-Z][a-z]+)")
 
-# A prompt as the display has it, in which SHIFT puts IND; not so while a name is open.
+# A prompt on the display, in which SHIFT adds IND. While a name is typed there is no prompt.
 PROMPT = re.compile(r"(?:RCL|STO|ISG|VIEW|ASTO|ARCL|ST[-+*/]|SF|CF|FS\?|FIX|SCI|ENG|GTO|XEQ|LBL)(?: IND)?(?: ST)? [.0-9]?_{1,2}")
 
-# A name that is being typed, in which keys are letters, as they are with flag 48 set outside a prompt.
+# A name that is being typed. Keys are letters in it, as they are with flag 48 set outside a prompt.
 NAME = re.compile(r'^(?:GTO|XEQ|LBL) "[^"]*_$')
 
 PAGES = "456789ABCDEF"
@@ -36,29 +37,29 @@ BOTTOM_OF_MEMORY, MOST_REGISTERS = 0x0C0, 320
 VIEWS = ("cpu", "stack", "flags", "alpha", "display", "pos", "lines", "functions")
 WORDS_BEFORE, WORDS_BEHIND = 16, 32
 
-# What a block without its end is refused as, where the input ends behind it.
+# The refusal of a block whose `end` is missing when the input ends.
 NO_END = "! 52 NoEnd"
 
 
 def read(lines):
-    """Lines that the bench has printed."""
+    """Returns lines of the bench as texts."""
     return [line.decode("latin-1") for line in lines]
 
 
 def refusal_of(reply):
-    """The refusal that a reply ends in."""
+    """Returns the refusal at the end of a reply, or None."""
     return reply[-1] if reply and reply[-1].startswith("! ") else None
 
 
 class Bench(Session):
-    """A bench that is asked several commands at a time, and is ended where it gives no answer."""
+    """A bench that answers several commands at a time. If it does not answer in time, it is killed."""
 
     def __init__(self, words):
         self.told = tempfile.TemporaryFile()
         self.bench = subprocess.Popen([BENCH, "run", *words, "-"], stdin=subprocess.PIPE, stdout=subprocess.PIPE, stderr=self.told)
 
     def ask_all(self, commands):
-        """The lines that each of these whole commands prints."""
+        """Returns the lines that each of some whole commands prints."""
         timer = threading.Timer(PATIENCE, self.bench.kill)
         timer.daemon = True
         timer.start()
@@ -72,7 +73,7 @@ class Bench(Session):
             timer.cancel()
 
     def answer(self):
-        """The lines up to the next mark."""
+        """Returns the lines up to the next marker."""
         lines = []
         while lines[-2:] != MARK_ANSWER:
             line = self.bench.stdout.readline()
@@ -82,7 +83,7 @@ class Bench(Session):
         return read(lines[:-2])
 
     def why(self):
-        """How the bench has ended; nothing while it goes on."""
+        """Returns how the bench has ended; None while it runs."""
         status = self.bench.poll()
         if status is None:
             return None
@@ -92,7 +93,7 @@ class Bench(Session):
         return f"The bench has ended {how}{': ' + told if told else '.'}"
 
     def close_input(self):
-        """Has a bench that has ended be known as such."""
+        """Closes the input of the bench and waits until it ends, so that its status is known."""
         try:
             self.bench.stdin.close()
             self.bench.wait(2)
@@ -101,19 +102,19 @@ class Bench(Session):
             self.bench.wait()
 
     def close(self):
-        """Ends the bench, also one that does not answer."""
+        """Ends the bench, even if it does not answer."""
         self.close_input()
         self.bench.stdout.close()
 
 
 class Lights:
-    """SHIFT and program mode, which no command shows: what the accepted keys have made of them, as docs/KEYBOARD.md says."""
+    """SHIFT and program mode, which no command shows. They are computed from the accepted keys by the rules of docs/KEYBOARD.md."""
 
     def __init__(self):
         self.shift = self.program = False
 
     def press(self, name, is_idle, display):
-        """A key was accepted, and the display shows this behind it."""
+        """Updates the state after an accepted key; `display` is the display after it."""
         if not is_idle:
             return
         if name != "SHIFT":
@@ -124,7 +125,7 @@ class Lights:
 
 
 class Part:
-    """A command, a block, or the comments and blank lines between two of them, as the bytes of a deck have it."""
+    """A command, a block, or the comments and empty lines between two of them, as the bytes of a deck."""
 
     def __init__(self, text, is_command):
         self.text, self.is_command = text, is_command
@@ -132,16 +133,18 @@ class Part:
         found = IN_PIECES.fullmatch(" ".join(self.words))
         count = int(found[2] or 1) if found else 0
         self.kind = found[1] if found and count <= MOST_STEPS and (found[2] or found[1] == "step") else None
-        # How many steps are left, and how many were asked for, of a command in pieces.
+        # For a command in pieces: how many steps are left, how many were requested so far, and how many lines or words a run has
+        # executed.
         self.left, self.asked, self.ran = count if self.kind else 0, 0, 0
-        # The entry of the session that it is, and whether it is a block in which the deck ends.
+        # The entry of this part in the session, and whether it is a block without `end` at the end of the deck.
         self.entry, self.is_open = None, False
 
     def shown(self):
+        """Returns the part as text."""
         return self.text.decode("utf-8", "replace").replace("\r\n", "\n")
 
     def paragraphs(self):
-        """Comments as paragraphs. A line that is set in is one of its own."""
+        """Returns the comments as paragraphs. An indented line is a paragraph of its own."""
         found, is_open = [], False
         for line in [] if self.is_command else self.shown().split("\n"):
             words = re.sub("^# ?", "", line)
@@ -155,7 +158,7 @@ class Part:
 
 
 def parts_of(deck, may_be_open=False):
-    """The parts of a deck, whose texts together are the deck. It may end in a block without its end where that is told."""
+    """Returns the parts of a deck; their texts together are the deck. The last block may lack its `end` if `may_be_open` is set."""
     if deck.endswith(b"\r"):
         raise Failure("the deck ends in CR without LF, which makes the CR part of its last line: end the line with LF")
     lines = lines_of(with_keys(deck))
@@ -175,13 +178,13 @@ def parts_of(deck, may_be_open=False):
 
 
 class Entry:
-    """A part of the session: its text, its reply, and the key of several that was refused."""
+    """An entry of the session: its text, its reply, and the refused key if there were several."""
 
     def __init__(self, text):
         self.text, self.reply, self.key = text, [], None
 
     def told(self):
-        """Its text without its last LF, a character for each byte, and its reply."""
+        """Returns the text without its last newline, with a character for each byte, and the reply, which is shortened if it is long."""
         reply = self.reply
         if len(reply) > MOST_LINES:
             reply = [*reply[:FIRST_LINES], f"… {len(reply) - 2 * FIRST_LINES} lines", *reply[-FIRST_LINES:]]
@@ -189,24 +192,24 @@ class Entry:
 
 
 class Desk:
-    """The bench, what it was given, what waits to be given to it, and how it stands."""
+    """The bench, the commands that it was given, the commands that wait, and the state of the bench."""
 
     def __init__(self, memory=None):
-        """`memory` is how many registers of main memory the bench is told to have; its own count where none is given."""
+        """Starts a bench with `memory` registers of main memory; None means the default."""
         self.words = [] if memory is None else ["--memory", memory]
         self.top = BOTTOM_OF_MEMORY + (int(memory) if memory and memory.isdigit() else MOST_REGISTERS)
         self.number, self.bench = 0, None
         self.begin()
 
     def begin(self):
-        """An empty bench."""
+        """Starts an empty bench."""
         if self.bench:
             self.bench.close()
         self.bench = Bench(self.words)
         self.number += 1
         self.log, self.queue, self.lesson = [], [], None
         self.breaks, self.lights, self.labels = set(), Lights(), Labels()
-        # The steps of a piece, those that were made, and those of them that the last look has seen.
+        # The number of steps in a piece, the number of steps that were made, and how many of them were made before the last look.
         self.size, self.made, self.seen = 256, 0, 0
         try:
             self.look()
@@ -214,14 +217,15 @@ class Desk:
             self.bench.close_input()
             raise Failure(self.bench.why() or str(failure), NO_ANSWER) from failure
 
-    # What is given.
+    # Commands that are given.
 
     def deck(self):
-        """The session as a deck."""
+        """Returns the session as a deck."""
         return b"".join(entry.text if entry.text.endswith(b"\n") else entry.text + b"\n" for entry in self.log)
 
     def give(self, deck, is_first=False):
-        """Puts a deck's parts behind those that wait, or in front of all, where what goes on is parted."""
+        """Adds the parts of a deck after those that wait. If `is_first` is set, they are added before all others, and a running command
+        is split."""
         parts = parts_of(deck)
         if is_first:
             self.part_here()
@@ -230,22 +234,23 @@ class Desk:
             self.queue += parts
 
     def part_here(self):
-        """Has the entry of a command in pieces say how far it went. What is left of it is a command of its own."""
+        """Splits a command that is executed in pieces: its entry gets the number of steps that were made, and the rest becomes a command
+        of its own."""
         part = self.queue[0] if self.queue else None
         if part and part.kind and part.entry:
             part.entry.text = b"%s %d\n" % (part.kind.encode(), part.asked)
             self.queue[0] = Part(b"%s %d\n" % (part.kind.encode(), part.left), True)
 
     def stop(self):
-        """Drops what waits."""
+        """Drops the commands that wait."""
         self.part_here()
         self.queue = []
 
-    # What is carried out.
+    # Commands that are executed.
 
     def go(self, seconds, steps=None, parts=None):
-        """Carries out what waits, for about so long, at most so many steps and parts of it, and at least one command or a piece
-        of it. The states behind each traced step."""
+        """Executes commands that wait for about `seconds`: at most so many steps and parts, and at least one command or a piece of one.
+        Returns the states after the steps of a trace."""
         until, states, has_asked = time.monotonic() + seconds, [], False
         while self.queue and (steps is None or steps > 0) and (parts is None or parts > 0):
             if has_asked and time.monotonic() >= until:
@@ -264,7 +269,7 @@ class Desk:
         return states
 
     def carry_out(self, part, most):
-        """Carries out a part, or the next piece of it."""
+        """Executes a part, or its next piece."""
         self.is_seen = False
         if part.entry is None:
             if self.log and self.log[-1].reply == [NO_END]:
@@ -272,7 +277,7 @@ class Desk:
             part.entry = Entry(part.text)
             self.log.append(part.entry)
         if part.is_open:
-            # The bench would wait for its end. It prints this where the input ends.
+            # The bench would wait for the `end`. At the end of its input it would print this refusal.
             part.entry.reply = [NO_END]
         elif part.kind:
             self.carry_piece(part, most if part.kind != "trace" else 1 if part.left <= LAST_STEPS else part.left - LAST_STEPS)
@@ -283,7 +288,7 @@ class Desk:
             self.keep_up(part)
 
     def carry_piece(self, part, most):
-        """The next piece of a run, a step of several, or a trace. Pieces become longer while they are quick."""
+        """Executes the next piece of a run, of a step with a count, or of a trace. Pieces become longer while they are fast."""
         count = min(part.left, self.size, most or self.size)
         begun = time.monotonic()
         reply = self.bench.ask_all([b"%s %d" % (part.kind.encode(), count)])[0]
@@ -304,7 +309,7 @@ class Desk:
             part.left = 0 if is_refused else part.left
 
     def press(self, entry, names):
-        """Keys in turn, up to the first that is refused."""
+        """Presses keys in turn, up to the first one that is refused."""
         for name in names:
             pos = self.views["pos"][0]
             reply, display, after = self.bench.ask_all([b"key " + name.encode(), b"show display", b"show pos"])
@@ -315,7 +320,7 @@ class Desk:
             self.views["pos"] = after
 
     def keep_up(self, part):
-        """What an accepted command changes that no command shows."""
+        """Records what an accepted command changes if no command shows it."""
         if refusal_of(part.entry.reply) or not part.words:
             return
         word, words = part.words[0], part.words
@@ -327,10 +332,10 @@ class Desk:
         elif word in ("asm", "words", "image", "unplug"):
             self.labels.follow(lines_of(part.text))
 
-    # How the bench stands.
+    # The state of the bench.
 
     def look(self):
-        """What the bench shows."""
+        """Reads the views of the bench. Returns its state."""
         asked = [*(f"show {view}" for view in VIEWS), "show ram 00d", *(f"list {page}000 1" for page in PAGES)]
         replies = self.bench.ask_all([command.encode() for command in asked])
         views = dict(zip(VIEWS, replies))
@@ -349,14 +354,15 @@ class Desk:
         return self.state()
 
     def lists_at(self, at):
-        """The commands that list the words around an address: those before it from several beginnings on."""
+        """Returns the commands that list the words around an address. The words before it are listed from several start addresses,
+        because instructions have one word or two."""
         start, end = at & 0xF000, (at | 0x0FFF) + 1
         begins = sorted({max(start, at - WORDS_BEFORE + skip) for skip in range(4)} - {at})
         return [b"list %04X %d" % (begin, at - begin) for begin in begins] + \
             [b"list %04X %d" % (at, min(WORDS_BEHIND, end - at))]
 
     def listing(self, lists, place):
-        """The lines around an address, by those of these lists: the first that have an instruction end there."""
+        """Returns the lines around an address, taken from the first of these lists in which an instruction ends at the address."""
         def ends(lines):
             last = lines[-1]
             return int(last[:4], 16) + len(last[6:13].split()) == int(place, 16)
@@ -366,7 +372,7 @@ class Desk:
         return [[line[:4], self.labels.of(line[:4]), line[6:]] for line in lines]
 
     def state(self):
-        """How all stands, for the page."""
+        """Returns the state for the page."""
         display = self.views["display"][0]
         spells = NAME.search(display) is not None or "48" in self.views["flags"][0].split() and not PROMPT.fullmatch(display)
         return {**self.views, "shift": self.lights.shift, "program": self.lights.program, "breaks": sorted(map(list, self.breaks)),
@@ -374,10 +380,10 @@ class Desk:
                 "label": self.labels.of(self.views["pos"][0].split()[1]) if self.views["listing"] else "",
                 "last": self.log[-1].told() if self.log else ["", []], "entries": len(self.log)}
 
-    # What goes out.
+    # Exports.
 
     def leaves(self, kind, page):
-        """A deck of what the bench holds, for tools/export: a page's image, or the bytes of the programs."""
+        """Returns a deck for tools/export, with the image of a page or with the bytes of the programs."""
         if kind in ("rom", "source"):
             image, = self.bench.ask_all([b"show image %s" % page.encode()])
             if refusal_of(image):

@@ -1,8 +1,8 @@
-"""Sources in other dialects: their lines as the assembler here reads them.
+"""Sources in other dialects: translates their lines to the dialect of this assembler.
 
-Names stand in the table of docs/ASSEMBLER.md, under "Other dialects". What is said here are the forms of lines: labels, operands,
-numbers. A line has some texts, the likeliest first; whether the assembler reads one is asked of the bench. One that it reads as
-it stands stays so."""
+The names are in the table of docs/ASSEMBLER.md, section "Other dialects". This module has the forms of lines: labels, operands and
+numbers. For each line there are some readings, the likeliest first; the bench decides which of them it can assemble. A line that it can
+assemble as it is stays unchanged."""
 import re
 from dataclasses import dataclass, replace
 
@@ -14,14 +14,14 @@ LONG, SHORT = ("?NC XQ", "?C XQ", "?NC GO", "?C GO"), ("JNC", "JC")
 OF_NUMBERS = ("CLRF", "SETF", "?FSET", "?R=", "R=", "RCR", "LD@R", "WRIT", "READ")
 OF_LABELS, OF_WORDS = ("ENTRY", "FOCAL"), ("LDI", "CON")
 
-# Faults that a line has by itself.
+# Errors that a line has on its own.
 OF_THE_LINE = ("! 30", "! 31")
 
 GREATEST_WORD = 0x3FF
 
-# Signs of texts that are not ASCII.
+# Characters of texts that are not ASCII, and their replacements.
 SIGNS = {"≠": "#", "↔": "<>", "−": "-", "–": "-"}
-# What stands behind the numbers of registers, as `3(X)`.
+# The names that can follow the number of a register, as in `3(X)`.
 REGISTERS = "TZYXLMNOPQ+abcde"
 
 CODE = re.compile(r'(?:[^;"]|"[^"]*"|"[^"]*\Z)*')
@@ -43,7 +43,7 @@ END = re.compile(r"\.?END")
 
 
 def own_names():
-    """The names that the assembler has, as docs/PROCESSOR.md and docs/ASSEMBLER.md have them."""
+    """Returns the names that this assembler has, from docs/PROCESSOR.md and docs/ASSEMBLER.md."""
     cells = [row[1] for table in tables_of(section_of("PROCESSOR.md", "The instruction words")) for row in table]
     names = {re.sub(" (?:n|hhh)$", "", name) for cell in cells for name in codes_of(cell)}
     banks = {f"ENBANK{number}" for number in range(1, 5)}
@@ -51,14 +51,14 @@ def own_names():
 
 
 def pairs():
-    """The names and operands of other dialects, each with what stands here in its place."""
+    """Returns the names and operands of other dialects, each with its replacement."""
     return pairs_of(tables_of(section_of("ASSEMBLER.md", "Other dialects"))[0])
 
 
 @dataclass
 class Text:
-    """What a line may be, in parts, and how it was read. The comment is what stood without its `;`. A joined one has an operand
-    in whose middle two blanks or a tab stood."""
+    """A reading of a line: its parts, and a remark on how it was read. `comment` is a comment that was written without `;`. `joined` says
+    that two spaces or a tab were inside the operand."""
 
     label: str
     code: str
@@ -67,25 +67,26 @@ class Text:
     joined: bool = False
 
     def refers_to(self):
-        """The label that it refers to; none where it refers to none."""
+        """Returns the label that the line refers to, or None."""
         return self.code.partition(" :")[2] or None
 
     def line(self):
+        """Returns the line without its comment."""
         return f"{self.label}: {self.code}".rstrip() if self.label else f" {self.code}"
 
     def whole(self):
-        """The line in its columns, with the comment."""
+        """Returns the line in columns, with its comment."""
         line = f"{f'{self.label}:' if self.label else '':<7} {self.code}".rstrip()
         return f"{line} ; {self.comment}" if self.comment else line
 
     def told(self):
-        """The line as it is told, and how it was read."""
+        """Returns the line for a message, with the remark."""
         comment = f" ; {self.comment}" if self.comment else ""
         return f"{self.line().strip()}{comment}{f' ({self.remark})' if self.remark else ''}"
 
 
 class Names:
-    """The names of instructions, and the operands, of all dialects."""
+    """The names of instructions and the operands of all dialects."""
 
     def __init__(self):
         self.fields = {field: field for field in FIELDS}
@@ -98,7 +99,7 @@ class Names:
                 self.patterns.append((re.compile(re.escape(key_of(other)).replace("8", "([0-9]{1,2})")), here[:-1]))
             else:
                 self.names[key_of(other)] = here
-        # Operands that stand behind no name here.
+        # Functions that read the operand of a name.
         self.kinds = {**dict.fromkeys(LONG, self.addresses), **dict.fromkeys(SHORT, self.distances),
                       **dict.fromkeys(OF_NUMBERS, self.numbers), **dict.fromkeys(OF_LABELS, self.references),
                       "CON": self.words, "LDI": self.marked}
@@ -108,8 +109,8 @@ class Names:
         self.labels, self.is_decimal = set(), False
 
     def codes(self, code):
-        """What an instruction may be, the likeliest first: a name, which may be spelled without its blanks, and an operand. Each
-        with how it was read, and whether two blanks or a tab stand within the operand."""
+        """Yields the readings of an instruction, the likeliest first. The name may be written without its spaces. Each reading has a
+        remark, and says whether two spaces or a tab are inside the operand."""
         flat, upper = key_of(code, False), key_of(code)
         for pattern, here in self.patterns:
             found = pattern.fullmatch(upper)
@@ -130,13 +131,13 @@ class Names:
                                 for operand, remark in self.kinds.get(name, self.nothing)(flat[end:]))
 
     def no_jump(self, code):
-        """What is told of a line that is GOTO KEY or GOTO ADR, where it may be a jump to a label; nothing else."""
+        """Returns a remark if a GOTO KEY or GOTO ADR may be meant as a jump to a label; otherwise an empty text."""
         found = JUMP.fullmatch(code)
         names = [found[1], *sorted(self.labels)] if found else []
         label = next((name for name in names if name in self.labels and name.upper() == found[1].upper()), None)
         return f"not a jump to the label {label}; for the jump write JNC :{label}" if label else ""
 
-    # What an operand may be, each with how it was read.
+    # The readings of an operand, each with a remark.
 
     @staticmethod
     def nothing(operand):
@@ -182,7 +183,7 @@ class Names:
         return self.words(operand) if found and (found[1] or found[3]) else []
 
     def number(self, mark, digits, width):
-        """A number in hexadecimal digits, and how it was read: without a mark it may be decimal."""
+        """Reads a number in hexadecimal digits. Returns it with a remark: without a prefix or suffix it may be decimal."""
         as_decimal = f"{int(digits):0{width}X}" if digits.isdecimal() else None
         digits = digits.upper().rjust(width, "0")
         if mark or as_decimal in (None, digits):
@@ -193,24 +194,24 @@ class Names:
 
 
 def fronts(code):
-    """A line, and what stands in it before two blanks or a tab, the longest first: what stands behind may be a comment."""
+    """Yields a line as it is, and then its parts before two spaces or a tab, the longest first. The rest may be a comment."""
     yield code, ""
     for gap in reversed(list(GAP.finditer(code))):
         yield code[:gap.start()], code[gap.end():]
 
 
 def key_of(name, in_capitals=True):
-    """A name without blanks."""
+    """Returns a name without spaces, in capitals if `in_capitals` is set."""
     name = re.sub(r"\s", "", name)
     return name.upper() if in_capitals else name
 
 
 class Dialect:
-    """The lines of a source as the assembler here reads them, what is told of each changed one, by its number, and of all."""
+    """The lines of a source for this assembler, the message for each changed line by its number, and the messages for the whole source."""
 
     def __init__(self, lines, is_decimal=False):
         self.lines, self.told, self.notes, self.comments = list(lines), [], [], []
-        # Of lines with numbers of an LDI before them the lines of these, counted from 0.
+        # For each line with the number of an LDI, the line of the LDI, counted from 0.
         self.numbers = {}
         is_read = refused(block(b"asm 8", lines))[0] == 0
         if is_read and not is_decimal:
@@ -233,23 +234,23 @@ class Dialect:
 
     @staticmethod
     def unread(codes):
-        """Which of these lines the assembler does not read, each by itself."""
+        """Returns the lines that the assembler cannot read by themselves."""
         asked = sorted(code for code in codes if code.strip() not in ("", "end"))
         _, found = refused(b"".join(block(b"asm 3", [code.encode("utf-8", "surrogateescape")]) for code in asked))
         return {asked[first // 3] for first, _, refusal in found if refusal.startswith(OF_THE_LINE)}
 
     def labels(self):
-        """The names that stand before a colon or in the first column."""
+        """Returns the names before a colon or in the first column."""
         found = [LABEL.fullmatch(code) or IN_FRONT.fullmatch(code) for code in self.codes]
         return {label[1] for label in found if label}
 
     def is_referred_to(self, name):
-        """Whether a line ends in a name, as one that jumps there does. A comment may stand behind it."""
+        """Returns whether a line ends with a name, as a jump to it does. A comment may follow the name."""
         last = rf".*[\s:(\[]{name}[)\]]?"
         return any(re.fullmatch(last, front) for code in self.codes for front, _ in fronts(code))
 
     def spellings(self, at):
-        """What a line may be, the joined ones last; none for one that gives no word."""
+        """Returns the readings of a line, the joined ones last; None is the reading of a line that gives no word."""
         code = "".join(SIGNS.get(letter, letter) for letter in self.codes[at])
         if code.lstrip().startswith(("*", "//")):
             self.comments.append(at)
@@ -264,7 +265,7 @@ class Dialect:
         return sorted(found, key=lambda text: text.joined)
 
     def with_other(self, text, *others):
-        """A text, of which is told what it is where its comment is part of the operand."""
+        """Returns a reading with a remark about the other one, in which its comment is part of the operand."""
         labels = {*self.names.labels, None}
         joined = next((other for other in others if other.joined and other.code != text.code and other.refers_to() in labels), None)
         if text.joined or not joined:
@@ -272,7 +273,7 @@ class Dialect:
         return replace(text, remark="; ".join(filter(None, [text.remark, f"with a comment; without the spaces it is {joined.code}"])))
 
     def texts_of(self, code):
-        """What a line may be without a comment: one with an instruction or a directive."""
+        """Yields the readings of a line without a comment: those with an instruction or a directive."""
         labelled, in_front = LABEL.fullmatch(code), IN_FRONT.fullmatch(code)
         parts = [labelled.groups()] if labelled else [("", code.strip())]
         if labelled and labelled[1].upper() == "CON":
@@ -283,18 +284,18 @@ class Dialect:
         yield from (Text(label, text, remark, "", joined) for label, rest in parts for text, remark, joined in self.codes_of(rest))
 
     def may_be_label(self, name):
-        """Whether a name without a colon may be a label: one that is an instruction has to be referred to."""
+        """Returns whether a name without a colon may be a label. If it is an instruction too, a line must refer to it."""
         return next(self.codes_of(name), None) is None or self.is_referred_to(name)
 
     def may_be_comment(self, front, text):
-        """Whether a text behind what stands in front is no instruction, and its first word makes none of another name of that."""
+        """Returns whether a text may be a comment: it is not an instruction, and its first word does not complete another name."""
         words = text.split()
         texts = self.texts_of(f"{front}  {words[0]}") if words[1:] else []
         longer = {one.code for one in texts if not one.joined and not GAP.search(one.code)}
         return next(self.codes_of(text), None) is None and longer <= {one.code for one in self.texts_of(front)}
 
     def codes_of(self, code):
-        """What an instruction or directive may be."""
+        """Yields the readings of an instruction or directive."""
         named = re.fullmatch(r'\.?NAME\s*(".*")', code, re.I)
         if named:
             yield f"NAME {named[1]}", "", False
@@ -302,11 +303,11 @@ class Dialect:
             yield from self.names.codes(code.lstrip(".") if re.match(r"\.CON\b", code, re.I) else code)
 
     def is_last(self, at):
-        """Whether no further line has code."""
+        """Returns whether no line after this one has code."""
         return not any(code.strip() for code in self.codes[at + 1:])
 
     def pairs(self, found):
-        """Of each LDI whose number is in the next line both lines."""
+        """Returns the readings of each LDI whose number is in the next line, and of that line."""
         changed = {}
         for at in found:
             loads = self.load_of(self.codes[at])
@@ -321,7 +322,7 @@ class Dialect:
         return changed
 
     def load_of(self, code):
-        """A line that is LDI without its number; none where it is another."""
+        """Returns the reading of a line that is LDI without its number; None for any other line."""
         for front, comment in fronts(code):
             if WORD.fullmatch((comment.split() or [""])[0]) or not self.may_be_comment(front, comment):
                 continue
@@ -332,7 +333,7 @@ class Dialect:
         return None
 
     def change(self, at, text):
-        """Puts a text in the place of a line, and tells it."""
+        """Replaces a line by a reading, and adds a message."""
         old = self.texts[at][len(self.codes[at]):].lstrip()
         code = self.codes[at].strip()
         if text is None:
@@ -345,8 +346,8 @@ class Dialect:
             self.told.append((at + 1, f"{shown(code)} -> {shown(told)}"))
 
     def read_others(self, own, changed):
-        """Looks at the lines that the assembler reads as they are: with another dialect their numbers may be decimal, and their
-        names labels."""
+        """Looks at the lines that the assembler can read as they are. In another dialect their numbers may be decimal, and their names
+        may be labels."""
         kept = []
         for at, code in enumerate(self.codes):
             if code in own or at in changed:
@@ -363,11 +364,13 @@ class Dialect:
                 kept.append((at + 1, code.strip()))
         self.told.sort(key=lambda told: told[0])
         if kept and changed:
-            self.notes.append(f"numbers after LDI, CON and short jumps are read as hexadecimal, for example in line {kept[0][0]}, {kept[0][1]}"
+            self.notes.append("numbers after LDI, CON and short jumps are read as hexadecimal, for example in line "
+                              f"{kept[0][0]}, {kept[0][1]}"
                               f"{f', and {len(kept) - 1} more' if kept[1:] else ''}; if they are decimal, use --decimal")
 
 
 def as_own(lines):
-    """Lines of another dialect as the assembler here reads them, a comment where one gives no word; none for one that is none."""
+    """Returns the lines of another dialect as this assembler reads them: a comment if a line gives no word, and None if a line is not
+    changed."""
     found = Dialect(lines).lines
     return [None if own == line else " ".join(own.decode(errors="replace").split()) for own, line in zip(found, lines)]

@@ -1,4 +1,4 @@
-"""Tables of the documents that the tools read, so that each of them stands once."""
+"""Reads tables of the documents, so that each of them is in one place only."""
 import os
 import re
 
@@ -8,7 +8,7 @@ DOCS = os.path.join(os.path.dirname(os.path.realpath(__file__)), "..", "docs")
 
 
 def section_of(document, heading):
-    """The text of a document below a heading, up to the next heading of its level or a higher one."""
+    """Returns the text of a section of a document, up to the next heading of the same level or a higher one."""
     text = bytes_of(os.path.join(DOCS, document)).decode("utf-8")
     found = re.search(rf"^(#+) {re.escape(heading)}\n(.*)", text, re.M | re.S)
     if not found:
@@ -18,26 +18,27 @@ def section_of(document, heading):
 
 
 def cells_of(row):
-    """The cells of a table's row."""
+    """Returns the cells of a table row."""
     return [cell.strip().replace("\\|", "|") for cell in re.split(r"(?<!\\)\|", row)[1:-1]]
 
 
 def tables_of(section):
-    """The tables of a section: of each the rows without its head, as lists of cells."""
+    """Returns the tables of a section, each as a list of rows without its head. A row is a list of cells."""
     found = re.findall(r"(?:^\|.*\n)+", section, re.M)
     return [[cells_of(row) for row in table.splitlines()[2:]] for table in found]
 
 
 def plain(text):
-    """A text of a document without its links and marks."""
+    """Returns a text of a document without links and bold type."""
     return re.sub(r"\[([^]]*)\]\([^)]*\)", r"\1", text).replace("**", "")
 
 
 def pairs_of(table):
-    """The names of a table with one name here and one or more elsewhere in each row: each other name, and the name here."""
+    """Returns pairs from a table that has one name of this bench and one or more names elsewhere in each row: each name elsewhere, and
+    the name of this bench."""
     return [(other, codes_of(here)[0]) for here, there, *_ in table for other in codes_of(there)]
 
 
 def codes_of(cell):
-    """The texts between back quotes in a cell."""
+    """Returns the texts in backquotes in a cell."""
     return re.findall(r"`([^`]*)`", cell)

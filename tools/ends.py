@@ -1,16 +1,16 @@
-"""How a tool ends: with the status of its work, or by what it tells where that failed or one of its own ends did."""
+"""Ends a tool: with the status of its work, or with an error message if its work, its input or its output has failed."""
 import os
 import signal
 import sys
 
 from decks import Failure, end_with_reader
 
-# The status where what a tool tells cannot be written.
+# The status if the output of a tool cannot be written.
 NOT_WRITTEN = 3
 
 
 class Closed:
-    """Standard input or output that was closed before the tool began. What reads or writes it fails."""
+    """Standard input or output that was closed before the tool started. Reading or writing it fails."""
 
     def __init__(self, what):
         self.what = what
@@ -26,15 +26,15 @@ class Closed:
 
 
 def open_ends():
-    """Puts what fails in place of an end that is closed, and has texts with any characters told."""
+    """Replaces closed streams by ones that fail, and lets standard error print any character."""
     sys.stdin, sys.stdout = sys.stdin or Closed("input"), sys.stdout or Closed("output")
     sys.stderr = sys.stderr or open(os.devnull, "w", encoding="utf-8")
     sys.stderr.reconfigure(errors="backslashreplace")
 
 
 def end(name, main, statuses=None):
-    """Ends the process with the status of `main` over the words of the command line. A failure is told, each line behind the tool's
-    name, and gives its own status, or the one that `statuses` has for it."""
+    """Ends the process with the status of `main`, which gets the words of the command line. If it fails, the error is printed with the
+    tool's name before each line; the status is that of the failure, or the one that `statuses` maps it to."""
     open_ends()
     try:
         try:
@@ -50,7 +50,7 @@ def end(name, main, statuses=None):
         end_with_reader()
         signal.raise_signal(signal.SIGPIPE)
     except OSError as error:
-        # What is left to be written goes nowhere.
+        # The output that is still buffered is dropped.
         os.dup2(os.open(os.devnull, os.O_WRONLY), 1)
         why, status = f"{error.filename or 'standard output cannot be written'}: {error.strerror}", NOT_WRITTEN
     print(*(f"{name}: {line}" for line in str(why).splitlines()), sep="\n", file=sys.stderr)

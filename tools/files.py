@@ -1,4 +1,4 @@
-"""Files that the tools write: a new one takes the place of an older one, which stays as it is where anything is wrong."""
+"""Writes the output files of tools: a new file replaces an older one only when it is complete."""
 import os
 import sys
 import tempfile
@@ -7,7 +7,7 @@ from decks import Failure, end_with_reader
 
 
 def check_out(out, sources):
-    """Wants that OUT can be written, and is no other thing than a file of its own. `-` is standard output."""
+    """Checks that OUT can be written, and that it is not one of the files that are read. `-` is standard output."""
     if out == "-":
         return
     if os.path.exists(out) and not os.path.isfile(out):
@@ -20,14 +20,14 @@ def check_out(out, sources):
 
 
 def is_same(one, other):
-    """Whether two paths lead to one file, also where it is not there yet."""
+    """Returns whether two paths lead to the same file, even if it does not exist yet."""
     if os.path.exists(one) and os.path.exists(other):
         return os.path.samefile(one, other)
     return os.path.realpath(one) == os.path.realpath(other)
 
 
 def put(data, out):
-    """Writes a new file beside OUT, and renames it to OUT."""
+    """Writes a new file in the folder of OUT, and renames it to OUT."""
     if out == "-":
         end_with_reader()
         sys.stdout.buffer.write(data)
@@ -51,7 +51,7 @@ def put(data, out):
 
 
 def mask():
-    """The bits that a new file does not get."""
+    """Returns the permission bits that a new file does not get."""
     bits = os.umask(0)
     os.umask(bits)
     return bits

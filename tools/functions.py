@@ -1,4 +1,4 @@
-"""Functions of modules, by their names and by their numbers: of the modules that are given, and else of tools/functions.txt."""
+"""Functions of modules by name and by number: those of given modules, and those of tools/functions.txt."""
 import os
 import re
 
@@ -11,7 +11,7 @@ NAMED = re.compile(r"XROM ([0-9]{2},[0-9]{2}) (\S+)")
 
 
 def table():
-    """The functions of the table: each a line of a program, its name, and its module."""
+    """Yields the functions of the table: a program line, the name, and the module."""
     number, module = None, None
     for line in bytes_of(TABLE).decode("utf-8").splitlines():
         head = MODULE.fullmatch(line)
@@ -24,7 +24,7 @@ def table():
 
 
 def functions_of(pages):
-    """What `show functions` prints of pages, of each its file and a deck that plugs it at page 8: each line with the file."""
+    """Returns the output of `show functions` for pages: each line with its file. A page is a file and a deck that plugs it at page 8."""
     if not pages:
         return []
     deck = b"".join(plugs + b"show functions\nunplug 8\n" for _, plugs in pages)
@@ -33,8 +33,8 @@ def functions_of(pages):
 
 
 class Functions:
-    """Functions by their names and lines. Modules are given by lines of `show functions`, each with where it is from. They take the
-    places of those with their numbers in the table, and their names come before the names there."""
+    """Functions by name and by line. `given` are lines of `show functions`, each with its origin. Given modules replace modules of the
+    table that have the same number, and their names take precedence over names of the table."""
 
     def __init__(self, tables, given=()):
         self.by_name, self.names = {}, {}
@@ -49,14 +49,14 @@ class Functions:
             self.by_name.setdefault(tables.key(name), []).append((line, f"{name} of {module}"))
 
     def spellings(self, key):
-        """The line of a function by its name as it is looked up, with a remark; none where it is not known, or of two lines."""
+        """Returns the line of a function with this name, with a remark; an empty list if the name is unknown or ambiguous."""
         found = list(dict.fromkeys(self.by_name.get(key, [])))
         return found if len({line for line, _ in found}) == 1 else []
 
     def lines(self, key):
-        """All lines that a name may be."""
+        """Returns all lines that are functions with this name."""
         return list(dict.fromkeys(line for line, _ in self.by_name.get(key, [])))
 
     def told(self, line):
-        """A line with its function's name behind it, where that is known."""
+        """Returns a line followed by the name of its function, if that is known."""
         return f"{line} {self.names[line]}" if line in self.names else line

@@ -1,11 +1,10 @@
-"""The keys of the calculator: what is printed on each, above it and below it, and its code. The picture in docs/KEYBOARD.md
-and docs/keyboard.svg are made of this table, and `.ci/keys` judges by it what each key does."""
+"""The keys of the calculator: what is printed on each key, above it and below it, and its code. The picture in docs/KEYBOARD.md and
+docs/keyboard.svg are made from this table, and `.ci/keys` checks by it what each key does."""
 from typing import NamedTuple, Optional
 
 
 class Key(NamedTuple):
-    """A key: its name, its function after SHIFT, its letter, and its row and column; of these the top row is 0, and columns
-    count from 1."""
+    """A key: its name, its function after SHIFT, its letter, its row (the top row is 0) and its column (from 1)."""
     name: str
     shifted: Optional[str]
     letter: Optional[str]
@@ -14,12 +13,12 @@ class Key(NamedTuple):
 
     @property
     def code(self):
-        """What microcode reads of it: a digit for the row, and one for the column."""
+        """The code of the key for microcode: a digit for the row and a digit for the column."""
         return 16 * self.row + self.column
 
 
-# A row of keys on each line, the keys parted by two blanks or more: the name, the function after SHIFT, and the letter, `none`
-# where there is none. `blank` is the character 20.
+# A line for each row of keys; two or more spaces separate the keys. A key has a name, a function after SHIFT and a letter; `none` means
+# that it has none. `blank` is the space, character 20.
 LAYOUT = """
 ON none none     USER none none   PRGM none none   ALPHA none none
 SIGMA+ S- A      1/X Y^X B        SQRT X^2 C       LOG 10^X D       LN E^X E
@@ -34,7 +33,7 @@ ENTER none N     CHS ISG O        EEX RTN P        BACK CLX none
 
 
 def rows():
-    """The rows of keys, from the top one on."""
+    """Returns the rows of keys, from the top."""
     def each(words, row, column):
         name, shifted, letter = (None if word == "none" else word for word in words)
         return Key(name, shifted, " " if letter == "blank" else letter, row, column)
@@ -51,12 +50,12 @@ KEYS = {key.name: key for row in ROWS for key in row}
 
 
 def letter_text(key):
-    """A key's letter as a picture has it."""
+    """Returns the letter of a key for a picture."""
     return "blank" if key.letter == " " else key.letter or ""
 
 
 def picture():
-    """The keyboard in characters, as docs/KEYBOARD.md shows it: of each row functions after SHIFT, keys, and letters."""
+    """Returns the keyboard in characters, as in docs/KEYBOARD.md: for each row the functions after SHIFT, the keys, and the letters."""
     def line(texts):
         return "  ".join(text.center(9) for text in texts).rstrip()
 
@@ -68,19 +67,19 @@ def picture():
     return "\n".join(parts)
 
 
-# How many letters stand on a line of the list.
+# How many letters are on a line of the list.
 LETTERS_ON_A_LINE = 8
 
 
 def letters():
-    """The keys by their letters, as docs/KEYBOARD.md shows them."""
+    """Returns the keys by their letters, as in docs/KEYBOARD.md."""
     found = sorted((not key.letter.isalpha(), letter_text(key), key.name) for key in KEYS.values() if key.letter)
     pairs = [f"{letter} {name}" for _, letter, name in found]
     lines = [pairs[at:at + LETTERS_ON_A_LINE] for at in range(0, len(pairs), LETTERS_ON_A_LINE)]
     return "".join("".join(f"{pair:<11}" for pair in line).rstrip() + "\n" for line in lines)
 
 
-# What docs/keyboard.svg is drawn with: its scale, and the width of a column and the height of a row.
+# The sizes in docs/keyboard.svg: margins, the width of a column, and the height of a row.
 MARGIN, COLUMN, ROW, TOP = 24, 120, 96, 52
 KEY_WIDTH, KEY_HEIGHT = 92, 36
 WIDTH = 2 * MARGIN + 5 * COLUMN
@@ -99,13 +98,13 @@ text { font-family: Verdana, Helvetica, Arial, sans-serif; text-anchor: middle; 
 
 
 def escaped(text):
-    """A text as it stands in the file."""
+    """Returns a text for SVG."""
     return text.replace("&", "&amp;").replace("<", "&lt;").replace(">", "&gt;")
 
 
 def places(row):
-    """The middle of each key of a row, and its width. Rows of four fill the width of five: ENTER is two keys wide, and the
-    other rows stand further apart."""
+    """Returns the middle and the width of each key of a row. Rows of four keys are as wide as rows of five: ENTER is two keys wide, and
+    in the other rows the keys are further apart."""
     if len(row) == 5:
         return [(MARGIN + COLUMN * (at + 0.5), KEY_WIDTH) for at in range(5)]
     if row[0].name == "ENTER":
@@ -114,7 +113,7 @@ def places(row):
 
 
 def drawn(key, middle, width, top):
-    """A key: its function after SHIFT above it, its name on it, and below it its letter and, at the right, its code."""
+    """Yields the elements of a key: its function after SHIFT above it, its name on it, its letter below it, and its code at the right."""
     def text(kind, x, y, words):
         return f'<text class="{kind}" x="{x:g}" y="{y:g}">{escaped(words)}</text>' if words else ""
 
@@ -128,7 +127,7 @@ def drawn(key, middle, width, top):
 
 
 def svg():
-    """docs/keyboard.svg."""
+    """Returns docs/keyboard.svg."""
     height = TOP + ROW * len(ROWS)
     parts = [f'<svg xmlns="http://www.w3.org/2000/svg" width="{WIDTH}" height="{height}" viewBox="0 0 {WIDTH} {height}">',
              "<title>The keys of the calculator</title>",

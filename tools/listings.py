@@ -1,4 +1,4 @@
-"""Listings of programs: the texts of their lines, as the bench reads them, and why a line is none."""
+"""Listings of programs: translates their lines to those of the bench, and finds out why a line cannot be read."""
 import re
 from bisect import bisect_left
 
@@ -7,20 +7,20 @@ from documents import codes_of, section_of, tables_of
 from programs import fates
 from spellings import DOCUMENT, Speller, read_tables
 
-# A number in front of a line, and what stands behind it.
+# A line number, and the rest of the line.
 NUMBERED = re.compile(r"([0-9]{1,4})(?:[.:)]?\s+|(?=[*♦◆▸▶►•●>]\s*LBL\b))(\S.*)", re.I)
 QUOTED = re.compile(r"""["'“‘ᵀ]""")
-# Of so many lines one may have a wrong number in front, or none, and the numbers go all the same.
+# One line in so many may have a wrong line number or none; the numbers are removed all the same.
 FEW = 8
 
-# Parts of a line that is none.
+# Parts of a line that cannot be read.
 IN_QUOTES = re.compile(r'(>?|[A-Z]+ )"(.*)"')
 CHARACTER = re.compile(r"\\[0-9A-F]{2}|.")
 COUNTED = re.compile(r"([0-9]{1,4})([^0-9\s].*)")
 TOUCHING = re.compile(r"([^\s0-9]+)([0-9]{1,2})")
 WITH_NUMBER = re.compile(r"(.+ )([0-9]{2,3})")
 
-# What the name of a function may be, and what is proposed as the name of a label.
+# The possible names of functions, and of labels in a proposal.
 FUNCTION = re.compile(r"[A-Z][A-Z0-9<>=#?+*/^-]{0,6}")
 CALLED = re.compile(r"[A-Z][A-Z0-9]{0,6}")
 
@@ -28,7 +28,7 @@ ENDED = re.compile(r"\.?END\.?(?:\s.*)?", re.I)
 
 
 def readable(texts):
-    """Which of these texts the bench reads as a program line."""
+    """Returns those of the texts that the bench reads as program lines."""
     asked = sorted({text for text in texts if may_be_line(text)})
     deck = b"".join(b"reset\n" + block(b"program", [text.encode()]) for text in asked)
     status, found = refused(deck)
@@ -38,23 +38,25 @@ def readable(texts):
 
 
 def may_be_line(text):
-    """Whether a text can stand in a block as a line of its own."""
+    """Returns whether a text can be a line of its own in a block."""
     data = text.encode()
     return (len(data) <= LONGEST_LINE and "\n" not in text and not text.startswith("#")
             and words_of(data) not in ([], [b"end"]))
 
 
 def is_comment(line):
+    """Returns whether a line is empty or a comment of a block."""
     return line == "" or line.startswith("#")
 
 
 class Listing:
-    """The lines of a listing, which may have numbers in front: each with its number in the file, its text for the bench, and
-    what is to be told of it."""
+    """The lines of a listing, which may have line numbers: their texts for the bench, messages for lines and for the whole listing, and
+    the lines that cannot be read."""
 
     def __init__(self, lines, has_numbers=True, functions=None):
         self.notes, self.told, self.bad, self.texts = [], [], [], []
-        # The lines whose numbers in front are taken off, and those whose numbers stay, counted from 0.
+        # The lines whose numbers are removed, and those whose numbers are kept, counted from 0. And the number of lines that cannot be
+        # read.
         self.off, self.on, self.unread = set(), set(), 0
         self.functions = functions
         stripped = [line.strip() for line in lines]
@@ -62,7 +64,7 @@ class Listing:
         self.read()
 
     def without_numbers(self, lines):
-        """The lines without the numbers in front, where each has one, but for a few that are told."""
+        """Returns the lines without line numbers, if every line has one. A few exceptions are allowed and reported."""
         places = [at for at, line in enumerate(lines) if not is_comment(line) and not line.startswith(";")]
         found = {at: NUMBERED.fullmatch(lines[at]) for at in places}
         if not all(found.values()):
@@ -105,11 +107,11 @@ class Listing:
         return [found[at][2] if at in self.off else line for at, line in enumerate(lines)]
 
     def is_comment(self, number, line):
-        """Whether a line is a comment of the block: behind a number in front `#` begins none."""
+        """Returns whether a line is a comment of the block. After a line number, `#` does not begin a comment."""
         return is_comment(line) and number - 1 not in self.off
 
     def read(self):
-        """Reads the lines: those that the bench reads as they are, and then the spellings of the others."""
+        """Reads the lines: first those that the bench reads as they are, then the spellings of the others."""
         tables = read_tables()
         speller = Speller(tables, self.lines, self.functions)
         good = readable(self.lines)
@@ -135,8 +137,8 @@ class Listing:
         self.give_reasons(speller, others)
 
     def tell_calls(self, speller, calls):
-        """Tells of calls by a name without quotes what they call, where a function has it: of each its line's number, its text,
-        and the line that a function of the calculator would be."""
+        """Adds messages about calls by a name without quotes, if a function has this name. Each call has the number of its line, its
+        text, and the line of the calculator's function."""
         asked = [text for _, text, function in calls if function]
         nowhere = fates(asked, b"")[1] if asked else set()
         for number, text, function in calls:
@@ -150,7 +152,7 @@ class Listing:
                 self.told.append((number, f"{text} calls a label; for the function write {line}"))
 
     def spelled(self, number, line, speller, spellings, good):
-        """The text of a line by its first spelling that is good."""
+        """Returns the first spelling of a line that the bench reads, and adds messages."""
         if spellings is None:
             self.told.append((number, f"{shown(line)} -> (removed)"))
             return ""
@@ -163,7 +165,7 @@ class Listing:
         return text
 
     def give_reasons(self, speller, others):
-        """Puts behind each line that is none why that is so. Those that only have numbers in front are one."""
+        """Adds the reason to each line that cannot be read. Lines whose only problem is their line number are reported once."""
         self.unread = len(self.bad)
         kept = [(number, line) for number, line in self.bad if number - 1 in self.on]
         causes = {line: list(self.causes(number, line, speller, others[line])) for number, line in self.bad
@@ -177,8 +179,8 @@ class Listing:
         self.bad = [(number, line, reasons[line]) for number, line in self.bad if (number, line) not in kept[1:]]
 
     def causes(self, number, line, speller, spellings):
-        """Why a line may be none, the likeliest first: each with a text that the bench reads if it is so, none where that is
-        plain."""
+        """Yields reasons why a line cannot be read, the likeliest first. Each has a text that the bench reads if this is the reason, or
+        None if it is certain."""
         if line.startswith("#"):
             yield None, "# does not begin a comment after a line number"
         text = speller.plain(line)
@@ -231,7 +233,7 @@ class Listing:
 
     @staticmethod
     def parts(text, speller):
-        """Why a line of several words may be none, by the first of them."""
+        """Yields reasons that depend on the first of several words."""
         first, *behind = text.split(maxsplit=1)
         if not behind:
             return
@@ -242,8 +244,8 @@ class Listing:
 
 
 def counted(lines):
-    """Lines that count from 01, or from 001 or 0001, without blanks behind their numbers, and may begin anew: each as a match, with
-    its number and what stands behind. None where one does not count so."""
+    """Reads line numbers without spaces after them: they count from 01, 001 or 0001, and may start again. Returns a match for each line,
+    with its number and the rest; an empty list if a line does not fit."""
     for width in (2, 3, 4):
         found = []
         for line in lines:
@@ -258,14 +260,14 @@ def counted(lines):
 
 
 def begin_anew(numbers, begins):
-    """Of these numbers, each with its place, the places where they begin again at 0 or 1 and go on from there, but for those
-    behind an END. One that is wrong is not followed by the next."""
+    """Returns the places where line numbers start again at 0 or 1 and continue from there, except after an END. A single wrong number is
+    not followed by the next one."""
     return {at for (last, _), (number, at), (behind, _) in zip(numbers, numbers[1:], numbers[2:])
             if at not in begins and number <= min(last, 1) and number < behind <= max(last, number + 1)}
 
 
 def ascending(numbers, begins):
-    """Of these numbers, each with its place, the places of a longest part that ascends from each begin on."""
+    """Returns the places of a longest sequence of ascending numbers between two starts."""
     runs, found = [], set()
     for number, at in numbers:
         if at in begins or not runs:
@@ -285,6 +287,6 @@ def ascending(numbers, begins):
 
 
 def commands():
-    """The commands that no program has, and what stands in their place, as the document's table has them."""
+    """Returns the commands that are not program lines, each with its replacement, from the table of the document."""
     return {name: f"; use {here}" if here else "" for names, here in tables_of(section_of(DOCUMENT, "Commands"))[0]
             for name in codes_of(names)}

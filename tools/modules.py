@@ -1,5 +1,5 @@
-"""Modules of keystroke programs: a page of programs with its table of functions, and the programs in such a page. Which bytes a
-line has, and which line bytes are, is asked of the bench."""
+"""Modules of keystroke programs: makes a page from programs with a table of functions, and reads the programs of such a page. The bench
+decides which bytes a line has, and which line some bytes are."""
 import re
 
 from decks import MAIN_START, Failure, block, hexadecimal, run
@@ -9,17 +9,17 @@ PAGE_SIZE = 4096
 MOST_FUNCTIONS = 64
 LAST_NUMBER = 31
 
-# From here on a calculator looks at words of a page for itself.
+# From this place on, a calculator reads words of a page by itself.
 ROOM = 0xFF4
 
-# The END that archives have, and the marks of the field: on the first byte of a line, and on the last one of an END.
+# The END that archives have, and the bits that mark the first byte of a line and the last byte of an END in a page.
 END = bytes.fromhex("C0000D")
 FIRST, LAST = 0x100, 0x200
 
-# So many bytes, and so many lines, fit memory for sure.
+# So many bytes, and so many lines, always fit into memory.
 PIECE, LINES = 2000, 100
 
-# A line that ends what is asked: of one byte, and no number.
+# A line that is put after the lines in question: it has one byte, and is not a number.
 SENTINEL, SENTINEL_BYTE = "BEEP", b"\x86"
 
 LABEL = re.compile(r'LBL "(.*)"')
@@ -31,7 +31,7 @@ OF_NUMBERS = range(0x10, 0x1D)
 # Lines and their bytes.
 
 def with_bytes(opener, lines):
-    """The lines that a block loads, each with its bytes; none where the bench refuses the block."""
+    """Returns the lines that a block loads, each with its bytes; None if the bench refuses the block."""
     registers = range(0x1FF, MAIN_START - 1, -1)
     status, output = run(b"size 0\n" + block(opener, lines) + b"show lines\n"
                          + b"".join(b"show ram %03x\n" % at for at in registers))
@@ -41,12 +41,12 @@ def with_bytes(opener, lines):
     shown, memory = rows[:-len(registers)], bytes.fromhex("".join(row[4:] for row in rows[-len(registers):]))
     places = [int(row[:4]) for row in shown]
     found = [(row[5:], memory[at:behind]) for row, at, behind in zip(shown, places, places[1:])]
-    # Behind a number stands a null where another follows.
+    # A null byte follows a number if another number follows.
     return [(text, data.rstrip(b"\0") if data[0] in OF_NUMBERS else data) for text, data in found]
 
 
 def lines_of_texts(texts):
-    """The lines of a listing with their bytes; none where the bench reads no such line."""
+    """Returns the lines of a listing with their bytes; None if the bench cannot read one of them."""
     found = []
     for at in range(0, len(texts), LINES):
         lines = with_bytes(b"program", [text.encode() for text in [*texts[at:at + LINES], SENTINEL]])
@@ -57,7 +57,7 @@ def lines_of_texts(texts):
 
 
 def lines_of_program(data):
-    """The lines of bytes that may end with an .END., which is an END then; none where they are no lines."""
+    """Returns the lines in some bytes. An .END. at the end becomes an END. None if they are not lines."""
     front = data.rstrip(b"\0")[:-3]
     if not FINAL_END.fullmatch(data.rstrip(b"\0")[-3:]):
         return lines_of_bytes(data)
@@ -66,7 +66,7 @@ def lines_of_program(data):
 
 
 def lines_of_bytes(data):
-    """The lines that bytes are, without nulls; none where they are no lines, an .END. in them too."""
+    """Returns the lines in some bytes without null bytes; None if they are not lines, or have an .END. inside."""
     found, at = [], 0
     while at < len(data):
         length = piece_of(data[at:])
@@ -79,7 +79,7 @@ def lines_of_bytes(data):
 
 
 def piece_of(data):
-    """How many first bytes are whole lines and fit memory, with no number at their end that may go on."""
+    """Returns how many of the first bytes are whole lines and fit into memory. The last line is not a number that may continue."""
     if len(data) <= PIECE:
         return len(data)
     length = whole_lines(data[:PIECE])
@@ -89,7 +89,7 @@ def piece_of(data):
 
 
 def programs_of(lines):
-    """The programs that lines are, each up to its END and with it; the last has that of archives where it has none."""
+    """Splits lines into programs, each with its END. If the last one has none, it gets that of archives."""
     programs = [[]]
     for text, data in lines:
         programs[-1].append((text, data))
@@ -100,15 +100,15 @@ def programs_of(lines):
     return [program for program in programs if program]
 
 
-# Into a page.
+# Making a page.
 
 class Module:
-    """A module of programs: its words, its functions, each a name and its offset, and the lines of its source."""
+    """A module of programs: its words, its functions with names and offsets, and the lines of its source."""
 
     def __init__(self, number, programs):
-        """Each program is the lines that it has, with their bytes."""
+        """Makes a module from programs; a program is a list of lines with their bytes."""
         self.number, self.rows, self.functions, self.ends = number, [], [], []
-        # The names of labels, of each program its own.
+        # The names of the labels of each program.
         self.names = [[found[1] for found in map(LABEL.fullmatch, (text for text, _ in program)) if found] for program in programs]
         self.length = 2 + 2 * sum(map(len, self.names)) + 2
         for program in programs:
@@ -116,7 +116,7 @@ class Module:
             self.ends.append(self.length)
 
     def add(self, program):
-        """Puts a program behind what is there: a null parts two numbers, the first byte of each line is marked, and an END."""
+        """Adds a program: a null byte separates two numbers, the first byte of each line is marked, and so is the END."""
         last = None
         for text, data in program:
             words = [byte | (FIRST if at == 0 else 0) for at, byte in enumerate(data)]
@@ -131,11 +131,12 @@ class Module:
             last = data
 
     def put(self, text, words):
+        """Adds the words of a line."""
         self.rows.append((self.length, text, words))
         self.length += len(words)
 
     def labels(self):
-        """A label of the source language for each function: its name, where that may be one and no other has it."""
+        """Returns a label of the source for each function: its name if that is possible and unique."""
         found = {}
         for at, (name, place) in enumerate(self.functions):
             label = name if re.fullmatch("[A-Z][0-9A-Z_]{0,11}", name) else f"F{at:02}"
@@ -143,7 +144,7 @@ class Module:
         return found
 
     def source(self):
-        """The lines of a source that gives the page."""
+        """Returns the lines of a source for the page."""
         labels = self.labels()
         front = [f"CON {self.number:03X}", f"CON {len(self.functions):03X}", *(f"FOCAL :{label}" for label in labels.values()),
                  "CON 000", "CON 000"]
@@ -156,14 +157,14 @@ class Module:
         return lines
 
     def shown(self):
-        """What `show functions` prints of it."""
+        """Returns the lines that `show functions` prints for it."""
         return [f"XROM {self.number:02},{at:02} {name}" for at, (name, _) in enumerate(self.functions)]
 
 
-# Out of a page.
+# Reading a page.
 
 def end_of(data):
-    """How many first bytes a program has with its END or .END., where whole lines lead to one; nothing where none do."""
+    """Returns how many of the first bytes are a program with its END or .END.; None if whole lines do not lead to one."""
     at = 0
     while True:
         places = [found.start() for found in ENDS.finditer(data, at, min(len(data), at + PIECE))]
@@ -179,12 +180,13 @@ def end_of(data):
 
 
 def programs_in(page, image):
-    """The programs of a module's page, in the order in which its table leads to them: each its lines with their bytes, and its
-    bytes with the nulls between them."""
+    """Returns the programs of a module's page in the order of the page: for each program its lines with their bytes, and its bytes with
+    the null bytes between them."""
     words = [image[at] << 8 | image[at + 1] for at in range(0, len(image), 2)]
     number, count = words[:2]
     if not (1 <= number <= LAST_NUMBER and 1 <= count <= MOST_FUNCTIONS):
-        raise Failure(f"page {page} is not a module: it begins with {number:03X} {count:03X}, expected a number 001 to 01F and a count 001 to 040")
+        raise Failure(f"page {page} is not a module: it begins with {number:03X} {count:03X}, expected a number 001 to 01F and a "
+                      "count 001 to 040")
     entries = [(at, (words[2 + 2 * at] & 0xF) << 8 | words[3 + 2 * at] & 0xFF) for at in range(count) if words[2 + 2 * at] & 0x200]
     if not entries:
         raise Failure(f"the module at page {page} has no function written in keystrokes: export it as source")
@@ -204,7 +206,7 @@ def programs_in(page, image):
 
 
 def inside_lines(data, place, lines):
-    """The places in a page within these lines, but for their first bytes; nulls may stand between them."""
+    """Yields the places inside these lines of a page, except those of their first bytes. Null bytes may be between lines."""
     for _, own in lines:
         place += next(at for at, byte in enumerate(data[place:]) if byte)
         yield from range(place + 1, place + len(own))
@@ -212,12 +214,12 @@ def inside_lines(data, place, lines):
 
 
 def ended(data, lines):
-    """A program with its END, which stands in the place of an .END."""
+    """Returns a program with an END in place of an .END."""
     end = END if data[-1] & 0x20 else data[-3:]
     return lines + [("END", end)], data[:-3] + end
 
 
 def why_none(data):
-    """Why bytes lead to no END."""
+    """Returns why bytes do not lead to an END."""
     at = whole_lines(data[:PIECE])
     return f"byte {data[at]:02X} at offset {at} does not begin a line" if at < min(len(data), PIECE) - 18 else "the page ends first"

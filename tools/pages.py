@@ -1,33 +1,33 @@
-"""Pages of words as sources that can be read: the module's table, names, labels and data."""
+"""Makes readable sources from the words of a page: with the table of a module, its names, labels and data."""
 import re
 
 from sources import ASKS_FOR_SET, CHECKSUM_PLACE, ENDS, FIRST_POLLED, GOES, ID_PLACE, SUM, TEST, checksum_of
 
 PAGE_SIZE = 4096
 
-# The column of instructions, and that of comments.
+# The columns of instructions and of comments.
 INDENT, COMMENT = 8, 24
 
-# The longest name of a function and of a label.
+# The greatest lengths of the name of a function and of a label.
 LONGEST_NAME, LONGEST_LABEL = 11, 12
 
-# So many words 000, one behind the other, fill a page up to its end.
+# This many words 000 in a row fill a page up to its end.
 FILL = 32
 
-# An instruction that goes or calls, and where.
+# A jump or call, and its target.
 SHORT = re.compile(r"(JN?C) ([+-])([0-9A-F]{2})")
 LONG = re.compile(r"(\?N?C (?:XQ|GO)) ([0-9A-F])([0-9A-F]{3})")
 
 
 class Page:
-    """The words of a page, and the lines that they become."""
+    """The words of a page, and the source lines made from them."""
 
     def __init__(self, page, words, list_words):
-        """`list_words` lists a count of words from an address on: the lines that the bench prints for them."""
+        """`list_words` takes pairs of an address and a count of words, and returns the lines that the bench lists for them."""
         self.page, self.words = page, words
         self.end = max((place + 1 for place, word in enumerate(words) if word), default=1)
         self.instructions = self.read(list_words)
-        # What begins at a place: a line of data with its count of words.
+        # The lines of data: for each place the count of words and the text.
         self.data, self.labels = {}, {}
         self.is_module = 1 <= words[0] <= 31 and 1 <= words[1] <= 64
         self.entries = self.table() if self.is_module else []
@@ -38,18 +38,18 @@ class Page:
         self.label_targets()
 
     def read(self, list_words):
-        """The instruction at each place, as if one began there, and its count of words."""
+        """Returns, for each place, the instruction that begins there, and its count of words."""
         wanted = [(place, min(2, PAGE_SIZE - place)) for place in range(self.end)]
         found = {}
         for line in list_words([(f"{self.page}{place:03X}", count) for place, count in wanted]):
-            # The first line of each listing counts: the place of a second one is the next listing's, which comes later.
+            # Only the first line of each listing counts: the second one is the first line of the next listing, which overwrites it.
             found[int(line[1:4], 16)] = (len(line[6:13].split()), line[15:])
         return found
 
     # The table.
 
     def table(self):
-        """Reads the table of a module: the places of its functions in microcode. Its lines become data."""
+        """Reads the table of a module: returns the places of its functions in microcode. The lines of the table become data."""
         number, count = self.words[:2]
         self.data[0], self.data[1] = (1, f"CON {number:03X}"), (1, f"CON {count:03X}")
         behind, entries = 2 + 2 * count, []
@@ -71,7 +71,7 @@ class Page:
         return entries
 
     def name_function(self, place, number, first):
-        """Gives a function its label, that of its name where that may be one, and finds the words of the name."""
+        """Gives a label to a function, that of its name if possible, and finds the words of the name."""
         name = self.name_before(place, first)
         if name:
             self.data[place - len(name)] = (len(name), f'NAME "{name}"')
@@ -79,7 +79,7 @@ class Page:
             self.labels[place] = self.unused(name if name and re.fullmatch(r"[A-Z][0-9A-Z]*", name) else f"F{number:02}")
 
     def name_before(self, place, first):
-        """The name whose words end at a place, and begin at this first one or behind it; none where they are no such words."""
+        """Returns the name whose words end at a place and begin at `first` or later; None if these words are not a name."""
         name = ""
         for at in range(place - 1, max(first, place - LONGEST_NAME) - 1, -1):
             word = self.words[at]
@@ -91,17 +91,18 @@ class Page:
         return None
 
     def unused(self, name):
-        """A label that is not yet one."""
+        """Returns a label that is not used yet."""
         return next(one for one in (name, f"{name[:LONGEST_LABEL - 1]}_", *(f"X{at}_" for at in range(PAGE_SIZE)))
                     if one not in self.labels.values())
 
-    # What is carried out.
+    # The words that are executed.
 
     def is_data(self, place):
+        """Returns whether a place is inside data."""
         return any(at <= place < at + count for at, (count, _) in self.data.items() if place - LONGEST_NAME <= at <= place)
 
     def target(self, place):
-        """Where the instruction at a place goes or calls; none where it does not, or leaves the page."""
+        """Returns the target of the jump or call at a place; None if there is none, or if it is outside the page."""
         text = self.instructions[place][1]
         short, long = SHORT.fullmatch(text), LONG.fullmatch(text)
         if short:
@@ -110,7 +111,7 @@ class Page:
         return int(long[3], 16) if long and long[2] == self.page else None
 
     def follow(self):
-        """The places of instructions that the functions of the table lead to."""
+        """Returns the places of the instructions that the functions of the table reach."""
         reached, left = set(), [(place, False) for place in self.entries]
         while left:
             place, may_be_set = left.pop()
@@ -127,7 +128,7 @@ class Page:
         return {place for place, _ in reached}
 
     def sweep(self):
-        """The places of instructions one behind the other."""
+        """Returns the places of instructions, one after the other."""
         places, place = set(), 0
         while place < self.end:
             places.add(place)
@@ -137,11 +138,12 @@ class Page:
     # The lines.
 
     def begins(self, place):
-        """Whether a line has to begin at a place."""
+        """Returns whether a line must begin at a place."""
         return place in self.reached or place in self.data or place in self.labels
 
     def parts(self):
-        """The places where lines begin, each with its count of words and its text; data are told with what they may be."""
+        """Yields the places where lines begin, each with its count of words and its text. Data have a comment with the instruction that
+        they may be."""
         place = 0
         while place < self.end:
             count, text = self.instructions[place]
@@ -156,7 +158,7 @@ class Page:
             place += count
 
     def label_targets(self):
-        """Gives a label to each place of a line to which an instruction goes."""
+        """Gives a label to each place that is a jump target."""
         lines = {place: text for place, _, text in self.parts()}
         for place, text in lines.items():
             target = self.target(place) if text == self.instructions[place][1] else None
@@ -164,7 +166,7 @@ class Page:
                 self.labels[target] = self.unused(f"L{target:03X}")
 
     def rows(self):
-        """The lines of the source: of each its place, its count of words, its text, and whether it is a word 000 without a label."""
+        """Yields the lines of the source: the place, the count of words, the text, and whether it is a word 000 without a label."""
         for place, count, text in self.parts():
             label = self.labels.get(place)
             target = self.target(place) if text == self.instructions[place][1] else None
@@ -174,18 +176,18 @@ class Page:
             yield place, count, f"{front}{label + ':' if label else '':<{INDENT - 1}} {text}\n", text in ("CON 000", "NOP") and not label
 
     def text(self):
-        """The source."""
+        """Returns the source."""
         return "".join(text for _, _, text, _ in self.rows())
 
     def with_end(self):
-        """The source up to the first words 000 that fill the page, and a description of what stands behind them."""
+        """Returns the source up to the first words 000 that fill the page, and a description of what follows them."""
         rows = list(self.rows())
         zeros = [is_zero for *_, is_zero in rows]
         at = next((at for at in range(len(rows)) if zeros[at:at + FILL] == [True] * FILL), len(rows))
         return "".join(text for _, _, text, _ in rows[:at]), "".join(self.end_of(rows[at:]))
 
     def end_of(self, rows):
-        """The lines of the description: those of the source, each piece behind its place, the id and the checksum."""
+        """Yields the lines of the description: the lines of the source after their places, the id and the checksum."""
         words = self.words[ID_PLACE:CHECKSUM_PLACE]
         letters = "".join(chr(word | (0 if word & 0x20 else 0x40)) for word in reversed(words))
         has_id = any(words) and max(words) < 0x40 and '"' not in letters

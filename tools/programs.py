@@ -1,5 +1,5 @@
-"""What is told of programs before they run: which lines are left out, which calls lead nowhere, which names no keys type, where
-bytes are no line, and how many registers leave room. Whether it is so is asked of the bench."""
+"""Checks programs before they run: which lines are not supported, which calls lead nowhere, which names no keys can type, where bytes are
+not a line, and how many data registers leave enough room. The bench decides all of this."""
 import re
 
 from decks import MEMORY, Failure, answered, block, hexadecimal, refused, run
@@ -7,20 +7,20 @@ from typed import LONGEST_NAME, why_no_name
 
 LEFT_OUT = "not supported, so these lines are refused when they are executed: "
 
-# The most places that are told of a line.
+# The most places that are printed for a line.
 MOST_PLACES = 4
 
 LOCAL = re.compile(r"(?:GTO|XEQ) ([0-9]{2,3}|[A-Za-z]|append)")
 NAMED = re.compile(r'(?:GTO|XEQ) (".*")')
 LABEL = re.compile(r'LBL "(.*)"')
-# What is asked whether it leads nowhere: other lines can say so for registers and flags alone.
+# Lines that can call something that does not exist. For other lines, NONEXISTENT can only mean registers or flags.
 CALL = re.compile(r'(?:GTO|XEQ) ".*"|XROM .*')
 
 LONGEST_LINE_BYTES = 18
 
 
 def listed(data):
-    """The texts of the lines that bytes of a program are, with `.END.`; none where the bench refuses them."""
+    """Returns the texts of the lines in the bytes of a program, with `.END.`; None if the bench refuses the bytes."""
     status, output = run(b"size 0\n" + block(b"load", hexadecimal(data)) + b"show lines\n")
     return [line[5:] for line in output.decode().splitlines()] if status == 0 else None
 
@@ -28,7 +28,7 @@ def listed(data):
 # Lines.
 
 def parted(lines):
-    """The programs that lines are, by their ENDs. A line is a place and a text."""
+    """Splits lines into programs at each END. A line is a place and a text."""
     program, programs = [], []
     for place, text in lines:
         if text in ("END", ".END."):
@@ -40,8 +40,8 @@ def parted(lines):
 
 
 def fates(texts, front):
-    """Of these lines the ones that are left out, and the calls that lead nowhere, each carried out alone behind the deck that
-    plugs the pages."""
+    """Returns which of these lines are not supported, and which are calls that lead nowhere. Each is executed alone, after the deck
+    `front` that plugs pages."""
     asked = sorted(set(texts))
     deck = front + b"".join(b"reset\n" + block(b"program", [text.encode()]) + b"step\nshow display\n" for text in asked)
     status, answers = answered(deck)
@@ -54,7 +54,7 @@ def fates(texts, front):
 
 
 def told(found):
-    """Lines with their places, each once."""
+    """Returns lines with their places, each line once."""
     places = {}
     for place, text in found:
         places.setdefault(text, []).append(place)
@@ -62,7 +62,7 @@ def told(found):
 
 
 def placed(places):
-    """The places of a line, in words."""
+    """Returns the places of a line in words."""
     names = [str(place) for place in places]
     if len(names) > MOST_PLACES:
         names[MOST_PLACES - 1:] = [f"{len(names) - MOST_PLACES + 1} more"]
@@ -70,13 +70,13 @@ def placed(places):
 
 
 def names_in(lines):
-    """The names of labels in lines."""
+    """Returns the names of the labels in lines."""
     return {found[0].partition(" ")[2] for found in map(LABEL.fullmatch, (text for _, text in lines)) if found}
 
 
 def left_out_of(lines, labels, front, functions):
-    """What is to be told of the lines of a file, where these are all the labels with names that memory will have. Functions of
-    modules are told with their names."""
+    """Yields the notes about the lines of a file. `labels` are all labels with names that memory will have. Functions of modules are
+    printed with their names."""
     asked = [text for _, text in lines if not text.startswith(('"', '>"', "LBL")) and not LOCAL.fullmatch(text)
              and (not NAMED.fullmatch(text) or NAMED.fullmatch(text)[1] not in labels)]
     left_out, nowhere = fates(asked, front)
@@ -92,7 +92,7 @@ def left_out_of(lines, labels, front, functions):
 
 
 def is_lost(text, program):
-    """Whether a line calls a label in digits or of one letter that its program has not."""
+    """Returns whether a line calls a numeric or one-letter label that its program does not have."""
     found = LOCAL.fullmatch(text)
     return found is not None and f"LBL {found[1]}" not in (other for _, other in program)
 
@@ -100,7 +100,7 @@ def is_lost(text, program):
 # Bytes.
 
 def loadable(prefixes):
-    """Which of these rows of bytes are whole lines."""
+    """Returns which of these sequences of bytes are whole lines."""
     deck = b"".join(b"reset\n" + block(b"load", hexadecimal(data)) for data in prefixes)
     status, answers = answered(deck)
     if status > 1:
@@ -109,8 +109,8 @@ def loadable(prefixes):
 
 
 def whole_lines(data):
-    """How many of the bytes are whole lines, from the first one on. Among the lengths up to one that is good there is a good
-    one at least every 18 bytes, as no line is longer."""
+    """Returns how many of the first bytes are whole lines. A binary search over the lengths works, because no line is longer than 18
+    bytes: among any 18 lengths below a good one there is a good one."""
     low, high = 0, len(data)
     while high - low > LONGEST_LINE_BYTES:
         middle = (low + high + LONGEST_LINE_BYTES) // 2
@@ -123,7 +123,7 @@ def whole_lines(data):
 
 
 def broken(data):
-    """Where bytes that the bench refuses are no line, and the last line before."""
+    """Returns where bytes that the bench refuses are not a line, and the line before them."""
     at = whole_lines(data)
     texts = listed(data[:at] + b"\x85")
     if texts is None:
@@ -138,7 +138,7 @@ def broken(data):
 
 
 def numbered(lines):
-    """Lines with their numbers in their programs, and from the second program on that of the program."""
+    """Returns lines with their numbers in their programs. From the second program on, the number of the program follows."""
     program, number, found = 1, 0, []
     for _, text in lines:
         number += 1
@@ -151,7 +151,7 @@ def numbered(lines):
 # Room.
 
 def greatest_size(deck, memory=MEMORY):
-    """The most data registers that leave room for all programs of a deck; none where there is room with none of them."""
+    """Returns the greatest number of data registers with which all programs of a deck fit; None if they do not fit with none."""
     most = int(memory) - 1
     sizes = range(most, -1, -1)
     front = b"size 0\n" + deck

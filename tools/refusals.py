@@ -1,4 +1,4 @@
-"""The refusals of a deck: of each its place, and the line that is meant."""
+"""The refusals of a deck: the place of each, and the refused line of a block."""
 import re
 
 from decks import (LONGEST_LINE, MARK_OF_UTF8, MARKS_OF_UTF16, MEMORY, Failure, block, is_skipped, lines_of, refused, refused_key,
@@ -7,10 +7,10 @@ from programs import broken, whole_lines
 
 BLANKS = b" \t"
 
-# A refusal that names a line of its block.
+# Refusals that name a line of their block.
 OF_A_LINE = re.compile(r"! (?:3[0-5]|41) \w+ ([0-9]+)")
 
-# Blocks whose refusals name no line, with such an opener, and the refusals that are looked for in their lines.
+# Blocks whose refusals name no line: how such a block begins, and the refusals for which the line is searched.
 OF_DIGITS = {b"words": b"words 8", b"image": b"image 8", b"load": b"load"}
 BAD_NUMBER, BAD_IMAGE, LINE_TOO_LONG = "! 51 BadNumber", "! 04 BadImage", "! 53 LineTooLong"
 BROKEN_PROGRAM = "! 14 BrokenProgram"
@@ -18,13 +18,14 @@ BROKEN_PROGRAM = "! 14 BrokenProgram"
 MOST_WORDS = 4096
 IMAGE_SIZE = 2 * MOST_WORDS
 
-# Characters that look like blanks and are none.
+# Characters that look like spaces.
 BLANKS_THAT_ARE_NONE = re.compile("[\u00a0\u2000-\u200b\u202f\u205f\u3000]")
 
 
 class Refused:
-    """A command or block of a deck that is refused: its lines, counted from 0, and the refusal. `inner` is the line of the
-    block that is meant, where it is known, and `told` what else is told of it."""
+    """A refused command or block of a deck: its lines, counted from 0, and the refusal.
+
+    `inner` is the refused line of the block if it is known, and `told` are remarks about it."""
 
     def __init__(self, lines, first, last, refusal, memory=MEMORY):
         self.lines, self.first, self.last, self.refusal, self.memory = lines, first, last, refusal, memory
@@ -37,38 +38,40 @@ class Refused:
             self.told.append("with spaces at its end")
 
     def place(self):
+        """Returns the place of the command or block in words."""
         return f"line {self.first + 1}" if self.first == self.last else f"lines {self.first + 1}-{self.last + 1}"
 
     def name(self):
-        """The refusal without its detail."""
+        """Returns the refusal without its details."""
         return " ".join(self.refusal.split()[:3])
 
     def at(self):
-        """The refused line: that of the block where it is known, and else the first one."""
+        """Returns the refused line: that of the block if it is known, otherwise the first one."""
         return self.first if self.inner is None else self.inner
 
     def inside(self):
-        """The lines of the block that are not skipped."""
+        """Returns the lines of the block, without comments and empty lines."""
         return [at for at in range(self.first + 1, self.last) if not is_skipped(self.lines[at])]
 
     def line(self):
+        """Returns the text of the refused line."""
         return text_of(self.lines[self.at()])
 
     def opener(self):
-        """The first word of the command or block."""
+        """Returns the first word of the command or block."""
         return (words_of(self.lines[self.first]) or [b""])[0]
 
     def words(self):
-        """The words of the refused line, behind a label where the line is one of a source."""
+        """Returns the words of the refused line. For a line of a source they begin after the label."""
         words = words_of(self.line())
         return words[1:] if self.inner is not None and words and words[0].endswith(b":") else words
 
     def word(self):
-        """The first of them."""
+        """Returns the first of these words."""
         return (self.words() or [b""])[0]
 
     def sign(self):
-        """What its line has that a reader may not see, and how docs/DECK.md calls it; none where it has no such thing."""
+        """Returns what a reader may not see in the line, and the name that docs/DECK.md has for it; None if there is no such thing."""
         line = self.line()
         if self.lines[0].startswith(MARKS_OF_UTF16):
             return "in UTF-16", "A byte order mark"
@@ -81,7 +84,7 @@ class Refused:
         return None
 
     def shown(self):
-        """The refused line as it is told, and behind it what else is told of it."""
+        """Returns the refused line and the remarks about it."""
         line, sign = self.line(), self.sign()
         if sign and sign[0] == "in UTF-16":
             line = line.replace(b"\0", b"")
@@ -90,7 +93,7 @@ class Refused:
         return (shown(line.strip(BLANKS)) + behind).lstrip(" ")
 
     def quoted(self):
-        """The refused line in quotes, its refusal, and what else is known of it: a text for an error."""
+        """Returns the refused line in backquotes, the refusal and the remarks, for an error message."""
         line, sign = self.line(), self.sign()
         if sign and sign[0] == "in UTF-16":
             line = line.replace(b"\0", b"")
@@ -98,13 +101,13 @@ class Refused:
         return f"`{shown(line.strip(BLANKS))}`: {self.refusal}{f': {known}' if known else ''}"
 
     def key(self):
-        """Which key of a line with several is refused, on a line of its own."""
+        """Returns a line that says which key is refused; an empty text if the line has only one key."""
         found = refused_key(self.lines, self.first, self.memory)
         return f"\n  {found}" if found else ""
 
 
 def refusals_of(deck, memory=MEMORY):
-    """The status of a deck, and its refusals. Of a block of words or bytes the faulty line is found."""
+    """Returns the status of a deck and its refusals. For blocks of words or bytes, the refused line is searched."""
     lines = lines_of(deck)
     status, found = refused(deck, memory)
     found = [Refused(lines, *one, memory) for one in found]
@@ -113,8 +116,8 @@ def refusals_of(deck, memory=MEMORY):
 
 
 def look_into_blocks(found):
-    """Finds the faulty lines of blocks of words or bytes. The bench is asked for each of their lines in a block of its own, and
-    first for their openers, by a block without lines."""
+    """Finds the refused lines in blocks of words or bytes. The bench is asked for each line in a block of its own, and first for the
+    first line of the block."""
     deck, places = [], {}
 
     def ask(one, at, opener, lines):
@@ -141,10 +144,10 @@ def look_into_blocks(found):
 
 
 def look_into(one, answers):
-    """Finds the faulty line of a block by the answers to each of its lines alone."""
+    """Finds the refused line of a block from the answers for each of its lines."""
     counts = {at: len(words_of(one.lines[at])) for at in answers}
     if one.refusal == BAD_IMAGE and one.opener() == b"image":
-        # An image's lines are too short alone.
+        # A single line of an image is always too short.
         parts = {at: bytes.fromhex(text_of(one.lines[at]).decode()) for at in answers}
         data = b"".join(parts.values())
         if len(data) == IMAGE_SIZE:
@@ -160,7 +163,7 @@ def look_into(one, answers):
 
 
 def look_into_bytes(one):
-    """Finds the faulty line of a block of a program's bytes, where these are the fault."""
+    """Finds the refused line in a block of a program's bytes."""
     parts = {at: bytes.fromhex(text_of(one.lines[at]).decode()) for at in one.inside()}
     data = b"".join(parts.values())
     place = whole_lines(data)
@@ -170,7 +173,7 @@ def look_into_bytes(one):
 
 
 def line_of(number, counts):
-    """The line that has the thing of this number, counted from 0, where lines have so many of them."""
+    """Returns the line that has the element with this number, counted from 0. `counts` has the number of elements of each line."""
     for at, count in counts.items():
         if number < count:
             return at

@@ -1,6 +1,6 @@
-"""The page's server: it listens on 127.0.0.1 alone, and answers one browser, the first that opens its address with the token.
+"""The server of the page. It listens on 127.0.0.1 only, and serves one browser: the first one that opens its address with the token.
 
-Each request is answered, with a reason where it is refused. The bench is asked by one request at a time."""
+A refused request gets an answer with the reason. The bench is used by one request at a time."""
 import hmac
 import json
 import os
@@ -16,19 +16,19 @@ from decks import NO_ANSWER, Failure
 
 FOLDER = os.path.join(os.path.dirname(os.path.realpath(__file__)), "page")
 
-# All that is served from the folder.
+# The files that are served from the folder.
 FILES = {"": ("calculator.html", "text/html; charset=utf-8"), "calculator.css": ("calculator.css", "text/css; charset=utf-8"),
          "calculator.js": ("calculator.js", "text/javascript; charset=utf-8")}
 
 LONGEST_BODY, LONGEST_PATH = 8_388_608, 2000
 MOST_CONNECTIONS = 48
-# A browser has six connections at once, and each page that is open holds one.
+# A browser has at most six connections at a time, and each open page holds one.
 MOST_PAGES = 4
 
-# Seconds: that a request may take to come, between two beats of the events, that a page may be away, as while it is loaded
-# again, and that nothing may be asked before the first.
+# Times in seconds: for a request to arrive completely, between two events, for which a page may be away (for example while it is loaded
+# again), and until the first page must be opened.
 SLOWEST, BEAT, AWAY, FIRST = 20, 0.5, 10, 600
-# How long what comes of a request that is refused is passed over.
+# How long the rest of a refused request is read and ignored.
 MOMENT = 2
 
 HEADERS = {
@@ -39,13 +39,13 @@ HEADERS = {
     "Cache-Control": "no-store",
     "Cross-Origin-Resource-Policy": "same-origin",
     "Cross-Origin-Opener-Policy": "same-origin",
-    # No request can meet a connection that is just given up.
+    # No request can arrive on a connection that is being closed.
     "Connection": "close",
 }
 
 
 class Refusal(Exception):
-    """Why a request is refused, and with which status."""
+    """The reason why a request is refused, and its HTTP status."""
 
     def __init__(self, status, why):
         super().__init__(why)
@@ -53,42 +53,44 @@ class Refusal(Exception):
 
 
 class Server(ThreadingHTTPServer):
-    """The server, its token and cookie, and the pages that are open."""
+    """The server, its token and cookie, and the number of open pages."""
     daemon_threads = True
     request_queue_size = 64
 
     def __init__(self, port, answers):
-        """`answers` are the answers to requests: their names, and calls that take what a request has."""
+        """`answers` are the functions that answer requests, by name."""
         super().__init__(("127.0.0.1", port), Handler)
         self.answers = answers
         self.token, self.cookie = secrets.token_urlsafe(24), None
         self.port = self.server_address[1]
         self.room = threading.BoundedSemaphore(MOST_CONNECTIONS)
-        # The pages that are open, how long none may be, and until when that lasts.
+        # The number of open pages, for how long there may be none, and until when.
         self.pages, self.patience, self.until = 0, FIRST, time.monotonic() + FIRST
         self.lock, self.closing = threading.Lock(), False
 
     def address(self):
+        """Returns the address of the page."""
         return f"http://127.0.0.1:{self.port}/{self.token}/"
 
     def process_request(self, request, client_address):
-        """A connection too many is closed at once."""
+        """Handles a connection. If there are too many, it is closed at once."""
         if self.room.acquire(blocking=False):
             super().process_request(request, client_address)
         else:
             self.shutdown_request(request)
 
     def process_request_thread(self, request, client_address):
+        """Handles a connection in its thread, and counts it."""
         try:
             super().process_request_thread(request, client_address)
         finally:
             self.room.release()
 
     def handle_error(self, request, client_address):
-        """A connection that breaks is no fault."""
+        """Ignores a broken connection."""
 
     def service_actions(self):
-        """Ends where no page is open any more."""
+        """Ends the server when no page has been open for some time."""
         with self.lock:
             is_over = not self.pages and time.monotonic() > self.until
         if is_over and not self.closing:
@@ -96,7 +98,7 @@ class Server(ThreadingHTTPServer):
             threading.Thread(target=self.shutdown, daemon=True).start()
 
     def open_page(self, count):
-        """Counts a page that opens, or one that closes."""
+        """Counts a page that opens or closes."""
         with self.lock:
             if self.pages + count > MOST_PAGES:
                 raise Refusal(409, f"{MOST_PAGES} pages of this calculator are open already: close one")
@@ -104,12 +106,12 @@ class Server(ThreadingHTTPServer):
             self.patience, self.until = AWAY, time.monotonic() + AWAY
 
     def stay(self):
-        """A page that asks is there, or comes back."""
+        """Notes that a page is there, or that it comes back."""
         with self.lock:
             self.until = time.monotonic() + self.patience
 
     def take_cookie(self, given):
-        """The cookie of the browser that opens the page first; later ones have to give it."""
+        """Returns the cookie for the first browser that opens the page. Other browsers are refused."""
         with self.lock:
             if self.cookie is None:
                 self.cookie = secrets.token_urlsafe(24)
@@ -120,22 +122,24 @@ class Server(ThreadingHTTPServer):
 
 
 class Handler(BaseHTTPRequestHandler):
-    """One connection."""
+    """A connection."""
     protocol_version = "HTTP/1.1"
     server_version, sys_version = "bench", ""
     timeout = SLOWEST
 
     def log_message(self, *_):
-        """Nothing is logged."""
+        """Logs nothing."""
 
     def do_GET(self):
+        """Answers a GET request."""
         self.answer(self.get)
 
     def do_POST(self):
+        """Answers a POST request."""
         self.answer(self.post)
 
     def answer(self, how):
-        """Answers, or tells why not."""
+        """Answers a request, or says why it is refused."""
         try:
             how(*self.checked())
         except Refusal as refusal:
@@ -149,7 +153,7 @@ class Handler(BaseHTTPRequestHandler):
             self.reply(500, "text/plain; charset=utf-8", f"internal error in tools/calculator: {fault!r}: please report it\n".encode())
 
     def turn_away(self):
-        """Ends a connection whose request may not have been read: what comes is passed over for a moment, so that the reply is
+        """Closes a connection whose request may not have been read completely. The rest is ignored for a moment, so that the answer is
         not lost."""
         self.close_connection = True
         try:
@@ -162,7 +166,7 @@ class Handler(BaseHTTPRequestHandler):
             pass
 
     def checked(self):
-        """What a request that comes from the page itself names behind the token, and its query."""
+        """Returns what a request names after the token, and its query. Requests that do not come from the page itself are refused."""
         host = f"127.0.0.1:{self.server.port}"
         if self.headers.get_all("Host") not in ([host], [f"localhost:{self.server.port}"]):
             raise Refusal(403, f"unexpected Host header: expected {host}")
@@ -174,18 +178,19 @@ class Handler(BaseHTTPRequestHandler):
         if not hmac.compare_digest(self.path[:len(begin)].encode(), begin.encode()):
             raise Refusal(403, "the address lacks the token: open the address that tools/calculator printed")
         name, _, query = self.path[len(begin):].partition("?")
-        # The page itself may be opened by a link of another one.
+        # The page itself may be opened by a link in another page.
         if name and self.headers.get("Sec-Fetch-Site", "none") not in ("none", "same-origin"):
             raise Refusal(403, "the request comes from another web page: open the address that tools/calculator printed")
         self.server.stay()
         return name, {key: values[-1] for key, values in parse_qs(query).items()}
 
     def given_cookie(self):
-        """The cookie that the browser gives, by the name that is this server's."""
+        """Returns the cookie of the browser for this server."""
         parts = (part.strip().partition("=") for part in self.headers.get("Cookie", "").split(";"))
         return next((value for name, _, value in parts if name == f"bench-{self.server.port}"), "")
 
     def get(self, name, asked):
+        """Answers a GET request for a path after the token."""
         more = {}
         if name == "":
             cookie = self.server.take_cookie(self.given_cookie())
@@ -208,6 +213,7 @@ class Handler(BaseHTTPRequestHandler):
             raise Refusal(404, f"unknown path '{name[:100]}'")
 
     def post(self, name, _):
+        """Answers a POST request for a path after the token."""
         self.want_cookie()
         length = self.headers.get("Content-Length", "")
         if self.headers.get("Transfer-Encoding") or not (length.isascii() and length.isdigit()):
@@ -231,15 +237,16 @@ class Handler(BaseHTTPRequestHandler):
             self.tell(answer)
 
     def want_cookie(self):
-        """Refuses who has not opened the page."""
+        """Refuses a browser that has not opened the page."""
         if self.server.cookie is None or not hmac.compare_digest(self.given_cookie().encode(), self.server.cookie.encode()):
             raise Refusal(403, "this browser has not opened the calculator: open the address that tools/calculator printed")
 
     def tell(self, answer):
+        """Sends an answer as JSON."""
         self.reply(200, "application/json", json.dumps(answer).encode())
 
     def reply(self, status, kind, body, more=()):
-        """A whole reply. Who has gone away gets none."""
+        """Sends a whole reply. If the browser has closed the connection, nothing is sent."""
         try:
             self.send_response(status)
             for name, value in {**HEADERS, "Content-Type": kind, "Content-Length": str(len(body)), **dict(more)}.items():
@@ -250,8 +257,8 @@ class Handler(BaseHTTPRequestHandler):
             self.close_connection = True
 
     def events(self):
-        """Tells a page the version of the session, whenever there is a new one, and at each beat that the server lives. The page
-        is open as long as this is read."""
+        """Sends the number of the last change to a page, whenever it changes and twice a second. The page counts as open as long as it
+        reads this."""
         self.server.open_page(1)
         self.send_response(200)
         for name, value in {**HEADERS, "Content-Type": "text/event-stream"}.items():
@@ -270,7 +277,7 @@ class Handler(BaseHTTPRequestHandler):
 
 
 def serve(server):
-    """Answers until no page is open any more, or Ctrl-C."""
+    """Serves until no page is open any more, or until Ctrl-C."""
     try:
         server.serve_forever(0.2)
     except KeyboardInterrupt:
@@ -280,8 +287,9 @@ def serve(server):
 
 
 def listen(port, answers):
-    """A server at a port, or at any where none is named."""
+    """Returns a server on a port; with port 0 on any free port."""
     try:
         return Server(port, answers)
     except (OSError, OverflowError) as error:
-        raise Failure(f"cannot listen on 127.0.0.1:{port}: {getattr(error, 'strerror', None) or error}; try another port with --port", NO_ANSWER) from error
+        why = getattr(error, "strerror", None) or error
+        raise Failure(f"cannot listen on 127.0.0.1:{port}: {why}; try another port with --port", NO_ANSWER) from error

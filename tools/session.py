@@ -1,4 +1,4 @@
-"""One process of `bench run -`, asked a command at a time: the bench writes each reply before it reads the next command."""
+"""A process of `bench run -` that is asked one command at a time. The bench writes each reply before it reads the next command."""
 import re
 import shutil
 import subprocess
@@ -7,17 +7,17 @@ from decks import BENCH, Failure, LONGEST_LINE, MARK, MARK_ANSWER, MEMORY, NO_AN
 
 
 def words_of(line):
-    """The words of a line, as the bench parts them."""
+    """Returns the words of a line, separated as the bench separates them."""
     return [word for word in re.split(rb"[ \t]+", line.removesuffix(b"\r")) if word]
 
 
 def is_end(line):
-    """Whether a line ends a block."""
+    """Returns whether a line ends a block."""
     return len(line.removesuffix(b"\r")) <= LONGEST_LINE and words_of(line) == [b"end"]
 
 
 def is_whole(command):
-    """Whether the lines of a command are all there: a block goes up to its `end`, and any other command is one line."""
+    """Returns whether a command is complete: a block with its `end`, or one line."""
     first, *others = command.split(b"\n")
     if len(first) <= LONGEST_LINE and words_of(first)[:1] and words_of(first)[0] in OPENERS:
         return [is_end(line) for line in others].count(True) == 1 and is_end(others[-1])
@@ -25,25 +25,25 @@ def is_whole(command):
 
 
 def want_program():
-    """Wants a program that answers at once: what rt try compiles reads all commands before it answers any."""
+    """Checks that the program is built. `rt try` is not enough, because it reads all commands before it answers any."""
     ready = subprocess.run([BENCH, "prove", "--check"], stdin=subprocess.DEVNULL, capture_output=True)
     if ready.returncode and (ready.returncode != 1 or shutil.which("rt")):
         raise Failure("the proved program is missing or out of date: build it with ./bench prove", NO_ANSWER)
 
 
 class Session:
-    """A bench that goes on until it is closed, with so many registers of memory. It begins empty, and keeps what its commands
-    leave."""
+    """A bench with so many registers of memory that runs until it is closed. It starts empty, and keeps the effects of its commands."""
 
     def __init__(self, memory=MEMORY):
         want_program()
         self.bench = subprocess.Popen([BENCH, *running(memory)], stdin=subprocess.PIPE, stdout=subprocess.PIPE)
 
     def ask(self, command):
-        """The lines that a command prints, a block from its first line up to its `end` among them."""
+        """Returns the lines that a command or a whole block prints."""
         command = command.rstrip(b"\n")
         if not is_whole(command):
-            raise Failure(f"`{command.decode(errors='replace').splitlines()[0]}`: expected one command, or one block with its line `end`", 2)
+            first = command.decode(errors="replace").split("\n")[0]
+            raise Failure(f"`{first}`: expected one command, or one block with its line `end`", 2)
         lines = []
         try:
             self.bench.stdin.write(command + b"\n" + MARK)
@@ -58,7 +58,7 @@ class Session:
         return lines[:-2]
 
     def close(self):
-        """Ends the bench, and answers its status, which is 1, since the marks are refused."""
+        """Ends the bench. Returns its status, which is 1, because the marker is refused."""
         self.bench.stdin.close()
         self.bench.stdout.close()
         return self.bench.wait()

@@ -1,5 +1,5 @@
-"""Sources for the assembler: their faults, and the addresses and words that the bench gives their lines and labels; and what a
-description puts at the end of a page."""
+"""Sources for the assembler: finds their errors, and the addresses and words of their lines and labels, as the bench determines them.
+Adds the lines of a description of the end of a page."""
 import argparse
 import re
 import subprocess
@@ -18,10 +18,11 @@ BLANKS = b" \t"
 PAGES = "456789ABCDEF"
 PAGE_SIZE = 4096
 
-# Where sources are assembled for their places, which are the same at each origin: there is room for what is put behind them.
+# Where sources are assembled to find the places of lines, which do not depend on the origin. After it there is room for the jumps that
+# are added.
 ORIGIN = 0x4000
 
-# What a file may end with, and a line.
+# ^Z at the end of a file, and CR as a line end.
 END_MARK = b"\x1a"
 CR_ALONE = re.compile(rb"\r(?!\n)")
 
@@ -31,35 +32,35 @@ REFERENCE = re.compile(rb":(" + NAME + rb")\Z")
 LOOKS_LIKE_LABEL = re.compile(rb"[ \t]*(" + NAME + rb")(?![0-9A-Za-z_])")
 CODE = re.compile(rb'(?:[^;"]|"[^"]*"|"[^"]*\Z)*')
 
-# A line of the bench that ends in an address: where a function or a page's program is, or a refusal.
+# A line of the bench that ends with an address: the position in a function or in a program of a page, or a refusal.
 OF_AN_ADDRESS = re.compile(r"(?:Micro |(?:Run|Idle) P|! (?:0[6-9]|1[0-2]) \w+ )([4-9A-F][0-9A-F]{3})")
 
-# Instructions by what they do with the carry. Sums, differences and tests set it to what comes out; all others clear it, so it
-# is clear wherever a jump or return arrives.
+# Instructions by what they do to the carry. Sums, differences and tests set it by their result; all others clear it, so it is clear at
+# each jump target and after each return.
 ASKS = re.compile(r"(?:JC|JNC|\?N?C (?:XQ|GO)) \S+|\?N?C RTN")
 ASKS_FOR_SET = re.compile(r"(?:JC|\?C (?:XQ|GO)) \S+|\?C RTN")
 TEST = re.compile(r"\?(?!N?C (?:XQ|GO|RTN)\b).*")
 SUM = re.compile(r"[AC]=\S*[+-]\S* \S+")
 
-# Instructions that do not go on to the next: the first where the carry is clear.
+# Instructions after which the next one is not executed: the first kind only if the carry is clear.
 GOES = re.compile(r"(?:JNC|\?NC GO) \S+|\?NC RTN")
 ENDS = re.compile(r"RTN|GOTO ADR|GOTO KEY")
 
-# Faults that a line has by itself.
+# Errors that a line has on its own.
 OF_THE_LINE = ("! 30 BadLine", "! 31 BadOperand")
 
 
 class Faulty(Failure):
-    """A source has faults: its text has a line for each, and what is known of it."""
+    """A source has errors. The text has a line for each of them."""
 
 
 def with_ends(data):
-    """A text with LF where CR alone ends a line, and without ^Z at its end."""
+    """Returns a text in which LF replaces CR as a line end, without ^Z at its end."""
     return CR_ALONE.sub(b"\n", data.rstrip(END_MARK))
 
 
 def text_in(path):
-    """The text of a file, which is not in UTF-16."""
+    """Returns the text of a file. UTF-16 is refused."""
     data = bytes_of(path)
     if data.startswith(MARKS_OF_UTF16):
         raise Faulty(f"{path}: the text is in UTF-16: save it as UTF-8")
@@ -67,19 +68,19 @@ def text_in(path):
 
 
 def source_lines(data):
-    """The lines of a source without their ends, and without a mark at its front. As for `bench asm`, a comment may be long: it is
+    """Returns the lines of a source without line ends, and without a byte order mark. A comment may be long, as in `bench asm`: it is
     cut."""
     lines = [text_of(line) for line in lines_of(data.removeprefix(MARK_OF_UTF8))]
     return [line[:LONGEST_LINE] if len(CODE.match(line)[0]) < LONGEST_LINE else line for line in lines]
 
 
 def without_comments(lines):
-    """Lines of a source in which none is a comment of a deck, which begins with #."""
+    """Returns lines of a source in which comments of a deck, which begin with #, are replaced by empty lines."""
     return [b"" if line.startswith(b"#") else line for line in lines]
 
 
 def assemble(lines, origin=ORIGIN):
-    """The words of a source by its lines, and its first fault: the line, counted from 0, and the refusal without its number."""
+    """Assembles lines. Returns the words, or the first error: its line, counted from 0, and the refusal without the line number."""
     ran = subprocess.run([BENCH, "asm", "--origin", f"{origin:04X}", "-"], input=b"".join(line + b"\n" for line in lines),
                          stdout=subprocess.PIPE)
     if ran.returncode == NO_ANSWER:
@@ -93,8 +94,8 @@ def assemble(lines, origin=ORIGIN):
 
 
 class Line:
-    """A line of a source: its label, what stands behind that, the label that it refers to, and its comment; each empty or none
-    where there is none. In a line with a fault they are what they look like."""
+    """A line of a source: its label, its code after the label, the label that it refers to, and its comment. Each is empty or None if it
+    is missing. In a line with an error they are guesses."""
 
     def __init__(self, text):
         self.text = text
@@ -109,17 +110,17 @@ class Line:
         self.reference = reference[1].decode() if reference else None
 
     def instruction(self):
-        """The instruction or directive with its operand, a blank between two words."""
+        """Returns the instruction or directive with its operand, with one space between two words."""
         return b" ".join(words_of(self.code)).decode(errors="replace")
 
     def referring_to(self, name):
-        """The line with a reference for its last word."""
+        """Returns the line with a reference as its last word."""
         label = self.label.encode() + b": " if self.label else b" "
         return label + self.code.removesuffix(words_of(self.code)[-1]) + b":" + name
 
 
 class Fault:
-    """A fault of a source: the line, counted from 0, its text, the refusal, and what is known of it."""
+    """An error in a source: the line, counted from 0, its text, the refusal, and causes."""
 
     def __init__(self, at, text, refusal):
         self.at, self.text, self.refusal, self.told = at, text, refusal, []
@@ -129,7 +130,7 @@ class Fault:
 
 
 class Source:
-    """A source: its lines, and either its faults, or the places of its lines and labels in the page, and how many words it has."""
+    """A source: its lines, and either its errors, or the places of its lines and labels in the page and its number of words."""
 
     def __init__(self, data):
         self.faults, self.labels, self.size = [], {}, 0
@@ -146,11 +147,12 @@ class Source:
         self.faults.sort(key=lambda fault: fault.at)
 
     def fault(self, at, refusal):
+        """Adds an error of a line."""
         self.faults.append(Fault(at, self.texts[at], refusal))
 
     def find_places(self):
-        """The places and the faults. Each line has a label of its own put before it, and behind the source stands a
-        long jump for each label: the words of these have the addresses."""
+        """Finds places and errors. Each line gets a label of its own, and a long jump to each label follows the source: the words of
+        these jumps contain the addresses."""
         texts = [b"" if at in self.faulty() else line.text for at, line in enumerate(self.lines)]
         while True:
             names = list(dict.fromkeys([*self.marks, *(line.label.encode() for line in map(Line, texts) if line.label)]))
@@ -185,11 +187,12 @@ class Source:
         tell_causes(self.faults)
 
     def faulty(self):
+        """Returns the lines with errors."""
         return {fault.at for fault in self.faults}
 
     def faults_of_lines(self):
-        """Finds the faults that lines have by themselves; these lines. Each line is asked of the bench alone, for page 3: where
-        it has no such fault, that page is refused."""
+        """Finds errors that lines have on their own, and returns these lines. The bench assembles each line alone, for page 3, which it
+        refuses only if the line has no error."""
         faulty = self.faulty()
         asked = [at for at, line in enumerate(self.lines) if at not in faulty and line.text.strip(BLANKS)]
         _, found = refused(b"".join(block(b"asm 3", [self.lines[at].text]) for at in asked))
@@ -200,8 +203,8 @@ class Source:
         return [at for at, _ in wrong]
 
     def kept_of(self, at):
-        """What is kept of a line with a fault: its label, or what may have been meant as one, so that what refers to it is no
-        fault too."""
+        """Returns what is kept of a line with an error: its label, or a word that may be meant as one, so that references to it are not
+        errors too."""
         line = self.lines[at]
         name = line.label.encode() if line.label else None
         if not name and next(fault for fault in self.faults if fault.at == at).refusal == OF_THE_LINE[0]:
@@ -210,7 +213,7 @@ class Source:
         return name + b":" if name else b""
 
     def known_of(self, fault, places):
-        """What is known of a fault of a label or a reference."""
+        """Returns the causes of an error of a label or a reference."""
         line = self.lines[fault.at]
         if fault.refusal == "! 32 LabelTwice":
             return [f"line {self.line_of(line.label) + 1} has the label {line.label} already"]
@@ -224,20 +227,20 @@ class Source:
             return [f"{line.reference} is {least}{abs(distance)} words {'back' if distance < 0 else 'ahead'}"]
         return []
 
-    # What is asked of a source without faults.
+    # Questions about a source without errors.
 
     def line_of(self, label):
-        """The first line with a label, counted from 0."""
+        """Returns the first line with a label, counted from 0."""
         return next(at for at, line in enumerate(self.lines) if line.label == label)
 
     def uses_of(self, label):
-        """The lines that refer to a label, counted from 0."""
+        """Returns the lines that refer to a label, counted from 0."""
         return [at for at, line in enumerate(self.lines) if line.reference == label]
 
 
 # The end of a page.
 
-# The first word of a page that the calculator looks at by itself, and where its id and its checksum stand.
+# The first word of a page that the calculator reads by itself, and the places of its id and its checksum.
 FIRST_POLLED, ID_PLACE, CHECKSUM_PLACE = 0xFF4, 0xFFB, 0xFFF
 
 OF_THE_END = {b"fill": (re.compile(rb"fill[ \t]+([0-3][0-9A-Fa-f]{2})"), "`fill HHH`, a word up to 3FF"),
@@ -247,18 +250,20 @@ OF_THE_END = {b"fill": (re.compile(rb"fill[ \t]+([0-3][0-9A-Fa-f]{2})"), "`fill 
 
 
 def constant(word):
+    """Returns a source line that gives one word."""
     return b"        CON %03X" % word
 
 
 def directive_of(line):
-    """What may be meant as a directive of a description: the first word of a line without a label, in lower case."""
+    """Returns the first word of a line without a label, in lower case: it may be a directive of a description."""
     return b"" if line.label else (words_of(line.code) or [b""])[0].lower()
 
 
 class Whole:
-    """The lines of a source, and behind them those that a description puts at the end of its page. Of each line the file and
-    the number there, and its text as it is told; the lines that only fill the page; that of the checksum; and the faults of the
-    description."""
+    """The lines of a source, and after them the lines that a description puts at the end of its page.
+
+    `origins` has the file and number of each line, `told` its text, and `fills` the lines that only fill the page; `checksum` is the line
+    of the checksum, and `faults` are the errors of the description."""
 
     def __init__(self, path, data, end=None):
         self.path, self.lines = path, source_lines(data)
@@ -269,16 +274,18 @@ class Whole:
             self.describe(end, source_lines(text_in(end)))
 
     def data(self):
+        """Returns the lines as the bytes of a source."""
         return b"".join(line + b"\n" for line in self.lines)
 
     def add(self, line, origin, told=b""):
+        """Adds a line."""
         self.lines.append(line)
         self.told.append(told)
         self.origins.append(origin)
 
     def describe(self, path, texts):
-        """Adds what the lines of a description say. Where the source ends, and how many words those of the source language give,
-        the bench tells of them together."""
+        """Adds the lines of a description. The bench assembles the source together with the lines of the description to find how many
+        words each has."""
         rows = list(zip(texts, map(Line, without_comments(texts))))
         codes = [text for text, line in rows if directive_of(line) not in OF_THE_END]
         places = Source(self.data() + b"".join(text + b"\n" for text in codes)).places[len(self.lines):]
@@ -292,7 +299,7 @@ class Whole:
                 self.end += next(sizes)
 
     def carry_out(self, directive, code, origin, text):
-        """Adds what a line of the description says that is none of the source language."""
+        """Adds the lines for a directive of the description."""
         form, meant = OF_THE_END[directive]
         found = form.fullmatch(code)
         if not found:
@@ -327,19 +334,19 @@ class Whole:
         self.faults.append("{}:{}: `{}`: {}".format(*origin, shown(text.strip(BLANKS)), why))
 
     def place(self, at):
-        """A line as it is told: its file and its number there."""
+        """Returns the file and number of a line."""
         return "{}:{}".format(*self.origins[at])
 
     def faults_of(self, source):
-        """What is told of the faults of the source that the lines are, and where no page has room for them."""
+        """Returns the errors of the source, or if there are none, the error that it does not fit into a page."""
         return self.faults_of_lines(source) or self.faults_of_size(source)
 
     def faults_of_lines(self, source):
-        """What is told of the faults that lines have."""
+        """Returns the errors of lines."""
         return [f"{self.place(fault.at)}: {fault}" for fault in source.faults] + self.faults
 
     def faults_of_size(self, source):
-        """What is told where no page has room for the words."""
+        """Returns the error that the words do not fit into a page."""
         full = next((at for at, behind in enumerate(source.places[1:]) if behind > PAGE_SIZE), None)
         if full is None:
             return []
@@ -347,7 +354,7 @@ class Whole:
                 f"at most {PAGE_SIZE:,}, one page"]
 
     def at_page(self, page):
-        """The lines at a page, with the checksum of the words before it, where one is wanted."""
+        """Returns the lines for a page, with the checksum of the words before it, if there is one."""
         if self.checksum is None:
             return self.lines
         words, _ = assemble(without_comments(self.lines[:self.checksum]), int(page, 16) << 12)
@@ -357,7 +364,8 @@ class Whole:
 
 
 def checksum_of(words):
-    """The checksum of words: each carry out of ten bits is added at the low end of their sum, whose complement of two it is."""
+    """Returns the checksum of words: they are added with end-around carry in ten bits, and the checksum is the two's complement of the
+    sum."""
     total = 0
     for word in words:
         total += word
@@ -366,8 +374,8 @@ def checksum_of(words):
 
 
 class Assembled(Source):
-    """A source without faults at a page, with its words, and with what a description puts at the page's end. One with faults is
-    refused, with all of them."""
+    """A source without errors at a page: its words, and the end of the page from a description. A source with errors is refused with all
+    of them."""
 
     def __init__(self, path, page, end=None):
         whole = Whole(path, text_in(path), end)
@@ -376,7 +384,7 @@ class Assembled(Source):
         faults = whole.faults_of_lines(self)
         if faults:
             raise Faulty("\n".join(faults))
-        # A word or a label past FFFF is a fault of its line, and comes before those of the page.
+        # A word or a label past FFFF is an error of its line, and is reported before errors of the page.
         self.words, fault = assemble(without_comments(whole.at_page(page)), int(page, 16) << 12)
         if fault:
             raise Faulty(f"{whole.place(fault[0])}: {Fault(fault[0], self.texts[fault[0]], fault[1])}")
@@ -385,16 +393,16 @@ class Assembled(Source):
             raise Faulty("\n".join(faults))
 
     def address(self, place):
-        """The address of a place in the page, or just behind it."""
+        """Returns the address of a place in the page, or of the place after its end."""
         return f"{(int(self.page, 16) << 12) + place:04X}"
 
     def words_of_line(self, at):
-        """The words that a line gives."""
+        """Returns the words of a line."""
         return self.words[self.places[at]:self.places[at + 1]]
 
 
 def run_tool(name, usage, tell, words):
-    """Runs a tool that takes a source and a page: what it tells of the source has its status."""
+    """Runs a tool that takes a source and a page. Returns the status of the tool."""
     if words in (["-h"], ["--help"]):
         print(usage.strip())
         return 0
@@ -414,17 +422,17 @@ def run_tool(name, usage, tell, words):
 
 
 class Labels:
-    """The labels of the sources that a deck plugs, by which addresses are told."""
+    """The labels of the sources that a deck plugs."""
 
     def __init__(self, lines=()):
         self.pages = {}
         labels = [line.label for line in map(Line, lines) if line.label]
-        # Room for the longest label, a sign and a count.
+        # Room for the longest label, a sign and an offset.
         self.width = max(map(len, labels)) + 4 if labels else 0
 
     def follow(self, lines):
-        """Takes the labels of a block that the bench has accepted, or forgets those of a page that is plugged or taken out
-        otherwise."""
+        """Adds the labels of a block that the bench has accepted, or forgets those of a page that is plugged without a source, or
+        unplugged."""
         words = words_of(lines[0])
         if words[0] not in (b"asm", b"words", b"image", b"unplug"):
             return
@@ -438,22 +446,22 @@ class Labels:
             banks.pop(bank, None)
 
     def of(self, address):
-        """The label at an address or before it in the page, and how many words lie between; empty where there is none. Where
-        several banks of the page have sources, that of each, since any of them may be read there."""
+        """Returns the label at an address, or the last one before it with the offset in words; an empty text if there is none. If several
+        banks of the page have sources, returns the label of each, because the active bank is not known."""
         banks, place = self.pages.get(address[:1].encode(), {}), int(address[1:], 16)
         found = (labels[:bisect(labels, (place, "~"))][-1:] for _, labels in sorted(banks.items()))
         return "/".join(dict.fromkeys(name + (f"+{place - before:X}" if place > before else "")
                                       for last in found for before, name in last))
 
     def behind(self, line):
-        """What is told behind a line that ends in an address: its label."""
+        """Returns the label for a line that ends with an address, after a space."""
         found = OF_AN_ADDRESS.fullmatch(line)
         label = self.of(found[1]) if found else ""
         return f" {label}" if label else ""
 
 
 def tell_labels(lines, found):
-    """Puts the labels of their addresses behind the refusals that a deck with these lines has."""
+    """Adds labels to the addresses in the refusals of a deck."""
     items, refusals = items_of(lines), {one.first: one for one in found}
     labels = Labels(line for first, last in items if words_of(lines[first])[:1] == [b"asm"] for line in lines[first:last])
     for first, last in items:
@@ -463,16 +471,16 @@ def tell_labels(lines, found):
             labels.follow(lines[first:last + 1])
 
 
-# The usual causes of faults.
+# Usual causes of errors.
 
-# What an instruction may take: its class is what of these it does.
+# Operands that are tried. The set of those that an instruction takes is its class.
 OPERANDS = (b"", b"ALL", b"8010", b":A", b"+00", b"8", b"15", b"000", b'"A"')
 
 DIRECTIVES_OF_OTHERS = re.compile(rb"\.?(?:ORG|END|EQU|SET|FILLTO|BSS|DEFR4K|DEFR8K|TITLE|INCLUDE)\Z", re.I)
 
 
 def classes_of(instructions):
-    """The class of each of these, empty where it is no instruction: the operands that the bench takes behind it."""
+    """Returns the class of each instruction: the operands that the bench accepts for it. The class of something else is empty."""
     asked = [(one, operand) for one in sorted(instructions) for operand in OPERANDS]
     _, found = refused(b"".join(block(b"asm 3", [b"A: " + one + b" " + operand]) for one, operand in asked))
     taken = {one: set() for one in instructions}
@@ -484,13 +492,13 @@ def classes_of(instructions):
 
 
 def instructions_of(code):
-    """What may be the instruction of a line: its first word, or its first two."""
+    """Returns what may be the instruction of a line: its first word, or its first two words."""
     words = [word for word in words_of(code) if re.fullmatch(rb"[!-~]+", word) and b";" not in word and b'"' not in word]
     return [words[0], b" ".join(words[:2])] if words[1:] else words
 
 
 class Asked:
-    """A faulty line of which the usual cause is asked, or one of the document that has it."""
+    """A line with an error whose usual cause is wanted, or a line of the document that has the cause."""
 
     def __init__(self, text, refusal):
         self.line, self.refusal = Line(text), refusal
@@ -499,18 +507,18 @@ class Asked:
         self.shape = re.sub("[a-z]", "a", re.sub("[A-Z]", "A", re.sub("[0-9]", "0", self.line.code.decode(errors="replace"))))
 
     def names(self):
-        """What may be its instruction, as texts."""
+        """Returns the possible instructions of the line as texts."""
         return [name.decode() for name in instructions_of(self.line.code)]
 
     def instructions(self):
-        """All that may be an instruction in the line."""
+        """Returns everything that may be an instruction in the line."""
         names = instructions_of(self.line.code)
         if self.refusal == "! 30 BadLine":
             names = [*(name.upper() for name in names), *instructions_of(self.behind)]
         return names
 
     def kind(self, classes, others):
-        """What kind of line it is: one with a fault in its operand is of the class of its instruction."""
+        """Returns the kind of the line. If the error is in the operand, this is the class of the instruction."""
         if self.refusal != "! 30 BadLine":
             return next((classes[name] for name in instructions_of(self.line.code) if classes[name]), None)
         if self.first in others:
@@ -528,8 +536,8 @@ class Asked:
         return "a comment" if re.match(rb"[*/.#!]", self.first) else None
 
     def may_be_as(self, row, kind):
-        """Whether the cause of a row of its kind can be its own. Where a decimal number stands behind the instruction, a number is
-        too great, or zero where that is none, and no other operand is a number."""
+        """Returns whether the cause in a row of the same kind can apply to this line. For a decimal operand, the row must have a number
+        too, and zero only if this line has zero."""
         if not isinstance(kind, frozenset) or b"8" not in kind:
             return True
         mine, its = (words_of(one.line.code)[1:] for one in (self, row))
@@ -538,30 +546,30 @@ class Asked:
 
 
 def other_names():
-    """The names of another dialect that docs/ASSEMBLER.md has, and what stands here in their place."""
+    """Returns the names of other dialects in docs/ASSEMBLER.md, each with its replacement."""
     return {other.encode(): name for other, name in pairs_of(tables_of(section_of("ASSEMBLER.md", "Other dialects"))[0])}
 
 
 def operands():
-    """What stands behind instructions, as docs/ASSEMBLER.md has it."""
+    """Returns the operands of instructions from docs/ASSEMBLER.md."""
     return {name: plain(behind) for instructions, behind in tables_of(section_of("ASSEMBLER.md", "Instructions"))[0]
             for name in codes_of(instructions)}
 
 
 def may_be_of_others(kind):
-    """Whether a line of this kind, for which there is a cause, may be one of another dialect all the same: a directive, or one
-    whose instruction takes a field or nothing."""
+    """Returns whether a line of this kind may be one of another dialect even if a cause is known: a directive, or an instruction with a
+    field or without an operand."""
     return kind == "a directive of others" or isinstance(kind, frozenset) and not kind.isdisjoint((b"", b"ALL"))
 
 
 def of_another_dialect(own):
-    """What is told of a line of another dialect, by what it is here."""
+    """Returns the remark about a line of another dialect, from its translation."""
     return "a line of another dialect, which tools/import " + ("removes" if own.startswith(";") else f"reads as `{own}`")
 
 
 def tell_causes(faults):
-    """Adds the usual cause to what is known of each fault, as docs/ASSEMBLER.md has it: of the rows with its refusal and of its
-    kind that with the line most like it."""
+    """Adds the usual cause to each error: of the rows of docs/ASSEMBLER.md with the same refusal and kind, the cause of the most similar
+    line."""
     asked = [(Asked(fault.text, fault.refusal), fault) for fault in faults if fault.refusal in (*OF_THE_LINE, "! 34 TooFar")]
     if not asked:
         return

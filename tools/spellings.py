@@ -1,7 +1,7 @@
-"""Lines of programs as listings have them, and the texts that the bench may read for each.
+"""Spellings of program lines in listings, and the texts that the bench may read for them.
 
-Signs and names stand in the tables of docs/PROGRAMS.md. What is said here are the forms of lines: numbers, texts, labels,
-functions with an operand. A line has some texts, the likeliest first; whether the bench reads one is asked of the bench."""
+Signs and names are in the tables of docs/PROGRAMS.md. This module has the forms of lines: numbers, texts, labels, and functions with an
+operand. A line has several possible texts, the likeliest first; the bench decides which of them it can read."""
 import re
 from dataclasses import dataclass, field
 
@@ -9,10 +9,10 @@ from documents import codes_of, section_of, tables_of
 
 DOCUMENT = "PROGRAMS.md"
 
-# Signs that stand before a LBL in printed listings.
+# Signs before a LBL in printed listings.
 LABEL_MARKS = "*♦◆▸▶►•●>"
 
-# The append sign, before a text, and as the first character between its quotes.
+# The append sign before a text, and as the first character inside its quotes.
 APPENDED = re.compile(r"""(?:(?:[├⊢]|\|-|-[├⊢]|>(?=\s*["'])|APPEND(?=[\s"']))\s*)(?:"(.*)"|'(.*)'|(.+))""", re.I)
 APPENDED_WITHIN = re.compile(r'"(?:[├⊢]|-[├⊢]|\\7F)(.*)"')
 TEXT = re.compile(r'"(.*)"|\'(.*)\'|ᵀ(.+)')
@@ -24,10 +24,10 @@ ONE_LETTER = re.compile(r"(?:LBL|GTO|XEQ) ([A-Za-z])")
 OPERATED = re.compile(r"(.+?)(?:\s+|(?<=[-+*/×÷])(?=IND))(?:(IND)\s*)?(?:ST\s+)?"
                       r"([0-9]{1,3}|[A-Za-z]|[\[\\\]↑^_]|[├⊢]|\|-|APPEND)", re.I)
 
-# X<>Y with blanks. `X<> Y` is no such one, but the line of two bytes.
+# X<>Y with spaces. `X<> Y` does not belong to these: it is the line of two bytes.
 EXCHANGE = re.compile(r"X\s*[↔⇄]\s*Y|X\s+<>\s*Y", re.I)
 
-# How the calculator itself shows the registers M to Q in a line.
+# How the calculator shows the registers M to Q.
 SHOWN_REGISTERS = {"[": "M", "\\": "N", "]": "O", "↑": "P", "^": "P", "_": "Q"}
 
 MODULE = re.compile(r"XROM\s*([0-9]{1,2})\s*[,/:.]\s*([0-9]{1,2})", re.I)
@@ -54,24 +54,25 @@ class Tables:
     printed: dict = field(default_factory=dict)
 
     def key(self, name):
-        """What a name is looked up by: capitals, its signs replaced, without blanks."""
+        """Returns the key of a name in the tables: in capitals, with its signs replaced, without spaces."""
         name = re.sub(r"[a-z]", lambda letter: letter[0].upper(), re.sub(r"\s", "", name))
         return replaced(name, self.in_names)
 
     def name(self, name):
-        """The name of a function as the bench has it; one that the table has not stays."""
+        """Returns the name that the bench has for a function. A name that is not in the table is not changed."""
         key = self.key(name)
         return self.names.get(key, key)
 
 
 def replaced(text, signs):
+    """Returns a text with its signs replaced."""
     for sign, other in signs.items():
         text = text.replace(sign, other)
     return text
 
 
 def read_tables():
-    """The tables of signs and names."""
+    """Returns the tables of signs and names."""
     tables = Tables()
     for signs, other in tables_of(section_of(DOCUMENT, "Signs everywhere"))[0]:
         tables.everywhere.update(dict.fromkeys(map(sign_of, codes_of(signs)), sign_of(codes_of(other)[0])))
@@ -88,12 +89,12 @@ def read_tables():
 
 
 def sign_of(code):
-    """A sign of the first table, which may be written U+ and its number."""
+    """Returns a sign of the first table, which may be written as U+ and its number."""
     return chr(int(code[2:], 16)) if re.fullmatch(r"U\+[0-9A-F]{4}", code) else code
 
 
 def outside_quotes(text, sign):
-    """Where a sign first stands outside quotes; -1 where it does not."""
+    """Returns where a sign first occurs outside quotes; -1 if it does not."""
     quoted = False
     for at, letter in enumerate(text):
         quoted ^= letter == '"'
@@ -103,8 +104,8 @@ def outside_quotes(text, sign):
 
 
 class Speller:
-    """Spells the lines of a listing. What its commas mean is told by all of its numbers, and which names functions of modules have
-    by those that are known."""
+    """Translates the lines of a listing. All numbers of the listing decide what a comma means. `functions` are the known functions of
+    modules."""
 
     def __init__(self, tables, lines, functions=None):
         self.tables, self.functions = tables, functions
@@ -114,19 +115,19 @@ class Speller:
 
     @staticmethod
     def is_ambiguous(number):
-        """Whether a comma may part thousands or be the decimal point."""
+        """Returns whether a comma may separate thousands or be the decimal point."""
         return number.count(",") == 1 and "." not in number and GROUPS.fullmatch(number) is not None
 
     def plain(self, line):
-        """The line with typewriter's signs alone, without a comment behind it and a mark before its LBL."""
+        """Returns a line in ASCII signs, without its comment and without a sign before its LBL."""
         line = replaced(line, self.tables.everywhere)
         at = outside_quotes(line, ";")
         line = (line if at < 0 else line[:at]).strip()
         return re.sub(rf"\A[{re.escape(LABEL_MARKS)}]\s*(?=LBL\b)", "", line, flags=re.I)
 
     def spellings(self, line):
-        """The texts that a line may have, the likeliest first, each with a remark on how it was read. None where nothing
-        is left of the line, as of a comment."""
+        """Returns the possible texts of a line, the likeliest first, each with a remark. None if nothing is left of the line, for example
+        of a comment."""
         line = self.plain(line)
         if line == "" or HEAD.fullmatch(line):
             return None
@@ -136,7 +137,7 @@ class Speller:
         return found
 
     def number(self, line):
-        """A number: blanks and plus signs go, and commas are read."""
+        """Reads a number: spaces and plus signs are removed, and commas are interpreted."""
         found = NUMBER.fullmatch(line)
         if not found or found[4] is None and not re.search(r"[0-9]", found[2]):
             return []
@@ -148,7 +149,7 @@ class Speller:
         return [(f"{sign.replace('+', '')}{read}{end}", remark)]
 
     def commas(self, mantissa):
-        """The mantissa without commas, and how they were read."""
+        """Returns a mantissa without commas, and a remark on how they were read."""
         if "," not in mantissa:
             return mantissa, ""
         thousands, point = mantissa.replace(",", ""), mantissa.replace(",", ".")
@@ -165,11 +166,11 @@ class Speller:
         return None, ""
 
     def characters(self, text):
-        """The characters of a text or a name between quotes."""
+        """Returns the characters of a text or a name in quotes."""
         return replaced(text, self.tables.in_texts)
 
     def text(self, line):
-        """A text for ALPHA."""
+        """Reads a text for ALPHA."""
         for form, front in ((APPENDED_WITHIN, ">"), (APPENDED, ">"), (TEXT, "")):
             found = form.fullmatch(line)
             if found:
@@ -179,16 +180,16 @@ class Speller:
 
     @staticmethod
     def module(line):
-        """A function of a module, by its numbers."""
+        """Reads a function of a module by its numbers."""
         found = MODULE.fullmatch(line)
         return [(f"XROM {int(found[1]):02},{int(found[2]):02}", "")] if found else []
 
     def named(self, line):
-        """A function of a module, by its name."""
+        """Reads a function of a module by its name."""
         return self.functions.spellings(self.tables.key(line)) if self.functions else []
 
     def function(self, line):
-        """A function with its operand."""
+        """Reads a function with an operand."""
         found = OPERATED.fullmatch(line)
         if not found or EXCHANGE.fullmatch(line):
             return []
@@ -197,7 +198,7 @@ class Speller:
 
     @staticmethod
     def operand(text):
-        """An operand: two digits, a letter, or the append register."""
+        """Returns an operand: two digits, a letter, or the append register."""
         if text.isdecimal():
             return f"{int(text):02}"
         if text in SHOWN_REGISTERS:
@@ -207,7 +208,7 @@ class Speller:
         return "append"
 
     def label(self, line):
-        """A label by its name, in quotes or without."""
+        """Reads a label with a name, in quotes or without."""
         found = LABELLED.fullmatch(line)
         if not found:
             return []
@@ -217,12 +218,12 @@ class Speller:
         return [(f'{found[1].upper()} "{self.characters(name)}"', "")]
 
     def function_called(self, text):
-        """The line that a function would be, whose name is called as a label's; none where no name is called."""
+        """Returns the line that would be the function of the called name; None if the line does not call a name."""
         found = re.fullmatch(r'XEQ "([^"]+)"', text)
         return self.tables.name(found[1]) if found else None
 
     def whole(self, line):
-        """A function without an operand."""
+        """Reads a function without an operand."""
         if LAST.fullmatch(line):
             return [(".END.", "")]
         if END.fullmatch(line):
@@ -234,7 +235,7 @@ class Speller:
         return found + [(self.tables.name(f"{line}?"), "a test without its question mark")] if TEST.fullmatch(line) else found
 
     def remark_on(self, line):
-        """How a line that the bench reads may be meant otherwise; nothing where it may not."""
+        """Returns a remark if a line that the bench reads may be meant differently; otherwise an empty text."""
         found = ONE_LETTER.fullmatch(line)
         if found:
             return f'the label {found[1]} of one letter; for a name write it in quotes, "{found[1]}"'
@@ -253,7 +254,7 @@ class Speller:
 
 
 def printed(tables, line, names):
-    """A line as archives print it, which is read as the same line again. Of functions of modules these are the names."""
+    """Returns a line as archives print it, which is read as the same line again. Functions of modules are printed by name."""
     if line in names:
         return names[line]
     found = re.fullmatch(r'(>?|[A-Z]+ )(".*")', line)

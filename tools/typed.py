@@ -1,21 +1,21 @@
-"""Keys of names, texts, numbers and lines of programs, by the table in keyboard.py. Whether keys type a line is asked of the
-bench where it matters.
+"""The keys that type names, texts, numbers and program lines, from the table in keyboard.py. The bench decides whether keys really type a
+line.
 
-Where words name keys, a text in quotes stands for ALPHA, the keys of its letters and ALPHA, and a number for its keys:
-`XEQ "QUAD"`, `-1.5E-3 ENTER`."""
+Where words name keys, a text in quotes means ALPHA, the keys of its letters and ALPHA again, and a number means its keys: `XEQ "QUAD"`,
+`-1.5E-3 ENTER`."""
 import re
 
 from keyboard import KEYS
 
 LONGEST_NAME = 7
 
-# The key of each letter, and the keys that write their own names behind SHIFT.
+# The key of each letter, and the keys that type their own names after SHIFT.
 LETTERS = {key.letter: key.name for key in KEYS.values() if key.letter}
 OWN = set("0123456789+-*/.")
 
-# The names of functions that keys have other names for.
+# Functions whose key has another name.
 OTHERWISE = {"SIGMA+": "S+", "ENTER": "ENTER^"}
-# Functions that keys have with ALPHA on, or that follow STO.
+# Functions that keys have in ALPHA mode, and functions that are typed as STO and a sign.
 WITH_ALPHA = {"ASTO": ["SHIFT", "STO"], "ARCL": ["SHIFT", "RCL"], "AVIEW": ["SHIFT", "R/S"], "CLA": ["SHIFT", "BACK"]}
 BEHIND_STO = {f"ST{sign}": ["STO", sign] for sign in "+-*/"}
 OF_ONE_DIGIT = ("FIX", "SCI", "ENG")
@@ -30,35 +30,35 @@ WORD = re.compile(r'"[^"]*"?|[^ \t"]+')
 
 
 class NoKeys(Exception):
-    """Why there are no keys."""
+    """The reason why there are no keys."""
 
 
 def letter_keys(letter):
-    """The keys that write a letter with ALPHA on; none where no key does."""
+    """Returns the keys that type a letter in ALPHA mode; an empty list if no key does."""
     if letter in LETTERS:
         return [LETTERS[letter]]
     return ["SHIFT", letter] if letter in OWN else []
 
 
 def characters(text):
-    """The characters of a text, of which some are a backslash and two digits."""
+    """Returns the characters of a text; some are written as a backslash and two digits."""
     return re.findall(r"\\[0-9A-F]{2}|.", text, re.S)
 
 
 def untyped(text):
-    """The characters of a text that no key writes."""
+    """Returns the characters of a text that no key types."""
     return list(dict.fromkeys(letter for letter in characters(text) if not letter_keys(letter)))
 
 
 def text_keys(text):
-    """The keys of a text, between two ALPHA."""
+    """Returns the keys of a text, between two ALPHA."""
     if untyped(text):
         raise NoKeys(f"no key writes {' '.join(untyped(text))}")
     return ["ALPHA", *(key for letter in text for key in letter_keys(letter)), "ALPHA"]
 
 
 def why_no_name(name):
-    """Why no keys write this name of a label; nothing where some do."""
+    """Returns why no keys type a name of a label; an empty text if some do."""
     if len(characters(name)) > LONGEST_NAME:
         return f"{len(characters(name))} characters"
     if untyped(name):
@@ -67,7 +67,7 @@ def why_no_name(name):
 
 
 def number_keys(number):
-    """The keys of a number: signs are CHS behind the first digit, and behind EEX."""
+    """Returns the keys of a number. CHS follows the first digits, or EEX."""
     sign, mantissa, exponent_sign, exponent = NUMBER.fullmatch(number).groups()
     keys = list(mantissa) + ["CHS"] * (sign == "-")
     if exponent is not None:
@@ -76,13 +76,13 @@ def number_keys(number):
 
 
 def is_number(word):
-    """Whether a word is a number that keys type: it has a digit in its mantissa."""
+    """Returns whether a word is a number that keys type: its mantissa has a digit."""
     found = NUMBER.fullmatch(word)
     return found is not None and re.search("[0-9]", found[2]) is not None
 
 
 def keys_of(text):
-    """The names of the keys that words stand for. A word that is neither a text nor a number stays."""
+    """Returns the names of the keys for some words. A word that is neither a text nor a number is not changed."""
     keys = []
     for word in WORD.findall(text):
         if word.startswith('"'):
@@ -97,14 +97,14 @@ def keys_of(text):
 
 
 def is_spelled(word):
-    """Whether a word is no key's name, but a number or the begin of a text."""
+    """Returns whether a word is not the name of a key, but a number or the beginning of a text."""
     return word not in KEYS and (word.startswith('"') or is_number(word))
 
 
 # Lines.
 
 def function_keys(name):
-    """The keys of a function: those that have it, and else XEQ and its name in letters."""
+    """Returns the keys of a function: its own, or XEQ and its name in letters."""
     for key in KEYS.values():
         if OTHERWISE.get(key.name, key.name) == name and not key.name.isdecimal() and key.name not in NO_FUNCTIONS:
             return [key.name]
@@ -114,7 +114,7 @@ def function_keys(name):
 
 
 def operand_keys(name, indirect, operand):
-    """The keys of an operand."""
+    """Returns the keys of an operand."""
     if not operand.isdecimal():
         operand = [".", LETTERS[operand]] if operand in "TZYXL" else None
     elif name in OF_ONE_DIGIT and not indirect:
@@ -125,7 +125,7 @@ def operand_keys(name, indirect, operand):
 
 
 def line_keys(text):
-    """The keys of a line, by its text."""
+    """Returns the keys of a line."""
     if is_number(text):
         return number_keys(text)
     if text.startswith('>"'):

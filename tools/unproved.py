@@ -1,5 +1,5 @@
-"""Answers of the program that nothing has proved: `rt try` compiles it with checks and runs it. What they say is the program's
-own; only how long it may run and how much it may read and write is bounded here."""
+"""Answers of the unproved program: `rt try` compiles it with checks and runs it. The answers are those of the program; only its running
+time, input and output are limited."""
 import contextlib
 import os
 import re
@@ -14,16 +14,16 @@ from decks import MEMORY, running, with_keys
 TOP = os.path.realpath(os.path.join(os.path.dirname(os.path.realpath(__file__)), ".."))
 CRATE = f"{TOP}/crates/h41_bench"
 
-# The most bytes of input that rt hands on, and the seconds that the program may take, so that an answer comes within two minutes.
+# The most bytes of input that rt accepts, and the longest run in seconds, chosen so that there is an answer within two minutes.
 LONGEST_INPUT = 67_108_864
 SECONDS = 30
 
-# A word that names no file, in the place of one that can't be read: the program then says so itself. What the system says of
-# that name is not told.
+# A name that no file has. It replaces the name of a file that cannot be read, so that the program itself reports the error. The reason
+# that the system gives for this name is removed.
 NO_FILE = "/dev/null/no-such-file"
 CAUSE = re.compile(rb"^bench: %s: .*\n" % NO_FILE.encode(), re.M)
 
-# The last lines of rt where the program has ended, and why it has not.
+# The last lines of rt if the program has ended, and its reason if it has not.
 ENDED = re.compile(rb"^checked: ended .*\n(?:.*\n)*?run=ended status=(\d+) .*proved=no\n\Z", re.M)
 NO_ANSWER = re.compile(rb"^checked: no-answer: (.*)", re.M)
 REASONS = {
@@ -34,12 +34,12 @@ CASE = re.compile(rb"^case=(\S+) run=ended status=(\d+) .*\n", re.M)
 
 
 class NoAnswer(Exception):
-    """Why rt try gives no answer."""
+    """The reason why rt try gives no answer."""
 
 
 @contextlib.contextmanager
 def no_answer_without_room():
-    """Turns faults of this machine's, such as a full disk, into why there is no answer."""
+    """Turns errors of this machine, such as a full disk, into reasons why there is no answer."""
     try:
         yield
     except OSError as error:
@@ -47,7 +47,7 @@ def no_answer_without_room():
 
 
 def place_of_file(words):
-    """Where the name of the program's input stands among its words; nothing where they name none."""
+    """Returns the position of the input file among the words; None if there is none."""
     at = None
     if words[:1] and words[0] in ("run", "asm", "dis"):
         hyphens_end, skipped = False, False
@@ -62,7 +62,7 @@ def place_of_file(words):
 
 
 def copied(name, to):
-    """Copies the input to a file, all of it: rt waits two seconds for a pipe and no longer. Whether it could be read."""
+    """Copies all the input to a file, because rt waits only two seconds for a pipe. Returns whether it could be read."""
     size = 0
     if name == "-" and sys.stdin is None:
         return False
@@ -87,7 +87,7 @@ def copied(name, to):
 
 
 def rt_try(words, given):
-    """Runs rt try: what it writes to its two ends. It ends where this process is told to."""
+    """Runs rt try. Returns both outputs. If this process is ended by a signal, it ends too."""
     with tempfile.TemporaryFile() as output, tempfile.TemporaryFile() as told:
         rt = subprocess.Popen(["rt", "try", "--seconds", str(SECONDS), *words], cwd=CRATE, stdin=given, stdout=output, stderr=told)
 
@@ -106,7 +106,7 @@ def rt_try(words, given):
 
 
 def reason_of(told):
-    """Why the program has not ended, by what rt says."""
+    """Returns the reason why the program has not ended, from the messages of rt."""
     why = NO_ANSWER.search(told)
     if why:
         return next((ours for theirs, ours in REASONS.items() if theirs in why[1]), why[1].decode(errors="replace"))
@@ -115,7 +115,7 @@ def reason_of(told):
 
 @no_answer_without_room()
 def answer(words):
-    """What the program answers to the words of a command line: its status, and what it writes to its two ends."""
+    """Returns the answer of the program to the words of a command line: its status and both outputs."""
     words = list(words)
     at = place_of_file(words)
     with tempfile.TemporaryFile() as given:
@@ -130,15 +130,15 @@ def answer(words):
 
 @no_answer_without_room()
 def answers(decks, memory=MEMORY):
-    """What the program answers to each of some decks, which are files: its status and what it writes; nothing where a file can't
-    be read or there is no answer. It is compiled once for all."""
+    """Returns the answers of the program to some decks, which are files: the status and the output of each; None if a file cannot be read
+    or there is no answer. The program is compiled only once."""
     mark = secrets.token_hex(16)
     with tempfile.TemporaryDirectory() as room:
         names = [f"{mark}-{number}" for number in range(len(decks))]
         for name, deck in zip(names, decks):
             with open(f"{room}/{name}", "w+b") as file:
                 is_whole = copied(deck, file)
-                # Of texts and numbers in key lines the bench gets the names of keys.
+                # In key lines, the bench gets the names of keys for texts and numbers.
                 named = with_keys(file.read())
                 file.seek(0)
                 file.truncate()

@@ -1,16 +1,16 @@
-"""Registers as people read them: numbers, texts, and else their digits."""
+"""Values of registers for people: numbers, texts, or their digits."""
 import re
 
 NUMBER = re.compile("([09])([1-9][0-9]{9})([09][0-9]{2})")
 TEXT = re.compile("1[0-9A-F]([0-9A-F]{12})")
 ZERO = "0" * 14
 
-# The digits that a number line takes, zeros in front and behind the point too. What has more is written with an E.
+# The most digits in a number line, including zeros before them and after the point. Longer numbers are written with an E.
 MOST_DIGITS = 10
 
 
 def number_of(sign, digits, exponent):
-    """A number by its digits and its exponent."""
+    """Returns a number from its sign, digits and exponent."""
     digits = digits.rstrip("0")
     sign = "-" if sign == "9" else ""
     if 0 <= exponent < MOST_DIGITS:
@@ -23,7 +23,7 @@ def number_of(sign, digits, exponent):
 
 
 def text_of(digits):
-    """What a register holds, by its 14 digits: a number, a text in quotes, or `=` and the digits."""
+    """Returns the value of a register with these 14 digits: a number, a text in quotes, or `=` and the digits."""
     found = NUMBER.fullmatch(digits)
     if found:
         sign, mantissa, exponent = found.groups()
@@ -37,5 +37,5 @@ def text_of(digits):
 
 
 def character(code):
-    """A character as texts of lines have it."""
+    """Returns a character as texts of program lines have it."""
     return chr(code) if 0x20 <= code <= 0x7E and chr(code) not in '"\\' else f"\\{code:02X}"

@@ -1,19 +1,19 @@
 "use strict";
-// The page of the calculator. It asks the server, which asks the bench, and shows what the bench has replied: nothing of the
-// calculator is computed here. A state is what the bench showed at one time; `past` has the last of them.
+// The page of the calculator. It sends requests to the server, which sends commands to the bench, and shows the replies. Nothing of
+// the calculator is computed here. A state is what the bench showed at one time; `past` has the last states.
 
 const by = (id) => document.getElementById(id);
 const [MOST_STEPS, MOST_STATES, MOST_ENTRIES, MOST_TRACED] = [9999999, 500, 200, 60];
 
-let session = null;         // the number of the session that the page has
-let entries = [];           // its commands with their replies, as the server has told them
-let past = [];              // states, the oldest first
-let shown = null;           // which of them is shown; null is the last
-let lesson = null;          // the lesson, its parts, and how far it is
-let waits = 0;              // how many parts of decks wait to be carried out
-let driver = null;          // what has them carried out here; each beginning has its own
+let session = null;         // the number of the session that the page shows
+let entries = [];           // its commands with their replies, as the server sent them
+let past = [];              // the last states, the oldest first
+let shown = null;           // the number of the state that is shown; null means the last one
+let lesson = null;          // the lesson: its name, its parts, and its position
+let waits = 0;              // how many parts of decks wait to be executed
+let driver = null;          // an object while this page has them executed; each start makes a new one
 let isGone = false;         // whether the bench or the server has ended
-let told = -1;              // the version of the session that the page has
+let told = -1;              // the number of the last change that the page knows
 let lastRefusal = -1;       // the entry whose refusal is shown
 
 // ---- Elements
@@ -27,18 +27,18 @@ function filled(element, attributes, children) {
 const make = (tag, attributes = {}, ...children) => filled(document.createElement(tag), attributes, children);
 const drawn = (tag, attributes, ...children) => filled(document.createElementNS("http://www.w3.org/2000/svg", tag), attributes, children);
 
-/** Draws what a box has anew; a control in it that has the focus gives it to the one of its name. */
+/** Redraws the content of a box. If a control in it has the focus, the new control of the same name gets it. */
 function fill(id, ...children) {
   const name = by(id).contains(document.activeElement) && document.activeElement.dataset.at;
   by(id).replaceChildren(...children);
   if (name) by(id).querySelector(`[data-at="${name}"]`)?.focus();
 }
 
-// What is drawn of boxes in which places are clicked. It stays where it is the same, also under a click in a run.
+// The content of boxes with controls. If it has not changed, it is not redrawn, so that a click during a run is not lost.
 const drawings = {};
 const isNew = (id, ...parts) => drawings[id] !== (drawings[id] = JSON.stringify(parts));
 
-/** Scrolls a box, and not the page, so that this part of it is seen. */
+/** Scrolls a box, without scrolling the page, so that a part of it is visible. */
 function reveal(box, part) {
   if (!part) return;
   const place = part.getBoundingClientRect().top - box.getBoundingClientRect().top + box.scrollTop;
@@ -47,13 +47,13 @@ function reveal(box, part) {
 
 // ---- The server
 
-let line = Promise.resolve();   // requests go one behind the other
-let underway = 0;               // how much was begun that is not at its end
+let line = Promise.resolve();   // requests are sent one after the other
+let underway = 0;               // how many actions have not ended yet
 
-/** Whether all that was begun is at its end: nothing is asked, carried out or read, and no question is open. */
+/** Returns whether all actions have ended: no request, run or file is in progress, and no dialog is open. */
 const isQuiet = () => underway === 0;
 
-/** Does what was asked for by a key, a button or a file, and tells why it cannot be done. An error without a text is told already. */
+/** Performs an action of a key, a button or a file, and shows the error if it fails. An error without a text is shown already. */
 async function act(call, tellWhy = tell) {
   underway += 1;
   try {
@@ -75,7 +75,7 @@ async function fetched(path, body) {
   return reply;
 }
 
-/** Asks behind all that was asked before, or only how all stands. The answer is taken in. */
+/** Sends a request after all earlier ones; without a body it only reads the state. The answer is stored and shown. */
 function ask(body, path = "do") {
   const turn = line.then(async () => {
     const known = { session, since: entries.length };
@@ -88,7 +88,7 @@ function ask(body, path = "do") {
   return turn;
 }
 
-/** Takes in how all stands. */
+/** Stores the state in an answer, and shows it. */
 function take(answer) {
   if (answer.session !== session) [session, entries, past, lesson, lastRefusal] = [answer.session, [], [], null, -1];
   if (answer.keys) drawKeys(answer.keys);
@@ -106,21 +106,21 @@ function take(answer) {
   act(tellRefusal);
 }
 
-/** Bytes, each as a character, as bytes, and as the text that they are in UTF-8. */
+/** Converts characters, one for each byte, to bytes, and to the text that these bytes are in UTF-8. */
 const bytesOf = (characters) => Uint8Array.from(characters, (one) => one.charCodeAt(0));
 const textOf = (characters) => new TextDecoder().decode(bytesOf(characters));
 
-/** The address of a file that the page itself has. */
+/** Returns an address for a file that the page makes itself. */
 const addressOf = (...parts) => URL.createObjectURL(new Blob(parts));
 
-/** Keeps a state, where it is not the one before. */
+/** Stores a state if it differs from the last one. */
 function remember(state) {
   const text = JSON.stringify(state);
   if (past.at(-1)?.text !== text) past.push({ state, text });
   if (past.length > MOST_STATES) past.shift();
 }
 
-/** Tells that the bench or the server has ended, and why; nothing where it has not. */
+/** Shows that the bench or the server has ended, and why; null if it has not. */
 function gone(why, isServer) {
   isGone = why !== null;
   if (isGone) driver = null;
@@ -145,13 +145,13 @@ function listen(isAgain) {
   };
 }
 
-/** Tells a text below the display; an empty one takes it away. */
+/** Shows a text below the display; an empty text removes it. */
 function tell(text) {
   by("refusal").hidden = !text;
   by("refusal").textContent = text;
 }
 
-/** Tells the refusal of the last command, with its usual causes. */
+/** Shows the refusal of the last command, with its usual causes. */
 async function tellRefusal() {
   const number = entries.length - 1;
   const entry = entries[number];
@@ -181,7 +181,7 @@ const SEGMENTS = {
 };
 const EVERY = Object.keys(SEGMENTS).join("");
 
-// The segments of characters; those that are not here have all.
+// The segments of characters. A character that is not in this table lights all segments.
 const SHAPES = {
   " ": "", 0: "ABCDEFKL", 1: "BC", 2: "ABDEGH", 3: "ABCDGH", 4: "BCFGH", 5: "ACDFGH", 6: "ACDEFGH", 7: "ABC", 8: "ABCDEFGH",
   9: "ABCDFGH", A: "ABCEFGH", B: "ABCDHJM", C: "ADEF", D: "ABCDJM", E: "ADEFG", F: "AEFG", G: "ACDEFH", H: "BCEFGH", I: "ADJM",
@@ -204,7 +204,7 @@ function drawDisplay() {
   }
 }
 
-/** The characters of a text with the points behind them: a point has no place of its own, but behind another. */
+/** Splits a text into characters, each with the points after it: a point has no cell of its own. */
 function cellsOf(text) {
   const cells = [];
   for (const character of text.match(/\\[0-9A-F]{2}|./g) || []) {
@@ -225,7 +225,7 @@ function light(cells) {
   });
 }
 
-/** Shows a text: what is longer than the display scrolls once, from its first character to its last. */
+/** Shows a text. A text that is longer than the display scrolls once, from its first character to its last. */
 function showDisplay(text, isAgain = false) {
   if (text === displayed && !isAgain) return;
   displayed = text;
@@ -247,7 +247,7 @@ function showDisplay(text, isAgain = false) {
   }
 }
 
-/** Annunciators: those that flags tell, and SHIFT and PRGM. */
+/** Returns the lit annunciators: those of flags, and SHIFT and PRGM. */
 function lightsOf(state) {
   const flags = state.flags[0].split(" ");
   const lit = (number) => flags.includes(number);
@@ -284,7 +284,7 @@ function drawKeys(rows) {
   by("keys").querySelector("[data-key='SIGMA+']").tabIndex = 0;
 }
 
-/** Moves the focus from key to key. */
+/** Moves the focus from one key to another by the arrow keys. */
 function walk(event) {
   const steps = { ArrowLeft: [0, -1], ArrowRight: [0, 1], ArrowUp: [-1, 0], ArrowDown: [1, 0] }[event.key];
   const key = event.target.closest(".key");
@@ -303,14 +303,14 @@ function walk(event) {
 
 let pressing = Promise.resolve();
 
-/** Presses keys behind those that are pressed already. What stands for keys may depend on what these did: `names` may be a call. */
+/** Presses keys after those that were pressed earlier. `names` may be a function, if the keys depend on what the earlier ones did. */
 function press(names) {
   const before = pressing;
   pressing = act(() => before.then(() => pressNow(typeof names === "function" ? names() : names)));
   return pressing;
 }
 
-/** Each key is a command of its own. What it starts is run on, where that is wanted. */
+/** Sends each key as a command of its own. If a key starts a program, the program is run, if the user wants that. */
 async function pressNow(names) {
   for (const name of names) {
     if (isGone) return;
@@ -335,7 +335,7 @@ const TYPED = {
 };
 const OWN = "0123456789+-*/.";
 
-/** The keys that a key of the computer's stands for; none for others. */
+/** Returns the calculator keys for a key of the computer; an empty list if there are none. */
 function keysFor(pressed) {
   if (present().spells) {
     if (pressed === "Enter") return ["ALPHA"];
@@ -363,21 +363,21 @@ function typed(event) {
   else act(commands[event.key]);
 }
 
-// ---- What is carried out
+// ---- Executing commands
 
-/** Has commands carried out. */
+/** Sends commands to be executed. */
 async function give(deck) {
   await ask({ do: "give", deck, ...pieces() });
   drive();
 }
 
-/** How much of a run is made at once. */
+/** Returns the size of the next piece of a run. */
 function pieces() {
   const pace = Number(by("pace").value);
   return pace ? { steps: Math.max(1, Math.round(pace / 20)) } : { seconds: 0.06 };
 }
 
-/** Has what waits carried out, piece by piece, and shows each. */
+/** Has the commands that wait executed in pieces, and shows the state after each piece. */
 const drive = () => act(async () => {
   if (driver) return;
   const own = driver = {};
@@ -395,7 +395,7 @@ const drive = () => act(async () => {
   }
 });
 
-/** Tells how fast the last piece of a run was. */
+/** Shows how fast the last piece of a run was. */
 function tellRate(milliseconds) {
   const rate = present().made * 1000 / milliseconds;
   if (!rate || !entries.at(-1).text.startsWith("run ")) return;
@@ -407,7 +407,7 @@ async function runOn() {
   if (isGone) return;
   if (waits) return drive();
   const { pos } = present();
-  // A run needs a program that runs; what is not started is started at its position.
+  // Only a running program can be run further. If none runs, R/S starts one at the current position.
   if (pos[0].startsWith("Idle")) await ask({ do: "give", deck: "key R/S\n" });
   if (!present().pos[0].startsWith("Idle")) await give(`run ${MOST_STEPS}\n`);
 }
@@ -424,11 +424,11 @@ async function stop() {
   if (waits) await ask({ do: "stop" });
 }
 
-// ---- How all stands
+// ---- The state
 
 const present = () => past.at(-1).state;
 
-/** The state that is shown, and the one before it. */
+/** Returns the state that is shown, and the one before it. */
 function looked() {
   const at = shown ?? past.length - 1;
   return [past[at].state, at > 0 ? past[at - 1].state : past[at].state];
@@ -464,7 +464,7 @@ function show() {
   showLesson();
 }
 
-/** The digits of a register, those marked that have changed, and those of a field. */
+/** Returns the digits of a register; digits that have changed, and those of a field, are highlighted. */
 function digitsOf(now, old, isInField = () => false) {
   return [...now].map((digit, at) => make("span", {
     class: `${digit !== old[at] ? "changed " : ""}${isInField(now.length - 1 - at) ? "field" : ""}`.trim(),
@@ -478,7 +478,7 @@ function showStack(state, before) {
     make("td", { class: "digits" }, ...digitsOf(row.slice(2), before.stack[at].slice(2))))));
 }
 
-/** A button that sets a breakpoint, or takes it away. */
+/** Returns a button that sets a breakpoint or removes it. */
 function breakpoint(kind, place, isNamed = false) {
   const isSet = present().breaks.some(([of, at]) => of === kind && at === place);
   const name = `${kind === "w" ? "word " : kind === "l" ? "line " : "line P"}${place}`;
@@ -489,13 +489,13 @@ function breakpoint(kind, place, isNamed = false) {
   return button;
 }
 
-/** A line of a list, with its breakpoint. */
+/** Returns a line of a list, with its breakpoint button. */
 function stopping(kind, place, isNext, ...children) {
   const attributes = { class: `line${isNext ? " next" : ""}`, "aria-current": isNext ? "step" : null };
   return make("div", attributes, breakpoint(kind, place), ...children);
 }
 
-/** All breakpoints, also those of lines and words that are not shown. */
+/** Lists all breakpoints, including those of lines and words that are not visible. */
 function showBreakpoints() {
   const { breaks } = present();
   if (!isNew("breaks", breaks)) return;
@@ -512,13 +512,13 @@ function showProgram(state) {
   reveal(by("program"), by("program").querySelector(".next"));
 }
 
-/** What `show cpu` tells, by its names. */
+/** Returns the values in the output of `show cpu`, by name. */
 function partsOf(cpu) {
   const parts = cpu.slice(0, 4).join(" ").split(" ").map((text) => text.split("="));
   return { ...Object.fromEntries(parts), RTN: cpu[4].slice(4) };
 }
 
-/** Whether a place is in the field that the last instruction names, and whether the instruction names a register. */
+/** Returns functions that decide whether a place is in the field of the last instruction, and whether the instruction names a register. */
 function fieldOf(state, before) {
   const last = /^Micro [0-9A-F]{4} (\S+) (@R|S&X|R<|ALL|P-Q|XS|MS|M)$/.exec(lineMade(state, before) ?? "");
   if (!last) return [() => false, () => false, ""];
@@ -554,7 +554,7 @@ function showListing(state) {
   by("modules").textContent = state.pages.length ? `Pages ${state.pages.join(", ")}${names.length ? `: ${names.join(", ")}` : ""}` : "";
 }
 
-/** What a step has changed, as a short text. */
+/** Returns what a step has changed, as short texts. */
 function changesOf(state, before) {
   const found = [];
   const [now, old] = [partsOf(state.cpu), partsOf(before.cpu)];
@@ -567,7 +567,7 @@ function changesOf(state, before) {
   return found;
 }
 
-/** The instruction or line that was carried out between two states, as the bench listed it; none where it was not one. */
+/** Returns the instruction or line that was executed between two states, as the bench listed it; null if it was not exactly one. */
 function lineMade(state, before) {
   if (state.made !== 1) return null;
   const [mode, place] = before.pos[0].split(" ");
@@ -575,7 +575,7 @@ function lineMade(state, before) {
   return found ? `${mode} ${place} ${mode === "Micro" ? found[2].slice(9) : found.slice(5)}` : null;
 }
 
-/** What led to a state: a step, or a command and what it told. */
+/** Returns what led to a state: a step, or a command and its reply. */
 function ledTo(state, before) {
   const [bytes, reply] = state.last;
   const head = textOf(bytes).trim().split("\n")[0];
@@ -600,7 +600,7 @@ function showTrace() {
   by("forth").disabled = shown === null;
 }
 
-/** Ends what goes on, and shows a state, by a call that tells its place from that of the one that is shown. */
+/** Stops a run, and shows another state. A function computes its number from the number of the state that is shown. */
 async function goTo(place) {
   driver = null;
   await line;
@@ -635,7 +635,7 @@ function showFlags(state, before) {
   }));
 }
 
-/** Lines in one text, of which some in the middle are left out where there are many. */
+/** Joins lines into a text. If there are many, some in the middle are omitted. */
 function shortened(lines, first, last) {
   const left = lines.length - first - last;
   return (left > 1 ? [...lines.slice(0, first), `… ${left} lines`, ...lines.slice(-last)] : lines).join("\n");
@@ -674,7 +674,7 @@ function showLesson() {
   by("lesson").querySelector("h2").textContent = lesson.title;
   const begun = Math.max(0, lesson.at - waits);
   const current = lesson.parts.findIndex(([, isCommand], at) => at >= begun && isCommand);
-  // The entries of the session that are the lesson's parts, in their order.
+  // The entries of the session that belong to parts of the lesson, in their order.
   let at = 0;
   fill("parts", ...lesson.parts.map(([text, isCommand, paragraphs], number) => {
     const isIts = (entry, place) => place >= at && entry.text === text.replace(/\n$/, "");
@@ -731,7 +731,7 @@ function tellOfFiles(text, isGood = false) {
   by("told").classList.toggle("refusal", !isGood);
 }
 
-/** Whether the session may end for another; an empty one may. */
+/** Asks whether the session may be replaced by another one. An empty session may always be replaced. */
 function isSure() {
   const dialog = by("sure");
   return !entries.length || new Promise((done) => {
@@ -776,7 +776,7 @@ function begin() {
   }
   by("keys").addEventListener("keydown", walk);
   document.addEventListener("keydown", typed);
-  // What is clicked does not take the keys that are typed then.
+  // A clicked control must not receive the keys that are typed afterwards.
   document.addEventListener("mousedown", (event) => event.target.closest("button, input[type=checkbox]") && event.preventDefault());
   for (const kind of ["dragover", "dragleave", "drop"]) {
     document.addEventListener(kind, (event) => {

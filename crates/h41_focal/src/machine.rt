@@ -180,8 +180,8 @@ impl<const REGS: usize> Machine<REGS> {
     }
 
     /// Makes the line at the position fail, for example because nothing has the name that it calls. If flag 25 is set, it is cleared and
-    /// the program continues at the next line; otherwise the outcome is the error. MemoryLost (15) and BrokenProgram (14) as in `step`;
-    /// there are no other refusals.
+    /// the program continues at the next line; otherwise the outcome is the error. The only refusals are MemoryLost (15) if memory is
+    /// not sound, and BrokenProgram (14) if the line at the position cannot be read.
     pub fn fail(&mut self, pages: &Pages, fault: LineFault) -> Result<LineOutcome, FocalRefusal>
         ensures line { Fails pages.now fault (machine_of self.old) (machine_of self.new) result }
         ensures unchanged { OnErr result (machine_of self.new ≡ machine_of self.old) }
@@ -206,8 +206,9 @@ impl<const REGS: usize> Machine<REGS> {
         Ok(fail(self, Origin::Typed, fault).outcome(&self.ram))
     }
 
-    /// Moves to the line after the line at the position, whose function is executed elsewhere. An XROM line turns stack lift on. MemoryLost
-    /// (15) and BrokenProgram (14) as in `step`; nothing changes then.
+    /// Moves to the line after the line at the position, whose function is executed elsewhere. An XROM line enables stack lift. The
+    /// error is MemoryLost (15) if memory is not sound, and BrokenProgram (14) if the line at the position cannot be read. Nothing
+    /// changes then.
     pub fn pass(&mut self, pages: &Pages) -> Result<(), FocalRefusal>
         ensures line { Passes pages.now (machine_of self.old) (machine_of self.new) result }
         ensures unchanged { OnErr result (machine_of self.new ≡ machine_of self.old) }
@@ -220,7 +221,8 @@ impl<const REGS: usize> Machine<REGS> {
     }
 
     /// Calls the program that begins at an address of a page, from the line at the position. The next line becomes the newest of at most
-    /// six return addresses. An XROM line turns stack lift on. MemoryLost (15) and BrokenProgram (14) as in `step`; nothing changes then.
+    /// six return addresses. An XROM line enables stack lift. The error is MemoryLost (15) if memory is not sound, and BrokenProgram
+    /// (14) if the line at the position cannot be read. Nothing changes then.
     pub fn enter(&mut self, pages: &Pages, address: u16) -> Result<(), FocalRefusal>
         ensures line { Enters pages.now address (machine_of self.old) (machine_of self.new) result }
         ensures unchanged { OnErr result (machine_of self.new ≡ machine_of self.old) }

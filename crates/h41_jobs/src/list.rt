@@ -11,8 +11,8 @@ use h41_dis::disassemble;
 use h41_words::Word;
 use std::alloc::{AllocError, Global};
 
-/// Returns the listing of the words in a text, which white space separates: a line for each instruction. If a word is wrong the
-/// text is empty.
+/// Returns the listing of the words in a text, which white space separates: a line for each instruction. If a word is wrong, the
+/// text of the answer is empty.
 ///
 /// # Errors
 ///

@@ -56,7 +56,7 @@ pub enum Place {
     },
 }
 
-/// The other parts of the calculator's state that determine the meaning of a key.
+/// What determines the meaning of a key besides the state of the keyboard: ALPHA mode, a message, and the shown line.
 #[derive(Clone, Copy, Debug, PartialEq, Eq)]
 pub struct Flags {
     /// Flag 48: ALPHA mode, in which keys type letters.

@@ -15,7 +15,7 @@ use h41_digits::Reg;
 use h41_ram::Ram;
 use h41_ram::flags::RANGE_IGNORE;
 
-/// The counter of a loop after it is counted.
+/// The result of ISG or DSE: the register with the new counter, and whether the loop continues.
 #[derive(Clone, Copy, Debug, PartialEq, Eq)]
 pub struct CountedLoop {
     /// The register with the new counter.

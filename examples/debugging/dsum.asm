@@ -10,7 +10,7 @@ DSUM:   C=0 ALL
         RAM SLCT
         READ 3              ; C is X
         A=C ALL
-        C=0 ALL             ; the sum will stand in places 1 and 0
+        C=0 ALL             ; the sum will be in places 1 and 0
         SETDEC
         R= 12               ; the first digit of the mantissa
 DIGIT:  ?A#0 @R             ; counts the digit down,

@@ -20,7 +20,7 @@ X1000:  C=0 ALL
         R= 2            ; the pointer counts 2, 1, 0
 AGAIN:  ?NC XQ :X10
         R=R-1
-        ?R= 13          ; below 0 comes 13
+        ?R= 13          ; the pointer after 0 is 13
         JNC :AGAIN
         RTN
 

@@ -213,7 +213,7 @@ class Calculator:
         return next(each for each in range(index, len(self.lines)) if self.lines[each] in ("END", ".END."))
 
     def start(self, index):
-        """Where a line's program begins."""
+        """Returns the place at which a line's program begins."""
         first = self.first(index)
         return self.places[first - 1] + 3 if first else 0
 

@@ -1,6 +1,6 @@
 """Answers the requests of the page of tools/calculator, one request at a time.
 
-If the bench ends, the page is told why, and the commands that were given so far are kept."""
+If the bench ends, the page gets the reason, and the commands that were given so far are kept."""
 import base64
 import os
 import re
@@ -82,7 +82,7 @@ class Answers:
                 "version": self.version}
 
     def version(self):
-        """Returns what the page is told twice a second: the number of the last change, and how the bench has ended, or None.
+        """Returns what the page gets twice a second: the number of the last change, and how the bench has ended, or None.
         While another request uses the bench, its end is not looked for."""
         if self.lock.acquire(blocking=False):
             try:

@@ -13,7 +13,7 @@ BENCH = os.path.join(TOP, "bench")
 # Words that begin a block if they are the first word of a line. The block ends with its line `end`.
 OPENERS = {b"words", b"image", b"asm", b"load", b"program"}
 
-# Byte order marks at the start of texts in UTF-8 and UTF-16.
+# The byte order mark of a text in UTF-8, and those of texts in UTF-16.
 MARK_OF_UTF8 = b"\xef\xbb\xbf"
 MARKS_OF_UTF16 = (b"\xff\xfe", b"\xfe\xff")
 

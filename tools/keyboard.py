@@ -18,7 +18,7 @@ class Key(NamedTuple):
 
 
 # A line for each row of keys; two or more spaces separate the keys. A key has a name, a function after SHIFT and a letter; `none` means
-# that it has none. `blank` is the space, character 20.
+# that it has none. `space` is character 20.
 LAYOUT = """
 ON none none     USER none none   PRGM none none   ALPHA none none
 SIGMA+ S- A      1/X Y^X B        SQRT X^2 C       LOG 10^X D       LN E^X E
@@ -28,7 +28,7 @@ ENTER none N     CHS ISG O        EEX RTN P        BACK CLX none
 - X=Y? Q         7 SF R           8 CF S           9 FS? T
 + X<=Y? U        4 BEEP V         5 P-R W          6 R-P X
 * X>Y? Y         1 FIX Z          2 SCI =          3 ENG ?
-/ X=0? :         0 PI blank       . LASTX ,        R/S VIEW none
+/ X=0? :         0 PI space       . LASTX ,        R/S VIEW none
 """
 
 
@@ -36,7 +36,7 @@ def rows():
     """Returns the rows of keys, from the top."""
     def each(words, row, column):
         name, shifted, letter = (None if word == "none" else word for word in words)
-        return Key(name, shifted, " " if letter == "blank" else letter, row, column)
+        return Key(name, shifted, " " if letter == "space" else letter, row, column)
 
     found = []
     for row, line in enumerate(LAYOUT.split("\n")[1:-1]):
@@ -51,7 +51,7 @@ KEYS = {key.name: key for row in ROWS for key in row}
 
 def letter_text(key):
     """Returns the letter of a key for a picture."""
-    return "blank" if key.letter == " " else key.letter or ""
+    return "space" if key.letter == " " else key.letter or ""
 
 
 def picture():

@@ -12,7 +12,7 @@ LAST_NUMBER = 31
 # From this place on, a calculator reads words of a page by itself.
 ROOM = 0xFF4
 
-# The END that archives have, and the bits that mark the first byte of a line and the last byte of an END in a page.
+# The END that archives have, and the bits of the first byte of a line and of the last byte of an END in a page.
 END = bytes.fromhex("C0000D")
 FIRST, LAST = 0x100, 0x200
 

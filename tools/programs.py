@@ -1,5 +1,5 @@
-"""Checks programs before they run: which lines are not supported, which calls lead nowhere, which names no keys can type, where bytes are
-not a line, and how many data registers leave enough room. The bench decides all of this."""
+"""Checks programs before they run: which lines are not supported, which calls lead nowhere, which names no keys can type, whether bytes
+are lines, and how many data registers leave enough room. The bench decides all of this."""
 import re
 
 from decks import MEMORY, Failure, answered, block, hexadecimal, refused, run

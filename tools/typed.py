@@ -1,7 +1,7 @@
 """The keys that type names, texts, numbers and program lines, from the table in keyboard.py. The bench decides whether keys really type a
 line.
 
-Where words name keys, a text in quotes means ALPHA, the keys of its letters and ALPHA again, and a number means its keys: `XEQ "QUAD"`,
+If words name keys, a text in quotes means ALPHA, the keys of its letters and ALPHA again, and a number means its keys: `XEQ "QUAD"`,
 `-1.5E-3 ENTER`."""
 import re
 

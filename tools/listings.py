@@ -96,7 +96,7 @@ class Listing:
         gaps = [(last, number) for last, number in zip(numbers, numbers[1:]) if number > last + 1] if not wrong else []
         missing = f"; {gaps[0][1]} follows {gaps[0][0]}" if gaps else ""
         missing += f", and there are {len(gaps)} such gaps" if gaps[1:] else ""
-        but = f"; {len(wrong)} of the lines {'does' if len(wrong) == 1 else 'do'} not fit" if wrong else ""
+        but = f"; {len(wrong)} line{' has' if len(wrong) == 1 else 's have'} no number or a wrong one" if wrong else ""
         last = max((found[at][1] for at in rising), key=int)
         self.notes.append(f"the line numbers {found[numbered[0]][1]} to {last} are removed{but}{missing}")
         self.notes += [f"the line numbers start again at line {at + 1}: is an END missing before it?" for at in sorted(anew)]
@@ -174,7 +174,7 @@ class Listing:
         reasons = {line: next((why for text, why in found if text is None or text in good), "")
                    for line, found in causes.items()}
         if kept:
-            more = f", like {len(kept) - 1} more of these lines" if kept[1:] else ""
+            more = f"; the same holds for {len(kept) - 1} more line{'s' if kept[2:] else ''}" if kept[1:] else ""
             reasons[kept[0][1]] = f"its line number was not removed{more}"
         self.bad = [(number, line, reasons[line]) for number, line in self.bad if (number, line) not in kept[1:]]
 

@@ -9,7 +9,7 @@ use std::io::{self, BufWriter, Write};
 use std::process::ExitCode;
 
 /// Addresses in memory: the stack, the lowest register of program memory, and the curtain, which is R00. Data registers and
-/// program memory are parted here as they are with `size 100`.
+/// program memory are separated here as they are with `size 100`.
 const T: usize = 0;
 const Z: usize = 1;
 const Y: usize = 2;
@@ -124,7 +124,7 @@ impl Decimal {
         if apart > 11 {
             return Ok(great);
         }
-        // Whole numbers of one unit. Where the smaller one has digits below it, cutting the exact result there can't change
+        // Whole numbers of one unit. If the smaller one has digits below it, cutting the exact result there cannot change
         // how it is rounded: half of the last of ten digits is a whole number of units.
         let alike = great.negative == small.negative;
         let shift = apart.min(9);
@@ -295,7 +295,7 @@ impl Machine {
         self.memory[register] << 8 << skipped | self.memory[register - 1] >> (48 - skipped)
     }
 
-    /// The position of the line behind the nulls there, and its bytes.
+    /// Returns the position of the line after the null bytes at `at`, and its bytes.
     fn line_from(&self, mut at: usize) -> (usize, u64) {
         let mut bytes = self.bytes(at);
         while bytes >> 56 == 0 {
@@ -342,7 +342,7 @@ impl Machine {
         behind.or_else(|| self.label_within(number, 0, from)).ok_or(Fault::Nonexistent)
     }
 
-    /// The last label of the name of one to seven letters that the line there has behind its first two bytes.
+    /// Returns the last label with the name of one to seven letters after the first two bytes of the line at `at`.
     fn named_label(&self, at: usize, letters: u8) -> Result<usize, Fault> {
         let name_at = |at| self.bytes(at) >> (64 - 8 * u32::from(letters));
         let name = name_at(at + 2);
@@ -367,7 +367,7 @@ impl Machine {
         self.memory[X] = register;
     }
 
-    /// The number line there as a register, and the position behind it.
+    /// Returns the number line at `at` as a register, and the position after it.
     fn number(&self, mut at: usize) -> (u64, usize) {
         let (mut register, mut count, mut exponent, mut point) = (0, 0, -1, false);
         for _ in 0..16 {
@@ -507,7 +507,7 @@ impl Machine {
         Ok(())
     }
 
-    /// Carries out at most so many lines, and tells how many they were.
+    /// Executes at most `limit` lines, and returns how many were executed.
     fn run(&mut self, limit: u64) -> Result<u64, Fault> {
         let mut made = 0;
         while self.running && made < limit {

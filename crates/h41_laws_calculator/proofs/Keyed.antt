@@ -232,7 +232,8 @@ module _ (ends : LineHasOneEnd) (names : NameHasOneFunction) (labels : MemoryHas
         let first = positions pages machine.memory (Page address) in
         let open_there = last open_in machine.memory 0 in
         record {
-          answer = places.Page (machine.focal.at_line_00 || is_final first.answer) (puts_end open_there.answer);
+          answer =
+              places.Page (machine.focal.at_line_00 || (is_sound machine.memory && is_final first.answer)) (puts_end open_there.answer);
           right = (first.answer, open_there.answer, first.right, open_there.right, refl);
         }
 

@@ -1,6 +1,6 @@
 -- Why a state and a key determine the result.
-use Rattle.std.proofs.Common.{◌≡◌, ℕ, Bool, true, false, ◌||◌, List, Option, Some, None, Result, Ok, Err, sym, ap, subst, ◌∙◌}
-use Rattle.std.specs.Prelude.{MatchBool, MatchOption}
+use Rattle.std.proofs.Common.{◌≡◌, ℕ, Bool, true, false, List, Option, Some, None, Result, Ok, Err, sym, ap, subst, ◌∙◌}
+use Rattle.std.specs.Prelude.{◌&&◌, ◌||◌, MatchBool, MatchOption}
 use Rattle.std.specs.Result.{result_err, result_unwrap_or}
 use Rattle.h41_codes.specs.declared.characters.Character.{Character}
 use Rattle.h41_codes.specs.declared.functions.Function.{Function}
@@ -32,7 +32,7 @@ use Rattle.h41_program.specs.SearchLaws.{AnswersAreDetermined}
 use Rattle.h41_program.specs.Searches.{named_in, position_of}
 use Rattle.h41_program.specs.declared.listed_line.ListedLine.{ListedLine}
 use Rattle.h41_program.specs.declared.refusal.ProgramRefusal.{ProgramRefusal}
-use Rattle.h41_ram.specs.RegisterMap.{RegisterMap}
+use Rattle.h41_ram.specs.RegisterMap.{RegisterMap, is_sound}
 use Rattle.h41_rows.specs.RowLaws.{ValuesAreDetermined}
 use Rattle.h41_rows.specs.Values.{Computes, Written}
 use Rattle.h41_rows.specs.declared.fault.LineFault.{LineFault}
@@ -87,7 +87,9 @@ module _ (positions : IsReadOnce) (same_last : AnswersAreDetermined (Result Bool
   same_place pages machine (Page address) a b (f, l, f_stands, l_answers, a_is) (g, m, g_stands, m_answers, b_is) =
       let first : f ≡ g = positions.line pages machine.memory (Page address) f g f_stands g_stands in
       let last : l ≡ m = same_last machine.memory open_in 0 l m l_answers m_answers in
-      a_is ∙ (λ i. places.Page (machine.focal.at_line_00 || is_final (first i)) (puts_end (last i))) ∙ sym b_is
+      a_is
+      ∙ (λ i. places.Page (machine.focal.at_line_00 || (is_sound machine.memory && is_final (first i))) (puts_end (last i)))
+      ∙ sym b_is
 
   same_flags : (s : CalculatorState) (a b : Flags) → HasFlags s a → HasFlags s b → a ≡ b
   same_flags s a b (p, p_place, a_is) (q, q_place, b_is) =

@@ -221,7 +221,8 @@ activity_of modes.Idle = waits.Idle
 activity_of modes.Run = waits.Run
 activity_of (modes.Micro caller) = waits.Micro
 
--- In a page, whose lines cannot be changed, BACK does nothing at line 00 and at .END.
+-- In a page, whose lines cannot be changed, BACK does nothing at line 00 and at .END. Memory that
+-- is not sound has no lines, so no .END. is shown then.
 abbrev pub is_final : Result PlacedLine ProgramRefusal → Bool
 is_final (Ok first) = is_final_end first.line
 is_final (Err refusal) = false
@@ -240,7 +241,10 @@ IsPlace pages machine (Page address) place =
     × (last : Result Bool ProgramRefusal)
     × LineAt pages machine.memory (Page address) first
     × AnswersOf open_in machine.memory 0 last
-    × (place ≡ places.Page (machine.focal.at_line_00 || is_final first) (puts_end last))
+    × (place
+    ≡ places.Page
+    (machine.focal.at_line_00 || (is_sound machine.memory && is_final first))
+    (puts_end last))
 
 -- The rest of the state that decides what a key means.
 abbrev pub flags_at : Place → CalculatorState → Flags

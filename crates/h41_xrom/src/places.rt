@@ -20,7 +20,7 @@ pub fn shown_place<const REGS: usize>(machine: &Machine<REGS>, pages: &Pages) ->
     match machine.focal.position {
         Position::Memory(_) => Place::Memory,
         Position::Page(address) => {
-            let is_final = is_final_at(pages, address);
+            let is_final = is_final_at(&machine.ram, pages, address);
             Place::Page {
                 deletes_nothing: machine.focal.is_at_line_00 || is_final,
                 puts_end: puts_end(&machine.ram),
@@ -29,14 +29,14 @@ pub fn shown_place<const REGS: usize>(machine: &Machine<REGS>, pages: &Pages) ->
     }
 }
 
-/// Returns whether the line at an address of a page is `.END.`.
-fn is_final_at(pages: &Pages, address: u16) -> bool
-    ensures { IsFinalAt pages.now address result }
+/// Returns whether the line at an address of a page is `.END.`. Memory that is not sound has no lines.
+fn is_final_at<const REGS: usize>(ram: &Ram<REGS>, pages: &Pages, address: u16) -> bool
+    ensures { IsFinalAt pages.now ram.now.registers address result }
 {
     let Ok(first) = line_in_page(pages, address) else {
         return false;
     };
-    is_final_end(first.line)
+    ram.is_sound() && is_final_end(first.line)
 }
 
 /// Returns whether `GTO . .` would put an END into memory: it would if the last program has lines and no END of its own. It

@@ -1,7 +1,7 @@
 -- What the private functions of lines and keys promise one another. No public contract needs this
 -- file.
-use Rattle.std.specs.Prelude.{◌≡◌, Bool, IsTrue, List, [], ◌∷◌, ◌++◌, take, ℕ, Option, Some, None}
-use Rattle.std.specs.Prelude.{Result, Ok, Err}
+use Rattle.std.specs.Prelude.{◌≡◌, Bool, ◌&&◌, IsTrue, List, [], ◌∷◌, ◌++◌, take, ℕ, Option, Some}
+use Rattle.std.specs.Prelude.{None, Result, Ok, Err}
 use Rattle.std.specs.Option.{option_map_or}
 use Rattle.h41_codes.specs.declared.functions.Function.{Function}
 use Rattle.h41_codes.specs.declared.line.Line.{Line}
@@ -131,12 +131,12 @@ Accepts key input action s t refusal =
     × spec.ActionMakes s key action input made
     × Becomes made s t refusal
 
--- Whether the line at an address of a page is .END., whatever memory contains.
-abbrev pub IsFinalAt : PageMap → ℕ → Bool → Type 0
-IsFinalAt pages address final =
+-- Whether the line at an address of a page is .END., which is possible only if memory is sound.
+abbrev pub IsFinalAt : PageMap → RegisterMap → ℕ → Bool → Type 0
+IsFinalAt pages memory address final =
     (first : Result PlacedLine ProgramRefusal)
     × LineInPage pages address first
-    × (final ≡ spec.is_final first)
+    × (final ≡ (is_sound memory && spec.is_final first))
 
 -- Whether GTO . . puts an END into memory.
 abbrev pub PutsEnd : RegisterMap → Bool → Type 0

@@ -92,7 +92,7 @@ module _ {registers : ℕ} (old new : Option (List ℕ)) (done : List Spelled) (
       record { first = done; rest = rest; begins = begins; answers = told.answers; answered = done_answered; text_is = refl }
 
   -- An error of allocation, of reading, and of writing after everything was written.
-  pub leaves_all : (bytes : List ℕ) (rest : List Spelled) → commands (lines bytes) ≡ done ++ rest → MayBeRefused done rest
+  pub leaves_all : (bytes : List ℕ) (rest : List Spelled) → commands (lines bytes) ≡ done ++ rest → MayBeRefused bytes done rest
       → LeavesOf registers OutOfMemory old new bytes
   leaves_all bytes rest begins may =
       (flat_map printed_text told.answers, (first_replies (commands (lines bytes)) rest begins, may), told.written)

@@ -32,6 +32,7 @@ use Rattle.h41_refusals.specs.declared.fault.Fault.{Fault}
 use Rattle.h41_refusals.specs.declared.fault.Fault.TheVariants.{OutOfMemory, ReadFault, WriteFault}
 use Rattle.h41_deck.specs.declared.replies.Outcome.{Outcome}
 use Rattle.h41_deck.proofs.AnswersInTurn.{Told, done_answered, leaves_all, leaves_at, leaves_ended, leaves_unpassed, told_kept, told_none}
+use Rattle.h41_deck.proofs.LinesLeft.{left_spelled}
 use Rattle.h41_deck.proofs.DeckReading.{Begins, IsWholeDeck, ReadSoFar, begins_block, begins_done, begins_more, deck_is, ended_done}
 
 -- A result that is not an error, and one that is.
@@ -100,8 +101,9 @@ module _ {R W : Type 0} (registers : ℕ) (source : sources.Ghosts R) (sink : si
         bytes = so_far.bytes ++ more.reads.bytes;
         read = consumes-both _ _ _ so_far.bytes more.reads.bytes so_far.consumed more.reads.consumed;
         leaves = leaves_all _ _ done s outcome (told_kept _ _ _ done s outcome told kept)
-            (bytes_within (so_far.bytes ++ more.reads.bytes)) (commands block.left) block.begins
-            (inr (inr (block.left, refl, block.opens)));
+            (bytes_within (so_far.bytes ++ more.reads.bytes)) (commands block.left)
+            (left_spelled (bytes_within (so_far.bytes ++ more.reads.bytes)) done block.left block.lines_left)
+            (inr (inr (block.left, block.lines_left, block.opens)));
         cause = λ is. cc;
         why = λ is. cc;
       }

@@ -23,6 +23,7 @@ use Rattle.h41_ends.proofs.InputReading.{consumes-both, end_comes, end_stays}
 use Rattle.h41_lines.specs.Lines.{ended_lines, lines}
 use Rattle.h41_lines.specs.Words.{words_of}
 use Rattle.h41_deck.specs.Deck.{commands_ended}
+use Rattle.h41_deck.proofs.LinesLeft.{OpensLeft, opens_left}
 
 pub record ReadSoFar (before after : Option (List ℕ)) (input : InputLines) (done : List Spelled) : Type 0 where
   pub bytes : List ℕ
@@ -166,20 +167,15 @@ opens_some : (lines : List (List ℕ)) → opens_first lines ≡ true → 0 < le
 opens_some [] e = cc
 opens_some (line ∷ lines) e = omega arith
 
-pub record BeginsBlock (bytes : List ℕ) (done : List Spelled) : Type 0 where
-  pub left : List (List ℕ)
-  pub begins : commands (lines (bytes_within bytes)) ≡ done ++ commands left
-  pub opens : opens_first left ≡ true
-
 pub begins_block : (before mid after : Option (List ℕ)) (old new : InputLines) (done : List Spelled)
     (so_far : ReadSoFar before mid old done) (more : ReadsNext (Err item.OutOfMemory) mid after old new)
-    → BeginsBlock (so_far.bytes ++ more.reads.bytes) done
+    → OpensLeft (bytes_within (so_far.bytes ++ more.reads.bytes)) done
 begins_block before mid after old new done so_far more =
     let bytes = so_far.bytes ++ more.reads.bytes in
     let read = more.reads.read so_far.bytes so_far.told so_far.read in
     let held = told_lines (held_in new ++ []) in
     let told = whole_lines bytes (so_far.told ++ more.lines) new read in
-    elim old.at_end as (λ (ended : Bool). old.at_end ≡ ended → BeginsBlock bytes done) [
+    elim old.at_end as (λ (ended : Bool). old.at_end ≡ ended → OpensLeft (bytes_within bytes) done) [
       | true ↦ λ end.
           let same : bytes ≡ so_far.bytes =
           ap (λ (rest : List ℕ). so_far.bytes ++ rest) (more.reads.stays end).1 ∙ append-nil so_far.bytes in
@@ -191,13 +187,10 @@ begins_block before mid after old new done so_far more =
           ∙ length-append (so_far.told ++ more.lines) held
           ∙ ap (λ (k : ℕ). k + length held) (length-append so_far.told more.lines) in
           absurd (omega (arith, count, ap length none, opens_some more.lines more.spelled))
-      | false ↦ λ goes. record {
-        left = more.lines ++ held;
-        begins =
-            same_commands (bytes_within bytes) _ told ∙ ap commands (append_assoc so_far.told more.lines held)
-            ∙ so_far.spelled (more.lines ++ held) (subst (λ (ended : Bool). MayFollow ended (more.lines ++ held)) (sym goes) tt);
-        opens = opens_more more.lines held more.spelled;
-      }
+      | false ↦ λ goes.
+          opens_left (bytes_within bytes) done so_far.told (more.lines ++ held) (told ∙ append_assoc so_far.told more.lines held)
+          (λ others. so_far.spelled others (subst (λ (ended : Bool). MayFollow ended others) (sym goes) tt))
+          (opens_more more.lines held more.spelled)
     ] refl
 
 -- When reading stops, the items that are done are those whose last line end was read.

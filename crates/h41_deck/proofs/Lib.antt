@@ -3,6 +3,8 @@ pub mod Commanded
 pub mod DeckFaults
 pub mod DeckReading
 pub mod Determined
+pub mod LinesLeft
+pub mod MemoryNeeded
 pub mod Plugging
 pub mod Running
 pub mod SaidAlone

@@ -93,18 +93,25 @@ abbrev pub next_takes_memory : List Spelled → Bool
 next_takes_memory [] = false
 next_takes_memory (item ∷ items) = item_takes_memory item
 
--- When allocation can fail: before any command is executed, or if the next command allocates
--- memory, or if the next lines open a block.
-abbrev pub MayBeRefused : List Spelled → List Spelled → Type 0
-MayBeRefused first rest =
+-- The lines of a deck that remain after the lines of its first commands. The lines taken spell
+-- exactly these commands, whatever lines follow them.
+pub record LinesLeft (deck : List ℕ) (first : List Spelled) (left : List (List ℕ)) : Type 0 where
+  pub taken : List (List ℕ)
+  pub whole : lines deck ≡ taken ++ left
+  pub spelled : (more : List (List ℕ)) → commands (taken ++ more) ≡ first ++ commands more
+
+-- When allocation can fail: before any command is executed, or if the deck's next command allocates
+-- memory, or if the deck's next line that is not skipped opens a block.
+abbrev pub MayBeRefused : List ℕ → List Spelled → List Spelled → Type 0
+MayBeRefused deck first rest =
     (first ≡ [])
     ⊎ ((next_takes_memory rest ≡ true)
-    ⊎ ((left : List (List ℕ)) × (rest ≡ commands left) × (opens_first left ≡ true)))
+    ⊎ ((left : List (List ℕ)) × LinesLeft deck first left × (opens_first left ≡ true)))
 
 -- The text of the replies to the first commands of a deck, after which allocation can fail.
 abbrev pub MemoryText : ℕ → List ℕ → List ℕ → Type 0
 MemoryText registers deck text =
-    (replies : FirstText registers deck text) × MayBeRefused replies.first replies.rest
+    (replies : FirstText registers deck text) × MayBeRefused deck replies.first replies.rest
 
 -- What an error leaves written, of the bytes that were read: the replies to the first commands; if
 -- reading failed, to all commands whose last line end was read; if writing failed, a prefix of such

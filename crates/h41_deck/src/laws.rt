@@ -2,6 +2,7 @@
 
 ghost use Rattle.h41_deck.specs.Deck.{DeckDeterminesOutcome, DeckDeterminesText, FirstTextIsFront};
 ghost use Rattle.h41_deck.specs.Deck.{EndedTextIsDetermined};
+ghost use Rattle.h41_deck.specs.MemoryLaws.{MemoryIsNeeded};
 
 use h41_commands::laws::blocks_are_determined;
 use h41_debug::laws::{
@@ -27,3 +28,9 @@ pub fn deck_is_determined()
     traces_are_determined();
     display_is_determined();
 }
+
+/// States that `OutOfMemory` (21) is reported before any reply, or not at all, if no command of a deck allocates memory and no line
+/// opens a block.
+pub fn memory_is_needed()
+    ensures { MemoryIsNeeded }
+{}

@@ -1,4 +1,5 @@
 pub mod Advancing
+mod CacheInTurn
 mod Locations
 pub mod KeysInTurn
 pub mod Runs

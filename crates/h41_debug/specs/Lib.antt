@@ -1,5 +1,7 @@
 pub mod Bench
 pub mod BenchLaws
+pub mod KeptInTurn
+pub mod LabelledBench
 pub mod Lending
 pub mod Positions
 pub mod Run

@@ -1,6 +1,6 @@
 //! The bench: the calculator, with breakpoints.
 
-ghost use Rattle.std.specs.Prelude.{◌≡◌, ◌≤◌, IfOk, OnErr, OnOk, is_err};
+ghost use Rattle.std.specs.Prelude.{◌≡◌, ◌≤◌, IfOk, OnErr, OnOk, is_err, is_ok};
 ghost use Rattle.std.specs.FinSet.{len};
 ghost use Rattle.std.specs.Result.{result_err};
 ghost use Rattle.std.specs.Borrow.{sem};
@@ -8,10 +8,15 @@ ghost use Rattle.h41_breakpoints.specs.Breakpoints.{is_set, lacks_breakpoint, mo
 ghost use Rattle.h41_breakpoints.specs.Breakpoints.{refuses_breakpoint};
 ghost use Rattle.h41_debug.specs.Bench.{PressesInTurn, Steps, start, with_calculator, with_set};
 ghost use Rattle.h41_debug.specs.Bench.{without_set};
+ghost use Rattle.h41_debug.specs.KeptInTurn.{KeepsAfterCount, KeepsAfterKeys};
+ghost use Rattle.h41_debug.specs.LabelledBench.{calculator_of};
 ghost use Rattle.h41_debug.specs.Positions.{location_of};
 ghost use Rattle.h41_xrom.specs.Calculator.{RefusesLine, RefusesStep, Step, StepsByLine};
-ghost use Rattle.h41_xrom.specs.Calculator.{mode_behind_word};
+ghost use Rattle.h41_xrom.specs.Calculator.{machine_of, mode_behind_word};
+ghost use Rattle.h41_xrom.specs.KeptLabels.{KeepsAfterLine, KeepsAfterStep};
+ghost use Rattle.h41_xrom.specs.LabelledCalculator.{no_searches};
 ghost use Rattle.h41_xrom.specs.declared.calculator.Mode.TheVariants.{Micro};
+ghost use Rattle.h41_xrom.specs.declared.lines.LineSource.TheVariants.{Program};
 
 use crate::run::Stop;
 use h41_breakpoints::{BreakFull, Breakpoints, Location, NoBreak};
@@ -30,16 +35,18 @@ pub struct Bench<const REGS: usize> {
 impl<const REGS: usize> Model for Bench<REGS> {
     ghost use Rattle.std.specs.Coded.{codes};
     ghost use Rattle.std.specs.FinSet as set;
-    ghost use Rattle.h41_debug.specs.Bench.{BenchState};
+    ghost use Rattle.h41_debug.specs.LabelledBench.{LabelledBench};
     ghost use Rattle.h41_breakpoints.specs.Breakpoints.{location_cmp};
     ghost use Rattle.h41_breakpoints.specs.contracts.location.Location as member;
 
-    ghost Value = { BenchState };
+    ghost Value = { LabelledBench };
 
     ghost coded = { Prim.hlevel (codes, set.code {R = location_cmp} member.the_row.coded) };
 
-    ghost view = { λ bench.
-        record { calculator = bench.calculator; breakpoints = bench.breakpoints } };
+    ghost view = { λ bench. record {
+      state = record { calculator = bench.calculator.state; breakpoints = bench.breakpoints };
+      cache = bench.calculator.cache;
+    } };
 }
 
 impl<const REGS: usize> Bench<REGS> {
@@ -53,7 +60,8 @@ impl<const REGS: usize> Bench<REGS> {
     pub fn new(alloc: Global) -> Result<Self, AllocError>
         requires at_least { 64 ≤ REGS }
         requires at_most { REGS ≤ 320 }
-        ensures { IfOk result (λ bench. bench ≡ start REGS) }
+        ensures state { IfOk result (λ bench. bench.state ≡ start REGS) }
+        ensures cache { IfOk result (λ bench. bench.cache ≡ no_searches) }
     {
         let breakpoints = Breakpoints::new(alloc)?;
         Ok(Bench {
@@ -64,7 +72,8 @@ impl<const REGS: usize> Bench<REGS> {
 
     /// Returns the calculator, for reading.
     pub fn calculator(&self) -> &Calculator<REGS>
-        ensures { result.now ≡ self.now.calculator }
+        ensures state { result.now.state ≡ self.now.state.calculator }
+        ensures cache { result.now.cache ≡ self.now.cache }
     {
         &self.calculator
     }
@@ -72,14 +81,14 @@ impl<const REGS: usize> Bench<REGS> {
     /// Returns the calculator, for calls that change it.
     pub fn calculator_mut(&mut self) -> &mut Calculator<REGS>
         ensures* writes_back { sem 𝓛 (LendsCalculator REGS.row self.entry result) }
-        ensures value { result.now ≡ self.old.calculator }
+        ensures value { result.now ≡ calculator_of self.old }
     {
         &mut self.calculator
     }
 
     /// Returns where the calculator is: before the next word while a function runs, otherwise before the line at its position.
     pub fn location(&self) -> Location
-        ensures { result ≡ location_of self.now.calculator }
+        ensures { result ≡ location_of self.now.state.calculator }
     {
         match self.calculator.mode() {
             Mode::Micro(_) => Location::Word(self.calculator.cpu().pc()),
@@ -93,10 +102,13 @@ impl<const REGS: usize> Bench<REGS> {
     ///
     /// A word: 06 to 12. A line: MemoryLost (15), BrokenProgram (14) or NotInProfile (13). Nothing is changed then.
     pub fn step(&mut self) -> Result<(), CalculatorRefusal>
-        ensures refusal { RefusesStep self.old.calculator (result_err result) }
-        ensures change { OnOk result (Step self.old.calculator self.new.calculator) }
-        ensures others { self.new ≡ with_calculator self.new.calculator self.old }
-        ensures unchanged { OnErr result (self.new ≡ self.old) }
+        ensures refusal { RefusesStep self.old.state.calculator (result_err result) }
+        ensures change { OnOk result (Step self.old.state.calculator self.new.state.calculator) }
+        ensures others { self.new.state
+            ≡ with_calculator self.new.state.calculator self.old.state }
+        ensures unchanged { OnErr result (self.new.state ≡ self.old.state) }
+        ensures kept { KeepsAfterStep (is_ok result) (calculator_of self.old)
+            (calculator_of self.new) }
     {
         let (_made, stop) = self.advance(1);
         if let Stop::Refused(refusal) = stop {
@@ -109,12 +121,16 @@ impl<const REGS: usize> Bench<REGS> {
     /// that the loop over words is compiled as one piece.
     #[inline(always)]
     pub(crate) fn step_word(&mut self, caller: Caller) -> Result<bool, CalculatorRefusal>
-        requires { self.old.calculator.mode ≡ Micro caller }
-        ensures refusal { RefusesStep self.old.calculator (result_err result) }
-        ensures change { OnOk result (Step self.old.calculator self.new.calculator) }
-        ensures mode { IfOk result (λ on. self.new.calculator.mode ≡ mode_behind_word on caller) }
-        ensures others { self.new ≡ with_calculator self.new.calculator self.old }
-        ensures unchanged { OnErr result (self.new ≡ self.old) }
+        requires { self.old.state.calculator.mode ≡ Micro caller }
+        ensures refusal { RefusesStep self.old.state.calculator (result_err result) }
+        ensures change { OnOk result (Step self.old.state.calculator self.new.state.calculator) }
+        ensures mode { IfOk result
+            (λ on. self.new.state.calculator.mode ≡ mode_behind_word on caller) }
+        ensures others { self.new.state
+            ≡ with_calculator self.new.state.calculator self.old.state }
+        ensures unchanged { OnErr result (self.new.state ≡ self.old.state) }
+        ensures kept { KeepsAfterStep (is_ok result) (calculator_of self.old)
+            (calculator_of self.new) }
     {
         self.calculator.step_word(caller)
     }
@@ -122,10 +138,14 @@ impl<const REGS: usize> Bench<REGS> {
     /// Executes the line at the position, as a single step while no function runs.
     #[inline(always)]
     pub(crate) fn step_line(&mut self) -> Result<(), CalculatorRefusal>
-        ensures refusal { RefusesLine self.old.calculator (result_err result) }
-        ensures change { OnOk result (StepsByLine self.old.calculator self.new.calculator) }
-        ensures others { self.new ≡ with_calculator self.new.calculator self.old }
-        ensures unchanged { OnErr result (self.new ≡ self.old) }
+        ensures refusal { RefusesLine self.old.state.calculator (result_err result) }
+        ensures change { OnOk result
+            (StepsByLine self.old.state.calculator self.new.state.calculator) }
+        ensures others { self.new.state
+            ≡ with_calculator self.new.state.calculator self.old.state }
+        ensures unchanged { OnErr result (self.new.state ≡ self.old.state) }
+        ensures kept { KeepsAfterLine Program self.old.state.calculator.nut.pages
+            (machine_of self.old.state.calculator) self.old.cache self.new.cache }
     {
         self.calculator.step_line()
     }
@@ -136,7 +156,9 @@ impl<const REGS: usize> Bench<REGS> {
     ///
     /// Those of `step`. The refused step changes nothing; the steps before it remain made.
     pub fn steps(&mut self, count: u32) -> Result<(), CalculatorRefusal>
-        ensures { Steps count self.old self.new (result_err result) }
+        ensures steps { Steps count self.old.state self.new.state (result_err result) }
+        ensures kept { KeepsAfterCount count (result_err result) (calculator_of self.old)
+            (calculator_of self.new) }
     {
         let mut left = count;
         while left > 0 {
@@ -156,7 +178,8 @@ impl<const REGS: usize> Bench<REGS> {
     /// KeyNotHeld (18), MemoryLost (15), BrokenProgram (14), NotInProfile (13) or NoRoom (16). The refused key changes nothing;
     /// the keys before it remain pressed.
     pub fn press(&mut self, keys: &[Key]) -> Result<(), CalculatorRefusal>
-        ensures { PressesInTurn keys.now self.old self.new (result_err result) }
+        ensures keys { PressesInTurn keys.now self.old.state self.new.state (result_err result) }
+        ensures kept { KeepsAfterKeys keys.now (calculator_of self.old) (calculator_of self.new) }
     {
         for key in keys {
             self.calculator.key(*key)?;
@@ -166,14 +189,14 @@ impl<const REGS: usize> Bench<REGS> {
 
     /// Returns whether a breakpoint is set at a location.
     pub fn has_breakpoint(&self, location: Location) -> bool
-        ensures { result ≡ is_set self.now.breakpoints location }
+        ensures { result ≡ is_set self.now.state.breakpoints location }
     {
         self.breakpoints.contains(location)
     }
 
     /// Returns how many breakpoints are set, at most 16.
     pub fn breakpoint_count(&self) -> usize
-        ensures count { result ≡ len self.now.breakpoints }
+        ensures count { result ≡ len self.now.state.breakpoints }
         ensures most { result ≤ most_breakpoints }
     {
         self.breakpoints.count()
@@ -185,9 +208,10 @@ impl<const REGS: usize> Bench<REGS> {
     ///
     /// BreakFull (19) if 16 others are set. Nothing is changed then.
     pub fn break_at(&mut self, location: Location) -> Result<(), BreakFull>
-        ensures refusal { is_err result ≡ refuses_breakpoint self.old.breakpoints location }
-        ensures change { OnOk result (self.new ≡ with_set location self.old) }
-        ensures unchanged { OnErr result (self.new ≡ self.old) }
+        ensures refusal { is_err result ≡ refuses_breakpoint self.old.state.breakpoints location }
+        ensures change { OnOk result (self.new.state ≡ with_set location self.old.state) }
+        ensures unchanged { OnErr result (self.new.state ≡ self.old.state) }
+        ensures cache { self.new.cache ≡ self.old.cache }
     {
         self.breakpoints.insert(location)
     }
@@ -198,9 +222,10 @@ impl<const REGS: usize> Bench<REGS> {
     ///
     /// NoBreak (20) if it is not set. Nothing is changed then.
     pub fn unbreak(&mut self, location: Location) -> Result<(), NoBreak>
-        ensures refusal { is_err result ≡ lacks_breakpoint self.old.breakpoints location }
-        ensures change { OnOk result (self.new ≡ without_set location self.old) }
-        ensures unchanged { OnErr result (self.new ≡ self.old) }
+        ensures refusal { is_err result ≡ lacks_breakpoint self.old.state.breakpoints location }
+        ensures change { OnOk result (self.new.state ≡ without_set location self.old.state) }
+        ensures unchanged { OnErr result (self.new.state ≡ self.old.state) }
+        ensures cache { self.new.cache ≡ self.old.cache }
     {
         self.breakpoints.remove(location)
     }

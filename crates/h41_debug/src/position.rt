@@ -19,7 +19,7 @@ impl<const REGS: usize> Bench<REGS> {
     /// `Run` or `Idle`, and the position in program memory, or `P` and the address of the next line in a page. Addresses are
     /// hexadecimal, positions in memory are decimal. For example `Run P6003`. The form is this project's choice.
     pub fn position(&self) -> ArrayString<CAPACITY>
-        ensures { result.bytes ≡ spec.position_text self.now }
+        ensures { result.bytes ≡ spec.position_text self.now.state }
     {
         let mut text = ArrayString::new();
         text.push_str(mode_name(self.calculator().mode()));

@@ -2,8 +2,10 @@
 
 ghost use Rattle.std.specs.Prelude.{◌≡◌, ◌<◌, ◌≤◌, ◌+◌, false, true, if◌then◌else◌, nat_lt, None};
 ghost use Rattle.std.specs.FinSet.{len};
-ghost use Rattle.h41_debug.specs.private.Advancing.{Advances, EndsFor, IfRunning};
+ghost use Rattle.h41_debug.specs.private.Advancing.{Advances, EndsFor, IfRunning, KeepsOn};
 ghost use Rattle.h41_debug.specs.Bench.{Steps};
+ghost use Rattle.h41_debug.specs.KeptInTurn.{KeepsAfterRun};
+ghost use Rattle.h41_debug.specs.LabelledBench.{calculator_of};
 ghost use Rattle.h41_debug.specs.Positions.{location_of};
 ghost use Rattle.h41_debug.specs.Run.{Run};
 ghost use Rattle.h41_debug.specs.private.Running.{runs_function, stop_behind, stop_running};
@@ -32,7 +34,9 @@ impl<const REGS: usize> Bench<REGS> {
     /// breakpoint is set where the calculator is, `limit` steps were made, the next step is refused. Returns how many steps were
     /// made, and the reason. A breakpoint where the run begins does not stop it. A refused step changes nothing.
     pub fn run(&mut self, limit: u32) -> (u32, Stop)
-        ensures { Run limit self.old self.new result.0 result.1 }
+        ensures run { Run limit self.old.state self.new.state result.0 result.1 }
+        ensures kept { KeepsAfterRun result.0 result.1 (calculator_of self.old)
+            (calculator_of self.new) }
     {
         if self.calculator().mode() == Mode::Idle {
             return (0, Stop::Idle);
@@ -48,9 +52,12 @@ impl<const REGS: usize> Bench<REGS> {
     pub(crate) fn advance(&mut self, limit: u32) -> (u32, Stop)
         requires some { 1 ≤ limit }
         ensures most { result.0 ≤ limit }
-        ensures steps { Steps result.0 self.old self.new None }
-        ensures ends { EndsFor limit result.0 self.new result.1 }
-        ensures run { IfRunning self.old (Run limit self.old self.new result.0 result.1) }
+        ensures steps { Steps result.0 self.old.state self.new.state None }
+        ensures ends { EndsFor limit result.0 self.new.state result.1 }
+        ensures run { IfRunning self.old.state
+            (Run limit self.old.state self.new.state result.0 result.1) }
+        ensures kept { KeepsAfterRun result.0 result.1 (calculator_of self.old)
+            (calculator_of self.new) }
     {
         let watched = self.breakpoint_count() != 0;
         let mut made = 0;
@@ -73,9 +80,11 @@ impl<const REGS: usize> Bench<REGS> {
     /// then, and why the next one is refused, if it is.
     fn go_on(&mut self, from: u32, limit: u32, watched: bool) -> (u32, Option<CalculatorRefusal>)
         requires below { from < limit }
-        requires clear { stop_behind (nat_lt 0 from) self.old ≡ None }
-        requires free { watched ≡ false → len self.old.breakpoints ≡ 0 }
-        ensures { Advances limit from self.old result.0 self.new result.1 }
+        requires clear { stop_behind (nat_lt 0 from) self.old.state ≡ None }
+        requires free { watched ≡ false → len self.old.state.breakpoints ≡ 0 }
+        ensures steps { Advances limit from self.old.state result.0 self.new.state result.1 }
+        ensures kept { KeepsOn from (calculator_of self.old) result.0 (calculator_of self.new)
+            result.1 }
     {
         if let Mode::Micro(caller) = self.calculator().mode() {
             return self.words(caller, from, limit, watched);
@@ -94,10 +103,12 @@ impl<const REGS: usize> Bench<REGS> {
         watched: bool,
     ) -> (u32, Option<CalculatorRefusal>)
         requires below { from < limit }
-        requires mode { self.old.calculator.mode ≡ Micro caller }
-        requires clear { stop_behind (nat_lt 0 from) self.old ≡ None }
-        requires free { watched ≡ false → len self.old.breakpoints ≡ 0 }
-        ensures { Advances limit from self.old result.0 self.new result.1 }
+        requires mode { self.old.state.calculator.mode ≡ Micro caller }
+        requires clear { stop_behind (nat_lt 0 from) self.old.state ≡ None }
+        requires free { watched ≡ false → len self.old.state.breakpoints ≡ 0 }
+        ensures steps { Advances limit from self.old.state result.0 self.new.state result.1 }
+        ensures kept { KeepsOn from (calculator_of self.old) result.0 (calculator_of self.new)
+            result.1 }
     {
         step_is_determined();
         let mut made = from;
@@ -121,8 +132,8 @@ impl<const REGS: usize> Bench<REGS> {
     /// Returns where the calculator is while a function runs, without testing its mode.
     #[inline(always)]
     fn word_location(&self) -> Location
-        requires { runs_function self.now.calculator.mode ≡ true }
-        ensures { result ≡ location_of self.now.calculator }
+        requires { runs_function self.now.state.calculator.mode ≡ true }
+        ensures { result ≡ location_of self.now.state.calculator }
     {
         Location::Word(self.calculator().cpu().pc())
     }
@@ -132,10 +143,12 @@ impl<const REGS: usize> Bench<REGS> {
     #[inline(never)]
     fn lines(&mut self, from: u32, limit: u32, watched: bool) -> (u32, Option<CalculatorRefusal>)
         requires below { from < limit }
-        requires mode { runs_function self.old.calculator.mode ≡ false }
-        requires clear { stop_behind (nat_lt 0 from) self.old ≡ None }
-        requires free { watched ≡ false → len self.old.breakpoints ≡ 0 }
-        ensures { Advances limit from self.old result.0 self.new result.1 }
+        requires mode { runs_function self.old.state.calculator.mode ≡ false }
+        requires clear { stop_behind (nat_lt 0 from) self.old.state ≡ None }
+        requires free { watched ≡ false → len self.old.state.breakpoints ≡ 0 }
+        ensures steps { Advances limit from self.old.state result.0 self.new.state result.1 }
+        ensures kept { KeepsOn from (calculator_of self.old) result.0 (calculator_of self.new)
+            result.1 }
     {
         step_is_determined();
         for made in from..limit {
@@ -159,8 +172,8 @@ impl<const REGS: usize> Bench<REGS> {
     /// is watched; otherwise none is set.
     #[inline(always)]
     fn stop(&self, behind: bool, watched: bool) -> Option<Stop>
-        requires { watched ≡ false → len self.now.breakpoints ≡ 0 }
-        ensures { result ≡ stop_behind behind self.now }
+        requires { watched ≡ false → len self.now.state.breakpoints ≡ 0 }
+        ensures { result ≡ stop_behind behind self.now.state }
     {
         if !behind {
             return None;
@@ -174,8 +187,8 @@ impl<const REGS: usize> Bench<REGS> {
     /// Returns why a run stops while something runs. Breakpoints are tested only if the run is watched; otherwise none is set.
     #[inline(always)]
     fn stop_at_breakpoint(&self, watched: bool) -> Option<Stop>
-        requires { watched ≡ false → len self.now.breakpoints ≡ 0 }
-        ensures { result ≡ stop_running self.now }
+        requires { watched ≡ false → len self.now.state.breakpoints ≡ 0 }
+        ensures { result ≡ stop_running self.now.state }
     {
         if !watched {
             return None;

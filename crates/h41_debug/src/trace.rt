@@ -28,7 +28,7 @@ impl<const REGS: usize> Bench<REGS> {
     /// Returns what a trace prints for the next step: where the calculator is, a space, and the text of the next instruction or
     /// line. The text is `?` if the line, or a word of the instruction, cannot be read.
     pub fn trace_line(&self) -> ArrayString<TRACE_CAPACITY>
-        ensures { TellsStep self.now result.bytes }
+        ensures { TellsStep self.now.state result.bytes }
     {
         let mut text = ArrayString::new();
         text.push_str(self.position().as_str());
@@ -43,7 +43,7 @@ fn text_at<const REGS: usize>(
     calculator: &Calculator<REGS>,
     location: Location,
 ) -> ArrayString<NEXT>
-    ensures { TellsAt location calculator.now result.bytes }
+    ensures { TellsAt location calculator.now.state result.bytes }
 {
     match location {
         Location::Word(address) => instruction_text(calculator.pages(), address),

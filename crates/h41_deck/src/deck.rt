@@ -85,7 +85,7 @@ fn answer_lines<R: Source, W: Sink, const REGS: usize>(
 ) -> Result<Outcome, Fault>
     requires at_least { 64 ≤ REGS }
     requires at_most { REGS ≤ 320 }
-    requires new { bench.old ≡ start REGS }
+    requires new { bench.old.state ≡ start REGS }
     requires reader_clear { R.failed reader.old ≡ false }
     requires writer_clear { W.failed writer.old ≡ false }
     ensures { AnswersLines REGS result R.Source W.Sink

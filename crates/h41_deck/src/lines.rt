@@ -49,7 +49,7 @@ pub fn answer_line<W: Sink, const REGS: usize>(
     requires clear { W.failed writer.old ≡ false }
     requires first { first_line line.now ≡ Some first }
     requires plain { opens_block first.kind ≡ false }
-    ensures reply { AnswersLine result line.now bench.old bench.new
+    ensures reply { AnswersLine result line.now bench.old.state bench.new.state
         W.contents writer.old writer.new }
     ensures memory { result ≡ Err CommandFault.OutOfMemory
         → item_takes_memory (line_spelled line.now) ≡ true }
@@ -81,7 +81,7 @@ fn answer_plain<W: Sink, const REGS: usize>(
     requires clear { W.failed writer.old ≡ false }
     requires kind { line_kind line.now ≡ Some (Named (Plain kind)) }
     requires words { words_of operands.rest.now ≡ drop 1 (words_of line.now) }
-    ensures reply { AnswersLine result line.now bench.old bench.new
+    ensures reply { AnswersLine result line.now bench.old.state bench.new.state
         W.contents writer.old writer.new }
     ensures memory { result ≡ Err CommandFault.OutOfMemory
         → item_takes_memory (line_spelled line.now) ≡ true }
@@ -112,7 +112,7 @@ fn answer_whole<W: Sink, const REGS: usize>(
 ) -> Result<Outcome, CommandFault>
     requires clear { W.failed writer.old ≡ false }
     requires short { length line.now ≤ longest_line }
-    ensures reply { AnswersLine result line.now bench.old bench.new
+    ensures reply { AnswersLine result line.now bench.old.state bench.new.state
         W.contents writer.old writer.new }
     ensures memory { result ≡ Err CommandFault.OutOfMemory
         → item_takes_memory (line_spelled line.now) ≡ true }
@@ -135,7 +135,8 @@ pub fn answer<W: Sink, const REGS: usize>(
     writer: &mut W,
 ) -> Result<Outcome, CommandFault>
     requires { W.failed writer.old ≡ false }
-    ensures reply { AnswersItem result item bench.old bench.new W.contents writer.old writer.new }
+    ensures reply { AnswersItem result item bench.old.state bench.new.state
+        W.contents writer.old writer.new }
     ensures memory { result ≡ Err CommandFault.OutOfMemory
         → item_takes_memory (what_is_spelled item) ≡ true }
     ensures mark { result ≡ Err CommandFault.WriteFault → W.failed writer.new ≡ true }
@@ -169,7 +170,7 @@ fn step_counted<W: Sink, const REGS: usize>(
 ) -> Result<Outcome, WriteFault>
     requires { W.failed writer.old ≡ false }
     ensures reply { AnswersWritten result plain.Step (words_of operands.entry.rest.now)
-        bench.old bench.new W.contents writer.old writer.new }
+        bench.old.state bench.new.state W.contents writer.old writer.new }
     ensures clear { OnOk result (W.failed writer.new ≡ false) }
     ensures mark { OnErr result (W.failed writer.new ≡ true) }
 {
@@ -188,7 +189,7 @@ fn break_placed<W: Sink, const REGS: usize>(
 ) -> Result<Outcome, WriteFault>
     requires { W.failed writer.old ≡ false }
     ensures reply { AnswersWritten result plain.Break (words_of operands.entry.rest.now)
-        bench.old bench.new W.contents writer.old writer.new }
+        bench.old.state bench.new.state W.contents writer.old writer.new }
     ensures clear { OnOk result (W.failed writer.new ≡ false) }
     ensures mark { OnErr result (W.failed writer.new ≡ true) }
 {
@@ -207,7 +208,7 @@ fn unbreak_placed<W: Sink, const REGS: usize>(
 ) -> Result<Outcome, WriteFault>
     requires { W.failed writer.old ≡ false }
     ensures reply { AnswersWritten result plain.Unbreak (words_of operands.entry.rest.now)
-        bench.old bench.new W.contents writer.old writer.new }
+        bench.old.state bench.new.state W.contents writer.old writer.new }
     ensures clear { OnOk result (W.failed writer.new ≡ false) }
     ensures mark { OnErr result (W.failed writer.new ≡ true) }
 {
@@ -226,7 +227,7 @@ fn unplug_named<W: Sink, const REGS: usize>(
 ) -> Result<Outcome, WriteFault>
     requires { W.failed writer.old ≡ false }
     ensures reply { AnswersWritten result plain.Unplug (words_of operands.entry.rest.now)
-        bench.old bench.new W.contents writer.old writer.new }
+        bench.old.state bench.new.state W.contents writer.old writer.new }
     ensures clear { OnOk result (W.failed writer.new ≡ false) }
     ensures mark { OnErr result (W.failed writer.new ≡ true) }
 {
@@ -245,7 +246,7 @@ fn reset_alone<W: Sink, const REGS: usize>(
 ) -> Result<Outcome, WriteFault>
     requires { W.failed writer.old ≡ false }
     ensures reply { AnswersWritten result plain.Reset (words_of operands.entry.rest.now)
-        bench.old bench.new W.contents writer.old writer.new }
+        bench.old.state bench.new.state W.contents writer.old writer.new }
     ensures clear { OnOk result (W.failed writer.new ≡ false) }
     ensures mark { OnErr result (W.failed writer.new ≡ true) }
 {
@@ -264,7 +265,7 @@ fn run_counted<W: Sink, const REGS: usize>(
 ) -> Result<Outcome, WriteFault>
     requires { W.failed writer.old ≡ false }
     ensures reply { AnswersWritten result plain.Run (words_of operands.entry.rest.now)
-        bench.old bench.new W.contents writer.old writer.new }
+        bench.old.state bench.new.state W.contents writer.old writer.new }
     ensures clear { OnOk result (W.failed writer.new ≡ false) }
     ensures mark { OnErr result (W.failed writer.new ≡ true) }
 {
@@ -287,7 +288,7 @@ fn show_named<W: Sink, const REGS: usize>(
 ) -> Result<Outcome, CommandFault>
     requires clear { W.failed writer.old ≡ false }
     ensures reply { AnswersPlain result plain.Show (words_of operands.entry.rest.now)
-        bench.old bench.new W.contents writer.old writer.new }
+        bench.old.state bench.new.state W.contents writer.old writer.new }
     ensures memory { result ≡ Err CommandFault.OutOfMemory
         → plain_takes_memory plain.Show (words_of operands.entry.rest.now) ≡ true }
     ensures mark { result ≡ Err CommandFault.WriteFault → W.failed writer.new ≡ true }

@@ -75,12 +75,13 @@ pub fn apply<W: Sink, const REGS: usize>(
     requires block { block.kind ≡ kind_of command }
 
     // The reply is written, or a prefix of it if writing failed, or nothing if allocation failed.
-    ensures reply { Acts result command block bench.old bench.new W.contents writer.old writer.new }
+    ensures reply { Acts result command block bench.old.state bench.new.state
+        W.contents writer.old writer.new }
 
     // Allocation fails only for commands that allocate memory, and whose blocks are not refused.
     ensures memory { result ≡ Err CommandFault.OutOfMemory → takes_memory command ≡ true }
     ensures accepted { result ≡ Err CommandFault.OutOfMemory → IsAccepted block }
-    ensures unchanged { result ≡ Err CommandFault.OutOfMemory → bench.new ≡ bench.old }
+    ensures unchanged { result ≡ Err CommandFault.OutOfMemory → bench.new.state ≡ bench.old.state }
 
     // The error flag says whether writing failed.
     ensures mark { result ≡ Err CommandFault.WriteFault → W.failed writer.new ≡ true }
@@ -101,10 +102,11 @@ fn say<W: Sink, const REGS: usize>(
 ) -> Result<Option<Refusal>, CommandFault>
     requires clear { W.failed writer.old ≡ false }
     requires block { block.kind ≡ kind_of command }
-    ensures text { Says result command block bench.old bench.new W.contents writer.old writer.new }
+    ensures text { Says result command block bench.old.state bench.new.state
+        W.contents writer.old writer.new }
     ensures memory { result ≡ Err CommandFault.OutOfMemory → takes_memory command ≡ true }
     ensures accepted { result ≡ Err CommandFault.OutOfMemory → IsAccepted block }
-    ensures unchanged { result ≡ Err CommandFault.OutOfMemory → bench.new ≡ bench.old }
+    ensures unchanged { result ≡ Err CommandFault.OutOfMemory → bench.new.state ≡ bench.old.state }
     ensures mark { result ≡ Err CommandFault.WriteFault → W.failed writer.new ≡ true }
     ensures clear { result ≢ Err CommandFault.WriteFault → W.failed writer.new ≡ false }
 {
@@ -133,9 +135,10 @@ fn say_alone<W: Sink, const REGS: usize>(
 ) -> Result<Option<Refusal>, CommandFault>
     requires clear { W.failed writer.old ≡ false }
     requires alone { kind_of command ≡ None }
-    ensures text { SaysAlone result command bench.old bench.new W.contents writer.old writer.new }
+    ensures text { SaysAlone result command bench.old.state bench.new.state
+        W.contents writer.old writer.new }
     ensures memory { result ≡ Err CommandFault.OutOfMemory → takes_memory command ≡ true }
-    ensures unchanged { result ≡ Err CommandFault.OutOfMemory → bench.new ≡ bench.old }
+    ensures unchanged { result ≡ Err CommandFault.OutOfMemory → bench.new.state ≡ bench.old.state }
     ensures mark { result ≡ Err CommandFault.WriteFault → W.failed writer.new ≡ true }
     ensures clear { result ≢ Err CommandFault.WriteFault → W.failed writer.new ≡ false }
 {
@@ -155,7 +158,7 @@ fn say_alone<W: Sink, const REGS: usize>(
 fn carry_out<const REGS: usize>(bench: &mut Bench<REGS>, command: Command) -> Option<Refusal>
     requires { is_silent command ≡ true }
     ensures { (values : List ℕ)
-        → Reply command values bench.old bench.new (ends_by result) }
+        → Reply command values bench.old.state bench.new.state (ends_by result) }
 {
     match command {
         Command::Unplug(page) => unplug(bench, page),
@@ -182,8 +185,9 @@ fn plug<const REGS: usize>(
 ) -> Result<Option<Refusal>, AllocError>
     requires kind { IsForPage block }
     requires accepted { IsAccepted block }
-    ensures plugs { IfOk result (PlugsTaken block page bank writable bench.old bench.new) }
-    ensures unchanged { OnErr result (bench.new ≡ bench.old) }
+    ensures plugs { IfOk result (PlugsTaken block page bank writable
+        bench.old.state bench.new.state) }
+    ensures unchanged { OnErr result (bench.new.state ≡ bench.old.state) }
 {
     match block.into_words(alloc, page)? {
         Ok(words) => plug_words(alloc, bench, page, bank, writable, words),
@@ -202,8 +206,9 @@ fn plug_words<const REGS: usize>(
     words: Vec<u16>,
 ) -> Result<Option<Refusal>, AllocError>
     requires { vec_len words ≤ page_size }
-    ensures plugs { IfOk result (PlugsWordsOf words page bank writable bench.old bench.new) }
-    ensures unchanged { OnErr result (bench.new ≡ bench.old) }
+    ensures plugs { IfOk result (PlugsWordsOf words page bank writable
+        bench.old.state bench.new.state) }
+    ensures unchanged { OnErr result (bench.new.state ≡ bench.old.state) }
 {
     let mut words = words;
     words.resize(PAGE_WORDS, 0)?;
@@ -228,8 +233,8 @@ fn load<const REGS: usize>(
 ) -> Result<Option<Refusal>, AllocError>
     requires kind { IsForProgram block }
     requires accepted { IsAccepted block }
-    ensures loads { IfOk result (LoadsTaken block bench.old bench.new) }
-    ensures unchanged { OnErr result (bench.new ≡ bench.old) }
+    ensures loads { IfOk result (LoadsTaken block bench.old.state bench.new.state) }
+    ensures unchanged { OnErr result (bench.new.state ≡ bench.old.state) }
 {
     match block.into_bytes(alloc)? {
         Ok(bytes) => Ok(load_bytes(bench, &bytes)),
@@ -239,7 +244,7 @@ fn load<const REGS: usize>(
 
 /// Loads the lines in the bytes, and returns why this is refused, if it is.
 fn load_bytes<const REGS: usize>(bench: &mut Bench<REGS>, bytes: &[u8]) -> Option<Refusal>
-    ensures { LoadsBytes (Ok bytes.now) bench.old bench.new (ends_by result) }
+    ensures { LoadsBytes (Ok bytes.now) bench.old.state bench.new.state (ends_by result) }
 {
     match bench.calculator_mut().load(bytes) {
         Ok(()) => None,
@@ -249,7 +254,7 @@ fn load_bytes<const REGS: usize>(bench: &mut Bench<REGS>, bytes: &[u8]) -> Optio
 
 /// Unplugs all banks of a page, and returns why this is refused, if it is.
 pub(crate) fn unplug<const REGS: usize>(bench: &mut Bench<REGS>, page: u8) -> Option<Refusal>
-    ensures { Reply (commands.Unplug page) [] bench.old bench.new (ends_by result) }
+    ensures { Reply (commands.Unplug page) [] bench.old.state bench.new.state (ends_by result) }
 {
     match bench.calculator_mut().unplug(page) {
         Ok(()) => None,
@@ -259,7 +264,7 @@ pub(crate) fn unplug<const REGS: usize>(bench: &mut Bench<REGS>, page: u8) -> Op
 
 /// Sets the number of data registers, and returns why this is refused, if it is.
 fn size<const REGS: usize>(bench: &mut Bench<REGS>, count: u16) -> Option<Refusal>
-    ensures { Reply (commands.Size count) [] bench.old bench.new (ends_by result) }
+    ensures { Reply (commands.Size count) [] bench.old.state bench.new.state (ends_by result) }
 {
     match bench.calculator_mut().set_size(count) {
         Ok(()) => None,
@@ -269,7 +274,7 @@ fn size<const REGS: usize>(bench: &mut Bench<REGS>, count: u16) -> Option<Refusa
 
 /// Restores the initial state, and returns no refusal.
 pub(crate) fn reset<const REGS: usize>(bench: &mut Bench<REGS>) -> Option<Refusal>
-    ensures { Reply commands.Reset [] bench.old bench.new (ends_by result) }
+    ensures { Reply commands.Reset [] bench.old.state bench.new.state (ends_by result) }
 {
     bench.calculator_mut().reset();
     None
@@ -277,7 +282,7 @@ pub(crate) fn reset<const REGS: usize>(bench: &mut Bench<REGS>) -> Option<Refusa
 
 /// Starts the function at an address, and returns why this is refused, if it is.
 fn call<const REGS: usize>(bench: &mut Bench<REGS>, address: u16) -> Option<Refusal>
-    ensures { Reply (commands.Call address) [] bench.old bench.new (ends_by result) }
+    ensures { Reply (commands.Call address) [] bench.old.state bench.new.state (ends_by result) }
 {
     match bench.calculator_mut().call(address) {
         Ok(()) => None,
@@ -287,7 +292,7 @@ fn call<const REGS: usize>(bench: &mut Bench<REGS>, address: u16) -> Option<Refu
 
 /// Presses keys in turn, and returns why the first refused one is refused, if there is one.
 fn press<const REGS: usize>(bench: &mut Bench<REGS>, keys: &PressedKeys) -> Option<Refusal>
-    ensures { Reply (commands.Key keys.now) [] bench.old bench.new (ends_by result) }
+    ensures { Reply (commands.Key keys.now) [] bench.old.state bench.new.state (ends_by result) }
 {
     match bench.press(keys.as_slice()) {
         Ok(()) => None,
@@ -297,7 +302,7 @@ fn press<const REGS: usize>(bench: &mut Bench<REGS>, keys: &PressedKeys) -> Opti
 
 /// Makes single steps, and returns why the first refused one is refused, if there is one.
 pub(crate) fn step<const REGS: usize>(bench: &mut Bench<REGS>, count: u32) -> Option<Refusal>
-    ensures { Reply (commands.Step count) [] bench.old bench.new (ends_by result) }
+    ensures { Reply (commands.Step count) [] bench.old.state bench.new.state (ends_by result) }
 {
     match bench.steps(count) {
         Ok(()) => None,
@@ -315,9 +320,9 @@ pub(crate) fn show<W: Sink, const REGS: usize>(
     writer: &mut W,
 ) -> Result<Option<Refusal>, CommandFault>
     requires clear { W.failed writer.old ≡ false }
-    ensures text { SaysAlone result (commands.Show view) bench.old bench.new
+    ensures text { SaysAlone result (commands.Show view) bench.old.state bench.new.state
         W.contents writer.old writer.new }
-    ensures unchanged { result ≡ Err CommandFault.OutOfMemory → bench.new ≡ bench.old }
+    ensures unchanged { result ≡ Err CommandFault.OutOfMemory → bench.new.state ≡ bench.old.state }
     ensures mark { result ≡ Err CommandFault.WriteFault → W.failed writer.new ≡ true }
     ensures clear { result ≢ Err CommandFault.WriteFault → W.failed writer.new ≡ false }
 {

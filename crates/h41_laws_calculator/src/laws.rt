@@ -116,7 +116,7 @@ pub fn key_has_one_outcome()
 /// States that each key has exactly one outcome from each calculator that can exist, because the lines that a keyboard stores can
 /// be encoded in bytes.
 pub fn key_has_one_effect<const REGS: usize>(calculator: &mut Calculator<REGS>, key: Key)
-    ensures { HasOne (KeyLeaves key calculator.old) }
+    ensures { HasOne (KeyLeaves key calculator.old.state) }
 {
     key_is_determined();
     let _ = calculator.key(key);

@@ -35,7 +35,7 @@ pub fn runs_have_one_outcome()
 /// States that `count` single steps have exactly one outcome from each bench that can exist: a state, and the first refusal or
 /// none.
 pub fn steps_have_one_outcome<const REGS: usize>(bench: &mut Bench<REGS>, count: u32)
-    ensures { HasOne (StepsLeave count bench.old) }
+    ensures { HasOne (StepsLeave count bench.old.state) }
 {
     steps_are_determined();
     let _ = bench.steps(count);
@@ -43,7 +43,7 @@ pub fn steps_have_one_outcome<const REGS: usize>(bench: &mut Bench<REGS>, count:
 
 /// States that keys in turn have exactly one outcome from each bench that can exist: a state, and the first refusal or none.
 pub fn keys_have_one_outcome<const REGS: usize>(bench: &mut Bench<REGS>, keys: &[Key])
-    ensures { HasOne (KeysLeave keys.now bench.old) }
+    ensures { HasOne (KeysLeave keys.now bench.old.state) }
 {
     presses_are_determined();
     let _ = bench.press(keys);
@@ -52,7 +52,7 @@ pub fn keys_have_one_outcome<const REGS: usize>(bench: &mut Bench<REGS>, keys: &
 /// States that a run of at most `limit` steps, which may be 0, has exactly one outcome from each bench that can exist: how many
 /// steps it makes, the state that it leaves, and why it stops.
 pub fn run_has_one_outcome<const REGS: usize>(bench: &mut Bench<REGS>, limit: u32)
-    ensures { HasOne (RunLeaves limit bench.old) }
+    ensures { HasOne (RunLeaves limit bench.old.state) }
 {
     runs_are_determined();
     let _ = bench.run(limit);
@@ -68,7 +68,7 @@ pub fn next_has_one_text()
 /// States that a trace of `count` steps has exactly one outcome from each bench that can exist: a text, a state, and the first
 /// refusal or none.
 pub fn trace_has_one_outcome<const REGS: usize>(bench: &mut Bench<REGS>, count: u32)
-    ensures { HasOne (TraceLeaves count bench.old) }
+    ensures { HasOne (TraceLeaves count bench.old.state) }
 {
     steps_are_traced();
     traces_are_determined();

@@ -2,6 +2,8 @@ pub mod Accepted
 pub mod DisplayLaws
 pub mod KeyLaws
 pub mod Keying
+pub mod KeysKept
+pub mod LabelsKept
 pub mod LabelsStay
 pub mod Loading
 pub mod Named

@@ -83,7 +83,7 @@ quiet modes.Run input key flags action after is = quiet_in_run (row_of key).plai
 quiet (modes.Micro caller) input key flags action after is = quiet_in_micro caller (row_of key).plain input action after is
 
 -- What the keyboard was given.
-asked : (from s : CalculatorState) (key : Key) (mode : Activity) (flags : Flags) → from ≡ s → mode ≡ activity_of s.mode
+pub asked : (from s : CalculatorState) (key : Key) (mode : Activity) (flags : Flags) → from ≡ s → mode ≡ activity_of s.mode
     → presses from.input key mode flags ≡ press_of s key flags
 asked from s key mode flags is waits = λ i. presses (is i).input key (waits i) flags
 

@@ -1,7 +1,9 @@
 pub mod Calculator
 pub mod CalculatorLaws
 pub mod Display
+pub mod KeptLabels
 pub mod KeyActions
+pub mod LabelledCalculator
 pub mod Lines
 pub mod Messages
 pub mod Programs

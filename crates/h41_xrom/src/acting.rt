@@ -1,8 +1,10 @@
 //! Performs the action of a key on memory and on the rest of the state that program lines work on.
 
-ghost use Rattle.std.specs.Prelude.{◌≡◌, OnErr};
+ghost use Rattle.std.specs.Prelude.{◌≡◌, OnErr, is_ok};
 ghost use Rattle.h41_positions.specs.LabelledMachine.{AreRight, machine_of};
+ghost use Rattle.h41_xrom.specs.KeptLabels.{KeepsAfterAction, KeepsAfterLine};
 ghost use Rattle.h41_xrom.specs.KeyActions.{Acts, Carries};
+ghost use Rattle.h41_xrom.specs.LabelledCalculator.{cache_of};
 ghost use Rattle.h41_xrom.specs.private.PrivateCalls.{IsActed, edited_as, effect_as};
 
 use crate::lines::{LineEnd, LineSource, carry_line};
@@ -50,10 +52,13 @@ pub fn act<const REGS: usize>(
     ensures effect { Acts pages.now program_mode action (machine_of machine.old)
         (effect_as (machine_of machine.new) result) }
     ensures unchanged { OnErr result (machine_of machine.new ≡ machine_of machine.old) }
+    ensures kept { KeepsAfterAction pages.now program_mode (is_ok result) action
+        (machine_of machine.old) (cache_of machine.old) (cache_of machine.new) }
     ensures right { AreRight machine.new }
 {
     kept_answers_stay_right();
     match action {
+        Action::Nothing => Ok(KeyEffect::Nothing),
         Action::Stop => Ok(KeyEffect::Stops),
         Action::Run => Ok(KeyEffect::Starts),
         Action::Step if program_mode => edited(show_next(&machine.ram, pages, &mut machine.focal)),
@@ -97,6 +102,8 @@ fn carried<const REGS: usize>(
     ensures line { Carries source.now pages.now (machine_of machine.old)
         (effect_as (machine_of machine.new) result) }
     ensures unchanged { OnErr result (machine_of machine.new ≡ machine_of machine.old) }
+    ensures kept { KeepsAfterLine source.now pages.now (machine_of machine.old)
+        (cache_of machine.old) (cache_of machine.new) }
     ensures right { AreRight machine.new }
 {
     Ok(KeyEffect::Line(carry_line(machine, pages, source)?))

@@ -1,7 +1,7 @@
 //! The calculator: processor, memory, pages and keys, and its mode.
 
 ghost use Rattle.std.specs.Prelude.{◌≡◌, ◌≢◌, ◌≤◌, None, IfOk, IfErr, OnOk, OnErr, length};
-ghost use Rattle.std.specs.Prelude.{option_map};
+ghost use Rattle.std.specs.Prelude.{is_ok, option_map};
 ghost use Rattle.std.specs.Result.{result_err};
 ghost use Rattle.h41_positions.specs.LabelledMachine as labelled;
 ghost use Rattle.h41_positions.specs.FocalState as focal;
@@ -15,7 +15,11 @@ ghost use Rattle.h41_xrom.specs.Calculator.{machine_of};
 ghost use Rattle.h41_xrom.specs.Calculator.{mode_after, mode_behind_word, mode_of, not_typing};
 ghost use Rattle.h41_xrom.specs.Calculator.{after_reset, start, with_page, with_shown};
 ghost use Rattle.h41_xrom.specs.Calculator.{without_page};
+ghost use Rattle.h41_xrom.specs.KeptLabels.{KeepsAfterKey, KeepsAfterLine, KeepsAfterMeaning};
+ghost use Rattle.h41_xrom.specs.KeptLabels.{KeepsAfterProgram, KeepsAfterStep, KeepsAfterStepIn};
 ghost use Rattle.h41_xrom.specs.KeyActions as keys;
+ghost use Rattle.h41_xrom.specs.LabelledCalculator.{cache_of, no_searches};
+ghost use Rattle.h41_xrom.specs.declared.lines.LineSource.TheVariants.{Program};
 ghost use Rattle.h41_xrom.specs.private.PrivateCalls.{Accepts, IsAccepted, after_effect, after_end};
 ghost use Rattle.h41_xrom.specs.private.PrivateCalls.{answered_briefly};
 ghost use Rattle.h41_keys.specs.declared.input.TypedEntry.TheVariants as entries;
@@ -35,6 +39,7 @@ use h41_keys::{Action, Flags, Input, Key, TypedEntry, press};
 use h41_nut::{Cpu, Keys, WordRefusal, step_to_end};
 use h41_pages::{FIRST_ADDRESS, Pages, PlugRefusal, UnplugRefusal};
 use h41_positions::Position;
+use h41_positions::laws::positions_are_read;
 use h41_program::{load, set_size};
 use h41_ram::Ram;
 use h41_ram::flags::ALPHA_MODE;
@@ -103,16 +108,19 @@ impl<const REGS: usize> Model for Calculator<REGS> {
     ghost use Rattle.std.specs.Prelude.{option_map};
     ghost use Rattle.h41_positions.specs.LabelledMachine.{AreRight};
     ghost use Rattle.h41_nut.specs.WordStep.{nut_of};
-    ghost use Rattle.h41_xrom.specs.Calculator.{CalculatorState};
+    ghost use Rattle.h41_xrom.specs.LabelledCalculator.{LabelledCalculator, cache_of};
 
-    ghost Value = { CalculatorState };
+    ghost Value = { LabelledCalculator };
 
     ghost view = { λ all. record {
-      nut = nut_of all.cpu all.machine.ram.registers all.pages all.keys;
-      focal = all.machine.focal.state;
-      input = all.input;
-      message = option_map (λ text. text.bytes) all.message;
-      mode = all.mode;
+      state = record {
+        nut = nut_of all.cpu all.machine.ram.registers all.pages all.keys;
+        focal = all.machine.focal.state;
+        input = all.input;
+        message = option_map (λ text. text.bytes) all.message;
+        mode = all.mode;
+      };
+      cache = cache_of all.machine;
     } };
 
     // While the dirty flag of memory is clear, each entry of the label cache is what a search would find.
@@ -128,7 +136,8 @@ impl<const REGS: usize> Calculator<REGS> {
     pub fn new(alloc: Global) -> Result<Self, AllocError>
         requires at_least { 64 ≤ REGS }
         requires at_most { REGS ≤ 320 }
-        ensures { IfOk result (λ calculator. calculator ≡ start REGS) }
+        ensures state { IfOk result (λ calculator. calculator.state ≡ start REGS) }
+        ensures cache { IfOk result (λ calculator. calculator.cache ≡ no_searches) }
     {
         Ok(Calculator {
             cpu: Cpu::new(),
@@ -143,49 +152,52 @@ impl<const REGS: usize> Calculator<REGS> {
 
     /// Returns the processor.
     pub fn cpu(&self) -> &Cpu
-        ensures { result.now ≡ self.now.nut.processor }
+        ensures { result.now ≡ self.now.state.nut.processor }
     {
         &self.cpu
     }
 
     /// Returns the memory.
     pub fn ram(&self) -> &Ram<REGS>
-        ensures { result.now.registers ≡ self.now.nut.ram }
+        ensures registers { result.now.registers ≡ self.now.state.nut.ram }
+        ensures mark { result.now.touched ≡ self.now.cache.touched }
     {
         &self.machine.ram
     }
 
     /// Returns the pages.
     pub fn pages(&self) -> &Pages
-        ensures { result.now ≡ self.now.nut.pages }
+        ensures { result.now ≡ self.now.state.nut.pages }
     {
         &self.pages
     }
 
     /// Returns the mode: whether nothing, a program or a function runs.
     pub fn mode(&self) -> Mode
-        ensures { result ≡ self.now.mode }
+        ensures { result ≡ self.now.state.mode }
     {
         self.mode
     }
 
     /// Returns the keyboard as the processor sees it: the key code and the key flag.
     pub fn keys(&self) -> &Keys
-        ensures { result.now ≡ self.now.nut.keys }
+        ensures { result.now ≡ self.now.state.nut.keys }
     {
         &self.keys
     }
 
     /// Returns the state, besides memory, that lines work on: the position, the return stack and stack lift.
     pub fn focal(&self) -> &Focal
-        ensures { result.now.state ≡ self.now.focal }
+        ensures state { result.now.state ≡ self.now.state.focal }
+        ensures labels { result.now.labels ≡ self.now.cache.labels }
     {
         &self.machine.focal
     }
 
     /// Returns memory together with the rest of the state that lines work on.
     pub fn machine(&self) -> &Machine<REGS>
-        ensures { labelled.machine_of result.now ≡ machine_of self.now }
+        ensures machine { labelled.machine_of result.now ≡ machine_of self.now.state }
+        ensures cache { cache_of result.now ≡ self.now.cache }
     {
         &self.machine
     }
@@ -193,14 +205,14 @@ impl<const REGS: usize> Calculator<REGS> {
     /// Returns what the keyboard remembers between keys: SHIFT, program mode, a prompt, and the number or text that is being
     /// typed.
     pub fn input(&self) -> &Input
-        ensures { result.now ≡ self.now.input }
+        ensures { result.now ≡ self.now.state.input }
     {
         &self.input
     }
 
     /// Returns the message: the text that the display shows before anything else, if there is one.
     pub fn message(&self) -> Option<DisplayText>
-        ensures { option_map (λ text. text.bytes) result ≡ self.now.message }
+        ensures { option_map (λ text. text.bytes) result ≡ self.now.state.message }
     {
         self.message
     }
@@ -212,9 +224,10 @@ impl<const REGS: usize> Calculator<REGS> {
     /// Busy (24) while a program or a function runs; SystemRom (08) if the address is below 4000. That includes 00F0, because a
     /// call is not a jump to the end of a function. Nothing is changed then.
     pub fn call(&mut self, address: u16) -> Result<(), CalculatorRefusal>
-        ensures refusal { result_err result ≡ call_refusal self.old address }
-        ensures change { OnOk result (self.new ≡ after_call address self.old) }
-        ensures unchanged { OnErr result (self.new ≡ self.old) }
+        ensures refusal { result_err result ≡ call_refusal self.old.state address }
+        ensures change { OnOk result (self.new.state ≡ after_call address self.old.state) }
+        ensures unchanged { OnErr result (self.new.state ≡ self.old.state) }
+        ensures cache { self.new.cache ≡ self.old.cache }
     {
         if self.mode != Mode::Idle {
             return Err(CalculatorRefusal::Busy);
@@ -229,7 +242,8 @@ impl<const REGS: usize> Calculator<REGS> {
 
     /// Ends the entry of a number or a text.
     fn end_entry(&mut self)
-        ensures { self.new ≡ not_typing self.old }
+        ensures state { self.new.state ≡ not_typing self.old.state }
+        ensures cache { self.new.cache ≡ self.old.cache }
     {
         match self.input.entry {
             TypedEntry::Nothing => {}
@@ -239,7 +253,8 @@ impl<const REGS: usize> Calculator<REGS> {
 
     /// Makes the function at an address run.
     fn enter(&mut self, address: u16)
-        ensures { self.new ≡ with_function address self.old }
+        ensures state { self.new.state ≡ with_function address self.old.state }
+        ensures cache { self.new.cache ≡ self.old.cache }
     {
         self.cpu.enter(address);
         self.mode = Mode::Micro(Caller::in_mode(self.mode));
@@ -254,9 +269,10 @@ impl<const REGS: usize> Calculator<REGS> {
     /// (13) if the bench does not support the line. Nothing is changed then.
     #[inline(always)]
     pub fn step(&mut self) -> Result<(), CalculatorRefusal>
-        ensures refusal { RefusesStep self.old (result_err result) }
-        ensures change { OnOk result (Step self.old self.new) }
-        ensures unchanged { OnErr result (self.new ≡ self.old) }
+        ensures refusal { RefusesStep self.old.state (result_err result) }
+        ensures change { OnOk result (Step self.old.state self.new.state) }
+        ensures unchanged { OnErr result (self.new.state ≡ self.old.state) }
+        ensures kept { KeepsAfterStep (is_ok result) self.old self.new }
     {
         match self.mode {
             Mode::Idle | Mode::Run => self.step_line(),
@@ -275,9 +291,11 @@ impl<const REGS: usize> Calculator<REGS> {
     /// MemoryLost (15), BrokenProgram (14) and NotInProfile (13), as for `step`. Nothing is changed then.
     #[inline(always)]
     pub fn step_line(&mut self) -> Result<(), CalculatorRefusal>
-        ensures refusal { RefusesLine self.old (result_err result) }
-        ensures change { OnOk result (StepsByLine self.old self.new) }
-        ensures unchanged { OnErr result (self.new ≡ self.old) }
+        ensures refusal { RefusesLine self.old.state (result_err result) }
+        ensures change { OnOk result (StepsByLine self.old.state self.new.state) }
+        ensures unchanged { OnErr result (self.new.state ≡ self.old.state) }
+        ensures kept { KeepsAfterLine Program self.old.state.nut.pages (machine_of self.old.state)
+            self.old.cache self.new.cache }
     {
         let mut told = Ok(BriefOutcome::Done);
         if self.machine.step_briefly(&self.pages, &mut told) {
@@ -286,7 +304,10 @@ impl<const REGS: usize> Calculator<REGS> {
         }
         match told {
             Ok(brief) => match brief {
-                BriefOutcome::Elsewhere => self.call_by_line(),
+                BriefOutcome::Elsewhere => {
+                    positions_are_read();
+                    self.call_by_line()
+                }
                 brief => {
                     self.end_entry();
                     self.answer_briefly(brief);
@@ -300,9 +321,11 @@ impl<const REGS: usize> Calculator<REGS> {
     /// Executes the line at the position with everything that it may call.
     #[inline(never)]
     fn call_by_line(&mut self) -> Result<(), CalculatorRefusal>
-        ensures refusal { RefusesLine self.old (result_err result) }
-        ensures change { OnOk result (StepsByLine self.old self.new) }
-        ensures unchanged { OnErr result (self.new ≡ self.old) }
+        ensures refusal { RefusesLine self.old.state (result_err result) }
+        ensures change { OnOk result (StepsByLine self.old.state self.new.state) }
+        ensures unchanged { OnErr result (self.new.state ≡ self.old.state) }
+        ensures kept { KeepsAfterLine Program self.old.state.nut.pages (machine_of self.old.state)
+            self.old.cache self.new.cache }
     {
         match carry_line(&mut self.machine, &self.pages, &LineSource::Program) {
             Ok(end) => {
@@ -319,7 +342,9 @@ impl<const REGS: usize> Calculator<REGS> {
     #[inline(never)]
     fn answer_briefly(&mut self, brief: BriefOutcome)
         requires { brief ≢ Elsewhere }
-        ensures { (called : Answer) → self.new ≡ answered_briefly called brief self.old }
+        ensures state { (called : Answer)
+            → self.new.state ≡ answered_briefly called brief self.old.state }
+        ensures cache { self.new.cache ≡ self.old.cache }
     {
         let outcome = brief.outcome(&self.machine.ram);
         self.answer(outcome);
@@ -328,7 +353,8 @@ impl<const REGS: usize> Calculator<REGS> {
     /// Shows the result of a line that ended, or makes the function run that it starts.
     #[inline(always)]
     fn end_line(&mut self, end: LineEnd)
-        ensures { self.new ≡ after_end end self.old }
+        ensures state { self.new.state ≡ after_end end self.old.state }
+        ensures cache { self.new.cache ≡ self.old.cache }
     {
         match end {
             LineEnd::Answers(outcome) => self.answer(outcome),
@@ -339,7 +365,8 @@ impl<const REGS: usize> Calculator<REGS> {
     /// Shows the result of a line, and changes the mode if the line stops the program or starts one.
     #[inline(always)]
     fn answer(&mut self, outcome: LineOutcome)
-        ensures { self.new ≡ after_answer (answer_of outcome) self.old }
+        ensures state { self.new.state ≡ after_answer (answer_of outcome) self.old.state }
+        ensures cache { self.new.cache ≡ self.old.cache }
     {
         self.mode = mode_behind(self.mode, &outcome);
         self.show(outcome);
@@ -348,7 +375,8 @@ impl<const REGS: usize> Calculator<REGS> {
     /// Shows the result of a line in the display.
     #[inline(always)]
     fn show(&mut self, outcome: LineOutcome)
-        ensures { self.new ≡ with_shown (answer_of outcome) self.old }
+        ensures state { self.new.state ≡ with_shown (answer_of outcome) self.old.state }
+        ensures cache { self.new.cache ≡ self.old.cache }
     {
         match outcome {
             LineOutcome::Viewed(text) | LineOutcome::Prompted(text) => self.message = Some(text),
@@ -374,7 +402,8 @@ impl<const REGS: usize> Calculator<REGS> {
     /// a program has no line at the position, NotInProfile (13) if the bench does not support a line, NoRoom (16) if memory is
     /// full. Nothing is changed then.
     pub fn key(&mut self, key: Key) -> Result<(), CalculatorRefusal>
-        ensures { keys.Presses key self.old self.new (result_err result) }
+        ensures key { keys.Presses key self.old.state self.new.state (result_err result) }
+        ensures kept { KeepsAfterKey (is_ok result) key self.old self.new }
     {
         let mut input = self.input;
         match press(&mut input, key, self.waits(), self.key_flags()) {
@@ -385,8 +414,9 @@ impl<const REGS: usize> Calculator<REGS> {
 
     /// Performs the action of a key that has a meaning, or returns why it is refused.
     fn accept(&mut self, key: Key, input: Input, action: Action) -> Result<(), CalculatorRefusal>
-        requires { IsAccepted self.old action }
-        ensures { Accepts key input action self.old self.new (result_err result) }
+        requires { IsAccepted self.old.state action }
+        ensures key { Accepts key input action self.old.state self.new.state (result_err result) }
+        ensures kept { KeepsAfterMeaning (is_ok result) action input self.old self.new }
     {
         self.check_memory()?;
         match act(&mut self.machine, &self.pages, input.program_mode, action) {
@@ -401,7 +431,7 @@ impl<const REGS: usize> Calculator<REGS> {
 
     /// Checks that a key can be performed. MemoryLost (15) if nothing runs and memory is not sound.
     fn check_memory(&self) -> Result<(), CalculatorRefusal>
-        ensures { result_err result ≡ keys.key_refusal self.now }
+        ensures { result_err result ≡ keys.key_refusal self.now.state }
     {
         if self.mode == Mode::Idle && !self.machine.ram.is_sound() {
             return Err(CalculatorRefusal::MemoryLost);
@@ -411,7 +441,7 @@ impl<const REGS: usize> Calculator<REGS> {
 
     /// Returns what runs, in the keyboard's terms.
     fn waits(&self) -> h41_keys::Activity
-        ensures { result ≡ keys.activity_of self.now.mode }
+        ensures { result ≡ keys.activity_of self.now.state.mode }
     {
         match self.mode {
             Mode::Idle => h41_keys::Activity::Idle,
@@ -422,7 +452,7 @@ impl<const REGS: usize> Calculator<REGS> {
 
     /// Returns the rest of the state that decides what a key means: ALPHA mode, a message, and where the shown line is.
     fn key_flags(&self) -> Flags
-        ensures { keys.HasFlags self.now result }
+        ensures { keys.HasFlags self.now.state result }
     {
         Flags {
             alpha: self.machine.ram.flag(ALPHA_MODE),
@@ -433,7 +463,8 @@ impl<const REGS: usize> Calculator<REGS> {
 
     /// Stores the code of an accepted key, sets the key flag and turns the display on. While nothing runs, removes the message.
     fn tell(&mut self, key: Key, input: Input)
-        ensures { self.new ≡ keys.with_key_told key input self.old }
+        ensures state { self.new.state ≡ keys.with_key_told key input self.old.state }
+        ensures cache { self.new.cache ≡ self.old.cache }
     {
         self.keys = Keys {
             ky: key.code(),
@@ -448,7 +479,8 @@ impl<const REGS: usize> Calculator<REGS> {
 
     /// Does what remains of a key's action.
     fn finish(&mut self, effect: KeyEffect)
-        ensures { self.new ≡ after_effect effect self.old }
+        ensures state { self.new.state ≡ after_effect effect self.old.state }
+        ensures cache { self.new.cache ≡ self.old.cache }
     {
         match effect {
             KeyEffect::Nothing => {}
@@ -466,11 +498,12 @@ impl<const REGS: usize> Calculator<REGS> {
     /// 06 to 12, as for `step`. Nothing is changed then.
     #[inline(always)]
     pub fn step_word(&mut self, caller: Caller) -> Result<bool, CalculatorRefusal>
-        requires { self.old.mode ≡ Micro caller }
-        ensures refusal { RefusesStepIn (Micro caller) self.old (result_err result) }
-        ensures change { OnOk result (StepIn (Micro caller) self.old self.new) }
-        ensures running { IfOk result (λ runs. self.new.mode ≡ mode_behind_word runs caller) }
-        ensures unchanged { OnErr result (self.new ≡ self.old) }
+        requires { self.old.state.mode ≡ Micro caller }
+        ensures refusal { RefusesStepIn (Micro caller) self.old.state (result_err result) }
+        ensures change { OnOk result (StepIn (Micro caller) self.old.state self.new.state) }
+        ensures kept { KeepsAfterStepIn (Micro caller) (is_ok result) self.old self.new }
+        ensures running { IfOk result (λ runs. self.new.state.mode ≡ mode_behind_word runs caller) }
+        ensures unchanged { OnErr result (self.new.state ≡ self.old.state) }
     {
         kept_answers_stay_right();
         let ends = step_to_end(
@@ -497,7 +530,8 @@ impl<const REGS: usize> Calculator<REGS> {
     /// memory or of the program are not a line, or an `.END.` comes before the end of the program; NoRoom (16) if memory is full.
     /// Nothing is changed then.
     pub fn load(&mut self, bytes: &[u8]) -> Result<(), CalculatorRefusal>
-        ensures { Loads bytes.now self.old self.new (result_err result) }
+        ensures load { Loads bytes.now self.old.state self.new.state (result_err result) }
+        ensures kept { KeepsAfterProgram (is_ok result) self.old self.new }
     {
         kept_answers_stay_right();
         self.check_change()?;
@@ -514,7 +548,9 @@ impl<const REGS: usize> Calculator<REGS> {
     /// Busy (24) while a program or a function runs; MemoryLost (15) if memory is not sound; SizeTooLarge (17) if no register
     /// would be left for `.END.`; NoRoom (16) if the programs would not fit. Nothing is changed then.
     pub fn set_size(&mut self, count: u16) -> Result<(), CalculatorRefusal>
-        ensures { Becomes (size_makes self.old count) self.old self.new (result_err result) }
+        ensures size { Becomes (size_makes self.old.state count) self.old.state self.new.state
+            (result_err result) }
+        ensures kept { KeepsAfterProgram (is_ok result) self.old self.new }
     {
         kept_answers_stay_right();
         self.check_change()?;
@@ -525,7 +561,7 @@ impl<const REGS: usize> Calculator<REGS> {
 
     /// Checks that programs can be changed: Busy (24) while a program or a function runs, MemoryLost (15) if memory is not sound.
     fn check_change(&self) -> Result<(), CalculatorRefusal>
-        ensures { result_err result ≡ change_refusal self.now }
+        ensures { result_err result ≡ change_refusal self.now.state }
     {
         if self.mode != Mode::Idle {
             return Err(CalculatorRefusal::Busy);
@@ -550,10 +586,12 @@ impl<const REGS: usize> Calculator<REGS> {
         writable: bool,
         words: &[u16],
     ) -> Result<(), PlugRefusal>
-        ensures accepted { OnOk result (TakesPage self.old page bank words.now) }
-        ensures change { OnOk result (self.new ≡ with_page page bank writable words.now self.old) }
-        ensures unchanged { OnErr result (self.new ≡ self.old) }
-        ensures refusal { IfErr result (RefusesPage self.old page bank words.now) }
+        ensures accepted { OnOk result (TakesPage self.old.state page bank words.now) }
+        ensures change { OnOk result (self.new.state
+            ≡ with_page page bank writable words.now self.old.state) }
+        ensures unchanged { OnErr result (self.new.state ≡ self.old.state) }
+        ensures cache { self.new.cache ≡ self.old.cache }
+        ensures refusal { IfErr result (RefusesPage self.old.state page bank words.now) }
     {
         self.pages.plug(alloc, page, bank, writable, words)
     }
@@ -564,16 +602,18 @@ impl<const REGS: usize> Calculator<REGS> {
     ///
     /// NoSuchPage (01) if the page is not 4 to F, NotPlugged (03) if no bank of it is plugged. Nothing is changed then.
     pub fn unplug(&mut self, page: u8) -> Result<(), UnplugRefusal>
-        ensures refusal { result_err result ≡ unplug_refusal self.old.nut.pages page }
-        ensures change { OnOk result (self.new ≡ without_page page self.old) }
-        ensures unchanged { OnErr result (self.new ≡ self.old) }
+        ensures refusal { result_err result ≡ unplug_refusal self.old.state.nut.pages page }
+        ensures change { OnOk result (self.new.state ≡ without_page page self.old.state) }
+        ensures unchanged { OnErr result (self.new.state ≡ self.old.state) }
+        ensures cache { self.new.cache ≡ self.old.cache }
     {
         self.pages.unplug(page)
     }
 
     /// Restores the initial state, but keeps plugged pages. Bank 1 becomes the active bank of each page.
     pub fn reset(&mut self)
-        ensures { self.new ≡ after_reset self.old }
+        ensures state { self.new.state ≡ after_reset self.old.state }
+        ensures cache { self.new.cache ≡ no_searches }
     {
         self.cpu = Cpu::new();
         self.machine = begun_anew(&self.machine);
@@ -589,6 +629,7 @@ impl<const REGS: usize> Calculator<REGS> {
 fn begun_anew<const REGS: usize>(machine: &Machine<REGS>) -> Machine<REGS>
     ensures machine { labelled.machine_of result
         ≡ machine_with (registers.start (length machine.now.ram.registers.main)) focal.start }
+    ensures cache { cache_of result ≡ no_searches }
     ensures right { labelled.AreRight result }
 {
     // A read of memory gives the proof its bounds: 64 to 320 registers.

@@ -25,7 +25,7 @@ impl<const REGS: usize> Calculator<REGS> {
     /// Returns the text of the display, the first of these that applies: nothing while the display is off, the message, a prompt,
     /// in program mode the line, ALPHA if flag 48 is set, the number that is being typed, otherwise X in the display format.
     pub fn display(&self) -> ArrayString<TEXT_CAPACITY>
-        ensures { ShowsDisplay self.now result.bytes }
+        ensures { ShowsDisplay self.now.state result.bytes }
     {
         if !self.cpu().display() {
             return ArrayString::new();
@@ -42,7 +42,7 @@ impl<const REGS: usize> Calculator<REGS> {
     /// Returns the first of these that applies: in program mode the line, ALPHA if flag 48 is set, the number that is being
     /// typed, otherwise X in the display format.
     fn shown_entry(&self) -> ArrayString<TEXT_CAPACITY>
-        ensures { spec.ShowsEntry self.now result.bytes }
+        ensures { spec.ShowsEntry self.now.state result.bytes }
     {
         let input = self.input();
         if input.program_mode {

@@ -3,9 +3,12 @@
 ghost use Rattle.std.specs.Prelude.{◌≡◌, None, Some, OnErr};
 ghost use Rattle.h41_positions.specs.LabelledMachine.{AreRight, machine_of};
 ghost use Rattle.h41_focal.specs.MachineCalls.{KeepsElsewhere, carried_as, passed_as};
+ghost use Rattle.h41_xrom.specs.KeptLabels.{KeepsAfterLine};
+ghost use Rattle.h41_xrom.specs.LabelledCalculator.{cache_of};
 ghost use Rattle.h41_xrom.specs.Lines.{BeginsEntry, CallsEntry, CarriesFrom, CarriesLine};
 ghost use Rattle.h41_xrom.specs.Lines.{EntersFrom, Fails, FailsFrom, IsNamed, PassesFrom, Seeks};
-ghost use Rattle.h41_xrom.specs.private.PrivateCalls.{CarriesFunction, IsFunction, ended_as};
+ghost use Rattle.h41_xrom.specs.private.PrivateCalls.{CarriesFunction, IsFunction, KeepsClear};
+ghost use Rattle.h41_xrom.specs.private.PrivateCalls.{ended_as};
 
 use h41_codes::{Function, Line};
 use h41_focal::laws::kept_answers_stay_right;
@@ -48,6 +51,8 @@ pub fn carry_line<const REGS: usize>(
     ensures line { CarriesLine source.now pages.now (machine_of machine.old)
         (ended_as (machine_of machine.new) result) }
     ensures unchanged { OnErr result (machine_of machine.new ≡ machine_of machine.old) }
+    ensures kept { KeepsAfterLine source.now pages.now (machine_of machine.old)
+        (cache_of machine.old) (cache_of machine.new) }
     ensures right { AreRight machine.new }
 {
     match carry(machine, pages, source)? {
@@ -76,6 +81,8 @@ fn carry<const REGS: usize>(
         (carried_as (machine_of machine.new) result) }
     ensures unchanged { OnErr result (machine_of machine.new ≡ machine_of machine.old) }
     ensures elsewhere { KeepsElsewhere (machine_of machine.old) (machine_of machine.new) result }
+    ensures kept { KeepsAfterLine source.now pages.now (machine_of machine.old)
+        (cache_of machine.old) (cache_of machine.new) }
     ensures right { AreRight machine.new }
 {
     match source {
@@ -95,6 +102,7 @@ fn carry_function<const REGS: usize>(
     ensures line { CarriesFunction source.now pages.now function (machine_of machine.old)
         (carried_as (machine_of machine.new) result) }
     ensures unchanged { OnErr result (machine_of machine.new ≡ machine_of machine.old) }
+    ensures kept { KeepsClear machine.old machine.new }
     ensures right { AreRight machine.new }
 {
     match source {
@@ -115,6 +123,7 @@ fn call_entry<const REGS: usize>(
     ensures line { CallsEntry source.now pages.now entry (machine_of machine.old)
         (ended_as (machine_of machine.new) result) }
     ensures unchanged { OnErr result (machine_of machine.new ≡ machine_of machine.old) }
+    ensures kept { KeepsClear machine.old machine.new }
     ensures right { AreRight machine.new }
 {
     match entry {
@@ -134,6 +143,7 @@ fn begin_entry<const REGS: usize>(
     ensures line { BeginsEntry source.now pages.now entry (machine_of machine.old)
         (ended_as (machine_of machine.new) result) }
     ensures unchanged { OnErr result (machine_of machine.new ≡ machine_of machine.old) }
+    ensures kept { KeepsClear machine.old machine.new }
     ensures right { AreRight machine.new }
 {
     if entry.keystroke {
@@ -155,6 +165,7 @@ fn enter<const REGS: usize>(
     ensures line { EntersFrom source.now pages.now address (machine_of machine.old)
         (ended_as (machine_of machine.new) result) }
     ensures unchanged { OnErr result (machine_of machine.new ≡ machine_of machine.old) }
+    ensures kept { KeepsClear machine.old machine.new }
     ensures right { AreRight machine.new }
 {
     kept_answers_stay_right();
@@ -180,6 +191,7 @@ fn pass<const REGS: usize>(
     ensures line { PassesFrom source.now pages.now (machine_of machine.old)
         (passed_as (machine_of machine.new) result) }
     ensures unchanged { OnErr result (machine_of machine.new ≡ machine_of machine.old) }
+    ensures kept { KeepsClear machine.old machine.new }
     ensures right { AreRight machine.new }
 {
     kept_answers_stay_right();
@@ -199,6 +211,7 @@ fn fail<const REGS: usize>(
     ensures line { Fails source.now pages.now (machine_of machine.old)
         (ended_as (machine_of machine.new) result) }
     ensures unchanged { OnErr result (machine_of machine.new ≡ machine_of machine.old) }
+    ensures kept { KeepsClear machine.old machine.new }
     ensures right { AreRight machine.new }
 {
     Ok(LineEnd::Answers(fault_of(machine, pages, source)?))
@@ -214,6 +227,7 @@ fn fault_of<const REGS: usize>(
     ensures line { FailsFrom source.now pages.now (machine_of machine.old)
         (carried_as (machine_of machine.new) result) }
     ensures unchanged { OnErr result (machine_of machine.new ≡ machine_of machine.old) }
+    ensures kept { KeepsClear machine.old machine.new }
     ensures right { AreRight machine.new }
 {
     kept_answers_stay_right();
@@ -235,6 +249,7 @@ fn call_named<const REGS: usize>(
     ensures line { Seeks source.now pages.now name.now (machine_of machine.old)
         (ended_as (machine_of machine.new) result) }
     ensures unchanged { OnErr result (machine_of machine.new ≡ machine_of machine.old) }
+    ensures kept { KeepsClear machine.old machine.new }
     ensures right { AreRight machine.new }
 {
     if let Some((number, entry)) = pages.find(name) {

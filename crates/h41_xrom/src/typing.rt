@@ -7,6 +7,7 @@ ghost use Rattle.h41_xrom.specs.KeyActions.{BeginsNumber, ChangesNumber, Leaves}
 ghost use Rattle.h41_xrom.specs.KeyActions.{with_alpha_toggled, with_letters, with_text};
 ghost use Rattle.h41_xrom.specs.declared.acting.KeyEffect.TheVariants.{Nothing};
 ghost use Rattle.h41_ram.specs.RamState.{KeepsMark};
+ghost use Rattle.h41_rows.specs.RowMarks.{LeavesMark};
 ghost use Rattle.h41_xrom.specs.private.PrivateCalls.{lettered};
 
 use crate::acting::KeyEffect;
@@ -24,6 +25,7 @@ pub fn begin_number<const REGS: usize>(machine: &mut Machine<REGS>, number: &Num
         (Ok (Leaves (machine_of machine.new))) }
     ensures effect { result ≡ Nothing }
     ensures keeps { Keeps machine.old machine.new }
+    ensures left { LeavesMark machine.old.ram machine.new.ram }
 {
     let focal = &mut machine.focal;
     bring_in(&mut machine.ram, written(number), focal.lift);
@@ -38,6 +40,7 @@ pub fn change_number<const REGS: usize>(machine: &mut Machine<REGS>, number: &Nu
         (Ok (Leaves (machine_of machine.new))) }
     ensures effect { result ≡ Nothing }
     ensures keeps { Keeps machine.old machine.new }
+    ensures left { LeavesMark machine.old.ram machine.new.ram }
 {
     bring_in(&mut machine.ram, written(number), false);
     KeyEffect::Nothing
@@ -47,6 +50,7 @@ pub fn change_number<const REGS: usize>(machine: &mut Machine<REGS>, number: &Nu
 pub fn type_letters<const REGS: usize>(ram: &mut Ram<REGS>, action: Action)
     ensures memory { ram.new.registers ≡ lettered action ram.old.registers }
     ensures mark { KeepsMark ram.old ram.new }
+    ensures left { LeavesMark ram.old ram.new }
 {
     match action {
         Action::ToggleAlpha => toggle_alpha(ram),
@@ -62,6 +66,7 @@ pub fn type_letters<const REGS: usize>(ram: &mut Ram<REGS>, action: Action)
 fn toggle_alpha<const REGS: usize>(ram: &mut Ram<REGS>)
     ensures memory { ram.new.registers ≡ with_alpha_toggled ram.old.registers }
     ensures mark { KeepsMark ram.old ram.new }
+    ensures left { LeavesMark ram.old ram.new }
 {
     let on = !ram.flag(ALPHA_MODE);
     ram.set_flag(ALPHA_MODE, on);
@@ -71,6 +76,7 @@ fn toggle_alpha<const REGS: usize>(ram: &mut Ram<REGS>)
 fn begin_text<const REGS: usize>(ram: &mut Ram<REGS>, letter: u8)
     ensures memory { ram.new.registers ≡ with_letters ram.old.registers (letter ∷ []) }
     ensures mark { KeepsMark ram.old ram.new }
+    ensures left { LeavesMark ram.old ram.new }
 {
     replace_text(ram, &[letter]);
     ram.set_flag(ALPHA_ENTRY, true);
@@ -81,6 +87,7 @@ fn add_letter<const REGS: usize>(ram: &mut Ram<REGS>, letter: u8)
     ensures memory { ram.new.registers ≡ with_letters ram.old.registers
         (alpha_of ram.old.registers ++ letter ∷ []) }
     ensures mark { KeepsMark ram.old ram.new }
+    ensures left { LeavesMark ram.old ram.new }
 {
     append_text(ram, &[letter]);
     ram.set_flag(ALPHA_ENTRY, true);
@@ -91,6 +98,7 @@ fn take_letter<const REGS: usize>(ram: &mut Ram<REGS>)
     ensures memory { ram.new.registers ≡ with_text ram.old.registers
         (take 23 (alpha_of ram.old.registers)) }
     ensures mark { KeepsMark ram.old ram.new }
+    ensures left { LeavesMark ram.old ram.new }
 {
     let alpha = ram.alpha();
     replace_text(ram, &alpha[..ALPHA_LENGTH - 1]);
@@ -100,6 +108,7 @@ fn take_letter<const REGS: usize>(ram: &mut Ram<REGS>)
 fn clear_alpha<const REGS: usize>(ram: &mut Ram<REGS>)
     ensures memory { ram.new.registers ≡ with_text ram.old.registers [] }
     ensures mark { KeepsMark ram.old ram.new }
+    ensures left { LeavesMark ram.old ram.new }
 {
     replace_text(ram, &[]);
 }

@@ -2,7 +2,9 @@
 use Rattle.std.specs.Prelude.{◌≡◌, ◌<◌, ◌≤◌, ℕ, false, nat_lt, Option, Some, None, MatchOption}
 use Rattle.h41_xrom.specs.declared.refusal.CalculatorRefusal.{CalculatorRefusal}
 use Rattle.h41_xrom.specs.Calculator.{RefusesStep, is_idle}
+use Rattle.h41_xrom.specs.LabelledCalculator.{LabelledCalculator}
 use Rattle.h41_debug.specs.Bench.{BenchState, Steps}
+use Rattle.h41_debug.specs.KeptInTurn.{KeepsAfterSteps, KeepsAfterTries}
 use Rattle.h41_debug.specs.Run.{StopsFor}
 use Rattle.h41_debug.specs.private.Running.{stop_behind}
 use Rattle.h41_debug.specs.declared.run.Stop.{Stop}
@@ -46,3 +48,11 @@ pub record Advances (limit from : ℕ) (s : BenchState) (made : ℕ)
   pub goes_on : (start : BenchState) → MakesSteps limit from start s → MakesSteps limit made start t
   pub kept : t.breakpoints ≡ s.breakpoints
   pub ends : MatchOption refusal (from < made) (IsRefused limit made t)
+
+-- The cache after further steps from s, if s is the state after the steps so far.
+abbrev pub KeepsOn : ℕ → LabelledCalculator → ℕ → LabelledCalculator → Option CalculatorRefusal
+    → Type 0
+KeepsOn from s made t refusal =
+    (start : LabelledCalculator)
+    → KeepsAfterSteps from start s
+    → KeepsAfterTries made refusal start t

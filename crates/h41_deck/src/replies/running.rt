@@ -34,7 +34,8 @@ pub fn run<W: Sink, const REGS: usize>(
     writer: &mut W,
 ) -> Result<Option<Refusal>, WriteFault>
     requires { W.failed writer.old ≡ false }
-    ensures text { RunsAlone result limit bench.old bench.new W.contents writer.old writer.new }
+    ensures text { RunsAlone result limit bench.old.state bench.new.state
+        W.contents writer.old writer.new }
     ensures clear { OnOk result (W.failed writer.new ≡ false) }
     ensures mark { OnErr result (W.failed writer.new ≡ true) }
 {
@@ -92,7 +93,8 @@ pub fn trace<W: Sink, const REGS: usize>(
     writer: &mut W,
 ) -> Result<Option<Refusal>, WriteFault>
     requires { W.failed writer.old ≡ false }
-    ensures text { TracesAlone result count bench.old bench.new W.contents writer.old writer.new }
+    ensures text { TracesAlone result count bench.old.state bench.new.state
+        W.contents writer.old writer.new }
     ensures clear { OnOk result (W.failed writer.new ≡ false) }
     ensures mark { OnErr result (W.failed writer.new ≡ true) }
 {
@@ -112,7 +114,7 @@ pub fn trace<W: Sink, const REGS: usize>(
 
 /// Returns the line of a trace for the next step.
 fn traced_line<const REGS: usize>(bench: &Bench<REGS>) -> ArrayString<TRACED>
-    ensures { IsTraceLine bench.now result.bytes }
+    ensures { IsTraceLine bench.now.state result.bytes }
 {
     let mut line = ArrayString::new();
     line.push_str(bench.trace_line().as_str());
@@ -122,7 +124,7 @@ fn traced_line<const REGS: usize>(bench: &Bench<REGS>) -> ArrayString<TRACED>
 
 /// Sets a breakpoint. Returns BreakFull (19) if it is refused.
 pub fn set_break<const REGS: usize>(bench: &mut Bench<REGS>, location: Location) -> Option<Refusal>
-    ensures { Reply (commands.Break location) [] bench.old bench.new (ends_by result) }
+    ensures { Reply (commands.Break location) [] bench.old.state bench.new.state (ends_by result) }
 {
     match bench.break_at(location) {
         Ok(()) => None,
@@ -132,7 +134,8 @@ pub fn set_break<const REGS: usize>(bench: &mut Bench<REGS>, location: Location)
 
 /// Removes a breakpoint. Returns NoBreak (20) if it is not set.
 pub fn unbreak<const REGS: usize>(bench: &mut Bench<REGS>, location: Location) -> Option<Refusal>
-    ensures { Reply (commands.Unbreak location) [] bench.old bench.new (ends_by result) }
+    ensures { Reply (commands.Unbreak location) []
+        bench.old.state bench.new.state (ends_by result) }
 {
     match bench.unbreak(location) {
         Ok(()) => None,

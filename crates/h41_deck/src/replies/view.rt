@@ -21,7 +21,7 @@ pub fn shown<const REGS: usize>(
     bench: &Bench<REGS>,
     view: View,
 ) -> Result<Result<Vec<u8>, Refusal>, AllocError>
-    ensures { IfOk result (IsShown view bench.now) }
+    ensures { IfOk result (IsShown view bench.now.state) }
 {
     let calculator = bench.calculator();
     let ram = calculator.ram();

@@ -1,7 +1,7 @@
 -- What the private functions of lines and keys promise one another. No public contract needs this
 -- file.
-use Rattle.std.specs.Prelude.{◌≡◌, Bool, ◌&&◌, IsTrue, List, [], ◌∷◌, ◌++◌, take, ℕ, Option, Some}
-use Rattle.std.specs.Prelude.{None, Result, Ok, Err}
+use Rattle.std.specs.Prelude.{◌≡◌, Bool, false, ◌&&◌, IsTrue, List, [], ◌∷◌, ◌++◌, take, ℕ}
+use Rattle.std.specs.Prelude.{Option, Some, None, Result, Ok, Err}
 use Rattle.std.specs.Option.{option_map_or}
 use Rattle.h41_codes.specs.declared.functions.Function.{Function}
 use Rattle.h41_codes.specs.declared.line.Line.{Line}
@@ -19,6 +19,7 @@ use Rattle.h41_keys.specs.declared.action.Action.TheVariants as actions
 use Rattle.h41_keys.specs.declared.input.Input.{Input}
 use Rattle.h41_keys.specs.declared.key.Key.{Key}
 use Rattle.h41_pages.specs.PageMap.{PageMap}
+use Rattle.h41_positions.specs.LabelledMachine.{LabelledMachine}
 use Rattle.h41_positions.specs.Positions.{LineInPage}
 use Rattle.h41_positions.specs.declared.position.PlacedLine.{PlacedLine}
 use Rattle.h41_program.specs.LastProgram.{open_in}
@@ -29,6 +30,7 @@ use Rattle.h41_program.specs.declared.refusal.ProgramRefusal.{ProgramRefusal}
 use Rattle.h41_ram.specs.RegisterMap.{RegisterMap, alpha_of, is_sound}
 use Rattle.h41_xrom.specs.Calculator.{CalculatorState, after_answer, with_function}
 use Rattle.h41_xrom.specs.KeyActions as spec
+use Rattle.h41_xrom.specs.LabelledCalculator.{cache_of}
 use Rattle.h41_xrom.specs.Lines.{Answers, Begins, CarriesFrom, Ended}
 use Rattle.h41_xrom.specs.Programs.{Becomes}
 use Rattle.h41_xrom.specs.declared.acting.KeyEffect.{KeyEffect}
@@ -56,6 +58,11 @@ abbrev pub CarriesFunction : LineSource → PageMap → Function → Machine →
     → Type 0
 CarriesFunction source pages function machine left =
     CarriesFrom source pages (Some function) machine left
+
+-- A line that calls something outside program memory makes no search: if the dirty flag is clear,
+-- the label cache stays.
+abbrev pub KeepsClear : (old new : LabelledMachine) → Type 0
+KeepsClear old new = old.ram.touched ≡ false → cache_of new ≡ cache_of old
 
 -- The function of a line without an operand.
 abbrev pub IsFunction : Line → Option Function → Type 0

@@ -71,14 +71,15 @@ loop-first-preserved-then-opens_block g c =
     let fewer = rw c.in-Some.is at c.in_ok-first.ensures.fewer in
     let next = block_next _ _ _ c.loop-first.input c.read_first_line.new.input c.read_block.new.input c.in-Some.first.kind
     (sym c.if-opens_block.ensures) first c.in_ok-item.item c.in_ok-item.ensures.item in
-    let told = told_kept _ _ _ so_far.0 c.loop-first.bench c.loop-first.outcome
-    (told_kept _ _ _ so_far.0 c.loop-first.bench c.loop-first.outcome so_far.2 c.in_ok-first.ensures.kept) c.in_ok-item.ensures.kept in
+    let told = told_kept _ _ _ so_far.0 c.loop-first.bench.state c.loop-first.outcome
+    (told_kept _ _ _ so_far.0 c.loop-first.bench.state c.loop-first.outcome so_far.2 c.in_ok-first.ensures.kept)
+    c.in_ok-item.ensures.kept in
     record {
       done = (
         so_far.0 ++ what_is_spelled c.in_ok-item.item ∷ [],
         read_item _ _ _ c.loop-first.input c.read_block.new.input so_far.0 so_far.1 (what_is_spelled c.in_ok-item.item) next
             (below_most _ _ _ c.in_ok-item.ensures.bound fewer) c.in_ok-item.ensures.open,
-        rw c.and-outcome.ensures (told_more _ _ _ so_far.0 c.loop-first.bench c.answer.new.bench c.loop-first.outcome
+        rw c.and-outcome.ensures (told_more _ _ _ so_far.0 c.loop-first.bench.state c.answer.new.bench.state c.loop-first.outcome
             c.in_ok-answered.answered (what_is_spelled c.in_ok-item.item) told c.in_ok-answered.ensures.reply),
       );
       reader = c.in_ok-item.ensures.reader never_failed;
@@ -93,13 +94,14 @@ loop-first-preserved g c =
     let fewer = rw c.in-Some.is at c.in_ok-first.ensures.fewer in
     let line = line_in c.read_first_line.new.input in
     let next = first_line _ _ c.loop-first.input c.read_first_line.new.input c.in-Some.first.kind first (sym c.if-opens_block.ensures) in
-    let told = told_kept _ _ _ so_far.0 c.loop-first.bench c.loop-first.outcome so_far.2 c.in_ok-first.ensures.kept in
+    let told = told_kept _ _ _ so_far.0 c.loop-first.bench.state c.loop-first.outcome so_far.2 c.in_ok-first.ensures.kept in
     record {
       done = (
         so_far.0 ++ line_spelled line ∷ [],
         read_item _ _ _ c.loop-first.input c.read_first_line.new.input so_far.0 so_far.1 (line_spelled line) next fewer
             (λ unended. absurd (false≢true (sym (shut_line line) ∙ unended))),
-        rw c.and-outcome-in-Some.ensures (told_more _ _ _ so_far.0 c.loop-first.bench c.answer_line.new.bench c.loop-first.outcome
+        rw c.and-outcome-in-Some.ensures (told_more _ _ _ so_far.0 c.loop-first.bench.state c.answer_line.new.bench.state
+            c.loop-first.outcome
             c.in_ok-next.next (line_spelled line) told (rw c.line.ensures at c.in_ok-next.ensures.reply)),
       );
       reader = c.in_ok-first.ensures.reader never_failed;
@@ -113,12 +115,12 @@ returns g c =
     let next = first_none _ _ _ _ (rw c.in_default.is at c.in_ok-first.ensures.line) in
     let end = rw c.in_default.is at c.in_ok-first.ensures.end in
     let whole = whole_done _ _ _ c.loop-first.input c.read_first_line.new.input so_far.0 so_far.1 next (end refl) in
-    let told = told_kept _ _ _ so_far.0 c.loop-first.bench c.loop-first.outcome so_far.2 c.in_ok-first.ensures.kept in
+    let told = told_kept _ _ _ so_far.0 c.loop-first.bench.state c.loop-first.outcome so_far.2 c.in_ok-first.ensures.kept in
     ended g.row.REGS g.R.Source g.W.Sink c.args.reader.now c.read_first_line.new.reader c.args.writer.now c.flush.new.writer
     c.loop-first.outcome
-    (deck_written _ _ _ _ so_far.0 c.loop-first.bench c.loop-first.outcome whole
-    (told_kept _ _ _ so_far.0 c.loop-first.bench c.loop-first.outcome told c.in_ok-flush.ensures.bytes))
-    (deck_ended _ _ _ _ so_far.0 c.loop-first.bench c.loop-first.outcome whole so_far.2) c.in_ok-flush.ensures.flushed
+    (deck_written _ _ _ _ so_far.0 c.loop-first.bench.state c.loop-first.outcome whole
+    (told_kept _ _ _ so_far.0 c.loop-first.bench.state c.loop-first.outcome told c.in_ok-flush.ensures.bytes))
+    (deck_ended _ _ _ _ so_far.0 c.loop-first.bench.state c.loop-first.outcome whole so_far.2) c.in_ok-flush.ensures.flushed
     (c.in_ok-first.ensures.reader never_failed) c.in_ok-flush.ensures.clear
 
 pub returns-in_err-first : goal.returns-in_err-first
@@ -130,7 +132,7 @@ returns-in_err-first g c =
     (failed_first g.row.REGS g.R.Source g.W.Sink c.args.reader.now c.read_first_line.new.reader c.args.writer.now
     c.read_first_line.new.writer c.in_err-first.field-0.0
     (leaves_first g.row.REGS g.R.Source g.W.Sink c.args.reader.now c.loop-first.reader c.read_first_line.new.reader c.args.writer.now
-    c.loop-first.writer c.read_first_line.new.writer c.loop-first.input c.read_first_line.new.input so_far.0 c.loop-first.bench
+    c.loop-first.writer c.read_first_line.new.writer c.loop-first.input c.read_first_line.new.input so_far.0 c.loop-first.bench.state
     c.loop-first.outcome c.in_err-first.field-0.0 so_far.1 so_far.2 fault.line fault.kept
     (λ is. fault.stopped (ap (λ why. Err why) is)) (λ is. fault.cause (ap (λ why. Err why) is)) fault.counted)
     (λ is. fault.flushed (ap (λ why. Err why) is)) (λ is. fault.write_fault (ap (λ why. Err why) is))
@@ -141,13 +143,13 @@ returns-in_err-item g c =
     let so_far = c.loop-first.invariant.done in
     let from = err_from_is_err_and c.from_residual-in_err-item.result c.from_residual-in_err-item.ensures.1 in
     let first = rw c.in-Some.is at c.in_ok-first.ensures.line in
-    let told = told_kept _ _ _ so_far.0 c.loop-first.bench c.loop-first.outcome so_far.2 c.in_ok-first.ensures.kept in
+    let told = told_kept _ _ _ so_far.0 c.loop-first.bench.state c.loop-first.outcome so_far.2 c.in_ok-first.ensures.kept in
     let fault = c.in_err-item.ensures in
     told_fault g.row.REGS g.R.Source g.W.Sink _ _ _ _ _ _ _ from.1 from.2
     (failed_item g.row.REGS g.R.Source g.W.Sink c.args.reader.now c.read_block.new.reader c.args.writer.now c.read_block.new.writer
     c.in_err-item.field-0.0
     (leaves_item g.row.REGS g.R.Source g.W.Sink c.args.reader.now c.loop-first.reader c.read_block.new.reader c.args.writer.now
-    c.read_first_line.new.writer c.read_block.new.writer c.loop-first.input c.read_block.new.input so_far.0 c.loop-first.bench
+    c.read_first_line.new.writer c.read_block.new.writer c.loop-first.input c.read_block.new.input so_far.0 c.loop-first.bench.state
     c.loop-first.outcome c.in_err-item.field-0.0 so_far.1 told
     (block_failed _ _ _ c.loop-first.input c.read_first_line.new.input c.read_block.new.input c.in-Some.first.kind
     (sym c.if-opens_block.ensures) first c.in_err-item.field-0.0 fault.item) fault.kept
@@ -163,14 +165,15 @@ returns-in_err-answered g c =
     let fewer = rw c.in-Some.is at c.in_ok-first.ensures.fewer in
     let next = block_next _ _ _ c.loop-first.input c.read_first_line.new.input c.read_block.new.input c.in-Some.first.kind
     (sym c.if-opens_block.ensures) first c.in_ok-item.item c.in_ok-item.ensures.item in
-    let told = told_kept _ _ _ so_far.0 c.loop-first.bench c.loop-first.outcome
-    (told_kept _ _ _ so_far.0 c.loop-first.bench c.loop-first.outcome so_far.2 c.in_ok-first.ensures.kept) c.in_ok-item.ensures.kept in
+    let told = told_kept _ _ _ so_far.0 c.loop-first.bench.state c.loop-first.outcome
+    (told_kept _ _ _ so_far.0 c.loop-first.bench.state c.loop-first.outcome so_far.2 c.in_ok-first.ensures.kept)
+    c.in_ok-item.ensures.kept in
     let fault = c.in_err-answered.ensures in
     told_fault g.row.REGS g.R.Source g.W.Sink _ _ _ _ _ _ _ from.1 from.2
     (failed_answer g.row.REGS g.R.Source g.W.Sink c.args.reader.now c.read_block.new.reader c.args.writer.now c.answer.new.writer
     c.in_err-answered.field-0.0
     (leaves_answer g.row.REGS g.R.Source g.W.Sink c.args.reader.now c.read_block.new.reader c.args.writer.now c.read_block.new.writer
-    c.answer.new.writer c.read_block.new.input so_far.0 c.loop-first.bench c.answer.new.bench c.loop-first.outcome
+    c.answer.new.writer c.read_block.new.input so_far.0 c.loop-first.bench.state c.answer.new.bench.state c.loop-first.outcome
     (what_is_spelled c.in_ok-item.item) c.in_err-answered.field-0.0
     (read_item _ _ _ c.loop-first.input c.read_block.new.input so_far.0 so_far.1 (what_is_spelled c.in_ok-item.item) next
     (below_most _ _ _ c.in_ok-item.ensures.bound fewer) c.in_ok-item.ensures.open) told
@@ -186,14 +189,14 @@ returns-in_err-next g c =
     let fewer = rw c.in-Some.is at c.in_ok-first.ensures.fewer in
     let line = line_in c.read_first_line.new.input in
     let next = first_line _ _ c.loop-first.input c.read_first_line.new.input c.in-Some.first.kind first (sym c.if-opens_block.ensures) in
-    let told = told_kept _ _ _ so_far.0 c.loop-first.bench c.loop-first.outcome so_far.2 c.in_ok-first.ensures.kept in
+    let told = told_kept _ _ _ so_far.0 c.loop-first.bench.state c.loop-first.outcome so_far.2 c.in_ok-first.ensures.kept in
     let fault = c.in_err-next.ensures in
     told_fault g.row.REGS g.R.Source g.W.Sink _ _ _ _ _ _ _ from.1 from.2
     (failed_answer g.row.REGS g.R.Source g.W.Sink c.args.reader.now c.read_first_line.new.reader c.args.writer.now
     c.answer_line.new.writer c.in_err-next.field-0.0
     (leaves_answer g.row.REGS g.R.Source g.W.Sink c.args.reader.now c.read_first_line.new.reader c.args.writer.now
-    c.read_first_line.new.writer c.answer_line.new.writer c.read_first_line.new.input so_far.0 c.loop-first.bench
-    c.answer_line.new.bench c.loop-first.outcome (line_spelled line) c.in_err-next.field-0.0
+    c.read_first_line.new.writer c.answer_line.new.writer c.read_first_line.new.input so_far.0 c.loop-first.bench.state
+    c.answer_line.new.bench.state c.loop-first.outcome (line_spelled line) c.in_err-next.field-0.0
     (read_item _ _ _ c.loop-first.input c.read_first_line.new.input so_far.0 so_far.1 (line_spelled line) next fewer
     (λ unended. absurd (false≢true (sym (shut_line line) ∙ unended)))) told
     (rw c.line.ensures at fault.reply) (λ is. rw c.line.ensures at fault.memory (ap (λ why. Err why) is)))
@@ -207,11 +210,11 @@ returns-in_err-flush g c =
     let next = first_none _ _ _ _ (rw c.in_default.is at c.in_ok-first.ensures.line) in
     let end = rw c.in_default.is at c.in_ok-first.ensures.end in
     let whole = whole_done _ _ _ c.loop-first.input c.read_first_line.new.input so_far.0 so_far.1 next (end refl) in
-    let told = told_kept _ _ _ so_far.0 c.loop-first.bench c.loop-first.outcome so_far.2 c.in_ok-first.ensures.kept in
+    let told = told_kept _ _ _ so_far.0 c.loop-first.bench.state c.loop-first.outcome so_far.2 c.in_ok-first.ensures.kept in
     told_fault g.row.REGS g.R.Source g.W.Sink _ _ _ _ _ _ _ from.1 from.2
     (failed_write g.row.REGS g.R.Source g.W.Sink c.args.reader.now c.read_first_line.new.reader c.args.writer.now c.flush.new.writer
     (leaves_whole g.row.REGS g.R.Source g.W.Sink c.args.reader.now c.read_first_line.new.reader c.args.writer.now
-    c.read_first_line.new.writer c.flush.new.writer so_far.0 c.loop-first.bench c.loop-first.outcome whole told c.flush.ensures.bytes)
+    c.read_first_line.new.writer c.flush.new.writer so_far.0 c.loop-first.bench.state c.loop-first.outcome whole told c.flush.ensures.bytes)
     c.in_err-flush.ensures.mark (c.in_ok-first.ensures.reader never_failed))
 
 pub line-requires : goal.line-requires

@@ -10,7 +10,7 @@ abbrev pub invariant-loop-first : goal.invariant-loop-first
 invariant-loop-first g l = record {
   done : (items : List Spelled)
       × ReadSoFar (g.R.Source.remaining l.fn.reader) (g.R.Source.remaining l.reader) l.input items
-      × Told g.row.REGS (g.W.Sink.contents l.fn.writer) (g.W.Sink.contents l.writer) items l.bench l.outcome;
+      × Told g.row.REGS (g.W.Sink.contents l.fn.writer) (g.W.Sink.contents l.writer) items l.bench.state l.outcome;
   reader : g.R.Source.failed l.reader ≡ false;
   writer : g.W.Sink.failed l.writer ≡ false;
   counted : IsCounted l.input (g.R.Source.given l.reader);

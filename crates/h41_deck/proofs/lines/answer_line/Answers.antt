@@ -15,7 +15,7 @@ returns-in_ok-refuse_unknown-in-Named-Unknown-clause-reply g c =
     (unknown_spelled c.args.line.now (told_kind c.args.line.now c.args.first c.requires.first
     ∙ ap (λ (kind : LineKind). Some kind) c.in-Named-Unknown.is
     ∙ ap (λ (word : FirstWord). Some (Named word)) (rw c.in-Named-Unknown.is at c.in-Named-Unknown.field-0-is)))
-    c.args.bench.now _ _
+    c.args.bench.now.state _ _
     c.in_ok-refuse_unknown-in-Named-Unknown.field-0 c.in_ok-refuse_unknown-in-Named-Unknown.ensures.outcome
     c.in_ok-refuse_unknown-in-Named-Unknown.ensures.written
 
@@ -27,7 +27,7 @@ returns-in_err-refuse_unknown-in-Named-Unknown-clause-reply g c =
     (unknown_spelled c.args.line.now (told_kind c.args.line.now c.args.first c.requires.first
     ∙ ap (λ (kind : LineKind). Some kind) c.in-Named-Unknown.is
     ∙ ap (λ (word : FirstWord). Some (Named word)) (rw c.in-Named-Unknown.is at c.in-Named-Unknown.field-0-is)))
-    c.args.bench.now _ _
+    c.args.bench.now.state _ _
     c.in_err-refuse_unknown-in-Named-Unknown.ensures.written)
 
 pub returns-in_ok-end-in-Long-clause-reply : goal.returns-in_ok-end-in-Long-clause-reply
@@ -35,7 +35,7 @@ returns-in_ok-end-in-Long-clause-reply g c =
     line_refused c.args.line.now LineTooLong
     (long_spelled c.args.line.now (told_kind c.args.line.now c.args.first c.requires.first
     ∙ ap (λ (kind : LineKind). Some kind) c.in-Long.is))
-    c.args.bench.now _ _
+    c.args.bench.now.state _ _
     c.in_ok-end-in-Long.field-0 c.in_ok-end-in-Long.ensures.outcome c.in_ok-end-in-Long.ensures.written
 
 pub returns-in_err-end-in-Long-clause-reply : goal.returns-in_err-end-in-Long-clause-reply
@@ -45,7 +45,7 @@ returns-in_err-end-in-Long-clause-reply g c =
     (line_refused_part c.args.line.now LineTooLong
     (long_spelled c.args.line.now (told_kind c.args.line.now c.args.first c.requires.first
     ∙ ap (λ (kind : LineKind). Some kind) c.in-Long.is))
-    c.args.bench.now _ _
+    c.args.bench.now.state _ _
     c.in_err-end-in-Long.ensures.written)
 
 pub returns-in_ok-refuse_unknown-in-Named-Unknown-clause-memory : goal.returns-in_ok-refuse_unknown-in-Named-Unknown-clause-memory

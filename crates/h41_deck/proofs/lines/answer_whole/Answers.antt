@@ -8,7 +8,8 @@ use Rattle.h41_deck.proofs.lines.answer_whole.Goals as goal
 
 pub returns-clause-reply : goal.returns-clause-reply
 returns-clause-reply g c =
-    subst (λ (item : Spelled). Leaves c.answer.result item c.args.bench.now c.answer.new.bench g.W.Sink.contents c.args.writer.now
+    subst (λ (item : Spelled). Leaves c.answer.result item c.args.bench.now.state c.answer.new.bench.state g.W.Sink.contents
+    c.args.writer.now
     c.answer.new.writer) (c.line_item.ensures.item ∙ sym (short_spelled c.args.line.now c.requires.short)) c.answer.ensures.reply
 
 pub returns-clause-memory : goal.returns-clause-memory

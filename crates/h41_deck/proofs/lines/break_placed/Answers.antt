@@ -16,19 +16,20 @@ returns-in-Ok-clause-reply g c =
     let is : plain_spelled plain.Break (words_of c.args.operands.rest.now) ≡ Ok (commands.Break c.in-Ok.location, []) =
     ap (λ (read : Result Location LineRefusal). spelled_alone (and_then read (λ location. Ok (commands.Break location))))
     (sym c.break_location.ensures ∙ c.in-Ok.is) in
-    ends_written c.end.result plain.Break _ (Ok (commands.Break c.in-Ok.location, [])) is c.args.bench.now c.set_break.new.bench
+    ends_written c.end.result plain.Break _ (Ok (commands.Break c.in-Ok.location, [])) is c.args.bench.now.state c.set_break.new.bench.state
     g.W.Sink.contents
     c.args.writer.now c.args.writer.now c.end.new.writer c.set_break.result
-    (silent _ c.args.bench.now c.set_break.new.bench _ c.set_break.result c.set_break.ensures) c.end.ensures.outcome c.end.ensures.written
+    (silent _ c.args.bench.now.state c.set_break.new.bench.state _ c.set_break.result c.set_break.ensures) c.end.ensures.outcome
+    c.end.ensures.written
 
 pub returns-in-Err-clause-reply : goal.returns-in-Err-clause-reply
 returns-in-Err-clause-reply g c =
     let is : plain_spelled plain.Break (words_of c.args.operands.rest.now) ≡ Err c.in-Err.refusal =
     ap (λ (read : Result Location LineRefusal). spelled_alone (and_then read (λ location. Ok (commands.Break location))))
     (sym c.break_location.ensures ∙ c.in-Err.is) in
-    ends_written c.end-in-Err.result plain.Break _ (Err c.in-Err.refusal) is c.args.bench.now c.args.bench.now g.W.Sink.contents
+    ends_written c.end-in-Err.result plain.Break _ (Err c.in-Err.refusal) is c.args.bench.now.state c.args.bench.now.state g.W.Sink.contents
     c.args.writer.now c.args.writer.now c.end-in-Err.new.writer (Some (Line c.in-Err.refusal))
-    (refused_said c.in-Err.refusal c.args.bench.now _) c.end-in-Err.ensures.outcome c.end-in-Err.ensures.written
+    (refused_said c.in-Err.refusal c.args.bench.now.state _) c.end-in-Err.ensures.outcome c.end-in-Err.ensures.written
 
 pub break_location-requires : goal.break_location-requires
 break_location-requires g c = assumption

@@ -15,7 +15,8 @@ returns-in_ok-refusal-in-Ok-clause-reply g c =
     let is : plain_spelled plain.Run (words_of c.args.operands.rest.now) ≡ Ok (commands.Run c.in-Ok.limit, []) =
     ap spelled_alone (c.most_steps.ensures commands.Run
     ∙ ap (λ (read : Result ℕ LineRefusal). and_then read (λ count. Ok (commands.Run count))) c.in-Ok.is) in
-    ends_written c.end.result plain.Run _ (Ok (commands.Run c.in-Ok.limit, [])) is c.args.bench.now c.run.new.bench g.W.Sink.contents
+    ends_written c.end.result plain.Run _ (Ok (commands.Run c.in-Ok.limit, [])) is c.args.bench.now.state c.run.new.bench.state
+    g.W.Sink.contents
     c.args.writer.now c.run.new.writer c.end.new.writer c.in_ok-refusal-in-Ok.refusal (c.in_ok-refusal-in-Ok.ensures.text [])
     c.end.ensures.outcome c.end.ensures.written
 
@@ -24,9 +25,9 @@ returns-in-Err-clause-reply g c =
     let is : plain_spelled plain.Run (words_of c.args.operands.rest.now) ≡ Err c.in-Err.refusal =
     ap spelled_alone (c.most_steps.ensures commands.Run
     ∙ ap (λ (read : Result ℕ LineRefusal). and_then read (λ count. Ok (commands.Run count))) c.in-Err.is) in
-    ends_written c.end-in-Err.result plain.Run _ (Err c.in-Err.refusal) is c.args.bench.now c.args.bench.now g.W.Sink.contents
+    ends_written c.end-in-Err.result plain.Run _ (Err c.in-Err.refusal) is c.args.bench.now.state c.args.bench.now.state g.W.Sink.contents
     c.args.writer.now c.args.writer.now c.end-in-Err.new.writer (Some (Line c.in-Err.refusal))
-    (refused_said c.in-Err.refusal c.args.bench.now _) c.end-in-Err.ensures.outcome c.end-in-Err.ensures.written
+    (refused_said c.in-Err.refusal c.args.bench.now.state _) c.end-in-Err.ensures.outcome c.end-in-Err.ensures.written
 
 pub most_steps-requires : goal.most_steps-requires
 most_steps-requires g c = assumption

@@ -20,9 +20,9 @@ returns-in_ok-end-in-Ok-clause-reply g c =
     let is : plain_spelled plain.Show (words_of c.args.operands.rest.now) ≡ Ok (commands.Show c.in-Ok.view, []) =
     ap (λ (read : Result View LineRefusal). spelled_alone (and_then read (λ view. Ok (commands.Show view))))
     (sym c.view.ensures ∙ c.in-Ok.is) in
-    subst (λ (item : Spelled). Replies item c.args.bench.now c.show.new.bench (g.W.Sink.contents c.args.writer.now)
+    subst (λ (item : Spelled). Replies item c.args.bench.now.state c.show.new.bench.state (g.W.Sink.contents c.args.writer.now)
     (g.W.Sink.contents c.end.new.writer) c.in_ok-end-in-Ok.field-0) (sym is)
-    (ends_reply _ c.args.bench.now c.show.new.bench _ _ _ c.in_ok-refusal-in-Ok.refusal c.in_ok-end-in-Ok.field-0
+    (ends_reply _ c.args.bench.now.state c.show.new.bench.state _ _ _ c.in_ok-refusal-in-Ok.refusal c.in_ok-end-in-Ok.field-0
     (c.in_ok-refusal-in-Ok.ensures.text []) c.in_ok-end-in-Ok.ensures.outcome c.in_ok-end-in-Ok.ensures.written)
 
 pub returns-in_err-end-in-Ok-clause-reply : goal.returns-in_err-end-in-Ok-clause-reply
@@ -32,9 +32,9 @@ returns-in_err-end-in-Ok-clause-reply g c =
     (sym c.view.ensures ∙ c.in-Ok.is) in
     let failed = err_from_is_err_and c.from_residual-in_err-end-in-Ok.result c.from_residual-in_err-end-in-Ok.ensures.1 in
     rw (failed.1, failed.2)
-    (subst (λ (item : Spelled). RepliesInPart item c.args.bench.now c.show.new.bench (g.W.Sink.contents c.args.writer.now)
+    (subst (λ (item : Spelled). RepliesInPart item c.args.bench.now.state c.show.new.bench.state (g.W.Sink.contents c.args.writer.now)
     (g.W.Sink.contents c.end.new.writer)) (sym is)
-    (ends_part _ c.args.bench.now c.show.new.bench _ _ _ c.in_ok-refusal-in-Ok.refusal
+    (ends_part _ c.args.bench.now.state c.show.new.bench.state _ _ _ c.in_ok-refusal-in-Ok.refusal
     (c.in_ok-refusal-in-Ok.ensures.text []) c.in_err-end-in-Ok.ensures.written))
 
 pub returns-in_ok-end-in-Err-clause-reply : goal.returns-in_ok-end-in-Err-clause-reply
@@ -42,10 +42,10 @@ returns-in_ok-end-in-Err-clause-reply g c =
     let is : plain_spelled plain.Show (words_of c.args.operands.rest.now) ≡ Err c.in-Err.refusal =
     ap (λ (read : Result View LineRefusal). spelled_alone (and_then read (λ view. Ok (commands.Show view))))
     (sym c.view.ensures ∙ c.in-Err.is) in
-    subst (λ (item : Spelled). Replies item c.args.bench.now c.args.bench.now (g.W.Sink.contents c.args.writer.now)
+    subst (λ (item : Spelled). Replies item c.args.bench.now.state c.args.bench.now.state (g.W.Sink.contents c.args.writer.now)
     (g.W.Sink.contents c.end-in-Err.new.writer) c.in_ok-end-in-Err.field-0) (sym is)
-    (ends_reply _ c.args.bench.now c.args.bench.now _ _ _ (Some (Line c.in-Err.refusal)) c.in_ok-end-in-Err.field-0
-    (refused_said c.in-Err.refusal c.args.bench.now _) c.in_ok-end-in-Err.ensures.outcome c.in_ok-end-in-Err.ensures.written)
+    (ends_reply _ c.args.bench.now.state c.args.bench.now.state _ _ _ (Some (Line c.in-Err.refusal)) c.in_ok-end-in-Err.field-0
+    (refused_said c.in-Err.refusal c.args.bench.now.state _) c.in_ok-end-in-Err.ensures.outcome c.in_ok-end-in-Err.ensures.written)
 
 pub returns-in_err-end-in-Err-clause-reply : goal.returns-in_err-end-in-Err-clause-reply
 returns-in_err-end-in-Err-clause-reply g c =
@@ -54,10 +54,10 @@ returns-in_err-end-in-Err-clause-reply g c =
     (sym c.view.ensures ∙ c.in-Err.is) in
     let failed = err_from_is_err_and c.from_residual-in_err-end-in-Err.result c.from_residual-in_err-end-in-Err.ensures.1 in
     rw (failed.1, failed.2)
-    (subst (λ (item : Spelled). RepliesInPart item c.args.bench.now c.args.bench.now (g.W.Sink.contents c.args.writer.now)
+    (subst (λ (item : Spelled). RepliesInPart item c.args.bench.now.state c.args.bench.now.state (g.W.Sink.contents c.args.writer.now)
     (g.W.Sink.contents c.end-in-Err.new.writer)) (sym is)
-    (ends_part _ c.args.bench.now c.args.bench.now _ _ _ (Some (Line c.in-Err.refusal))
-    (refused_said c.in-Err.refusal c.args.bench.now _) c.in_err-end-in-Err.ensures.written))
+    (ends_part _ c.args.bench.now.state c.args.bench.now.state _ _ _ (Some (Line c.in-Err.refusal))
+    (refused_said c.in-Err.refusal c.args.bench.now.state _) c.in_err-end-in-Err.ensures.written))
 
 pub show-requires : goal.show-requires
 show-requires g c = assumption

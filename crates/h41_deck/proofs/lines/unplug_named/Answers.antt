@@ -15,19 +15,21 @@ returns-in-Ok-clause-reply g c =
     let is : plain_spelled plain.Unplug (words_of c.args.operands.rest.now) ≡ Ok (commands.Unplug c.in-Ok.page, []) =
     ap spelled_alone (c.unplugged_page.ensures
     ∙ ap (λ (read : Result ℕ LineRefusal). and_then read (λ page. Ok (commands.Unplug page))) c.in-Ok.is) in
-    ends_written c.end.result plain.Unplug _ (Ok (commands.Unplug c.in-Ok.page, [])) is c.args.bench.now c.unplug.new.bench
+    ends_written c.end.result plain.Unplug _ (Ok (commands.Unplug c.in-Ok.page, [])) is c.args.bench.now.state c.unplug.new.bench.state
     g.W.Sink.contents
     c.args.writer.now c.args.writer.now c.end.new.writer c.unplug.result
-    (silent _ c.args.bench.now c.unplug.new.bench _ c.unplug.result c.unplug.ensures) c.end.ensures.outcome c.end.ensures.written
+    (silent _ c.args.bench.now.state c.unplug.new.bench.state _ c.unplug.result c.unplug.ensures) c.end.ensures.outcome
+    c.end.ensures.written
 
 pub returns-in-Err-clause-reply : goal.returns-in-Err-clause-reply
 returns-in-Err-clause-reply g c =
     let is : plain_spelled plain.Unplug (words_of c.args.operands.rest.now) ≡ Err c.in-Err.refusal =
     ap spelled_alone (c.unplugged_page.ensures
     ∙ ap (λ (read : Result ℕ LineRefusal). and_then read (λ page. Ok (commands.Unplug page))) c.in-Err.is) in
-    ends_written c.end-in-Err.result plain.Unplug _ (Err c.in-Err.refusal) is c.args.bench.now c.args.bench.now g.W.Sink.contents
+    ends_written c.end-in-Err.result plain.Unplug _ (Err c.in-Err.refusal) is c.args.bench.now.state c.args.bench.now.state
+    g.W.Sink.contents
     c.args.writer.now c.args.writer.now c.end-in-Err.new.writer (Some (Line c.in-Err.refusal))
-    (refused_said c.in-Err.refusal c.args.bench.now _) c.end-in-Err.ensures.outcome c.end-in-Err.ensures.written
+    (refused_said c.in-Err.refusal c.args.bench.now.state _) c.end-in-Err.ensures.outcome c.end-in-Err.ensures.written
 
 pub end-requires : goal.end-requires
 end-requires g c = assumption

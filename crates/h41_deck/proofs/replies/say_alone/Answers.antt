@@ -11,14 +11,14 @@ use Rattle.h41_deck.proofs.replies.say_alone.Goals as goal
 pub returns-in_err-say_made-in-List-clause-text : goal.returns-in_err-say_made-in-List-clause-text
 returns-in_err-say_made-in-List-clause-text g c =
     let failed = err_from_is_err_and c.from_residual-in_err-say_made-in-List.result c.from_residual-in_err-say_made-in-List.ensures.1 in
-    let pages_are = c.pages.ensures ∙ ap (λ (of : CalculatorState). of.nut.pages) c.calculator.ensures in
-    rw (failed.1, failed.2) (λ values. part_alone c.args.command values c.args.bench.now _ _ c.in_ok-listing-in-List.listing
-    (list_said c.args.command values c.in-List.address c.in-List.count c.args.bench.now _
+    let pages_are = c.pages.ensures ∙ ap (λ (of : CalculatorState). of.nut.pages) c.calculator.ensures.state in
+    rw (failed.1, failed.2) (λ values. part_alone c.args.command values c.args.bench.now.state _ _ c.in_ok-listing-in-List.listing
+    (list_said c.args.command values c.in-List.address c.in-List.count c.args.bench.now.state _
     c.in_ok-listing-in-List.listing c.in-List.is pages_are c.in_ok-listing-in-List.ensures)
     c.in_err-say_made-in-List.ensures.written)
 
 pub returns-in_default-clause-text : goal.returns-in_default-clause-text
-returns-in_default-clause-text g c = λ values. silent_alone c.args.command values c.args.bench.now _ _ _ (c.carry_out.ensures values)
+returns-in_default-clause-text g c = λ values. silent_alone c.args.command values c.args.bench.now.state _ _ _ (c.carry_out.ensures values)
 
 pub returns-in_ok-run-in-Run-clause-memory : goal.returns-in_ok-run-in-Run-clause-memory
 returns-in_ok-run-in-Run-clause-memory g c = λ is. cc
@@ -112,29 +112,31 @@ returns-in_err-say_made-in-List-clause-clear g c =
 
 pub returns-in_ok-run-in-Run-clause-text : goal.returns-in_ok-run-in-Run-clause-text
 returns-in_ok-run-in-Run-clause-text g c =
-    alone_is (λ (item : Spelled). SaysText item c.args.bench.now c.run.new.bench (g.W.Sink.contents c.args.writer.now)
+    alone_is (λ (item : Spelled). SaysText item c.args.bench.now.state c.run.new.bench.state (g.W.Sink.contents c.args.writer.now)
     (g.W.Sink.contents c.run.new.writer) c.in_ok-run-in-Run.field-0) c.args.command (commands.Run c.in-Run.limit) c.in-Run.is
     c.in_ok-run-in-Run.ensures.text
 
 pub returns-in_err-run-in-Run-clause-text : goal.returns-in_err-run-in-Run-clause-text
 returns-in_err-run-in-Run-clause-text g c =
     let failed = err_from_is_err_and c.from_residual.result c.from_residual.ensures.1 in
-    λ values. part_said _ _ failed.1 _ c.args.bench.now c.run.new.bench g.W.Sink.contents c.args.writer.now c.run.new.writer failed.2
-    (alone_is (λ (item : Spelled). RepliesInPart item c.args.bench.now c.run.new.bench (g.W.Sink.contents c.args.writer.now)
+    λ values. part_said _ _ failed.1 _ c.args.bench.now.state c.run.new.bench.state g.W.Sink.contents c.args.writer.now c.run.new.writer
+    failed.2
+    (alone_is (λ (item : Spelled). RepliesInPart item c.args.bench.now.state c.run.new.bench.state (g.W.Sink.contents c.args.writer.now)
     (g.W.Sink.contents c.run.new.writer)) c.args.command (commands.Run c.in-Run.limit) c.in-Run.is
     c.in_err-run-in-Run.ensures.text values)
 
 pub returns-in_ok-trace-in-Trace-clause-text : goal.returns-in_ok-trace-in-Trace-clause-text
 returns-in_ok-trace-in-Trace-clause-text g c =
-    alone_is (λ (item : Spelled). SaysText item c.args.bench.now c.trace.new.bench (g.W.Sink.contents c.args.writer.now)
+    alone_is (λ (item : Spelled). SaysText item c.args.bench.now.state c.trace.new.bench.state (g.W.Sink.contents c.args.writer.now)
     (g.W.Sink.contents c.trace.new.writer) c.in_ok-trace-in-Trace.field-0) c.args.command (commands.Trace c.in-Trace.count) c.in-Trace.is
     c.in_ok-trace-in-Trace.ensures.text
 
 pub returns-in_err-trace-in-Trace-clause-text : goal.returns-in_err-trace-in-Trace-clause-text
 returns-in_err-trace-in-Trace-clause-text g c =
     let failed = err_from_is_err_and c.from_residual-in_err-trace-in-Trace.result c.from_residual-in_err-trace-in-Trace.ensures.1 in
-    λ values. part_said _ _ failed.1 _ c.args.bench.now c.trace.new.bench g.W.Sink.contents c.args.writer.now c.trace.new.writer failed.2
-    (alone_is (λ (item : Spelled). RepliesInPart item c.args.bench.now c.trace.new.bench (g.W.Sink.contents c.args.writer.now)
+    λ values. part_said _ _ failed.1 _ c.args.bench.now.state c.trace.new.bench.state g.W.Sink.contents c.args.writer.now
+    c.trace.new.writer failed.2
+    (alone_is (λ (item : Spelled). RepliesInPart item c.args.bench.now.state c.trace.new.bench.state (g.W.Sink.contents c.args.writer.now)
     (g.W.Sink.contents c.trace.new.writer)) c.args.command (commands.Trace c.in-Trace.count) c.in-Trace.is
     c.in_err-trace-in-Trace.ensures.text values)
 
@@ -177,7 +179,8 @@ returns-in-Show-clause-clear g c = c.show.ensures.clear
 
 pub returns-in-Show-clause-text : goal.returns-in-Show-clause-text
 returns-in-Show-clause-text g c =
-    alone_is (λ (item : Spelled). LeavesText c.show.result item c.args.bench.now c.show.new.bench g.W.Sink.contents c.args.writer.now
+    alone_is (λ (item : Spelled). LeavesText c.show.result item c.args.bench.now.state c.show.new.bench.state g.W.Sink.contents
+    c.args.writer.now
     c.show.new.writer) c.args.command (commands.Show c.in-Show.view) c.in-Show.is c.show.ensures.text
 
 pub listed-requires : goal.listed-requires

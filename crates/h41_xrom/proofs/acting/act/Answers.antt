@@ -1,4 +1,5 @@
-use Rattle.std.proofs.Common.{Bool, ◌≡◌, Result, Ok, Err, ap, refl, subst, ◌∙◌}
+use Rattle.std.proofs.Common.{Bool, true, ◌≡◌, Result, Ok, Err, ap, refl, subst, sym, ◌∙◌}
+use Rattle.std.specs.Prelude.{IsTrue, is_ok}
 use Rattle.h41_codes.specs.declared.characters.Number.{Number}
 use Rattle.h41_codes.specs.declared.line.Line.{Line}
 use Rattle.h41_editor.specs.Changes.{Deletes, Inserts, Replaces}
@@ -7,15 +8,20 @@ use Rattle.h41_keys.specs.declared.action.Action.{Action}
 use Rattle.h41_keys.specs.declared.action.Action.TheVariants as actions
 use Rattle.h41_pages.specs.PageMap.{PageMap}
 use Rattle.h41_positions.specs.FocalState.{Machine, machine_with}
-use Rattle.h41_positions.specs.LabelledMachine.{LabelledMachine, machine_of}
+use Rattle.h41_positions.specs.LabelledMachine.{LabelledFocal, LabelledMachine, labelled_with, machine_of}
+use Rattle.h41_program.specs.LastProgram.{MarksClosing}
 use Rattle.h41_program.specs.declared.refusal.ProgramRefusal.{ProgramRefusal}
-use Rattle.h41_ram.specs.RegisterMap.{RegisterMap}
+use Rattle.h41_ram.specs.RamState.{RamState}
+use Rattle.h41_ram.specs.RegisterMap.{RegisterMap, is_sound}
+use Rattle.h41_rows.specs.RowMarks.{LeavesMark}
 use Rattle.h41_xrom.proofs.LabelsStay.{right_beside, right_over}
 use Rattle.h41_xrom.proofs.acting.act.Goals as goal
 use Rattle.h41_xrom.specs.KeyActions.{Acts, Leaves, leaves_memory, Edits, edit_effect}
+use Rattle.h41_xrom.specs.KeptLabels.{KeepsAfterAction, KeepsAfterChange}
+use Rattle.h41_xrom.specs.LabelledCalculator.{CacheState, cache_of}
 use Rattle.h41_xrom.specs.declared.acting.KeyEffect.{KeyEffect}
 use Rattle.h41_xrom.specs.declared.refusal.CalculatorRefusal.{CalculatorRefusal}
-use Rattle.h41_xrom.specs.private.PrivateCalls.{lettered, edited_as, effect_as}
+use Rattle.h41_xrom.specs.private.PrivateCalls.{IsActed, lettered, edited_as, effect_as}
 
 -- The result of an edit, or of a move, is its effect.
 effect_of_edit : (new : Machine) (given : Result (Unit {0}) ProgramRefusal)
@@ -60,6 +66,58 @@ module _ (pages : PageMap) (program_mode : Bool) (machine : Machine) where
   letters_act actions.TakeLetter stop run step back out insert replace delete begin change end go = refl
   letters_act actions.ClearAlpha stop run step back out insert replace delete begin change end go = refl
   letters_act actions.GoToEnd stop run step back out insert replace delete begin change end go = absurd (go refl)
+
+-- In sound memory it does not change the label cache.
+module _ (pages : PageMap) (program_mode done : Bool) (machine : Machine) (before after : CacheState) where
+  letters_keep : (a : Action) → (a ≡ actions.Nothing → ⊥)
+      → (a ≡ actions.Stop → ⊥) → (a ≡ actions.Run → ⊥) → (a ≡ actions.Step → ⊥) → (a ≡ actions.StepBack → ⊥)
+      → ((line : Line) → a ≡ actions.CarryOut line → ⊥) → ((line : Line) → a ≡ actions.Insert line → ⊥)
+      → ((line : Line) → a ≡ actions.Replace line → ⊥) → (a ≡ actions.Delete → ⊥)
+      → ((number : Number) → a ≡ actions.BeginNumber number → ⊥) → ((number : Number) → a ≡ actions.ChangeNumber number → ⊥)
+      → (a ≡ actions.EndNumber → ⊥) → (a ≡ actions.GoToEnd → ⊥) → IsActed a machine.memory
+      → (IsTrue (is_sound machine.memory) → after ≡ before) → KeepsAfterAction pages program_mode done a machine before after
+  letters_keep actions.Nothing none stop run step back out insert replace delete begin change end go acted stays = absurd (none refl)
+  letters_keep actions.Stop none stop run step back out insert replace delete begin change end go acted stays = absurd (stop refl)
+  letters_keep actions.Run none stop run step back out insert replace delete begin change end go acted stays = absurd (run refl)
+  letters_keep actions.Step none stop run step back out insert replace delete begin change end go acted stays = absurd (step refl)
+  letters_keep actions.StepBack none stop run step back out insert replace delete begin change end go acted stays = absurd (back refl)
+  letters_keep (actions.CarryOut line) none stop run step back out insert replace delete begin change end go acted stays =
+      absurd (out line refl)
+  letters_keep (actions.Insert line) none stop run step back out insert replace delete begin change end go acted stays =
+      absurd (insert line refl)
+  letters_keep (actions.Replace line) none stop run step back out insert replace delete begin change end go acted stays =
+      absurd (replace line refl)
+  letters_keep actions.Delete none stop run step back out insert replace delete begin change end go acted stays = absurd (delete refl)
+  letters_keep (actions.BeginNumber number) none stop run step back out insert replace delete begin change end go acted stays =
+      absurd (begin number refl)
+  letters_keep (actions.ChangeNumber number) none stop run step back out insert replace delete begin change end go acted stays =
+      absurd (change number refl)
+  letters_keep actions.EndNumber none stop run step back out insert replace delete begin change end go acted stays = absurd (end refl)
+  letters_keep actions.ToggleAlpha none stop run step back out insert replace delete begin change end go acted stays = stays acted
+  letters_keep (actions.BeginText letter) none stop run step back out insert replace delete begin change end go acted stays = stays acted
+  letters_keep (actions.AddLetter letter) none stop run step back out insert replace delete begin change end go acted stays = stays acted
+  letters_keep actions.TakeLetter none stop run step back out insert replace delete begin change end go acted stays = stays acted
+  letters_keep actions.ClearAlpha none stop run step back out insert replace delete begin change end go acted stays = stays acted
+  letters_keep actions.GoToEnd none stop run step back out insert replace delete begin change end go acted stays = absurd (go refl)
+
+left_over : (old from : LabelledMachine) (ram : RamState) → from ≡ old → LeavesMark from.ram ram → IsTrue (is_sound old.ram.registers)
+    → cache_of (labelled_with ram from.focal) ≡ cache_of old
+left_over old from ram is left =
+    subst (λ (of : LabelledMachine). IsTrue (is_sound of.ram.registers) → cache_of (labelled_with ram from.focal) ≡ cache_of of) is
+    (λ sound. λ i. record { labels = from.focal.labels; touched = left sound i })
+
+-- GTO . . sets the dirty flag if it adds an END.
+same_ok : (given : Result (Unit {0}) ProgramRefusal) → is_ok (edited_as given) ≡ is_ok given
+same_ok (Ok done) = refl
+same_ok (Err refusal) = refl
+
+closes : (old from : LabelledMachine) (ram : RamState) (focal : LabelledFocal) (done told : Bool) → from ≡ old → told ≡ done
+    → focal.labels ≡ from.focal.labels → MarksClosing told from.ram ram
+    → KeepsAfterChange (MarksClosing done) (machine_of old) (cache_of old) (cache_of (labelled_with ram focal))
+closes old from ram focal done told is same labels marked =
+    subst (λ (of : LabelledMachine).
+    KeepsAfterChange (MarksClosing done) (machine_of of) (cache_of of) (cache_of (labelled_with ram focal))) is
+    (labels, subst (λ (of : Bool). MarksClosing of from.ram ram) same marked)
 
 leaves_lettered : (pages : PageMap) (program_mode : Bool) (a : Action) (old from : LabelledMachine) (memory : RegisterMap) → from ≡ old
     → memory ≡ lettered a from.ram.registers → Lettered pages program_mode (machine_of old) a
@@ -182,3 +240,16 @@ edited-requires g c = assumption
 
 pub kept_answers_stay_right-requires : goal.kept_answers_stay_right-requires
 kept_answers_stay_right-requires g c = assumption
+
+pub returns-in-GoToEnd-clause-kept : goal.returns-in-GoToEnd-clause-kept
+returns-in-GoToEnd-clause-kept g c =
+    rw c.in-GoToEnd.is (closes c.args.machine.now _ c.go_to_end.new.ram c.go_to_end.new.focal _ _ c.machine-in-GoToEnd.view_is
+    (sym (ap is_ok c.edited-in-GoToEnd.ensures ∙ same_ok c.go_to_end.result)) c.go_to_end.ensures.labels c.go_to_end.ensures.marked)
+
+pub returns-in_default-clause-kept : goal.returns-in_default-clause-kept
+returns-in_default-clause-kept g c =
+    let other = c.in_default in
+    letters_keep c.args.pages.now c.args.program_mode true (machine_of c.args.machine.now) (cache_of c.args.machine.now) _ c.args.action
+    other.not-Nothing other.not-Stop other.not-Run other.not-Step other.not-StepBack other.not-CarryOut other.not-Insert other.not-Replace
+    other.not-Delete other.not-BeginNumber other.not-ChangeNumber other.not-EndNumber other.not-GoToEnd c.requires.acted
+    (left_over c.args.machine.now _ c.type_letters.new.ram c.machine-in_default.view_is c.type_letters.ensures.left)

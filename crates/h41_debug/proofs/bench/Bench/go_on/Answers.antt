@@ -11,11 +11,11 @@ mode_of m told s is same = is ∙ ap (λ (at : CalculatorState). at.mode) same
 
 pub words-requires : goal.words-requires
 words-requires g c =
-    let mode = mode_of _ _ _ c.mode.ensures c.calculator.ensures in
+    let mode = mode_of _ _ _ c.mode.ensures c.calculator.ensures.state in
     (search rules, (c.requires.below, (sym mode ∙ c.in-Micro.is, (c.requires.clear, c.requires.free))))
 
 pub lines-requires : goal.lines-requires
 lines-requires g c =
-    let mode = mode_of _ _ _ c.mode.ensures c.calculator.ensures in
+    let mode = mode_of _ _ _ c.mode.ensures c.calculator.ensures.state in
     let lines = subst (λ (m : Mode). runs_function m ≡ false) mode (no_function c.mode.result c.in_default.not-Micro) in
     (search rules, (c.requires.below, (lines, (c.requires.clear, c.requires.free))))

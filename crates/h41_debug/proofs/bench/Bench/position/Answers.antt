@@ -41,9 +41,9 @@ push_str-requires-3 g c = (
 
 pub returns : goal.returns
 returns g c =
-    told c.args.self.now _ _ _ _ _ _ _ _ c.new-text.ensures c.push_str.ensures.bytes c.push_str-2.ensures.bytes
+    told c.args.self.now.state _ _ _ _ _ _ _ _ c.new-text.ensures c.push_str.ensures.bytes c.push_str-2.ensures.bytes
     c.push_str-3.ensures.bytes c.mode_name.ensures.text
-    (c.mode.ensures ∙ ap (λ (s : CalculatorState). s.mode) c.calculator.ensures)
+    (c.mode.ensures ∙ ap (λ (s : CalculatorState). s.mode) c.calculator.ensures.state)
     (c.as_str.ensures.value ∙ c.location_digits.ensures) c.location.ensures
 
 pub location-requires : goal.location-requires

@@ -7,8 +7,11 @@ some limit other = omega (arith, other)
 pub advance-requires : goal.advance-requires
 advance-requires g c = (search rules, some _ c.if-limit-eq0.false)
 
-pub returns : goal.returns
-returns g c = c.advance.ensures.run (search rules)
+pub returns-clause-run : goal.returns-clause-run
+returns-clause-run g c = c.advance.ensures.run (search rules)
 
 pub eq-requires : goal.eq-requires
 eq-requires g c = assumption
+
+pub returns-clause-kept : goal.returns-clause-kept
+returns-clause-kept g c = c.advance.ensures.kept

@@ -5,13 +5,13 @@ use Rattle.h41_debug.proofs.bench.Bench.stop.Goals as goal
 
 pub returns-in-Idle : goal.returns-in-Idle
 returns-in-Idle g c =
-    idle_stops _ c.args.self.now c.if-not-behind.false
-    (sym (c.mode.ensures ∙ ap (λ (s : CalculatorState). s.mode) c.calculator.ensures) ∙ c.in-Idle.is)
+    idle_stops _ c.args.self.now.state c.if-not-behind.false
+    (sym (c.mode.ensures ∙ ap (λ (s : CalculatorState). s.mode) c.calculator.ensures.state) ∙ c.in-Idle.is)
 
 pub returns-in_default : goal.returns-in_default
 returns-in_default g c =
-    running_stops _ c.args.self.now c.mode.result c.if-not-behind.false
-    (c.mode.ensures ∙ ap (λ (s : CalculatorState). s.mode) c.calculator.ensures) c.in_default.not-Idle _ c.stop_at_breakpoint.ensures
+    running_stops _ c.args.self.now.state c.mode.result c.if-not-behind.false
+    (c.mode.ensures ∙ ap (λ (s : CalculatorState). s.mode) c.calculator.ensures.state) c.in_default.not-Idle _ c.stop_at_breakpoint.ensures
 
 pub stop_at_breakpoint-requires : goal.stop_at_breakpoint-requires
 stop_at_breakpoint-requires g c = assumption

@@ -11,7 +11,8 @@ returns-in_err-write_whole-clause-text g c =
     let text : c.as_bytes.result.now ≡ ran_text c.run-made.result.0 c.run-made.result.1 =
     c.as_bytes.ensures.value ∙ c.as_str.ensures.value ∙ c.ran_text.ensures in
     rw failed.1 (λ values.
-    run_in_part c.args.limit c.run-made.result.0 c.run-made.result.1 values c.args.bench.now c.run-made.new.self _ _ c.run-made.ensures
+    run_in_part c.args.limit c.run-made.result.0 c.run-made.result.1 values c.args.bench.now.state c.run-made.new.self.state _ _
+    c.run-made.ensures.run
     (subst (λ (of : List ℕ). AppendsPart (g.W.Sink.contents c.args.writer.now) (g.W.Sink.contents c.write_whole.new.writer) of)
     text c.in_err-write_whole.ensures.written))
 

@@ -12,16 +12,17 @@ returns-in-Err-clause-text g c = λ values.
     let text : c.as_bytes.result.now ≡ c.traced_line-line.result.bytes = c.as_bytes.ensures.value ∙ c.as_str.ensures.value in
     let on =
     subst (λ k.
-    TracesOn c.args.count k c.args.bench.now c.loop-made.bench (g.W.Sink.contents c.args.writer.now) (g.W.Sink.contents c.loop-made.writer))
+    TracesOn c.args.count k c.args.bench.now.state c.loop-made.bench.state (g.W.Sink.contents c.args.writer.now)
+    (g.W.Sink.contents c.loop-made.writer))
     left c.loop-made.invariant.on in
     let part =
     subst (λ (of : List ℕ). AppendsPart (g.W.Sink.contents c.loop-made.writer) (g.W.Sink.contents c.write_whole.new.writer) of)
     text c.in-Err.ensures.written in
     traces_in_part c.steps_are_traced.ensures.traced c.args.count
-    (c.args.count - (c.loop-made.made + 1)) values c.args.bench.now c.loop-made.bench c.steps.new.self
+    (c.args.count - (c.loop-made.made + 1)) values c.args.bench.now.state c.loop-made.bench.state c.steps.new.self.state
     _ (g.W.Sink.contents c.loop-made.writer) _ c.traced_line-line.result.bytes
     (result_err c.steps.result) on c.traced_line-line.ensures part
-    (subst (λ k. Steps k c.loop-made.bench c.steps.new.self (result_err c.steps.result)) left c.steps.ensures)
+    (subst (λ k. Steps k c.loop-made.bench.state c.steps.new.self.state (result_err c.steps.result)) left c.steps.ensures.steps)
 
 pub returns-in-Err-step-clause-text : goal.returns-in-Err-step-clause-text
 returns-in-Err-step-clause-text g c = λ values.
@@ -29,12 +30,13 @@ returns-in-Err-step-clause-text g c = λ values.
     let text : c.as_bytes.result.now ≡ c.traced_line-line.result.bytes = c.as_bytes.ensures.value ∙ c.as_str.ensures.value in
     let on =
     subst (λ k.
-    TracesOn c.args.count k c.args.bench.now c.loop-made.bench (g.W.Sink.contents c.args.writer.now) (g.W.Sink.contents c.loop-made.writer))
+    TracesOn c.args.count k c.args.bench.now.state c.loop-made.bench.state (g.W.Sink.contents c.args.writer.now)
+    (g.W.Sink.contents c.loop-made.writer))
     left c.loop-made.invariant.on in
     let written =
     subst (λ (of : List ℕ). Appends (g.W.Sink.contents c.loop-made.writer) (g.W.Sink.contents c.write_whole.new.writer) of)
     text c.in_default.ensures.written in
-    let said = traces_refused c.args.count (c.args.count - (c.loop-made.made + 1)) values c.args.bench.now c.loop-made.bench
+    let said = traces_refused c.args.count (c.args.count - (c.loop-made.made + 1)) values c.args.bench.now.state c.loop-made.bench.state
     _ (g.W.Sink.contents c.loop-made.writer) _ c.traced_line-line.result.bytes c.in-Err-step.refusal
     on c.traced_line-line.ensures written c.in-Err-step.ensures.refusal in
     rw c.in-Err-step.ensures.unchanged said
@@ -45,13 +47,15 @@ loop-made-preserved g c =
     let text : c.as_bytes.result.now ≡ c.traced_line-line.result.bytes = c.as_bytes.ensures.value ∙ c.as_str.ensures.value in
     let on =
     subst (λ k.
-    TracesOn c.args.count k c.args.bench.now c.loop-made.bench (g.W.Sink.contents c.args.writer.now) (g.W.Sink.contents c.loop-made.writer))
+    TracesOn c.args.count k c.args.bench.now.state c.loop-made.bench.state (g.W.Sink.contents c.args.writer.now)
+    (g.W.Sink.contents c.loop-made.writer))
     left c.loop-made.invariant.on in
     let written =
     subst (λ (of : List ℕ). Appends (g.W.Sink.contents c.loop-made.writer) (g.W.Sink.contents c.write_whole.new.writer) of)
     text c.in_default.ensures.written in
     record {
-      on = traces_more c.args.count (c.args.count - (c.loop-made.made + 1)) c.args.bench.now c.loop-made.bench c.step.new.self
+      on = traces_more c.args.count (c.args.count - (c.loop-made.made + 1)) c.args.bench.now.state c.loop-made.bench.state
+          c.step.new.self.state
           _ (g.W.Sink.contents c.loop-made.writer) _ c.traced_line-line.result.bytes on c.traced_line-line.ensures written
           c.in_default-step.ensures.refusal c.in_default-step.ensures.change c.step.ensures.others;
       clear = search rules;
@@ -59,8 +63,8 @@ loop-made-preserved g c =
 
 pub returns-clause-text : goal.returns-clause-text
 returns-clause-text g c = λ values.
-    traces_end c.args.count (c.args.count - c.loop-made.made) values c.args.bench.now
-    c.loop-made.bench _ _ (omega arith) c.loop-made.invariant.on
+    traces_end c.args.count (c.args.count - c.loop-made.made) values c.args.bench.now.state
+    c.loop-made.bench.state _ _ (omega arith) c.loop-made.invariant.on
 
 pub as_bytes-requires : goal.as_bytes-requires
 as_bytes-requires g c = assumption

@@ -5,6 +5,7 @@ use Rattle.h41_xrom.proofs.LabelsStay.{right_over}
 use Rattle.h41_xrom.proofs.Loading.{size_done, size_failed}
 use Rattle.h41_nut.specs.WordStep.{nut_of}
 use Rattle.h41_xrom.specs.Calculator.{CalculatorState}
+use Rattle.h41_xrom.proofs.LabelsKept.{state_is}
 use Rattle.h41_xrom.proofs.calculator.Calculator.set_size.Goals as goal
 
 -- The view of an opened calculator.
@@ -17,17 +18,18 @@ viewed inside = record {
   mode = inside.mode;
 }
 
-pub returns-in_err-set_size : goal.returns-in_err-set_size
-returns-in_err-set_size g c =
+pub returns-in_err-set_size-clause-size : goal.returns-in_err-set_size-clause-size
+returns-in_err-set_size-clause-size g c =
     let p = err_from_is_err_and c.from_residual-in_err-set_size.result c.from_residual-in_err-set_size.ensures.1 in
     rw (p.1, p.2)
-    (size_failed c.args.count _ c.args.self.now c.set_size.new.ram.registers c.in_err-set_size.field-0.0
-    (ap viewed c.self-inside.view_is ∙ c.self.view_is) (c.in_ok-check_change.ensures) (c.in_err-set_size.ensures).size)
+    (size_failed c.args.count _ c.args.self.now.state c.set_size.new.ram.registers c.in_err-set_size.field-0.0
+    (ap viewed c.self-inside.view_is ∙ state_is c.self.view_is) (c.in_ok-check_change.ensures) (c.in_err-set_size.ensures).size)
 
-pub returns : goal.returns
-returns g c =
-    size_done c.args.count _ c.args.self.now c.end_entry.new.self c.set_size.new.ram.registers c.in_ok-set_size.field-0
-    (ap viewed c.self-inside.view_is ∙ c.self.view_is) (c.in_ok-check_change.ensures) (c.in_ok-set_size.ensures).size c.end_entry.ensures
+pub returns-clause-size : goal.returns-clause-size
+returns-clause-size g c =
+    size_done c.args.count _ c.args.self.now.state c.end_entry.new.self.state c.set_size.new.ram.registers c.in_ok-set_size.field-0
+    (ap viewed c.self-inside.view_is ∙ state_is c.self.view_is) (c.in_ok-check_change.ensures) (c.in_ok-set_size.ensures).size
+    c.end_entry.ensures.state
 
 pub invariant_of-self : goal.invariant_of-self
 invariant_of-self g c =

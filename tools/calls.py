@@ -1,0 +1,207 @@
+"""Calls of a module's functions in one process of the bench: each begins with a reset, sets registers, and prints what is wanted."""
+import subprocess
+from collections.abc import Iterable, Iterator
+from typing import NamedTuple
+
+from cases import TARGET, Case
+from decks import BENCH, LONGEST_DECK, NO_ANSWER, Failure, hexadecimal, running
+from linking import Linked
+from settings import CPU, DATA_NAME, FLAG_NAME, MEMORY_NAME, STACK, Setting
+from stubs import JUNK, Sizes, junk_of, memory_of, sizes_of, stub_of
+from typed import NoKeys, keys_of
+
+# The steps after which a call is ended, if the case has no limit.
+LIMIT = 100_000
+MOST_STEPS = 9_999_999
+
+# A run of the bench gets at most so many bytes of calls.
+PIECE = LONGEST_DECK // 2
+
+
+class Result(NamedTuple):
+    """The result of a call: the number of its steps, why it ended (`Idle`, `Limit`, `Refused`), the refusal, and the values of the
+    settings that were asked for."""
+    steps: int
+    reason: str
+    refusal: str
+    values: dict[str, str]
+
+
+class Views:
+    """The commands that print the values of some settings, and how their answers are read."""
+
+    def __init__(self, names: Iterable[str], sizes: Sizes) -> None:
+        self.names = list(names)
+        self.cpu = any(name in CPU for name in self.names)
+        self.stack = any(name in STACK for name in self.names)
+        self.others = list(dict.fromkeys(self.command(name, sizes) for name in self.names if name not in CPU and name not in STACK))
+        self.asked = {name: self.command(name, sizes) for name in self.names if name not in CPU and name not in STACK}
+        self.deck = "".join(f"show {view}\n" for view in ["cpu"] * self.cpu + ["stack"] * self.stack + list(filter(None, self.others)))
+
+    @staticmethod
+    def command(name: str, sizes: Sizes) -> str:
+        """Returns the view of a setting; an empty text if `run` prints its value."""
+        data = DATA_NAME.fullmatch(name)
+        if data:
+            return f"ram {sizes.address(int(data[1])):03X}"
+        if MEMORY_NAME.fullmatch(name):
+            return f"ram {name}"
+        return "flags" if FLAG_NAME.fullmatch(name) else {"ALPHA": "alpha", "display": "display"}.get(name, "")
+
+    def read(self, lines: Iterator[str]) -> dict[str, str]:
+        """Returns the values, by their names."""
+        found: dict[str, str] = {}
+        if self.cpu:
+            for _ in range(4):
+                found.update(part.split("=") for part in next(lines).split())
+            next(lines)
+            found["cpu.T"] = found.pop("T")
+        if self.stack:
+            found.update(next(lines).split("=") for _ in range(5))
+        answers = {view: next(lines) for view in self.others if view}
+        for name, view in self.asked.items():
+            if view == "flags":
+                found[name] = str(int(name[1:] in answers[view].split()))
+            elif view:
+                found[name] = answers[view][4:] if view.startswith("ram") else answers[view]
+        return {name: found[name] for name in self.names if name in found}
+
+
+class Call:
+    """A call: what it sets, the lines that perform it, and the steps that the bench needs before the function begins."""
+
+    def __init__(self, caller: "Caller", case: Case, junk: dict[str, str] | None = None) -> None:
+        self.case = case
+        cpu = {one.name: one.value for one in case.before if one.name in CPU}
+        self.junked = [name for name in JUNK if name not in cpu and junk and name in junk]
+        cpu.update((name, junk[name]) for name in self.junked)
+        target = caller.target(case)
+        stub = stub_of(memory_of(case.before, caller.sizes), cpu, target)
+        if stub.words > 0x1000:
+            raise Failure(f"{case.name()}: the case sets too many registers: expected at most 200")
+        self.before = stub.steps if target is not None else 0
+        limit = next((int(one.value) for one in case.after if one.name == "steps" and one.value), None)
+        self.limit = min((LIMIT if limit is None else max(LIMIT, limit)) + self.before, MOST_STEPS)
+        self.deck = f"unplug {caller.page}\nwords {caller.page}\n{stub.text}end\n{caller.start}{caller.keys(case)}call {caller.page}000\n"
+        if target is None:
+            self.deck += f"step {stub.steps}\nkey {' '.join(keys_of(f'XEQ {case.target}'))}\n"
+
+
+class Caller:
+    """Performs calls of a linked module."""
+
+    def __init__(self, linked: Linked) -> None:
+        project = linked.project
+        self.linked, self.page = linked, project.free_page()
+        self.sizes = sizes_of(project.memory, project.size)
+        self.junks: dict[int, dict[str, str]] = {}
+        size = f"size {project.size}\n" if project.size is not None else ""
+        self.start = f"reset\n{size}{''.join(program_block(path) for path in project.programs)}"
+        self.addresses: dict[str, int] = {}
+
+    def target(self, case: Case) -> int | None:
+        """Returns the address that a case calls; None for a function that is called by its keys."""
+        if case.target.startswith('"'):
+            return None
+        if case.target not in self.addresses:
+            page, name = TARGET.fullmatch(case.target).groups()
+            label = self.linked.called(page, name)
+            if isinstance(label, str):
+                raise Failure(f"{case.path}:{case.number}: `{case.target}`: {label}")
+            if label.unit.bank.bank != 1:
+                raise Failure(f"{case.path}:{case.number}: `{case.target}`: the label is in bank {label.unit.bank.bank}, and a call begins in "
+                              "bank 1: call a label of bank 1 that activates the bank")
+            self.addresses[case.target] = label.address
+        return self.addresses[case.target]
+
+    def keys(self, case: Case) -> str:
+        """Returns the line that presses the keys before a call."""
+        asked = next((one.value for one in case.before if one.name == "keys"), None)
+        try:
+            return f"key {' '.join(keys_of(asked))}\n" if asked else ""
+        except NoKeys as why:
+            raise Failure(f"{case.path}:{case.number}: keys={asked}: {why}") from why
+
+    def junk(self, seed: int | None) -> dict[str, str] | None:
+        """Returns the junk of a seed; None without a seed."""
+        if seed is None:
+            return None
+        return self.junks.setdefault(seed, junk_of(seed))
+
+    def results(self, calls: list[tuple[Call, Views]]) -> list[Result]:
+        """Performs calls, and returns their results. The bench runs once for every 33,554,432 bytes of calls."""
+        found: list[Result] = []
+        pieces: list[list[tuple[Call, Views]]] = [[]]
+        size = 0
+        for call, views in calls:
+            size += len(call.deck)
+            if size > PIECE:
+                size = len(call.deck)
+                pieces.append([])
+            pieces[-1].append((call, views))
+        for piece in pieces:
+            deck = [f"{call.deck}run {call.limit}\n{views.deck}" for call, views in piece]
+            lines = self.lines("".join(deck))
+            try:
+                found += [result_of(call, views, lines) for call, views in piece]
+            except StopIteration as why:
+                raise Failure("the bench ended before it answered all cases", NO_ANSWER) from why
+        return found
+
+    def lines(self, deck: str) -> Iterator[str]:
+        """Plugs the module, runs a deck, and returns the lines that it prints."""
+        linked, first = self.linked, f"words {self.page}\n3E0\nend\n"
+        known = all(unit.words for unit in linked.units)
+        views = b"" if known else linked.views()
+        ran = subprocess.run([BENCH, *running(linked.project.memory)], stdout=subprocess.PIPE,
+                             input=linked.deck() + views + first.encode() + deck.encode("latin-1"))
+        if ran.returncode == NO_ANSWER:
+            raise Failure("./bench gave no answer: see its message above", NO_ANSWER)
+        lines = iter(ran.stdout.decode("latin-1").split("\n"))
+        if not known:
+            linked.take(lines)
+        return lines
+
+
+def program_block(path: str) -> str:
+    """Returns the block that loads the program in a file: a listing, or bytes."""
+    from sources import text_in
+    if path.lower().endswith(".raw"):
+        with open(path, "rb") as file:
+            return "load\n" + b"\n".join(hexadecimal(file.read())).decode() + "\nend\n"
+    return f"program\n{text_in(path).decode('latin-1').strip(chr(10))}\nend\n"
+
+
+def result_of(call: Call, views: Views, lines: Iterator[str]) -> Result:
+    """Reads the result of a call."""
+    refusal, line = "", next(lines)
+    while line.startswith("! "):
+        refusal, line = refusal or line, next(lines)
+    ran, count, reason = line.split()
+    if reason == "Refused":
+        stopped = next(lines)
+        refusal = refusal or stopped
+    return Result(int(count) - call.before, reason, refusal[2:], views.read(lines))
+
+
+def compared(after: list[Setting], result: Result) -> list[tuple[Setting, str]]:
+    """Returns the settings that are wanted and differ, each with the value that was found."""
+    wrong = []
+    for one in after:
+        if one.name == "steps":
+            is_good = result.steps <= int(one.value) if one.sign == "<=" else result.steps == int(one.value)
+            found = str(result.steps)
+        elif one.name == "refusal":
+            found = result.refusal
+            is_good = one.value in (result.refusal, *result.refusal.split())
+        else:
+            found = result.values.get(one.name, "")
+            is_good = found == one.value
+        if not is_good:
+            wrong.append((one, found))
+    return wrong
+
+
+def ended_well(after: list[Setting], result: Result) -> bool:
+    """Returns whether a call ended by itself, or by a refusal that is wanted."""
+    return result.reason == "Idle" and not result.refusal or any(one.name == "refusal" for one in after)

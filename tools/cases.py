@@ -1,0 +1,101 @@
+"""Cases of tests: a row each, or a row of a table in CSV. A case calls a label or a function, with registers before and wanted after."""
+import re
+from typing import NamedTuple
+
+from decks import Failure, bytes_of
+from settings import Setting, Wrong, setting, settings_in
+
+WORDS = re.compile(r"""(?:[^\s"'#]|"[^"]*"|'[^']*')+|\#.*""")
+ARROW = "->"
+TARGET = re.compile(r"(?:([A-Za-z]\w{0,11})\.)?([A-Za-z]\w{0,11})")
+
+FORM = "expected LABEL BEFORE.. -> AFTER.., for example: X10 X=5 -> X=50"
+
+
+class Case(NamedTuple):
+    """A case: its file, line number and title, the label or the quoted function that it calls, and its settings."""
+    path: str
+    number: int
+    title: str
+    target: str
+    before: list[Setting]
+    after: list[Setting]
+
+    def name(self) -> str:
+        """Returns the name of the case."""
+        return f"{self.path}:{self.number} {self.target}{f' {self.title}' if self.title else ''}"
+
+
+def failure(path: str, number: int, row: str, why: str) -> Failure:
+    """Returns an error in a row."""
+    return Failure(f"{path}:{number}: `{row.strip()[:200]}`: {why}")
+
+
+def usual(text: str) -> list[Setting]:
+    """Returns the settings that every test has before its call."""
+    return settings_in([word for word in WORDS.findall(text)], True)
+
+
+def joined(common: list[Setting], own: list[Setting]) -> list[Setting]:
+    """Returns the settings of a case, which replace those of all cases."""
+    names = {one.name for one in own}
+    return [*(one for one in common if one.name not in names), *own]
+
+
+def row_of(words: list[str], common: list[Setting]) -> tuple[str, list[Setting], list[Setting]]:
+    """Returns the target of a row, and its settings before and after the call."""
+    if words[0] != ARROW and not words[0].startswith('"') and not TARGET.fullmatch(words[0]):
+        raise Wrong(f"found {words[0]}, expected a label, PAGE.LABEL, or the name of a function in quotes")
+    at = words.index(ARROW) if ARROW in words else len(words)
+    return words[0], joined(common, settings_in(words[1:at], True)), settings_in(words[at + 1:], False)
+
+
+def cases_in(path: str, common: list[Setting]) -> list[Case]:
+    """Returns the cases of a file. Empty rows and rows that begin with # are skipped."""
+    cases = []
+    try:
+        rows = bytes_of(path).decode("utf-8-sig").splitlines()
+    except UnicodeDecodeError as error:
+        raise Failure(f"{path}: byte {error.object[error.start]:02X} is not valid UTF-8: save the file as UTF-8") from error
+    for number, row in enumerate(rows, 1):
+        words = WORDS.findall(row)
+        title = words.pop()[1:].strip() if words and words[-1].startswith("#") else ""
+        if not words:
+            continue
+        if words[0] == ARROW or ARROW not in words:
+            raise failure(path, number, row, FORM)
+        try:
+            target, before, after = row_of(words, common)
+        except Wrong as why:
+            raise failure(path, number, row, str(why)) from why
+        cases.append(Case(path, number, title, target, before, after))
+    return cases
+
+
+def table_in(path: str, target: str | None, common: list[Setting]) -> list[Case]:
+    """Returns the cases of a table in CSV. Its first row names the settings; those wanted after the call begin with ->. A column `call` has
+    the target. Empty cells are not set, or not compared."""
+    import csv
+    import io
+    rows = list(csv.reader(io.StringIO(bytes_of(path).decode("utf-8-sig"))))
+    if not rows or not rows[0]:
+        raise Failure(f"{path}: the table is empty: expected a first row with names, for example: X,Y,->X")
+    names, cases = [name.strip() for name in rows[0]], []
+    if target is None and "call" not in names:
+        raise Failure(f"{path}:1: `{','.join(names)}`: no column is named call: name the function with --call LABEL")
+    for number, row in enumerate(rows[1:], 2):
+        if not any(cell.strip() for cell in row):
+            continue
+        if len(row) > len(names):
+            raise failure(path, number, ",".join(row), f"found {len(row)} cells, expected at most {len(names)}")
+        cells = [(name, cell.strip()) for name, cell in zip(names, row) if cell.strip()]
+        try:
+            before = [setting(name, "=", cell, True) for name, cell in cells if name != "call" and not name.startswith(ARROW)]
+            after = [setting(name[2:].strip(), "=", cell, False) for name, cell in cells if name.startswith(ARROW)]
+        except Wrong as why:
+            raise failure(path, number, ",".join(row), str(why)) from why
+        called = dict(cells).get("call", target)
+        if called is None:
+            raise failure(path, number, ",".join(row), "the cell of call is empty, expected a label")
+        cases.append(Case(path, number, "", called, joined(common, before), after))
+    return cases

@@ -1,0 +1,301 @@
+"""Links the pages and banks of a project: their labels are one name space. The bench assembles each source once.
+
+The tool counts the words of each line to find the labels, and compares every long jump to a label with the words of the bench."""
+import os
+import re
+from bisect import bisect_right
+from collections.abc import Iterator
+from typing import NamedTuple
+
+from decks import Failure, block, run, shown, words_of
+from projects import Page, Project
+from sources import (BLANKS, NAME, OF_THE_END, Assembled, Faulty, Line, Source, Whole, checksum_of, constant, directive_of, text_in,
+                     without_comments)
+
+TARGET = re.compile(rb":(?:(" + NAME + rb")\.)?(" + NAME + rb")\Z")
+LONG = re.compile(rb"\?N?C[ \t]+(?:XQ|GO)[ \t]")
+SHORT = re.compile(rb"J?N?C[ \t]")
+QUOTED = re.compile(rb'"([^"]*)"')
+TWO_WORDS = (b"LDI", b"ENTRY", b"FOCAL")
+# The first words of table entries, and their bits besides the offset.
+ENTRIES = {"ENTRY": 0x000, "FOCAL": 0x200}
+IMAGE_LINES = 256
+
+
+def length_of(line: Line) -> int:
+    """Returns the number of words of a source line without an error."""
+    words = words_of(line.code)
+    if words[:1] == [b"NAME"]:
+        found = QUOTED.search(line.code)
+        return len(found[1]) if found else 0
+    return 2 if words[:1] and (words[0] in TWO_WORDS or LONG.match(line.code)) else len(words[:1])
+
+
+class Text(Whole):
+    """The lines of a source, and of the description of its page's end, whose places the tool counts."""
+
+    def describe(self, path: str, texts: list[bytes]) -> None:
+        """Adds the lines of a description."""
+        self.end, self.fill = sum(length_of(Line(text)) for text in without_comments(self.lines)), 0
+        for number, (text, line) in enumerate(zip(texts, map(Line, without_comments(texts))), 1):
+            if directive_of(line) in OF_THE_END:
+                self.carry_out(directive_of(line), line.code, (path, number), text)
+            else:
+                self.add(text, (path, number), text)
+                self.end += length_of(line)
+
+
+class Unit(Assembled):
+    """A bank of a page: its lines with their places, its labels, and its words when the bench has assembled it. It can be used as an
+    assembled source of tools/list and tools/lint."""
+
+    def __init__(self, bank: Page) -> None:
+        self.bank, self.name, self.page, self.faults = bank, bank.name, bank.at, []
+        self.whole = text_of_bank(bank)
+        self.texts = list(self.whole.lines)
+        self.lines = [Line(text) for text in without_comments(self.texts)]
+        self.places, self.labels, place = [], {}, 0
+        for line in self.lines:
+            self.places.append(place)
+            if line.label:
+                self.labels.setdefault(line.label, place)
+            place += length_of(line)
+        self.places.append(place)
+        self.size, self.words, self.foreign = place, [], []
+        # The table entries whose labels are in other banks of the page, by their lines.
+        self.entered: dict[int, Label] = {}
+        # The lines for the bench, in which addresses replace labels of other banks.
+        self.linked = list(self.texts)
+
+    def uses_of(self, label: str) -> list[int]:
+        """Returns the lines that refer to a label; -1 for each line of another bank."""
+        return [*super().uses_of(label), *(-1 for name in self.foreign if name == label)]
+
+    def line_at(self, place: int) -> int:
+        """Returns the line whose words include a place of the page, counted from 0; -1 if there is none."""
+        return bisect_right(self.places, place) - 1 if place < self.size else -1
+
+    def origin(self, place: int) -> str:
+        """Returns the file and number of the line at a place of the page; an empty text if there is none."""
+        at = self.line_at(place)
+        if at < 0:
+            return ""
+        path, number = self.whole.origins[at]
+        return f"{os.path.basename(path)}:{number}"
+
+    def block(self) -> bytes:
+        """Returns the block that plugs this bank."""
+        return block(b"asm " + self.bank.opener(), self.linked)
+
+    def wrong_jump(self) -> str | None:
+        """Returns the first label that a long jump of the bench's words does not reach."""
+        for at, line in enumerate(self.lines):
+            if line.reference in self.labels and LONG.match(line.code):
+                low, high = self.words_of_line(at)
+                if (low >> 2 | high >> 2 << 8) != (int(self.page, 16) << 12) + self.labels[line.reference]:
+                    return line.reference
+        return None
+
+
+def text_of_bank(bank: Page) -> Whole:
+    """Returns the lines of a bank: of its source, or those made of its keystroke programs."""
+    if bank.source:
+        return Text(bank.source, text_in(bank.source), bank.end)
+    from modules import Module, lines_of_texts, programs_of
+    lines = []
+    for path in bank.programs:
+        texts = [text.decode("latin-1").strip() for text in text_in(path).split(b"\n")]
+        found = lines_of_texts([text for text in texts if text and not text.startswith("#")])
+        if found is None:
+            raise Failure(f"{path}: the bench cannot read a line of the listing: `tools/import {path}` prints which")
+        lines += found if not found or found[-1][0] == "END" else [*found, ("END", bytes.fromhex("C0000D"))]
+    source = "\n".join(Module(bank.module, programs_of(lines)).source())
+    return Text(bank.programs[0], source.encode() + b"\n", bank.end)
+
+
+class Label(NamedTuple):
+    """A label: its bank, its name and its address."""
+    unit: Unit
+    name: str
+    address: int
+
+
+class Linked:
+    """The pages and banks of a project, with the labels of all of them."""
+
+    def __init__(self, project: Project) -> None:
+        self.project = project
+        self.units = [Unit(page) for page in project.pages]
+        self.labels: dict[str, list[Label]] = {}
+        for unit in self.units:
+            for name, place in unit.labels.items():
+                self.labels.setdefault(name, []).append(Label(unit, name, (int(unit.page, 16) << 12) + place))
+        faults = [*self.equates_twice(), *(fault for unit in self.units for fault in self.link(unit))]
+        if faults:
+            raise Faulty("\n".join(faults))
+
+    # Names.
+
+    def equates_twice(self) -> list[str]:
+        """Returns an error for each equate that is also a label."""
+        return [f"{self.project.path}: [equates] {name}: {self.where(self.labels[name][0])} is a label of this name: rename one of them"
+                for name in self.project.equates if name in self.labels]
+
+    @staticmethod
+    def where(label: Label) -> str:
+        """Returns the file and line of a label."""
+        return label.unit.whole.place(label.unit.line_of(label.name))
+
+    def full(self, label: Label) -> str:
+        """Returns the name of a label, with its page if the name is used twice."""
+        return label.name if len(self.labels[label.name]) == 1 else f"{label.unit.name}.{label.name}"
+
+    def called(self, page: str | None, name: str) -> Label | str:
+        """Returns the label that a call names, or why there is none. A call begins in bank 1, so a label of bank 1 comes first."""
+        first = [label for label in self.labels.get(name, []) if label.unit.bank.bank == 1]
+        return first[0] if page is None and len(first) == 1 else self.find(page, name)
+
+    def find(self, page: str | None, name: str, own: Unit | None = None) -> Label | str:
+        """Returns the label with a name, or why there is none. A name without a page is first a label of the own source."""
+        found = self.labels.get(name, [])
+        if page is not None and page not in {unit.name for unit in self.units}:
+            return f"no page is named {page}: expected {' or '.join(unit.name for unit in self.units)}"
+        if page is not None:
+            found = [label for label in found if label.unit.name == page]
+        elif own is not None and name in own.labels:
+            found = [label for label in found if label.unit is own]
+        if len(found) == 1:
+            return found[0]
+        if found:
+            names = [f"{label.unit.name}.{name}" for label in found]
+            return f"the label {name} is used in {len(found)} pages: write {' or '.join(names)}"
+        return f"no {'page' if page is None else f'line of {page}'} has the label {name}{self.near(name)}"
+
+    def near(self, name: str) -> str:
+        """Returns a remark about a label whose name differs only in upper and lower case, or is in another page."""
+        others = [label for known, labels in self.labels.items() if known.lower() == name.lower() for label in labels]
+        return f"; {self.where(others[0])} has {others[0].unit.name}.{others[0].name}" if others else ""
+
+    # References.
+
+    def link(self, unit: Unit) -> list[str]:
+        """Replaces references to labels of other banks and to equates by numbers. Returns the errors."""
+        faults = []
+        for at, line in enumerate(unit.lines):
+            words = words_of(line.code)
+            found = TARGET.match(words[-1]) if words[1:] and b'"' not in line.code else None
+            if not found:
+                continue
+            page, name = found[1] and found[1].decode(), found[2].decode()
+            if page is None and name in self.project.equates:
+                self.put(unit, at, self.project.equates[name].encode())
+                continue
+            label = self.find(page, name, unit)
+            why = label if isinstance(label, str) else self.join(unit, at, label)
+            if why:
+                faults.append(f"{unit.whole.place(at)}: `{shown(unit.whole.told[at].strip(BLANKS))}`: {why}")
+        return faults
+
+    def join(self, unit: Unit, at: int, label: Label) -> str:
+        """Replaces the reference of a line to a label. Returns the reason if this instruction cannot refer to it."""
+        code = unit.lines[at].code
+        if label.unit is unit:
+            self.put(unit, at, b":" + label.name.encode())
+            unit.lines[at].reference = label.name
+            return ""
+        first = words_of(code)[0].decode()
+        if first in ENTRIES and label.unit.page == unit.page:
+            label.unit.foreign.append(label.name)
+            unit.entered[at] = label
+            unit.linked[at] = b"\n".join(map(constant, (ENTRIES[first] | label.address >> 8 & 0xF, label.address & 0xFF)))
+            return ""
+        if not LONG.match(code):
+            why = "reaches only labels of its own source" if SHORT.match(code) else "takes only labels of its own source"
+            return f"{first} {why}, and {label.name} is in {label.unit.name}: use ?NC GO or ?NC XQ"
+        label.unit.foreign.append(label.name)
+        self.put(unit, at, b"%04X" % label.address)
+        return ""
+
+    @staticmethod
+    def put(unit: Unit, at: int, operand: bytes) -> None:
+        """Replaces the last word of a line's code, for the bench."""
+        line = unit.lines[at]
+        code = line.code.removesuffix(words_of(line.code)[-1]) + operand
+        label = f"{line.label}:".encode() if line.label else b""
+        unit.linked[at] = (label.ljust(8) if len(label) < 8 else label + b" ") + code + (b" " + line.comment.encode() if line.comment else b"")
+
+    # The bench's words.
+
+    def deck(self) -> bytes:
+        """Returns the blocks that plug all banks."""
+        return b"".join(unit.block() for unit in self.units)
+
+    def views(self) -> bytes:
+        """Returns the commands that print the words of all banks."""
+        return b"".join(b"show image %s b%d\n" % (unit.page.encode(), unit.bank.bank) for unit in self.units)
+
+    def take(self, lines: Iterator[str]) -> None:
+        """Reads what the bench prints for the deck and the views. If a source has errors, all of them are reported."""
+        line = next(lines, "")
+        if line.startswith("! "):
+            raise self.faulty(line)
+        for unit in self.units:
+            data = "".join([line, *(next(lines, "") for _ in range(IMAGE_LINES - 1))])
+            unit.words = [int(data[at:at + 4], 16) for at in range(0, 4 * unit.size, 4)]
+            wrong = unit.wrong_jump()
+            if wrong:
+                raise Failure(f"{unit.whole.path}: the bench and the tool disagree about the address of {wrong}: please report it", 3)
+            line = next(lines, "") if unit is not self.units[-1] else ""
+
+    def faulty(self, refusal: str) -> Failure:
+        """Returns all errors of the sources, with their usual causes."""
+        faults = []
+        for unit in self.units:
+            # A line that became two words keeps one line here, of two words.
+            unit.whole.lines = [b"        LDI 000" if b"\n" in line else line for line in unit.linked]
+            faults += unit.whole.faults_of(Source(unit.whole.data()))
+        return Faulty("\n".join(faults)) if faults else Failure(f"{self.project.path}: the bench refused a block: {refusal}", 3)
+
+    def has_checksums(self) -> bool:
+        """Returns whether a page has a checksum, which is computed from its words."""
+        return any(unit.whole.checksum is not None for unit in self.units)
+
+    def assemble(self) -> None:
+        """Lets the bench assemble all banks. Computes the checksums, and then the lines of checksums are complete."""
+        faults = [fault for unit in self.units for fault in unit.whole.faults]
+        if faults:
+            raise Faulty("\n".join(faults))
+        _, output = run(self.deck() + self.views(), self.project.memory)
+        self.take(iter(output.decode("latin-1").split("\n")))
+        for unit in self.units:
+            at = unit.whole.checksum
+            if at is not None:
+                word = checksum_of(unit.words[:unit.places[at]])
+                unit.linked[at] = constant(word)
+                unit.words[unit.places[at]] = word
+
+    # Addresses.
+
+    def units_at(self, address: int, bank: int | None) -> list[Unit]:
+        """Returns the banks with words at an address: only the given bank, or all if it is not known."""
+        return [unit for unit in self.units if int(unit.page, 16) == address >> 12 and bank in (None, unit.bank.bank)]
+
+    def has_banks(self, address: int) -> bool:
+        """Returns whether the page of an address has several banks."""
+        return len(self.units_at(address, None)) > 1
+
+    def name_of(self, address: int, bank: int | None = None) -> str:
+        """Returns the last label at or before an address, with the offset in hexadecimal words. An address before all labels has the name
+        of its page in place of a label. Several banks are separated by a slash."""
+        names = []
+        for unit in self.units_at(address, bank):
+            place = address & 0xFFF
+            before = [(at, name) for name, at in unit.labels.items() if at <= place]
+            at, name = max(before, default=(0, ""))
+            label = self.full(next(one for one in self.labels[name] if one.unit is unit)) if name else unit.name
+            names.append(label + (f"+{place - at:X}" if place > at or not name else ""))
+        return "/".join(dict.fromkeys(names))
+
+    def origin_of(self, address: int, bank: int | None = None) -> str:
+        """Returns the file and line of the instruction at an address; several banks are separated by a slash."""
+        return "/".join(filter(None, (unit.origin(address & 0xFFF) for unit in self.units_at(address, bank))))

@@ -1,0 +1,181 @@
+"""Project files of tools/module: a file in TOML names the pages and banks of a module, their sources, equates, programs and tests."""
+import os
+import re
+import tomllib
+from typing import Any, NamedTuple
+
+from decks import MEMORIES, Failure, bytes_of
+
+PAGES = "456789ABCDEF"
+BANKS = (1, 2, 3, 4)
+NAME = re.compile("[A-Za-z][0-9A-Za-z_]{0,11}")
+
+# The name of a project file in its folder.
+IN_A_FOLDER = "module.toml"
+
+
+class Page(NamedTuple):
+    """A bank of a page: its name, where it is plugged, and its files. It has either a source or keystroke programs."""
+    name: str
+    at: str
+    bank: int
+    source: str | None
+    end: str | None
+    writable: bool
+    module: int | None
+    programs: list[str]
+
+    def opener(self) -> bytes:
+        """Returns the operands of the block that plugs this bank."""
+        bank = f" b{self.bank}" if self.bank != 1 else ""
+        return f"{self.at}{bank}{' rw' if self.writable else ''}".encode()
+
+
+class Project(NamedTuple):
+    """A project: its file, name, sizes, pages, equates, keystroke programs in memory, tests, and what every test has before its call."""
+    path: str
+    name: str
+    memory: str
+    size: int | None
+    pages: list[Page]
+    equates: dict[str, str]
+    programs: list[str]
+    tests: list[str]
+    before: str
+
+    def free_page(self) -> str:
+        """Returns the highest page that the module does not use."""
+        used = {page.at for page in self.pages}
+        free = [at for at in PAGES if at not in used]
+        if not free:
+            raise Failure(f"{self.path}: all pages from 4 to F are used: tests need a free page for the words that set registers")
+        return free[-1]
+
+
+class Reader:
+    """Reads a project file. An error names the file, the line of the key, and what was expected."""
+
+    def __init__(self, path: str) -> None:
+        self.path = os.path.normpath(os.path.join(path, IN_A_FOLDER) if os.path.isdir(path) else path)
+        data = bytes_of(self.path)
+        try:
+            self.text = data.decode("utf-8")
+            self.table = tomllib.loads(self.text)
+        except UnicodeDecodeError as error:
+            raise Failure(f"{self.path}: byte {data[error.start]:02X} at offset {error.start} is not valid UTF-8: save the file as UTF-8") \
+                from error
+        except tomllib.TOMLDecodeError as error:
+            raise Failure(f"{self.path}: not a file in TOML: {error}") from error
+
+    def line_of(self, section: str, key: str) -> int | None:
+        """Returns the line number of a key in a section, or of the section; None if the text does not have it in this form."""
+        now, found = "", None
+        for number, line in enumerate(self.text.split("\n"), 1):
+            head = re.match(r"\s*\[\s*(.*?)\s*\]", line)
+            if head:
+                now = head[1].replace('"', "")
+                found = number if now == section and section else found
+            elif now == section and re.match(rf'\s*"?{re.escape(key)}"?\s*=', line):
+                return number
+        return found
+
+    def fail(self, section: str, key: str, why: str) -> Failure:
+        """Returns an error about a key."""
+        number = self.line_of(section, key)
+        place = f"{self.path}:{number}" if number else self.path
+        return Failure(f"{place}: {f'[{section}] ' if section else ''}{key}: {why}")
+
+    def value(self, section: str, table: dict[str, Any], key: str, kind: type, usual: Any, wanted: str) -> Any:
+        """Returns the value of a key, or the usual one if the key is missing."""
+        found = table.get(key, usual)
+        if found is not usual and (not isinstance(found, kind) or kind is int and isinstance(found, bool)):
+            raise self.fail(section, key, f"found {shown(found)}, expected {wanted}")
+        return found
+
+    def known(self, section: str, table: dict[str, Any], keys: tuple[str, ...]) -> None:
+        """Refuses keys that have no meaning."""
+        for key in table:
+            if key not in keys:
+                raise self.fail(section, key, f"unknown key, expected one of {', '.join(keys)}")
+
+    def files(self, section: str, table: dict[str, Any], key: str) -> list[str]:
+        """Returns the paths in a list of file names."""
+        names = self.value(section, table, key, list, [], 'a list of file names, for example ["a.txt"]')
+        if not all(isinstance(name, str) for name in names):
+            raise self.fail(section, key, f'found {shown(names)}, expected a list of file names, for example ["a.txt"]')
+        return [self.file(name) for name in names]
+
+    def file(self, name: str) -> str:
+        """Returns the path of a file, which is named relative to the folder of the project file."""
+        return os.path.normpath(os.path.join(os.path.dirname(self.path), name))
+
+
+def shown(value: Any) -> str:
+    """Returns a value for a message."""
+    return f'"{value}"' if isinstance(value, str) else str(value).lower() if isinstance(value, bool) else str(value)
+
+
+def equates_of(reader: Reader) -> dict[str, str]:
+    """Returns the equates: for each name the text that replaces it."""
+    found = {}
+    table = reader.value("", reader.table, "equates", dict, {}, "a table [equates]")
+    for name, value in table.items():
+        if not NAME.fullmatch(name):
+            raise reader.fail("equates", name, "not a name: expected a letter and up to eleven letters, digits or _")
+        digits = isinstance(value, str) and re.fullmatch("[0-9A-Fa-f]{3,4}", value)
+        number = isinstance(value, int) and not isinstance(value, bool) and 0 <= value <= 15
+        if not digits and not number:
+            raise reader.fail("equates", name, f'found {shown(value)}, expected an address like "27F3", a word like "0C0", or a decimal '
+                              "number from 0 to 15 like 3")
+        found[name] = str(value)
+    return found
+
+
+def page_of(reader: Reader, name: str, table: Any) -> Page:
+    """Returns a page or bank from its table."""
+    section = f"page.{name}"
+    if not NAME.fullmatch(name) or not isinstance(table, dict):
+        raise reader.fail(section, name, "expected a table such as [page.MAIN], named by a letter and up to eleven letters, digits or _")
+    reader.known(section, table, ("at", "bank", "source", "end", "writable", "module", "programs"))
+    at = reader.value(section, table, "at", str, "", 'a page from "4" to "F"').upper()
+    bank = reader.value(section, table, "bank", int, 1, "a bank from 1 to 4")
+    module = reader.value(section, table, "module", int, None, "a module number from 1 to 31")
+    source = reader.value(section, table, "source", str, None, "the name of a file")
+    end = reader.value(section, table, "end", str, None, "the name of a file")
+    programs = reader.files(section, table, "programs")
+    if len(at) != 1 or at not in PAGES:
+        raise reader.fail(section, "at", f'found {shown(at)}, expected a page from "4" to "F"')
+    if bank not in BANKS:
+        raise reader.fail(section, "bank", f"found {bank}, expected a bank from 1 to 4")
+    if (source is None) == (not programs):
+        raise reader.fail(section, "source", 'expected either source = "FILE.asm" or programs = ["FILE.txt"]')
+    if programs and module not in range(1, 32):
+        raise reader.fail(section, "module", f"found {shown(module)}, expected the module number of the programs, 1 to 31")
+    return Page(name, at, bank, reader.file(source) if source else None, reader.file(end) if end else None,
+                reader.value(section, table, "writable", bool, False, "true or false"), module, programs)
+
+
+def project_in(path: str) -> Project:
+    """Returns the project in a file, or in the file module.toml of a folder."""
+    reader = Reader(path)
+    table = reader.table
+    reader.known("", table, ("name", "memory", "size", "programs", "tests", "before", "equates", "page"))
+    tables = reader.value("", table, "page", dict, {}, "tables such as [page.MAIN]")
+    pages = [page_of(reader, name, one) for name, one in tables.items()]
+    if not pages:
+        raise Failure(f'{reader.path}: the project has no page: expected a table such as [page.MAIN] with at = "8" and source = "main.asm"')
+    taken: dict[tuple[str, int], str] = {}
+    for page in pages:
+        other = taken.setdefault((page.at, page.bank), page.name)
+        if other != page.name:
+            raise reader.fail(f"page.{page.name}", "at", f"bank {page.bank} of page {page.at} is already {other}: choose another page or bank")
+    memory = str(reader.value("", table, "memory", int, 320, f"one of {', '.join(MEMORIES)}"))
+    if memory not in MEMORIES:
+        raise reader.fail("", "memory", f"found {memory}, expected one of {', '.join(MEMORIES)}")
+    size = reader.value("", table, "size", int, None, "a number of data registers")
+    if size is not None and not 0 <= size < int(memory):
+        raise reader.fail("", "size", f"found {size}, expected a number of data registers below {memory}")
+    folder = os.path.basename(os.path.dirname(os.path.realpath(reader.path)))
+    return Project(reader.path, reader.value("", table, "name", str, folder, "a text"), memory, size, pages, equates_of(reader),
+                   reader.files("", table, "programs"), reader.files("", table, "tests"),
+                   reader.value("", table, "before", str, "", 'settings such as "RAM=000"'))

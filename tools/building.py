@@ -2,7 +2,7 @@
 import os
 import sys
 
-from decks import Failure, shown
+from decks import MEMORY, Failure, shown
 from files import put
 from linking import LONG, Linked, Unit
 from stepping import tool
@@ -22,7 +22,9 @@ def build(linked: Linked, out: str, images: str | None) -> int:
         project = linked.project
         size = f"size {project.size}\n" if project.size is not None else ""
         programs = "".join(map(program_block, project.programs))
-        put(linked.deck() + (size + programs).encode("latin-1"), out)
+        memory = "" if project.memory == MEMORY else f" --memory {project.memory}"
+        head = f"# {project.name}: made by tools/module build. Run it with ./bench run{memory}\n"
+        put(head.encode() + linked.deck() + (size + programs).encode("latin-1"), out)
         return 0
     if not os.path.isdir(images):
         raise Failure(f"{images}: no such folder: create it first", 3)

@@ -126,7 +126,9 @@ class Caller:
         """Returns the junk of a seed; None without a seed."""
         if seed is None:
             return None
-        return self.junks.setdefault(seed, junk_of(seed))
+        if seed not in self.junks:
+            self.junks[seed] = junk_of(seed)
+        return self.junks[seed]
 
     def results(self, calls: list[tuple[Call, Views]]) -> list[Result]:
         """Performs calls, and returns their results. The bench runs once for every 33,554,432 bytes of calls."""

@@ -53,13 +53,15 @@ class Unit(Assembled):
         self.bank, self.name, self.page, self.faults = bank, bank.name, bank.at, []
         self.whole = text_of_bank(bank)
         self.texts = list(self.whole.lines)
-        self.lines = [Line(text) for text in without_comments(self.texts)]
+        # The lines that fill the page are thousands of the same line.
+        alike, fills = {text: Line(text) for text in {self.texts[at] for at in self.whole.fills}}, self.whole.fills
+        self.lines = [alike[text] if at in fills else Line(text) for at, text in enumerate(without_comments(self.texts))]
         self.places, self.labels, place = [], {}, 0
-        for line in self.lines:
+        for at, line in enumerate(self.lines):
             self.places.append(place)
             if line.label:
                 self.labels.setdefault(line.label, place)
-            place += length_of(line)
+            place += 1 if at in fills else length_of(line)
         self.places.append(place)
         self.size, self.words, self.foreign = place, [], []
         # The table entries whose labels are in other banks of the page, by their lines.
@@ -130,7 +132,7 @@ class Linked:
         for unit in self.units:
             for name, place in unit.labels.items():
                 self.labels.setdefault(name, []).append(Label(unit, name, (int(unit.page, 16) << 12) + place))
-        faults = [*self.equates_twice(), *(fault for unit in self.units for fault in self.link(unit))]
+        faults = [*self.equates_twice(), *(fault for unit in self.units for fault in unit.whole.faults + self.link(unit))]
         if faults:
             raise Faulty("\n".join(faults))
 
@@ -182,7 +184,7 @@ class Linked:
         """Replaces references to labels of other banks and to equates by numbers. Returns the errors."""
         faults = []
         for at, line in enumerate(unit.lines):
-            words = words_of(line.code)
+            words = words_of(line.code) if b":" in line.code else []
             found = TARGET.match(words[-1]) if words[1:] and b'"' not in line.code else None
             if not found:
                 continue
@@ -262,9 +264,6 @@ class Linked:
 
     def assemble(self) -> None:
         """Lets the bench assemble all banks. Computes the checksums, and then the lines of checksums are complete."""
-        faults = [fault for unit in self.units for fault in unit.whole.faults]
-        if faults:
-            raise Faulty("\n".join(faults))
         _, output = run(self.deck() + self.views(), self.project.memory)
         self.take(iter(output.decode("latin-1").split("\n")))
         for unit in self.units:

@@ -5,13 +5,11 @@ import re
 import subprocess
 import sys
 from bisect import bisect
-from difflib import SequenceMatcher
 from itertools import product
 from string import ascii_letters
 
 from decks import (BENCH, LONGEST_LINE, MARK_OF_UTF8, MARKS_OF_UTF16, NO_ANSWER, Failure, block, bytes_of, items_of, lines_of,
                    refused, shown, text_of, words_of)
-from dialects import as_own
 from documents import codes_of, pairs_of, plain, section_of, tables_of
 
 BLANKS = b" \t"
@@ -573,6 +571,10 @@ def tell_causes(faults):
     asked = [(Asked(fault.text, fault.refusal), fault) for fault in faults if fault.refusal in (*OF_THE_LINE, "! 34 TooFar")]
     if not asked:
         return
+    # Only errors need these modules, which take time to load.
+    from difflib import SequenceMatcher
+
+    from dialects import as_own
     rows, others, takes = [], other_names(), operands()
     for deck, refusal, why in tables_of(section_of("ASSEMBLER.md", "If you see…"))[0]:
         lines = codes_of(deck)

@@ -112,6 +112,8 @@ class Reader:
 
 def shown(value: Any) -> str:
     """Returns a value for a message."""
+    if value is None:
+        return "nothing"
     return f'"{value}"' if isinstance(value, str) else str(value).lower() if isinstance(value, bool) else str(value)
 
 

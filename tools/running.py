@@ -15,7 +15,7 @@ def case_of(linked: Linked, target: str, words: list[str]) -> Case:
     try:
         name, before, _ = row_of([target, *map(requoted, words)], usual(linked.project.before))
     except Wrong as why:
-        raise Failure(f"{why}", 2) from why
+        raise Failure(str(why)) from why
     return Case("command line", 1, "", name, before, [])
 
 

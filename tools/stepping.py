@@ -81,8 +81,6 @@ def traced(caller: Caller, calls: list[tuple[Call, int]], more: list[str] | None
     parts_of = tool("trace").parts_of
     try:
         return [list(steps_in(caller.linked, steps, lines, LINES + len(more), parts_of)) for _, steps in calls]
-    except StopIteration as why:
-        raise Failure("the bench ended before it answered all steps", 70) from why
     except RuntimeError as why:
         raise Failure("the bench ended before it answered all steps", 70) from why
 

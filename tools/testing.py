@@ -117,13 +117,13 @@ def junit(name: str, reports: list[Report]) -> str:
              f'<testsuite name={quoteattr(name)} tests="{len(reports)}" failures="{failed}">']
     for report in reports:
         case = report.case
-        head = f"  <testcase classname={quoteattr(case.path)} name={quoteattr(case.name())} file={quoteattr(case.path)} line=\"{case.number}\""
+        head = f"<testcase classname={quoteattr(case.path)} name={quoteattr(case.name())} file={quoteattr(case.path)} line=\"{case.number}\""
         if report.passed:
             lines.append(f"{head}/>")
             continue
         text = "\n".join(report.lines)
         message = report.lines[0] if report.lines else "the case failed"
-        lines += [f"{head}>", f"    <failure message={quoteattr(message)}>{escape(text)}</failure>", "  </testcase>"]
+        lines += [f"{head}>", f"<failure message={quoteattr(message)}>{escape(text)}</failure>", "</testcase>"]
     return "\n".join([*lines, "</testsuite>", ""])
 
 

@@ -15,7 +15,7 @@ IN_A_FOLDER = "module.toml"
 
 
 class Page(NamedTuple):
-    """A bank of a page: its name, where it is plugged, and its files. It has either a source or keystroke programs."""
+    """A bank of a page: its name, its page and bank, and its files. It has either a source or keystroke programs."""
     name: str
     at: str
     bank: int

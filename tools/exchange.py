@@ -13,7 +13,7 @@ ARITHMETIC = re.compile(r"ST([-+*/] .*)")
 NUMBER = re.compile(r"(-?[0-9.]*)E(-?[0-9]*)")
 END = 3
 
-# The names that Free42 writes, where they are not those of the bench.
+# The names that Free42 writes if they are not those of the bench.
 FREE42 = {"S+": "Σ+", "S-": "Σ-", "CLS": "CLΣ", "X<=Y?": "X≤Y?", "X<=0?": "X≤0?", "X#Y?": "X≠Y?", "X#0?": "X≠0?", "ENTER^": "ENTER",
           "X^2": "X↑2", "Y^X": "Y↑X", "E^X": "E↑X", "10^X": "10↑X", "E^X-1": "E↑X-1", "R^": "R↑", "RDN": "R↓", "P-R": "→REC",
           "R-P": "→POL", "D-R": "→RAD", "R-D": "→DEG", "HMS": "→HMS", "HR": "→HR", "DEC": "→DEC", "OCT": "→OCT", "*": "×", "/": "÷",

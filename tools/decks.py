@@ -170,6 +170,13 @@ def run(deck, memory=MEMORY):
     return ran.returncode, ran.stdout
 
 
+def ended(status, when):
+    """Returns the text of the error for a bench that has ended early. Only a bench with a status above 1 has printed its cause."""
+    if status < 0:
+        return f"the bench was stopped by signal {-status} {when}"
+    return f"the bench ended with status {status} {when}: {'see its message above' if status > 1 else 'please report this with the deck'}"
+
+
 def answered(deck, memory=MEMORY):
     """Runs a deck. Returns its status, and for each command and block the first and last line, counted from 0, and the lines that it has
     printed."""
@@ -178,7 +185,8 @@ def answered(deck, memory=MEMORY):
     status, output = run(marked(lines, items), memory)
     answers = answers_of(output)
     if status in (0, 1) and items and len(answers) != len(items):
-        raise Failure(f"the bench answered {len(answers)} of {len(items)} commands and ended with status {status}", 3)
+        raise Failure(f"the bench answered {len(answers)} of {len(items)} commands and ended with status {status}: please report this "
+                      "with the deck", 3)
     return status, [(first, last, answer) for (first, last), answer in zip(items, answers)]
 
 

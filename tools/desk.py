@@ -68,7 +68,7 @@ class Bench(Session):
             self.bench.stdin.flush()
             return [self.answer() for _ in commands]
         except (OSError, ValueError) as error:
-            raise Failure("the bench ended before it answered", NO_ANSWER) from error
+            raise self.failure() from error
         finally:
             timer.cancel()
 
@@ -78,9 +78,14 @@ class Bench(Session):
         while lines[-2:] != MARK_ANSWER:
             line = self.bench.stdout.readline()
             if not line:
-                raise Failure("the bench ended before it answered", NO_ANSWER)
+                raise self.failure()
             lines.append(line[:-1])
         return read(lines[:-2])
+
+    def failure(self):
+        """Returns the error for a bench that has ended before it answered. It repeats the message of the bench, which is in a file."""
+        self.close_input()
+        return Failure(self.why(), NO_ANSWER)
 
     def why(self):
         """Returns how the bench has ended; None while it runs."""

@@ -2,7 +2,7 @@
 import re
 from bisect import bisect_left
 
-from decks import LONGEST_LINE, Failure, block, refused, shown, words_of
+from decks import LONGEST_LINE, Failure, block, ended, refused, shown, words_of
 from documents import codes_of, section_of, tables_of
 from programs import fates
 from spellings import DOCUMENT, Speller, read_tables
@@ -33,7 +33,7 @@ def readable(texts):
     deck = b"".join(b"reset\n" + block(b"program", [text.encode()]) for text in asked)
     status, found = refused(deck)
     if status > 1:
-        raise Failure(f"the bench ended with status {status} when it was asked for the lines of the listing")
+        raise Failure(ended(status, "when it was asked for the lines of the listing"))
     return set(asked) - {asked[first // 4] for first, _, _ in found}
 
 

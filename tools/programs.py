@@ -2,7 +2,7 @@
 are lines, and how many data registers leave enough room. The bench decides all of this."""
 import re
 
-from decks import MEMORY, Failure, answered, block, hexadecimal, refused, run
+from decks import MEMORY, Failure, answered, block, ended, hexadecimal, refused, run
 from typed import LONGEST_NAME, why_no_name
 
 LEFT_OUT = "not supported, so these lines are refused when they are executed: "
@@ -46,7 +46,7 @@ def fates(texts, front):
     deck = front + b"".join(b"reset\n" + block(b"program", [text.encode()]) + b"step\nshow display\n" for text in asked)
     status, answers = answered(deck)
     if status > 1:
-        raise Failure(f"the bench ended with status {status} when it was asked to execute the lines")
+        raise Failure(ended(status, "when it was asked to execute the lines"))
     steps = [answer for _, _, answer in answers[len(answers) - 4 * len(asked):]]
     left_out = {text for at, text in enumerate(asked) if steps[4 * at + 2] == [b"! 13 NotInProfile"]}
     nowhere = {text for at, text in enumerate(asked) if CALL.fullmatch(text) and steps[4 * at + 3] == [b"NONEXISTENT"]}
@@ -104,7 +104,7 @@ def loadable(prefixes):
     deck = b"".join(b"reset\n" + block(b"load", hexadecimal(data)) for data in prefixes)
     status, answers = answered(deck)
     if status > 1:
-        raise Failure(f"the bench ended with status {status} when it was asked to load the bytes")
+        raise Failure(ended(status, "when it was asked to load the bytes"))
     return [answer != [b"! 14 BrokenProgram"] for _, _, answer in answers[1::2]]
 
 

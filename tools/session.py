@@ -3,7 +3,7 @@ import re
 import shutil
 import subprocess
 
-from decks import BENCH, Failure, LONGEST_LINE, MARK, MARK_ANSWER, MEMORY, NO_ANSWER, OPENERS, running
+from decks import BENCH, Failure, LONGEST_LINE, MARK, MARK_ANSWER, MEMORY, NO_ANSWER, OPENERS, ended, running
 
 
 def words_of(line):
@@ -51,7 +51,7 @@ class Session:
             while lines[-2:] != MARK_ANSWER:
                 line = self.bench.stdout.readline()
                 if not line:
-                    raise Failure("the bench ended before it answered", NO_ANSWER)
+                    raise Failure(ended(self.bench.wait(), "before it answered"), NO_ANSWER)
                 lines.append(line[:-1])
         except OSError as error:
             raise Failure(f"cannot write to the bench: {error.strerror}", NO_ANSWER) from error

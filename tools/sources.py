@@ -8,7 +8,7 @@ from bisect import bisect
 from itertools import product
 from string import ascii_letters
 
-from decks import (BENCH, LONGEST_LINE, MARK_OF_UTF8, MARKS_OF_UTF16, NO_ANSWER, Failure, block, bytes_of, items_of, lines_of,
+from decks import (BENCH, LONGEST_LINE, MARK_OF_UTF8, MARKS_OF_UTF16, NO_ANSWER, Failure, block, bytes_of, ended, items_of, lines_of,
                    refused, shown, text_of, words_of)
 from documents import codes_of, pairs_of, plain, section_of, tables_of
 
@@ -87,7 +87,7 @@ def assemble(lines, origin=ORIGIN):
         refusal, number = ran.stdout.decode().rsplit(" ", 1)
         return None, (int(number) - 1, refusal)
     if ran.returncode:
-        raise Failure(f"`bench asm` ended with status {ran.returncode}, expected 0 or 1", 3)
+        raise Failure(ended(ran.returncode, "when it was asked to assemble the source"), 3)
     return [int(word, 16) for word in ran.stdout.split()], None
 
 

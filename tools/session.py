@@ -54,6 +54,8 @@ class Session:
                     raise Failure(ended(self.bench.wait(), "before it answered"), NO_ANSWER)
                 lines.append(line[:-1])
         except OSError as error:
+            if self.bench.poll() is not None:
+                raise Failure(ended(self.bench.wait(), "before it answered"), NO_ANSWER) from error
             raise Failure(f"cannot write to the bench: {error.strerror}", NO_ANSWER) from error
         return lines[:-2]
 

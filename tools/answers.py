@@ -274,7 +274,7 @@ class Answers:
             ran = tool("import", [*self.desk.words, "--page", page, *(name for name, _ in files)], room)
         told = ran.stderr.decode(errors="replace")
         if ran.returncode:
-            return {"told": told or "tools/import failed without a message", "good": False}
+            return {"told": told or f"tools/import ended with status {ran.returncode} and printed no message: please report it", "good": False}
         with self.lock:
             if not self.ended:
                 self.desk.give(ran.stdout, True)
@@ -292,7 +292,8 @@ class Answers:
         words = ["--page", page] if kind in ("rom", "source") else [f"--label={label}"] if label else []
         ran = tool("export", [kind, *words, "-", "-"], None, deck)
         if ran.returncode:
-            raise Failure(ran.stderr.decode(errors="replace").strip() or "tools/export failed without a message")
+            raise Failure(ran.stderr.decode(errors="replace").strip() or
+                          f"tools/export ended with status {ran.returncode} and printed no message: please report it")
         return ran.stdout
 
 

@@ -4,7 +4,7 @@ from collections.abc import Iterable, Iterator
 from typing import NamedTuple
 
 from cases import TARGET, Case
-from decks import BENCH, LONGEST_DECK, NO_ANSWER, Failure, hexadecimal, running
+from decks import BENCH, LONGEST_DECK, NO_ANSWER, Failure, ended, hexadecimal, running
 from linking import Linked
 from settings import CPU, DATA_NAME, FLAG_NAME, MEMORY_NAME, STACK, Setting
 from stubs import JUNK, Sizes, junk_of, memory_of, sizes_of, stub_of
@@ -98,6 +98,8 @@ class Caller:
         size = f"size {project.size}\n" if project.size is not None else ""
         self.start = f"reset\n{size}{''.join(program_block(path) for path in project.programs)}"
         self.addresses: dict[str, int] = {}
+        # The status of the last run of the bench.
+        self.status = 0
 
     def target(self, case: Case) -> int | None:
         """Returns the address that a case calls; None for a function that is called by its keys."""
@@ -147,7 +149,7 @@ class Caller:
             try:
                 found += [result_of(call, views, lines) for call, views in piece]
             except StopIteration as why:
-                raise Failure("the bench ended before it answered all cases", NO_ANSWER) from why
+                raise Failure(ended(self.status, "before it answered all cases"), NO_ANSWER) from why
         return found
 
     def lines(self, deck: str) -> Iterator[str]:
@@ -157,6 +159,7 @@ class Caller:
         views = b"" if known else linked.views()
         ran = subprocess.run([BENCH, *running(linked.project.memory)], stdout=subprocess.PIPE,
                              input=linked.deck() + views + first.encode() + deck.encode("latin-1"))
+        self.status = ran.returncode
         if ran.returncode == NO_ANSWER:
             raise Failure("./bench gave no answer: see its message above", NO_ANSWER)
         lines = iter(ran.stdout.decode("latin-1").split("\n"))

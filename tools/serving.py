@@ -52,6 +52,11 @@ class Refusal(Exception):
         self.status = status
 
 
+def quoted(values):
+    """Returns the values of a header for a message, each in quotes and at most 100 characters of it."""
+    return ", ".join(f"'{value[:100]}'" for value in values) if values else "nothing"
+
+
 class Server(ThreadingHTTPServer):
     """The server, its token and cookie, and the number of open pages."""
     daemon_threads = True
@@ -169,9 +174,9 @@ class Handler(BaseHTTPRequestHandler):
         """Returns what a request names after the token, and its query. Requests that do not come from the page itself are refused."""
         host = f"127.0.0.1:{self.server.port}"
         if self.headers.get_all("Host") not in ([host], [f"localhost:{self.server.port}"]):
-            raise Refusal(403, f"unexpected Host header: expected {host}")
+            raise Refusal(403, f"found {quoted(self.headers.get_all('Host'))} as the Host header, expected {host}")
         if self.headers.get_all("Origin") not in (None, [f"http://{self.headers['Host']}"]):
-            raise Refusal(403, f"unexpected Origin header: expected http://{self.headers['Host']}")
+            raise Refusal(403, f"found {quoted(self.headers.get_all('Origin'))} as the Origin header, expected http://{self.headers['Host']}")
         if len(self.path) > LONGEST_PATH:
             raise Refusal(414, f"the path has {len(self.path)} characters: at most {LONGEST_PATH} are allowed")
         begin = f"/{self.server.token}/"
@@ -229,7 +234,7 @@ class Handler(BaseHTTPRequestHandler):
             raise Refusal(404, f"unknown path '{name[:100]}'")
         asked = json.loads(body)
         if not isinstance(asked, dict):
-            raise Refusal(400, "the request body is not a JSON object: reload the page")
+            raise Refusal(400, f"the request body is `{body[:40].decode(errors='replace')}`, expected a JSON object: reload the page")
         answer = self.server.answers[name](asked)
         if isinstance(answer, bytes):
             self.reply(200, "application/octet-stream", answer)

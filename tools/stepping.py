@@ -8,7 +8,7 @@ from types import ModuleType
 from typing import Any, NamedTuple
 
 from calls import Call, Caller
-from decks import TOP, Failure
+from decks import NO_ANSWER, TOP, Failure, ended
 from linking import Linked
 
 MICRO = re.compile(r"Micro ([0-9A-F]{4}) (.*)")
@@ -82,7 +82,7 @@ def traced(caller: Caller, calls: list[tuple[Call, int]], more: list[str] | None
     try:
         return [list(steps_in(caller.linked, steps, lines, LINES + len(more), parts_of)) for _, steps in calls]
     except RuntimeError as why:
-        raise Failure("the bench ended before it answered all steps", 70) from why
+        raise Failure(ended(caller.status, "before it answered all steps"), NO_ANSWER) from why
 
 
 def steps_in(linked: Linked, steps: int, lines: Iterator[str], count: int, parts_of: Any) -> Iterator[Step]:

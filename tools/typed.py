@@ -115,13 +115,14 @@ def function_keys(name):
 
 def operand_keys(name, indirect, operand):
     """Returns the keys of an operand."""
+    keys, wanted = list(operand), "digits, or one of X, Y, Z, T and L"
     if not operand.isdecimal():
-        operand = [".", LETTERS[operand]] if operand in "TZYXL" else None
+        keys = [".", LETTERS[operand]] if operand in "TZYXL" else None
     elif name in OF_ONE_DIGIT and not indirect:
-        operand = operand[1:] if operand[0] == "0" else None
-    if operand is None:
-        raise NoKeys("no key types the operand")
-    return ["SHIFT"] * bool(indirect) + list(operand)
+        keys, wanted = list(operand[1:]) if operand[0] == "0" else None, "one digit"
+    if keys is None:
+        raise NoKeys(f"no key types the operand {operand}: expected {wanted}")
+    return ["SHIFT"] * bool(indirect) + keys
 
 
 def line_keys(text):

@@ -81,7 +81,7 @@ def copied(name, to):
             to.write(part)
             size += len(part)
             if size > LONGEST_INPUT:
-                raise NoAnswer(f"the input has more than {LONGEST_INPUT:,} bytes")
+                raise NoAnswer(f"{'standard input' if name == '-' else name} has more than {LONGEST_INPUT:,} bytes, the limit of rt try")
     to.seek(0)
     return True
 

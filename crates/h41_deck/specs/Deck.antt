@@ -14,8 +14,9 @@ use Rattle.h41_refusals.specs.declared.fault.Fault.TheVariants.{OutOfMemory, Rea
 use Rattle.h41_commands.specs.Items.{Spelled, commands, opens_first, without_open_block}
 use Rattle.h41_lines.specs.Lines.{ended_lines, lines}
 use Rattle.h41_debug.specs.Bench.{BenchState, start}
-use Rattle.h41_ends.specs.Ends.{most_bytes}
+use Rattle.h41_ends.specs.Ends.{GivesTooMany, most_bytes}
 use Rattle.h41_ends.specs.InputLines.{bytes_within}
+use Rattle.h41_ends.specs.ReadEvents.{AddsReads, EachRead, ReadEvent}
 use Rattle.h41_deck.specs.Answers.{Answer, printed_text}
 use Rattle.h41_deck.specs.Replies.{ItemReply, item_takes_memory}
 
@@ -129,6 +130,11 @@ LeavesOf registers WriteFault old new bytes =
     × (count : ℕ)
     × Appends old new (take count text)
 
+-- A read failed, or more bytes were given than a deck may have.
+abbrev pub FailedOrGaveMore : {R : Type 0} → sources.Ghosts R → R → R → Type 0
+FailedOrGaveMore source before after =
+    (source.failed after ≡ true) ⊎ GivesTooMany (source.given before) (source.given after)
+
 -- What an error leaves: the bytes that were read of the deck, and what is written of those within
 -- the limit. `cause` and `why`: reading failed, or there were too many bytes; `why` holds also of a
 -- source whose bytes are not known.
@@ -139,7 +145,7 @@ pub record FaultLeaves {R W : Type 0} (registers : ℕ) (fault : Fault) (source 
   pub leaves :
       LeavesOf registers fault (sink.contents old) (sink.contents new) (bytes_within bytes)
   pub cause : fault ≡ ReadFault → (source.failed after ≡ true) ⊎ (most_bytes < length bytes)
-  pub why : fault ≡ ReadFault → (source.failed after ≡ true) ⊎ (most_bytes < source.given after)
+  pub why : fault ≡ ReadFault → FailedOrGaveMore source before after
 
 -- If a deck ends with an error, it leaves this.
 abbrev pub LeavesDeck : {A R W : Type 0} → ℕ → Result A Fault → sources.Ghosts R → sinks.Ghosts W
@@ -150,6 +156,22 @@ LeavesDeck registers result source sink before after old new =
 -- Unless writing failed, everything that is written is flushed.
 abbrev pub PassedOn : {A : Type 0} → Result A Fault → Bool → Type 0
 PassedOn result flushed = IfErr result (λ fault. fault ≢ WriteFault → flushed ≡ true)
+
+-- The state at a read: the bytes read so far are within the limit, the replies to all commands whose
+-- last line end is in them are written and flushed, and nothing else is written.
+pub record ComesInTurn (registers : ℕ) (old : Option (List ℕ)) (bytes : List ℕ)
+    (read : ReadEvent) : Type 0 where
+  pub within : length bytes ≤ most_bytes
+  pub answered : WritesText (EndedText registers) old read.written bytes
+  pub flushed : read.flushed ≡ true
+
+-- If the reads of a deck are known, each of them is in turn.
+abbrev pub ReadsInTurn : ℕ → Option (List ReadEvent) → Option (List ReadEvent) → Option (List ℕ)
+    → Type 0
+ReadsInTurn registers before after old =
+    (reads : List ReadEvent)
+    × AddsReads before after reads
+    × EachRead (ComesInTurn registers old) [] reads
 
 -- The laws of decks. A deck determines its text.
 abbrev pub DeckDeterminesText : Type 0

@@ -8,7 +8,7 @@ use crate::input::MOST_BYTES;
 use crate::line_ends::line_end;
 use crate::output::flush_rest;
 use crate::sink::Sink;
-use crate::source::Source;
+use crate::source::Talk;
 use h41_lines::lines::without_return;
 
 /// The most bytes of a line that `line` returns: 201, one more than a deck line may have, so that a caller sees that a line is
@@ -53,7 +53,9 @@ impl InputLines {
     ghost use Rattle.std.specs.Prelude.{◌≡◌, ◌≢◌, ◌⊎◌, ◌≤◌, ◌<◌, ◌+◌, ◌==◌, ℕ, [], true, false};
     ghost use Rattle.std.specs.Prelude.{Some, Err, Ok, OnErr, OnOk, position};
     ghost use Rattle.std.specs.Io.KnownBytes.{Keeps};
-    ghost use Rattle.h41_ends.specs.InputLines.{HasRead, IsCounted, IsStopped, IsTold, IsUnended};
+    ghost use Rattle.h41_ends.specs.HeardLines.{AreNone, Hears};
+    ghost use Rattle.h41_ends.specs.InputLines.{CountsOn, HasRead, IsCounted, IsStopped, IsTold};
+    ghost use Rattle.h41_ends.specs.InputLines.{IsUnended};
     ghost use Rattle.h41_ends.specs.InputLines.{ReadsMore, held_in, line_in, lines_told, most_left};
     ghost use Rattle.h41_ends.specs.private.ReadingOn.{Shortens, TakesRead, TellsEnded, TellsLast};
     ghost use Rattle.h41_ends.specs.private.ReadingOn.{ReachesEnd, reads_left};
@@ -61,7 +63,7 @@ impl InputLines {
     /// Returns a reader of lines that has read nothing.
     pub fn new() -> Self
         ensures nothing { HasRead [] [] result }
-        ensures counted { (given : ℕ) → IsCounted result given }
+        ensures counted { (given : ℕ) → IsCounted result given given }
         ensures goes_on { result.at_end ≡ false }
     {
         InputLines {
@@ -92,16 +94,17 @@ impl InputLines {
     /// `ReadFault` (22) if a read fails, or if the line's end is not within the first 67,108,864 bytes; `WriteFault` (23) if the
     /// writer cannot be flushed.
     #[inline(always)]
-    pub fn next_line<R: Source, W: Sink>(
+    pub fn next_line<R: Talk<W>, W: Sink>(
         &mut self,
         reader: &mut R,
         writer: &mut W,
     ) -> Result<bool, LineReadFault>
         requires reader_clear { R.failed reader.old ≡ false }
         requires writer_clear { W.failed writer.old ≡ false }
-        requires counted { IsCounted self.old (R.given reader.old) }
         ensures lines { ReadsMore (R.remaining reader.old) (R.remaining reader.new)
             self.old self.new (lines_told result self.new) }
+        ensures heard { Hears AreNone (R.reads reader.old) (R.reads reader.new)
+            (W.contents writer.old) self.old self.new (lines_told result self.new) }
         ensures end { result ≡ Ok false → IsTold self.new }
         ensures bound { OnOk result (most_left self.new ≤ most_left self.old) }
         ensures fewer { result ≡ Ok true → most_left self.new < most_left self.old }
@@ -113,7 +116,7 @@ impl InputLines {
         ensures flushed { result ≡ Err LineReadFault.ReadFault → W.flushed writer.new ≡ true }
 
         ensures kept { Keeps (W.contents writer.old) (W.contents writer.new) }
-        ensures counted { IsCounted self.new (R.given reader.new) }
+        ensures counted { CountsOn self.old self.new (R.given reader.old) (R.given reader.new) }
         ensures reader { result ≢ Err LineReadFault.ReadFault → R.failed reader.new ≡ false }
         ensures writer { result ≢ Err LineReadFault.WriteFault → W.failed writer.new ≡ false }
         ensures write_fault { result ≡ Err LineReadFault.WriteFault → W.failed writer.new ≡ true }
@@ -169,7 +172,7 @@ impl InputLines {
 
     /// Shortens the unfinished line in the buffer to 202 bytes, and reads more bytes after it. Returns whether there were any.
     #[inline(never)]
-    fn read_more<R: Source, W: Sink>(
+    fn read_more<R: Talk<W>, W: Sink>(
         &mut self,
         reader: &mut R,
         writer: &mut W,
@@ -178,9 +181,10 @@ impl InputLines {
         requires goes_on { self.old.at_end ≡ false }
         requires reader_clear { R.failed reader.old ≡ false }
         requires writer_clear { W.failed writer.old ≡ false }
-        requires counted { IsCounted self.old (R.given reader.old) }
         ensures lines { ReadsMore (R.remaining reader.old) (R.remaining reader.new)
             self.old self.new [] }
+        ensures heard { Hears AreNone (R.reads reader.old) (R.reads reader.new)
+            (W.contents writer.old) self.old self.new [] }
         ensures goes_on { self.new.at_end ≡ false }
         ensures less { result ≡ Ok true → reads_left self.new < reads_left self.old }
         ensures end { result ≡ Ok false → ReachesEnd (R.remaining reader.new) self.new }
@@ -190,7 +194,7 @@ impl InputLines {
             → (R.failed reader.new ≡ true) ⊎ (self.new.is_over ≡ true) }
         ensures flushed { result ≡ Err LineReadFault.ReadFault → W.flushed writer.new ≡ true }
         ensures kept { Keeps (W.contents writer.old) (W.contents writer.new) }
-        ensures counted { IsCounted self.new (R.given reader.new) }
+        ensures counted { CountsOn self.old self.new (R.given reader.old) (R.given reader.new) }
         ensures reader { result ≢ Err LineReadFault.ReadFault → R.failed reader.new ≡ false }
         ensures writer { result ≢ Err LineReadFault.WriteFault → W.failed writer.new ≡ false }
         ensures write_fault { result ≡ Err LineReadFault.WriteFault → W.failed writer.new ≡ true }
@@ -200,7 +204,8 @@ impl InputLines {
             return Err(LineReadFault::ReadFault);
         }
         self.shorten();
-        match reader.read(&mut self.buffer[self.end..]) {
+        let most = (BLOCK - self.end).min(MOST_BYTES - self.count + 1);
+        match reader.read_after(writer, &mut self.buffer[self.end..self.end + most]) {
             Ok(count) => {
                 self.take_read(count);
                 Ok(count > 0)

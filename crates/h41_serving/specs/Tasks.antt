@@ -8,7 +8,7 @@ use Rattle.h41_ends.specs.declared.source.Source as sources
 use Rattle.h41_deck.specs.declared.replies.Outcome.{Outcome}
 use Rattle.h41_deck.specs.declared.replies.Outcome.TheVariants as outcomes
 use Rattle.h41_deck.specs.Deck as decks
-use Rattle.h41_ends.specs.Ends.{Appended, most_bytes}
+use Rattle.h41_ends.specs.Ends.{Appended, GivesTooMany, most_bytes}
 use Rattle.h41_ends.specs.InputLines.{bytes_within}
 use Rattle.h41_arguments.specs.declared.arguments.Job.{Job}
 use Rattle.h41_arguments.specs.declared.arguments.Task.{Task}
@@ -89,7 +89,7 @@ pub record LeavesTooLong {R W : Type 0} (registers : ℕ) (source : sources.Ghos
   pub bytes : List ℕ
   pub read : Consumes (source.remaining before) (source.remaining after) bytes
   pub too_long : most_bytes < length bytes
-  pub given : most_bytes < source.given after
+  pub given : GivesTooMany (source.given before) (source.given after)
   pub written :
       WritesTextOf (decks.EndedText registers) (sink.contents old) (sink.contents new)
       (bytes_within bytes)
@@ -99,7 +99,7 @@ pub record LeavesTooLong {R W : Type 0} (registers : ℕ) (source : sources.Ghos
 abbrev pub LeavesNothing : {R W : Type 0} → sources.Ghosts R → sinks.Ghosts W → R → R → W → W
     → Type 0
 LeavesNothing source sink before after old new =
-    (most_bytes < source.given after)
+    GivesTooMany (source.given before) (source.given after)
     × IfSome (source.remaining before)
     (WritesTextOf IsTooLong (sink.contents old) (sink.contents new))
 

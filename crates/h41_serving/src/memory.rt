@@ -6,7 +6,7 @@ ghost use Rattle.h41_arguments.specs.MemorySizes.{registers_of};
 
 use h41_arguments::MemorySize;
 use h41_deck::{Outcome, run_deck};
-use h41_ends::{Sink, Source};
+use h41_ends::{Sink, Talk};
 use h41_refusals::Fault;
 use std::alloc::Global;
 
@@ -15,7 +15,7 @@ use std::alloc::Global;
 /// # Errors
 ///
 /// `ReadFault` (22), `WriteFault` (23) and `OutOfMemory` (21).
-pub(crate) fn run_with<R: Source, W: Sink>(
+pub(crate) fn run_with<R: Talk<W>, W: Sink>(
     alloc: Global,
     size: MemorySize,
     reader: &mut R,

@@ -13,7 +13,7 @@ use crate::inputs::{assemble_source, list_words};
 use crate::memory::run_with;
 use h41_arguments::{Job, Task};
 use h41_deck::Outcome;
-use h41_ends::{Sink, Source};
+use h41_ends::{Sink, Talk};
 use h41_jobs::{Ended, mistake_line, write_text};
 use h41_refusals::Fault;
 use std::alloc::Global;
@@ -33,7 +33,7 @@ pub const MISTAKEN: u8 = 2;
 /// Does the job with the bytes of `reader`, writes what it prints to `writer`, and returns the exit status. If a word of a list
 /// is wrong, or if reading, writing or allocation fails, a line that says so goes to `faults`. The error flags of the three
 /// streams must be clear. The status is 0, 1 if a refusal was printed, 2 if a word of a list is wrong, or 3 if something failed.
-pub fn serve<R: Source, W: Sink, E: Sink>(
+pub fn serve<R: Talk<W>, W: Sink, E: Sink>(
     alloc: Global,
     job: Job<'_>,
     reader: &mut R,
@@ -84,7 +84,7 @@ pub fn serve<R: Source, W: Sink, E: Sink>(
 /// # Errors
 ///
 /// `ReadFault` (22), `WriteFault` (23) and `OutOfMemory` (21).
-fn carry_out<R: Source, W: Sink>(
+fn carry_out<R: Talk<W>, W: Sink>(
     alloc: Global,
     task: Task,
     reader: &mut R,

@@ -4,7 +4,7 @@
 ghost use Rattle.std.specs.Prelude.{◌≡◌, ◌+◌, ◌-◌, ◌≤◌, ◌<◌, ℕ, false, min, None, Some, take, drop};
 ghost use Rattle.std.specs.Prelude.{length};
 
-use h41_deck::{Sink, Source};
+use h41_deck::{Sink, Source, Talk};
 use std::alloc::Global;
 use std::io;
 use std::io::ErrorKind;
@@ -21,6 +21,8 @@ pub struct SourceInPieces<'a> {
     /// The error flag.
     pub has_failed: bool,
     /// The number of bytes delivered, counted up to one more than the limit of an input.
+    pub failure: Option<io::Error>,
+    /// The number of bytes delivered, counted up to one more than the limit of an input.
     pub given: usize,
     ghost some: { 0 < most },
 }
@@ -30,12 +32,16 @@ impl Source for SourceInPieces<'_> {
 
     ghost failed = { λ s. s.has_failed };
 
+    ghost failure = { λ s. s.failure };
+
     ghost given = { λ s. s.given };
 
     fn read(&mut self, buffer: &mut [u8]) -> io::Result<usize> {
         if self.calls == 0 {
+            let error = io::Error::from(ErrorKind::Other);
             self.has_failed = true;
-            return Err(io::Error::from(ErrorKind::Other));
+            self.failure = Some(error);
+            return Err(error);
         }
         self.calls -= 1;
         let count = self.rest.len().min(self.most).min(buffer.len());
@@ -50,12 +56,19 @@ impl Source for SourceInPieces<'_> {
     }
 }
 
-/// Returns the number of bytes delivered after `count` more, counted up to one more than the limit of an
-/// input.
+impl<W: Sink> Talk<W> for SourceInPieces<'_> {
+    ghost reads = { λ _. None };
+
+    fn read_after(&mut self, _writer: &W, buffer: &mut [u8]) -> io::Result<usize> {
+        self.read(buffer)
+    }
+}
+
+/// How many bytes were given with so many more.
 pub fn given_with(given: usize, count: usize) -> usize
-    ensures { result ≡ min 67108865 (given + count) }
+    ensures { result ≡ given + min count (18446744073709551615 - given) }
 {
-    given.saturating_add(count).min(67_108_865)
+    given.saturating_add(count)
 }
 
 /// A sink that accepts at most `most` bytes per call, and fails after `calls` calls.
@@ -122,6 +135,7 @@ pub fn reader<'a>(text: &'a str, most: usize, calls: usize) -> SourceInPieces<'a
         most,
         calls,
         has_failed: false,
+        failure: None,
         given: 0,
     }
 }
@@ -158,6 +172,8 @@ impl Source for Long<'_> {
 
     ghost failed = { λ _. false };
 
+    ghost failure = { λ _. None };
+
     ghost given = { λ s. s.given };
 
     fn read(&mut self, buffer: &mut [u8]) -> io::Result<usize> {
@@ -183,5 +199,13 @@ impl Source for Long<'_> {
 
     fn failed(&self) -> bool {
         false
+    }
+}
+
+impl<W: Sink> Talk<W> for Long<'_> {
+    ghost reads = { λ _. None };
+
+    fn read_after(&mut self, _writer: &W, buffer: &mut [u8]) -> io::Result<usize> {
+        self.read(buffer)
     }
 }

@@ -4,7 +4,7 @@ ghost use Rattle.std.specs.Prelude.{◌≡◌, ◌<◌, ◌≤◌, false, None, 
 
 use crate::ends::given_with;
 use crate::pieces::Commands;
-use h41_deck::{Sink, Source};
+use h41_deck::{Sink, Source, Talk};
 use std::alloc::Global;
 use std::cell::Cell;
 use std::io;
@@ -18,6 +18,7 @@ pub struct Reader<'a> {
     fails: Option<usize>,
     calls: usize,
     has_failed: bool,
+    failure: Option<io::Error>,
     given: usize,
     watched: Option<(Commands, &'a Cell<usize>)>,
     was_late: bool,
@@ -37,6 +38,7 @@ impl<'a> Reader<'a> {
             fails,
             calls: 0,
             has_failed: false,
+            failure: None,
             given: 0,
             watched: None,
             was_late: false,
@@ -79,6 +81,8 @@ impl Source for Reader<'_> {
 
     ghost failed = { λ s. s.has_failed };
 
+    ghost failure = { λ s. s.failure };
+
     ghost given = { λ s. s.given };
 
     fn read(&mut self, buffer: &mut [u8]) -> io::Result<usize> {
@@ -90,8 +94,10 @@ impl Source for Reader<'_> {
             }
         }
         if self.fails == Some(call) {
+            let error = io::Error::from(ErrorKind::Other);
             self.has_failed = true;
-            return Err(io::Error::from(ErrorKind::Other));
+            self.failure = Some(error);
+            return Err(error);
         }
         let count = self.rest.len().min(self.most).min(buffer.len());
         buffer[..count].copy_from_slice(&self.rest[..count]);
@@ -102,6 +108,14 @@ impl Source for Reader<'_> {
 
     fn failed(&self) -> bool {
         self.has_failed
+    }
+}
+
+impl<W: Sink> Talk<W> for Reader<'_> {
+    ghost reads = { λ _. None };
+
+    fn read_after(&mut self, _writer: &W, buffer: &mut [u8]) -> io::Result<usize> {
+        self.read(buffer)
     }
 }
 

@@ -4,7 +4,6 @@ use Rattle.std.specs.Prelude.{◌≡◌, ◌≢◌, ◌⊎◌, ℕ, ◌≤◌, B
 use Rattle.std.specs.Prelude.{drop, Result, IfNone, IfSome, MatchBool, MatchResult, string_bytes}
 use Rattle.std.specs.Borrow.{Bor}
 use Rattle.std.specs.Fn.{CalledAt, Mut}
-use Rattle.std.specs.Io.KnownBytes.{Keeps}
 use Rattle.std.specs.Str.{bytes_eq}
 use Rattle.clap.specs.Words.{IsAmong, Kinds, fault_of}
 use Rattle.clap.specs.declared.error.kind.ErrorKind.{ErrorKind}
@@ -101,7 +100,7 @@ module _ {R W E : Type 0} (source : sources.Ghosts R) (sink : sinks.Ghosts W)
     pub text : JobWritesText status job source sink before old new
     pub flushed : status ≢ 3 → sink.flushed new ≡ true
     pub outcome : status ≢ 3 → IfSome (source.remaining before) (EndsJob job status)
-    pub silent : status ≤ 1 → Keeps (told.contents told_old) (told.contents told_new)
+    pub silent : status ≤ 1 → told_new ≡ told_old
     pub mistake : TellsWord status job source told before told_old told_new
     pub reader : TellsMark status (source.failed after)
     pub writer : TellsMark status (sink.failed new)

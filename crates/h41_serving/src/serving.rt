@@ -1,7 +1,6 @@
 //! Does a job from its input to its output, and returns a status that says how it ended.
 
 ghost use Rattle.std.specs.Prelude.{◌≡◌, ◌≢◌, ◌≤◌, true, false, IfSome};
-ghost use Rattle.std.specs.Io.KnownBytes.{Keeps};
 ghost use Rattle.h41_jobs.specs.Texts.{mistake_line};
 ghost use Rattle.h41_serving.specs.Statuses.{EndsJob, IsTaskStatus, TellsFault, TellsMark};
 ghost use Rattle.h41_serving.specs.Statuses.{fault_line};
@@ -50,8 +49,8 @@ pub fn serve<R: Talk<W>, W: Sink, E: Sink>(
     ensures flushed { result ≢ 3 → W.flushed writer.new ≡ true }
     ensures outcome { result ≢ 3 → IfSome (R.remaining reader.old) (EndsJob job.entry result) }
 
-    // A wrong word is reported by its number, if `faults` accepts the line. If nothing is wrong, nothing is reported.
-    ensures silent { result ≤ 1 → Keeps (E.contents faults.old) (E.contents faults.new) }
+    // A wrong word is reported by its number, if `faults` accepts the line. If nothing is wrong, `faults` is not used.
+    ensures silent { result ≤ 1 → faults.new ≡ faults.old }
     ensures mistake { TellsWord result job.entry R.Source E.Sink reader.old faults.old faults.new }
 
     // A read or a write that failed has status 3.

@@ -1,4 +1,5 @@
-//! Reads the words of the command line.
+//! Reads the command line: returns what its words ask the program to do, or how the program ends without doing
+//! anything.
 
 ghost use Rattle.std.specs.Prelude.{◌≡◌, [], true, false, codes, map, IfOk, IfSome, IfNone};
 ghost use Rattle.std.specs.Prelude.{IsErrAnd, option_map};
@@ -26,39 +27,40 @@ use clap::error::ErrorKind;
 use clap::{Arg, ArgAction, ArgMatches, Command, Error};
 use std::alloc::{AllocError, Global};
 
-/// What a job does with its file.
+/// What the program does with the file that the command line names.
 #[derive(Clone, Copy, Debug, PartialEq, Eq)]
 pub enum Task {
-    /// Runs the deck in the file, on a bench with this size of memory.
+    /// Executes the deck in the file, on a bench with this size of memory (`bench run`).
     Run { memory: MemorySize },
-    /// Assembles the source in the file, from an address on.
+    /// Assembles the source in the file (`bench asm`). The first word is at the address `origin`.
     Assemble { origin: u16 },
-    /// Lists the words in the file, the first of which is at an address.
+    /// Lists the words in the file as instructions (`bench dis`). The first word is at the address `origin`.
     List { origin: u16 },
 }
 
-/// What the command line asks for: a task and its file.
+/// What the command line asks for: a task, and the file to do it with.
 #[derive(Clone, Copy, Debug, PartialEq, Eq)]
 pub struct Job<'a> {
-    /// The task.
+    /// What the program does with the file that `file` names: executes it as a deck, assembles it or lists it.
     pub task: Task,
-    /// The name of the file; `-` is standard input.
+    /// The name of the file that the program reads; `-` is standard input.
     pub file: &'a str,
 }
 
-/// How the program ends without a job.
+/// How the program ends if its command line asks for help or the version, is wrong, or cannot be read.
 #[derive(Debug, Drop)]
 pub enum Ending {
     /// Help or the version was asked for. The text is for standard output.
     Help(String),
-    /// The words are wrong. The text says so and is for standard error.
+    /// The words of the command line are wrong. The text says so and is for standard error.
     Mistake(String),
-    /// Allocation failed, for the words or for a text.
+    /// OutOfMemory (21): allocation failed, for the words of the command line or for a text.
     OutOfMemory,
 }
 
 impl Ending {
-    /// Returns the exit status of the program: 0 for help and the version, 2 for wrong words, 3 if allocation failed.
+    /// Returns the exit status of the program: 0 for help and the version, 2 if the words of the command line are
+    /// wrong, 3 if allocation failed.
     pub fn status(&self) -> u8
         ensures { result ≡ status_of self.now }
     {
@@ -70,28 +72,28 @@ impl Ending {
     }
 }
 
-/// The address of the first word if none is given: 8000.
+/// The address of the first word if `--origin` is not given: 8000 (hexadecimal).
 const ORIGIN: u16 = 0x8000;
 
-/// The memory of a run if none is given: 320 registers.
+/// The size of memory if `--memory` is not given: 320 registers.
 const MEMORY: MemorySize = MemorySize::Cv;
 
-/// The version, and the kit that proves it, as `rt version` prints it.
+/// The version of the program, and that of the Rattle kit which proves it, as `rt version` prints it.
 const VERSION: &str = "0.1.0, proved with rattle-kit-13f logic dac8208d650f15bf";
 
-/// The message about a wrong origin.
+/// The message if the value of `--origin` is not four hexadecimal digits.
 const WRONG_ORIGIN: &str = "error: wrong value of --origin: expected four hexadecimal digits\n";
 
-/// The message about a wrong size of memory.
+/// The message if the value of `--memory` is not 64, 128, 192, 256 or 320.
 const WRONG_MEMORY: &str = "error: wrong value of --memory: expected 64, 128, 192, 256 or 320\n";
 
-/// The usage of the program, as help shows it.
+/// The usage of the program `bench`, as `bench --help` prints it.
 const USAGE: &str = "\
 bench run [--memory N] FILE
        bench asm [--origin HHHH] FILE
        bench dis [--origin HHHH] FILE";
 
-/// The text of help after the usage.
+/// The text that the help of `bench` and of `bench run` prints after the usage.
 const DECKS: &str = "\
 A deck is a text file of commands, one a line. For example:
 
@@ -144,7 +146,7 @@ In the folder of the sources, README.md is the introduction, docs/DECK.md
 describes the whole deck language with each refusal and its usual causes,
 examples/ has decks to try, and tools/where prints which lines were refused.";
 
-/// The text of help for `asm`, after the usage.
+/// The text that the help of `bench asm` prints after the usage.
 const SOURCES: &str = "\
 A source is a text file of instructions, one a line, in the mnemonics of this
 project's table, docs/PROCESSOR.md. A label ends with a colon, a reference to it
@@ -159,7 +161,7 @@ Its words are printed, each as three hexadecimal digits on a line of its own. If
 the source has an error, a line such as `! 30 BadLine 2` is printed, which gives
 the number of the wrong line, and the status is 1.";
 
-/// The text of help for `dis`, after the usage.
+/// The text that the help of `bench dis` prints after the usage.
 const WORDS: &str = "\
 The words are hexadecimal numbers up to 3FF, separated by spaces, tabs and line
 ends. For example:
@@ -170,7 +172,8 @@ They are printed as instructions, one a line. The origin changes none of them,
 because a jump is printed with its address or its distance. If one of them is no
 such number, nothing is listed and the program ends with status 2.";
 
-/// Returns the command `bench` with its subcommands. OutOfMemory (21) if allocation failed.
+/// Returns the parser of the command `bench` with its subcommands `run`, `asm` and `dis`. OutOfMemory (21) if
+/// allocation failed.
 fn bench<'a>(alloc: Global) -> Result<Command<'a>, AllocError>
     ensures { IfOk result (λ command. app_of command ≡ bench_app) }
 {
@@ -179,7 +182,7 @@ fn bench<'a>(alloc: Global) -> Result<Command<'a>, AllocError>
     with_task(with_assemble, list_command(alloc))
 }
 
-/// Returns the command `bench` without its subcommands.
+/// Returns the parser of the command `bench` without its subcommands.
 fn empty_bench<'a>(alloc: Global) -> Command<'a>
     ensures { app_of result ≡ empty_bench }
 {
@@ -189,7 +192,8 @@ fn empty_bench<'a>(alloc: Global) -> Command<'a>
         .subcommand_required(true)
 }
 
-/// Returns the command with one more subcommand. OutOfMemory (21) if allocation failed.
+/// Returns the parser `bench` with `task` as one more subcommand. OutOfMemory (21) if allocation failed, here or when
+/// `task` was made.
 fn with_task<'a>(
     bench: Command<'a>,
     task: Result<Command<'a>, AllocError>,
@@ -201,7 +205,8 @@ fn with_task<'a>(
     bench.subcommand(task?)
 }
 
-/// Returns the command that runs a deck. OutOfMemory (21) if allocation failed.
+/// Returns the parser of the subcommand `run`, which executes a deck, with `--memory` and FILE. OutOfMemory (21) if
+/// allocation failed.
 fn run_command<'a>(alloc: Global) -> Result<Command<'a>, AllocError>
     ensures app { IfOk result (λ command. app_of command ≡ run_app) }
     ensures local { IfOk result (λ command. has_globals command ≡ false) }
@@ -219,7 +224,8 @@ fn run_command<'a>(alloc: Global) -> Result<Command<'a>, AllocError>
     )
 }
 
-/// Returns the command that assembles a source. OutOfMemory (21) if allocation failed.
+/// Returns the parser of the subcommand `asm`, which assembles a source, with `--origin` and FILE. OutOfMemory (21) if
+/// allocation failed.
 fn assemble_command<'a>(alloc: Global) -> Result<Command<'a>, AllocError>
     ensures app { IfOk result (λ command. app_of command ≡ origin_app (codes "asm")) }
     ensures local { IfOk result (λ command. has_globals command ≡ false) }
@@ -229,7 +235,8 @@ fn assemble_command<'a>(alloc: Global) -> Result<Command<'a>, AllocError>
     option_command(alloc, "asm", "Assembles a source", usage, SOURCES, origin)
 }
 
-/// Returns the command that lists words. OutOfMemory (21) if allocation failed.
+/// Returns the parser of the subcommand `dis`, which lists words as instructions, with `--origin` and FILE. OutOfMemory
+/// (21) if allocation failed.
 fn list_command<'a>(alloc: Global) -> Result<Command<'a>, AllocError>
     ensures app { IfOk result (λ command. app_of command ≡ origin_app (codes "dis")) }
     ensures local { IfOk result (λ command. has_globals command ≡ false) }
@@ -246,8 +253,8 @@ fn list_command<'a>(alloc: Global) -> Result<Command<'a>, AllocError>
     )
 }
 
-/// Returns a command with an option and FILE. Help shows what the command does, its usage, and the text after that. OutOfMemory
-/// (21) if allocation failed.
+/// Returns the parser of a subcommand with one option, `option`, and the argument FILE. Its help prints `about`, which
+/// says what the subcommand does, then `usage`, then `text`. OutOfMemory (21) if allocation failed.
 fn option_command<'a>(
     alloc: Global,
     name: &'a str,
@@ -266,7 +273,8 @@ fn option_command<'a>(
         .arg(file_argument(alloc))
 }
 
-/// Returns a command without arguments. Help shows what the command does, its usage, and the text after that.
+/// Returns the parser of a command without arguments. Its help prints `about`, which says what the command does, then
+/// `usage`, then `text`.
 fn told_command<'a>(
     alloc: Global,
     name: &'a str,
@@ -283,7 +291,7 @@ fn told_command<'a>(
         .after_help(text)
 }
 
-/// Returns the argument `--origin`.
+/// Returns the option `--origin`, whose value is the address of the first word.
 fn origin_argument<'a>(alloc: Global) -> Arg<'a>
     ensures rule { rule_of result ≡ origin_rule }
     ensures local { result.global ≡ false }
@@ -292,7 +300,8 @@ fn origin_argument<'a>(alloc: Global) -> Arg<'a>
     option_argument(alloc, "origin", "HHHH", help)
 }
 
-/// Returns an option with this name. Help shows the name of its value and what the option is for.
+/// Returns the option `--name` with one value. Help prints `value`, the name of the value, and `help`, what the option
+/// is for.
 fn option_argument<'a>(alloc: Global, name: &'a str, value: &'a str, help: &'a str) -> Arg<'a>
     ensures rule { rule_of result ≡ option_rule name.now }
     ensures local { result.global ≡ false }
@@ -304,7 +313,7 @@ fn option_argument<'a>(alloc: Global, name: &'a str, value: &'a str, help: &'a s
         .action(ArgAction::Set)
 }
 
-/// Returns the argument FILE.
+/// Returns the required argument FILE: the name of the file to read, or `-` for standard input.
 fn file_argument<'a>(alloc: Global) -> Arg<'a>
     ensures rule { rule_of result ≡ file_rule }
     ensures local { result.global ≡ false }
@@ -315,7 +324,8 @@ fn file_argument<'a>(alloc: Global) -> Arg<'a>
         .action(ArgAction::Set)
 }
 
-/// Matches the words of the command line with the command `bench`.
+/// Parses the words of the command line as the command `bench`, and returns the arguments that they contain. The error
+/// says why they are refused, or that help or the version is asked for.
 fn matched<'a>(alloc: Global, words: &'a [&'a str]) -> Result<ArgMatches<'a>, Error>
     ensures kinds { FailsBy (fault_of bench_app (map (λ w. w.now) words.now)) result }
     ensures matches { IfOk result (HasMatchesOf bench_app (map (λ w. w.now) words.now)) }
@@ -323,7 +333,8 @@ fn matched<'a>(alloc: Global, words: &'a [&'a str]) -> Result<ArgMatches<'a>, Er
     bench(alloc)?.try_get_matches_from(words)
 }
 
-/// Returns the job in the matches, or `None` if a size of memory or an origin is wrong.
+/// Returns the task and the file in the arguments of `bench`, or `None` if the value of `--memory` or `--origin` is
+/// wrong.
 fn job_of<'a>(matches: &ArgMatches<'a>) -> Option<Job<'a>>
     ensures { option_map parts_of result ≡ job_in (subcommand_rows_of matches.now) }
 {
@@ -333,7 +344,8 @@ fn job_of<'a>(matches: &ArgMatches<'a>) -> Option<Job<'a>>
     Some(Job { task, file })
 }
 
-/// Returns the task that the name of a command asks for, or `None` if its size of memory or its origin is wrong.
+/// Returns the task of the subcommand `name`: `run`, `asm` or `dis`. `None` if the value of its option, `--memory` or
+/// `--origin`, is wrong.
 fn task_of(name: &str, command: &ArgMatches<'_>) -> Option<Task>
     ensures { result ≡ task_asked name.now (memory_in command.now) (origin_in command.now) }
 {
@@ -351,7 +363,7 @@ fn task_of(name: &str, command: &ArgMatches<'_>) -> Option<Task>
     }
 }
 
-/// Returns the value of an argument of a command, if it has one.
+/// Returns the value of a subcommand's argument or option with this name, or `None` if it is not given.
 fn value_of<'a>(command: &ArgMatches<'a>, name: &str) -> Option<&'a str>
     ensures { option_map (λ text. text.now) result
         ≡ first_of name.now (rows_of (found_of command.now)) }
@@ -359,7 +371,8 @@ fn value_of<'a>(command: &ArgMatches<'a>, name: &str) -> Option<&'a str>
     command.get_str(name)
 }
 
-/// Returns the size of memory: 320 registers if it is not given, or `None` if the given one is not a size.
+/// Returns the size of memory that `--memory` asks for: 320 registers if it is not given. `None` if its value is not
+/// 64, 128, 192, 256 or 320.
 fn memory_of(command: &ArgMatches<'_>) -> Option<MemorySize>
     ensures { result ≡ memory_asked (memory_in command.now) }
 {
@@ -369,8 +382,8 @@ fn memory_of(command: &ArgMatches<'_>) -> Option<MemorySize>
     }
 }
 
-/// Returns the address of the first word: 8000 if it is not given, or `None` if the given one does not have four hexadecimal
-/// digits.
+/// Returns the address of the first word that `--origin` asks for: 8000 (hexadecimal) if it is not given. `None` if its
+/// value does not have four hexadecimal digits.
 fn origin_of(command: &ArgMatches<'_>) -> Option<u16>
     ensures { result ≡ origin_asked (origin_in command.now) }
 {
@@ -380,7 +393,8 @@ fn origin_of(command: &ArgMatches<'_>) -> Option<u16>
     }
 }
 
-/// Returns the job in the matches, or how the program ends if a size of memory or an origin is wrong.
+/// Returns the task and the file in the arguments of `bench`, or the ending with the message if the value of `--memory`
+/// or `--origin` is wrong.
 fn job_or_mistake<'a>(alloc: Global, matches: &ArgMatches<'a>) -> Result<Job<'a>, Ending>
     ensures job { GivesJob (job_in (subcommand_rows_of matches.now)) result }
     ensures option { IfNone (job_in (subcommand_rows_of matches.now))
@@ -393,7 +407,8 @@ fn job_or_mistake<'a>(alloc: Global, matches: &ArgMatches<'a>) -> Result<Job<'a>
     }
 }
 
-/// Returns how the program ends if the option of this command is wrong.
+/// Returns the ending with the message that the value of the option of this subcommand is wrong, or `OutOfMemory` (21)
+/// if allocation failed.
 fn wrong_option(alloc: Global, command: Option<&str>) -> Ending
     ensures status { EndsWith 2 result }
     ensures text { SaysMistake (option_mistake (option_map (λ name. name.now) command.entry))
@@ -405,7 +420,8 @@ fn wrong_option(alloc: Global, command: Option<&str>) -> Ending
     }
 }
 
-/// Returns the message about a wrong option of this command.
+/// Returns the message that the value of a subcommand's option is wrong: of `--memory` for `run`, and of `--origin`
+/// otherwise.
 fn wrong_option_text(command: Option<&str>) -> &'static str
     ensures { result.now ≡ option_mistake (option_map (λ name. name.now) command.entry) }
 {
@@ -415,7 +431,8 @@ fn wrong_option_text(command: Option<&str>) -> &'static str
     }
 }
 
-/// Returns how the program ends if the words ask for no job.
+/// Returns how the program ends if parsing the command line did not succeed: with help or the version if the words ask
+/// for it, otherwise with the message of `error`, or with `OutOfMemory` (21) if allocation failed.
 fn make_ending(alloc: Global, error: Error) -> Ending
     ensures memory { kind_of error ≡ kind.OutOfMemory → result ≡ Ending.OutOfMemory }
     ensures help { kind_of error ≡ kind.DisplayHelp → EndsWith 0 result }
@@ -432,9 +449,9 @@ fn make_ending(alloc: Global, error: Error) -> Ending
     }
 }
 
-/// Reads the words of the command line, of which the first is the program's name, and returns the job that they ask for. They
-/// ask for a run as `run FILE`, with FILE `-` or not beginning with a hyphen, or with `--` before or after it, and with an
-/// optional size of memory; for the other tasks as `asm` and `dis`, with FILE and an optional origin.
+/// Reads the words of the command line, of which the first is the program's name, and returns the task and the file
+/// that they ask for: `run FILE` with an optional `--memory N`, or `asm FILE` or `dis FILE` with an optional
+/// `--origin HHHH`. FILE is `-` or does not begin with a hyphen, or `--` is before or after it.
 ///
 /// # Errors
 ///

@@ -1,4 +1,4 @@
-//! The command line of the HP-41 bench: the words that ask for a job, and how the program ends if they ask for none.
+//! The command line of the HP-41 bench: which task its words ask for, or how the program ends if they ask for none.
 #![tactic(auto)]
 
 mod arguments;

@@ -1,9 +1,9 @@
-//! The sizes of main memory that a run can have.
+//! The sizes of main memory with which the bench can execute a deck.
 
 ghost use Rattle.std.specs.Prelude.{◌≡◌};
 ghost use Rattle.h41_arguments.specs.MemorySizes.{size_written};
 
-/// The calculator that a run simulates, by the size of its main memory.
+/// The calculator with which a deck is executed, by the size of its main memory.
 #[derive(Clone, Copy, Debug, PartialEq, Eq)]
 pub enum MemorySize {
     /// An HP-41C without memory modules: 64 registers.
@@ -18,8 +18,8 @@ pub enum MemorySize {
     Cv,
 }
 
-/// Returns the size that a text names by its number of registers, in exactly these digits: `64`,
-/// `128`, `192`, `256` or `320`. `None` for any other text.
+/// Returns the size of memory with the number of registers that a text contains, in exactly these digits: `64`, `128`,
+/// `192`, `256` or `320`. `None` for any other text.
 pub fn written_size(text: &str) -> Option<MemorySize>
     ensures { result ≡ size_written text.now }
 {

@@ -1,4 +1,5 @@
-//! The numbers that a span's digits form in their places, that is, multiplied by 16 to the power of the span's first place.
+//! Numbers whose digits are at the places of a span of a register: the number that the span's digits form, multiplied
+//! by 16 to the power of the span's rightmost place.
 
 ghost use Rattle.std.specs.Prelude.{◌≡◌, ◌<◌, ◌≤◌, ◌+◌, ◌-◌, ◌*◌, ◌/◌, ◌%◌, ◌^◌, take, drop};
 ghost use Rattle.h41_digits.specs.Register.{IsRegister};
@@ -7,7 +8,8 @@ ghost use Rattle.h41_arith.specs.private.DigitOperations.{IsInParts};
 
 use h41_digits::{Reg, Span};
 
-/// Returns a word with 1 at the span's first place if there is a carry, otherwise 0.
+/// Returns a carry as a number to be added to the digits of a span: 1 at the span's rightmost place, that is, 16 to the
+/// power of `span.lo`, if `carry` is true, otherwise 0.
 pub fn carry_in_span(carry: bool, span: Span) -> u64
     ensures value { result ≡ carry_digit carry * 16 ^ span.lo }
     ensures most { result ≤ 16 ^ span.lo }
@@ -15,7 +17,8 @@ pub fn carry_in_span(carry: bool, span: Span) -> u64
     if carry { span.first() } else { 0 }
 }
 
-/// Returns `into` with the digits of a number in the span, and whether the number has a 1 at the place above the span.
+/// Returns `into` with the digits of `number` at the places of `span`, and the carry: whether `number` has a 1 at the
+/// place above the span. `number` has only zeros below the span, and at most a 1 above it.
 pub fn put(into: Reg, number: u64, span: Span) -> (Reg, bool)
     requires places { number % 16 ^ span.lo ≡ 0 }
     requires most { number < 2 * 16 ^ (span.hi + 1) }

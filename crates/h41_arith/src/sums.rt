@@ -1,5 +1,5 @@
-//! Sums and differences of two registers over a span. They are computed with whole words; only if a digit is A to F in base 10,
-//! digit by digit.
+//! Sums and differences of two registers at the places of a span. They are computed with whole words; only if a digit
+//! is A to F in base 10, digit by digit.
 
 ghost use Rattle.std.specs.Prelude.{◌≡◌, ℕ, ◌+◌, ◌*◌, ◌^◌, ◌<◌, ◌≤◌, ◌⊎◌, ◌==◌, not, true, false};
 ghost use Rattle.h41_digits.specs.Register.{IsRegister};
@@ -14,20 +14,21 @@ ghost use Rattle.h41_arith.specs.private.DigitOperations.{decimal_total_of, rule
 use crate::spans::{carry_in_span, put};
 use h41_digits::{Reg, Span};
 
-/// A 1 in each digit of a register, and in the digit above them.
+/// A 1 at each of the 14 places (digits) of a register, and at the place above them.
 const ONES: u64 = 0x111_1111_1111_1111;
 
-/// The operation on the digits of two registers.
+/// Whether the digits of two registers are added or subtracted.
 #[derive(Clone, Copy)]
 pub enum DigitOperation {
-    /// Addition with a carry.
+    /// Addition with a carry in and a carry out.
     Add,
-    /// Subtraction with a borrow.
+    /// Subtraction with a borrow in and a borrow out.
     Subtract,
 }
 
 impl DigitOperation {
-    /// Returns the digit at one place in base 10, and whether there is a carry or borrow out.
+    /// Returns the digit of `x` + `y` or `x` - `y` in base 10, with a carry or borrow in, and whether there is a carry
+    /// or borrow out. `x` and `y` are digits from 0 to F.
     fn digit(self, x: u8, y: u8, carry_in: bool) -> (u8, bool)
         requires x_is_digit { x < 16 }
         requires y_is_digit { y < 16 }
@@ -40,8 +41,9 @@ impl DigitOperation {
         }
     }
 
-    /// Returns the digits of `x` and `y` added or subtracted in base 10, one place after the other from `lo` to `hi`, in a register
-    /// of zeros, and whether there is a carry or borrow out of the last place.
+    /// Returns the sum or difference of the digits of `x` and `y` in base 10, one place after the other from `lo` to
+    /// `hi`, in a register of zeros, and whether there is a carry or borrow out of place `hi`. `carry_in` is the carry
+    /// or borrow into place `lo`.
     fn over_places(self, x: Reg, y: Reg, carry_in: bool, lo: usize, hi: usize) -> (Reg, bool)
         requires ordered { lo ≤ hi }
         requires in_register { hi < 14 }
@@ -59,9 +61,10 @@ impl DigitOperation {
         (digits, carry)
     }
 
-    /// Returns the digits of `x` and `y` added or subtracted in base 10 at the places of a mask, as one number in its places, with
-    /// a 1 above them if there is a carry or borrow out. This is a cold function of its own because digits from A to F are rare in
-    /// base 10.
+    /// Returns the sum or difference of the digits of `x` and `y` in base 10 at the places of a mask (F at each place
+    /// of a span, 0 elsewhere), as a number whose digits are at these places, with a 1 above them if there is a carry
+    /// or borrow out. `carry` is the carry or borrow into the lowest of these places. This is a cold function because
+    /// digits from A to F are rare in base 10.
     #[cold]
     #[inline(never)]
     fn digit_by_digit(self, x: Reg, y: Reg, carry: bool, mask: u64) -> u64
@@ -78,7 +81,9 @@ impl DigitOperation {
     }
 }
 
-/// Returns the digit at one place of a sum in base 10, and whether there is a carry out.
+/// Returns the digit of `x` + `y` + the carry in, in base 10, and whether there is a carry out. `x` and `y` are digits
+/// from 0 to F; one subtraction of 10 makes the carry, so that F + F without a carry in is 4 with a carry (this
+/// project's choice).
 fn sum_digit(x: u8, y: u8, carry_in: bool) -> (u8, bool)
     requires x_is_digit { x < 16 }
     requires y_is_digit { y < 16 }
@@ -93,7 +98,9 @@ fn sum_digit(x: u8, y: u8, carry_in: bool) -> (u8, bool)
     }
 }
 
-/// Returns the digit at one place of a difference in base 10, and whether there is a borrow out.
+/// Returns the digit of `x` - `y` - the borrow in, in base 10, and whether there is a borrow out. `x` and `y` are
+/// digits from 0 to F; a borrow adds 10, modulo 16, so that 0 - F without a borrow in is B with a borrow (this
+/// project's choice).
 fn difference_digit(x: u8, y: u8, borrow_in: bool) -> (u8, bool)
     requires x_is_digit { x < 16 }
     requires y_is_digit { y < 16 }
@@ -108,7 +115,8 @@ fn difference_digit(x: u8, y: u8, borrow_in: bool) -> (u8, bool)
     }
 }
 
-/// Returns `into` with `x` + `y` + the carry in, in base 16, in the span, and the carry out.
+/// Returns `into` with the digits of `x` + `y` + the carry in, in base 16, at the places of `span`, and the carry out
+/// of the span's leftmost place.
 #[inline(always)]
 fn hexadecimal_sum(into: Reg, x: Reg, y: Reg, carry_in: bool, span: Span) -> (Reg, bool)
     ensures { SumInto 16 into x y carry_in span.lo span.hi result.0 result.1 }
@@ -118,7 +126,8 @@ fn hexadecimal_sum(into: Reg, x: Reg, y: Reg, carry_in: bool, span: Span) -> (Re
     put(into, first + second + carry_in_span(carry_in, span), span)
 }
 
-/// Returns `into` with `x` - `y` - the borrow in, in base 16, in the span, and the borrow out.
+/// Returns `into` with the digits of `x` - `y` - the borrow in, in base 16, at the places of `span`, and the borrow out
+/// of the span's leftmost place.
 #[inline(always)]
 fn hexadecimal_difference(into: Reg, x: Reg, y: Reg, borrow_in: bool, span: Span) -> (Reg, bool)
     ensures { DifferenceInto 16 into x y borrow_in span.lo span.hi result.0 result.1 }
@@ -131,8 +140,9 @@ fn hexadecimal_difference(into: Reg, x: Reg, y: Reg, borrow_in: bool, span: Span
     )
 }
 
-/// Returns a 1 in each digit of a sum or difference of two numbers into which the digit below carries, or from which it borrows.
-/// The last bit of such a digit differs from the exclusive or of the last bits of the two numbers and of the carry or borrow in.
+/// Returns a number with a 1 at each digit of `answer` into which the digit below carries, or from which it borrows,
+/// and 0 elsewhere. `answer` is the sum or difference of `first` and `second` with the carry or borrow `carry`. The
+/// lowest bit of such a digit differs from the exclusive or of the lowest bits of `first`, `second` and `carry`.
 fn carried(first: u64, second: u64, carry: u64, answer: u64) -> u64
     ensures carried { result ≡ carried_of first second carry answer }
     ensures most { result ≤ all_ones }
@@ -140,7 +150,8 @@ fn carried(first: u64, second: u64, carry: u64, answer: u64) -> u64
     (first ^ second ^ carry ^ answer) & ONES
 }
 
-/// Returns whether a number has a digit from A to F in a span: adding six to each digit then produces a carry.
+/// Returns whether `number` has a digit from A to F at the places at which `sixes` has a 6: adding six to such a digit
+/// produces a carry.
 fn has_letter(number: u64, sixes: u64) -> bool
     requires { number + sixes < 2 ^ 64 }
     ensures { result ≡ not (carried_of 0 number 0 (number + sixes) == 0) }
@@ -148,9 +159,11 @@ fn has_letter(number: u64, sixes: u64) -> bool
     carried(0, number, 0, number + sixes) != 0
 }
 
-/// Returns the sum of two numbers in base 10 with a carry; the first must have no digit from A to F. It is the sum in base 16, plus
-/// six at each digit that carries in base 10. These digits carry in base 16 if six is added to each; sixes do not change the last
-/// bits.
+/// Returns `first` + `second` + `carry` in base 10, each a number whose digits are at the places of a span. `first`
+/// must have no digit from A to F; `sixes` has a 6 at each place of the span.
+///
+/// The result is the sum in base 16, plus six at each digit that carries in base 10. These digits are found because
+/// they carry in base 16 once six is added to each digit; a six does not change the lowest bit of a digit.
 fn decimal_total(first: u64, second: u64, carry: u64, sixes: u64) -> u64
     requires sixes { sixes < 2 ^ 56 }
     requires first { 2 * first ≤ 3 * sixes }
@@ -162,9 +175,9 @@ fn decimal_total(first: u64, second: u64, carry: u64, sixes: u64) -> u64
     sum + 3 * carried(first, second, carry, sum + sixes) / 8
 }
 
-/// Returns the difference of two numbers in base 10 with a borrow; the second must have no digit from A to F. It is the difference
-/// in base 16, minus six at each digit that borrows. If the last digit of the span borrows, the digits above the span have no
-/// meaning.
+/// Returns `first` - `second` - `borrow` in base 10, each a number whose digits are at the places of a span. `second`
+/// must have no digit from A to F. The result is the difference in base 16, minus six at each digit that borrows. If
+/// the leftmost digit of the span borrows, the digits above the span have no meaning.
 fn decimal_remainder(first: u64, second: u64, borrow: u64) -> u64
     requires { second + borrow < 2 ^ 64 }
     ensures { result ≡ decimal_remainder_of first second borrow }
@@ -173,7 +186,8 @@ fn decimal_remainder(first: u64, second: u64, borrow: u64) -> u64
     difference.wrapping_sub(3 * carried(first, second, borrow, difference) / 8)
 }
 
-/// Returns `into` with `x` + `y` + the carry in, in base 10, in the span, and the carry out.
+/// Returns `into` with the digits of `x` + `y` + the carry in, in base 10, at the places of `span`, and the carry out
+/// of the span's leftmost place.
 #[inline(always)]
 fn decimal_sum(into: Reg, x: Reg, y: Reg, carry_in: bool, span: Span) -> (Reg, bool)
     ensures { SumInto 10 into x y carry_in span.lo span.hi result.0 result.1 }
@@ -189,7 +203,8 @@ fn decimal_sum(into: Reg, x: Reg, y: Reg, carry_in: bool, span: Span) -> (Reg, b
     put(into, total, span)
 }
 
-/// Returns `into` with `x` - `y` - the borrow in, in base 10, in the span, and the borrow out.
+/// Returns `into` with the digits of `x` - `y` - the borrow in, in base 10, at the places of `span`, and the borrow out
+/// of the span's leftmost place.
 #[inline(always)]
 fn decimal_difference(into: Reg, x: Reg, y: Reg, borrow_in: bool, span: Span) -> (Reg, bool)
     ensures { DifferenceInto 10 into x y borrow_in span.lo span.hi result.0 result.1 }
@@ -207,8 +222,9 @@ fn decimal_difference(into: Reg, x: Reg, y: Reg, borrow_in: bool, span: Span) ->
     )
 }
 
-/// Returns `into` with `x` + `y` + the carry in, in the span, and the carry out of the span's last digit. The base is 10 if `DEC`
-/// is true, otherwise 16. In base 10 a digit from A to F is added like any other: F + 1 is 6 with a carry (this project's choice).
+/// Returns `into` with the digits of `x` + `y` + the carry in at the places of `span`, and the carry out of the span's
+/// leftmost place. The base is 10 if `DEC` is true, otherwise 16. In base 10 a digit from A to F is added like any
+/// other: F + 1 is 6 with a carry (this project's choice).
 #[inline(always)]
 pub fn add<const DEC: bool>(into: Reg, x: Reg, y: Reg, carry_in: bool, span: Span) -> (Reg, bool)
     ensures { SumInto (base_of DEC) into x y carry_in span.lo span.hi result.0 result.1 }
@@ -220,9 +236,9 @@ pub fn add<const DEC: bool>(into: Reg, x: Reg, y: Reg, carry_in: bool, span: Spa
     }
 }
 
-/// Returns `into` with `x` - `y` - the borrow in, in the span, and the borrow out of the span's last digit. The base is 10 if `DEC`
-/// is true, otherwise 16. In base 10 a digit from A to F is subtracted like any other: 0 - F is B with a borrow (this project's
-/// choice).
+/// Returns `into` with the digits of `x` - `y` - the borrow in at the places of `span`, and the borrow out of the
+/// span's leftmost place. The base is 10 if `DEC` is true, otherwise 16. In base 10 a digit from A to F is subtracted
+/// like any other: 0 - F is B with a borrow (this project's choice).
 #[inline(always)]
 pub fn sub<const DEC: bool>(into: Reg, x: Reg, y: Reg, borrow_in: bool, span: Span) -> (Reg, bool)
     ensures { DifferenceInto (base_of DEC) into x y borrow_in span.lo span.hi result.0 result.1 }
@@ -234,7 +250,9 @@ pub fn sub<const DEC: bool>(into: Reg, x: Reg, y: Reg, borrow_in: bool, span: Sp
     }
 }
 
-/// Returns `into` with `x` + 1 in the span, and the carry out. The base is 10 if `DEC` is true, otherwise 16.
+/// Returns `into` with the digits of `x` + 1 at the places of `span`, and the carry out of the span's leftmost place.
+/// The 1 is added at the span's rightmost place. The base is 10 if `DEC` is true, otherwise 16. In base 10 a digit from
+/// A to F is added like any other: F + 1 is 6 with a carry (this project's choice).
 #[inline(always)]
 pub fn inc<const DEC: bool>(into: Reg, x: Reg, span: Span) -> (Reg, bool)
     ensures { SumInto (base_of DEC) into x zeros true span.lo span.hi result.0 result.1 }
@@ -242,7 +260,8 @@ pub fn inc<const DEC: bool>(into: Reg, x: Reg, span: Span) -> (Reg, bool)
     add::<DEC>(into, x, Reg::zero(), true, span)
 }
 
-/// Returns `into` with `x` - 1 in the span, and the borrow out. The base is 10 if `DEC` is true, otherwise 16.
+/// Returns `into` with the digits of `x` - 1 at the places of `span`, and the borrow out of the span's leftmost place.
+/// The 1 is subtracted at the span's rightmost place. The base is 10 if `DEC` is true, otherwise 16.
 #[inline(always)]
 pub fn dec<const DEC: bool>(into: Reg, x: Reg, span: Span) -> (Reg, bool)
     ensures { DifferenceInto (base_of DEC) into x zeros true span.lo span.hi result.0 result.1 }
@@ -250,8 +269,9 @@ pub fn dec<const DEC: bool>(into: Reg, x: Reg, span: Span) -> (Reg, bool)
     sub::<DEC>(into, x, Reg::zero(), true, span)
 }
 
-/// Returns `into` with 0 - `x` in the span, the complement to the base, and the borrow out. The base is 10 if `DEC` is true,
-/// otherwise 16.
+/// Returns `into` with the digits of 0 - `x` at the places of `span` (the complement to the base: ten's complement in
+/// base 10, two's complement in base 16), and the borrow out of the span's leftmost place. The base is 10 if `DEC` is
+/// true, otherwise 16.
 #[inline(always)]
 pub fn neg<const DEC: bool>(into: Reg, x: Reg, span: Span) -> (Reg, bool)
     ensures { DifferenceInto (base_of DEC) into zeros x false span.lo span.hi result.0 result.1 }
@@ -259,8 +279,9 @@ pub fn neg<const DEC: bool>(into: Reg, x: Reg, span: Span) -> (Reg, bool)
     sub::<DEC>(into, Reg::zero(), x, false, span)
 }
 
-/// Returns `into` with 0 - `x` - 1 in the span, each digit's complement to the base less one, and the borrow out, which is always
-/// set. The base is 10 if `DEC` is true, otherwise 16.
+/// Returns `into` with the digits of 0 - `x` - 1 at the places of `span` (the complement to the base less one: nine's
+/// complement in base 10, one's complement in base 16), and the borrow out of the span's leftmost place, which is
+/// always set. The base is 10 if `DEC` is true, otherwise 16.
 #[inline(always)]
 pub fn neg1<const DEC: bool>(into: Reg, x: Reg, span: Span) -> (Reg, bool)
     ensures sub { DifferenceInto (base_of DEC) into zeros x true span.lo span.hi result.0 result.1 }

@@ -24,15 +24,16 @@ use h41_words::{Condition, Displacement, LongJumpKind, Row, Word, word};
 use indexmap::IndexMap;
 use std::alloc::{AllocError, Global};
 
-/// The number of addresses.
+/// The number of 16-bit addresses: 10000 in hexadecimal.
 const ADDRESSES: u32 = 0x10000;
 
-/// The addresses of the labels, in the order of their source lines.
+/// The labels of a source, by name, with their addresses. They are in the order of their source lines.
 type Labels<'a> = IndexMap<&'a [u8], u16>;
 
-/// Returns the words of a source; the address of the first is `origin`. An error reports the first error of the source: first, by
-/// lines, BadLine (30), BadOperand (31), LabelTwice (32) and TooLong (35), which do not depend on the addresses of labels; then, by
-/// lines, the errors of references, NoLabel (33) and TooFar (34). OutOfMemory (21) is returned if allocation fails.
+/// Returns the ROM words of a source; the address of the first is `origin`. An error reports the first error of the
+/// source: first, by lines, BadLine (30), BadOperand (31), LabelTwice (32) and TooLong (35), which do not depend on the
+/// addresses of labels; then, by lines, the errors of references, NoLabel (33) and TooFar (34). OutOfMemory (21) is
+/// returned if allocation fails.
 pub fn assemble(alloc: Global, text: &[u8], origin: u16) -> Result<Vec<Word>, AssembleError>
     ensures words { IfOk result (λ words. Assembles text.now origin words.items) }
     ensures ok { OnOk result (assembly_fault text.now origin ≡ None) }
@@ -45,8 +46,9 @@ pub fn assemble(alloc: Global, text: &[u8], origin: u16) -> Result<Vec<Word>, As
     spell(alloc, origin, &labels, &lines, &names)
 }
 
-/// Records the addresses of the labels of a source, and stores the statements of the source lines that have words, in tables that
-/// are empty before. Returns the first error of a source line that does not depend on the addresses of labels.
+/// Records the addresses of a source's labels in `labels`, and stores the statements of the source lines that have
+/// words in `lines` and `names`; all three are empty before. Returns the first error of a source line among BadLine
+/// (30), BadOperand (31), LabelTwice (32) and TooLong (35), or OutOfMemory (21).
 #[inline(always)]
 fn place<'a>(
     labels: &mut Labels<'a>,
@@ -81,7 +83,9 @@ fn place<'a>(
     Ok(())
 }
 
-/// Records the label of a source line at an address, and returns the statement of the line.
+/// Records the label of a source line, if it has one, at an address from 0000 to 10000 (hexadecimal), and returns the
+/// statement that the rest of the line is. The error is BadLine (30), BadOperand (31), LabelTwice (32), TooLong (35) or
+/// OutOfMemory (21).
 #[inline(always)]
 fn place_line<'a>(
     labels: &mut Labels<'a>,
@@ -113,7 +117,8 @@ fn place_line<'a>(
     Ok(statement)
 }
 
-/// Records the address of a label, and returns whether it already had one.
+/// Records the address of a label, and returns whether the label already had an address. The error means that
+/// allocation failed.
 #[inline(always)]
 fn note<'a>(labels: &mut Labels<'a>, name: &'a [u8], address: u32) -> Result<bool, AllocError>
     requires { address < address_count }
@@ -124,7 +129,7 @@ fn note<'a>(labels: &mut Labels<'a>, name: &'a [u8], address: u32) -> Result<boo
     Ok(before.is_some())
 }
 
-/// Returns whether a label already has an address. It is false if there is no label.
+/// Returns whether a label already has an address from an earlier source line. It is false if there is no label.
 #[inline(always)]
 fn is_held(labels: &Labels<'_>, label: Option<&[u8]>) -> bool
     ensures { result ≡ is_held_in labels.now label.entry }
@@ -135,7 +140,8 @@ fn is_held(labels: &Labels<'_>, label: Option<&[u8]>) -> bool
     }
 }
 
-/// Returns whether a label at an address, or one of `length` words from this address on, is after the last address, FFFF.
+/// Returns whether a source line at an address has something after the last address, FFFF: a label, or one of its
+/// `length` words, which begin at this address.
 #[inline(always)]
 fn is_too_long(address: u32, label: Option<&[u8]>, length: usize) -> bool
     requires { address ≤ address_count }
@@ -144,7 +150,8 @@ fn is_too_long(address: u32, label: Option<&[u8]>, length: usize) -> bool
     (label.is_some() && ADDRESSES <= address) || length > (ADDRESSES - address) as usize
 }
 
-/// Returns the words of the stored source lines, or the first error of a reference.
+/// Returns the ROM words of the source lines that the first pass stored, the first at `origin`. The error is the first
+/// one of a reference, NoLabel (33) or TooFar (34), or OutOfMemory (21).
 fn spell(
     alloc: Global,
     origin: u16,
@@ -170,7 +177,7 @@ fn spell(
     Ok(words)
 }
 
-/// Appends the words of a statement at an address.
+/// Appends the ROM words of a statement at an address. The error is NoLabel (33), TooFar (34) or OutOfMemory (21).
 #[inline(always)]
 fn push_statement(
     words: &mut Vec<Word>,
@@ -199,7 +206,8 @@ fn push_statement(
     }
 }
 
-/// Appends the two words of a jump by address to a label.
+/// Appends the two words of a jump by address (`?NC XQ` and the like) to a label. The error is NoLabel (33) or
+/// OutOfMemory (21).
 #[inline(always)]
 fn push_long_jump(
     words: &mut Vec<Word>,
@@ -218,7 +226,8 @@ fn push_long_jump(
     push_two(words, first, second)
 }
 
-/// Appends the word of a short jump, at an address, to a label.
+/// Appends the word of a short jump (`JNC` or `JC`) to a label; the jump is at `address`. The error is NoLabel (33),
+/// TooFar (34) or OutOfMemory (21).
 #[inline(always)]
 fn push_short_jump(
     words: &mut Vec<Word>,
@@ -239,7 +248,8 @@ fn push_short_jump(
     push_one(words, word)
 }
 
-/// Appends the two words of the table entry of a function that begins at a label.
+/// Appends the two words of the table entry of a function that begins at a label. The error is NoLabel (33) or
+/// OutOfMemory (21).
 #[inline(always)]
 fn push_entry(
     words: &mut Vec<Word>,
@@ -257,7 +267,7 @@ fn push_entry(
     push_two(words, first, second)
 }
 
-/// Appends a word.
+/// Appends a ROM word to the words of the source. The error is OutOfMemory (21).
 #[inline(always)]
 fn push_one(words: &mut Vec<Word>, word: Word) -> Result<(), SpellError>
     ensures pushed { OnOk result (words.new.items ≡ words.old.items ++ word ∷ []) }
@@ -266,7 +276,7 @@ fn push_one(words: &mut Vec<Word>, word: Word) -> Result<(), SpellError>
     Ok(words.push(word)?)
 }
 
-/// Appends two words.
+/// Appends two ROM words to the words of the source. The error is OutOfMemory (21).
 #[inline(always)]
 fn push_two(words: &mut Vec<Word>, first: Word, second: Word) -> Result<(), SpellError>
     ensures pushed { OnOk result (words.new.items ≡ words.old.items ++ first ∷ second ∷ []) }
@@ -277,7 +287,7 @@ fn push_two(words: &mut Vec<Word>, first: Word, second: Word) -> Result<(), Spel
     Ok(())
 }
 
-/// Returns the address of a label, or NoLabel (33) if it has none.
+/// Returns the address of a label, or NoLabel (33) if no source line has the label.
 #[inline(always)]
 fn label_address(labels: &Labels<'_>, name: &[u8]) -> Result<u16, SourceFault>
     ensures { result ≡ ok_or (labels_in labels.now name.now) SourceFault.NoLabel }
@@ -297,7 +307,8 @@ fn distance(from: u32, to: u16) -> i32
     i32::from(to) - from as i32
 }
 
-/// Returns the word of a short jump by a displacement, or TooFar (34) if the displacement is not from -64 to 63.
+/// Returns the word of a short jump, `JNC` or `JC`, by a displacement in words, or TooFar (34) if the displacement is
+/// not from -64 to 63.
 #[inline(always)]
 fn short_jump(condition: Condition, displacement: i32) -> Result<Word, SourceFault>
     ensures { result ≡ jump_word condition displacement }

@@ -1,4 +1,4 @@
-//! The errors of a source.
+//! The errors of an assembler source.
 
 ghost use Rattle.std.specs.Prelude.{◌≡◌};
 ghost use Rattle.h41_asm.specs.declared.fault.AssembleError.TheVariants.{OutOfMemory};
@@ -7,42 +7,44 @@ ghost use Rattle.h41_asm.specs.declared.fault.SpellError.TheVariants as spell_er
 use std::alloc::{AllocError, AllocFailed};
 use thiserror::Error;
 
-/// The error of a source line. The numbers and names are this project's own.
+/// Why a line of an assembler source is refused. The numbers and names are this project's own.
 #[derive(Clone, Copy, Debug, PartialEq, Eq, Error)]
 pub enum SourceFault {
-    /// BadLine (30): the label, or the mnemonic or directive, cannot be read.
+    /// BadLine (30): the words after the label begin no mnemonic and no directive. One cause is a first word that ends
+    /// in `:` but is not a valid label.
     #[error("no line of a source")]
     BadLine,
-    /// BadOperand (31): the mnemonic or directive is known, but an operand is missing, or there are too many, or it does not take
-    /// this one.
+    /// BadOperand (31): the mnemonic or directive is known, but its operand is missing, is of another kind or out of
+    /// range, or is followed by more words.
     #[error("an operand is missing, one too many, or none that is taken")]
     BadOperand,
     /// LabelTwice (32): an earlier source line has the same label.
     #[error("an earlier line has the label")]
     LabelTwice,
-    /// NoLabel (33): no source line has the label to which this line refers.
+    /// NoLabel (33): no source line has the label to which this source line refers.
     #[error("no line has the label")]
     NoLabel,
-    /// TooFar (34): the target is outside the range of a short jump, -64 to 63 words.
+    /// TooFar (34): the target of a short jump is not within -64 to 63 words of the jump.
     #[error("the jump does not reach so far")]
     TooFar,
-    /// TooLong (35): a word or a label is after the last address, FFFF.
+    /// TooLong (35): a word or a label of the source is after the last address, FFFF (hexadecimal).
     #[error("past FFFF")]
     TooLong,
 }
 
-/// The reason why a source has no words.
+/// Why a source was not assembled: `Line` gives the first error of the source, with the number of its line;
+/// `OutOfMemory` says that allocation failed.
 #[derive(Clone, Copy, Debug, PartialEq, Eq, Error)]
 pub enum AssembleError {
-    /// A source line has an error. Lines are counted from 1.
+    /// A source line has an error. Source lines are counted from 1.
     #[error("line {line}: {fault}")]
     Line {
-        /// The error.
+        /// Why the source line is refused (30 to 35).
         fault: SourceFault,
-        /// The number of the source line.
+        /// The number of the source line, counted from 1.
         line: usize,
     },
-    /// OutOfMemory (21): allocation failed.
+    /// OutOfMemory (21): allocation failed. The source may be correct.
     #[error("out of memory")]
     OutOfMemory,
 }
@@ -63,10 +65,11 @@ impl<T: Drop> From<AllocFailed<T>> for AssembleError {
     }
 }
 
-/// The reason why a statement has no words.
+/// Why no words were appended for a source line: `Fault` gives the error of the line, `OutOfMemory` says that
+/// allocation failed. The line number is added by `at_line`.
 #[derive(Clone, Copy)]
 pub(crate) enum SpellError {
-    /// The error of the statement.
+    /// The error of the source line (30 to 35), without the line's number.
     Fault(SourceFault),
     /// OutOfMemory (21): allocation failed.
     OutOfMemory,
@@ -75,7 +78,7 @@ pub(crate) enum SpellError {
 impl SpellError {
     ghost use Rattle.h41_asm.specs.Refusals.{refusal_of};
 
-    /// Returns this error as the error of the source line with a number.
+    /// Returns the error with the number of the source line, counted from 1. OutOfMemory (21) has no line number.
     pub(crate) fn at_line(self, line: usize) -> AssembleError
         ensures { result ≡ refusal_of self line }
     {

@@ -1,4 +1,5 @@
-//! What the first pass stores of the source lines that have words, so that the second pass need not read them again.
+//! The parts of source lines that the first pass of the assembler stores, so that the second pass need not read the
+//! lines again.
 
 ghost use Rattle.std.specs.Prelude.{◌≡◌, ◌++◌, OnOk};
 ghost use Rattle.h41_asm.specs.private.KeptLines.{kept_lines, kept_names};
@@ -6,17 +7,19 @@ ghost use Rattle.h41_asm.specs.private.KeptLines.{kept_lines, kept_names};
 use crate::statement::{Form, Statement};
 use std::alloc::AllocError;
 
-/// A source line that has words.
+/// The stored part of a source line for which the assembler writes words.
 #[derive(Clone, Copy)]
 pub(crate) struct KeptLine {
-    /// The number of the source line.
+    /// The number of the source line, counted from 1.
     pub number: usize,
-    /// The form of its statement, which determines its words.
+    /// The form of the source line's statement. With the name of a label or the text of a `NAME`, it determines the
+    /// words.
     pub form: Form,
 }
 
-/// Appends the form and the name of a statement, with the number of its source line, to the stored lines and names. A statement
-/// without words is not stored.
+/// Appends the form of a statement, with the number of its source line, to `lines`, and the statement's name (a label
+/// or the text of a `NAME`, or empty) to `names`. A statement without words is not stored. The error means that
+/// allocation failed.
 #[inline(always)]
 pub(crate) fn keep<'a>(
     lines: &mut Vec<KeptLine>,

@@ -1,4 +1,4 @@
-//! The assembler: from the text of a source to its words. Mnemonics and directives are this project's own.
+//! The assembler: from the text of a source to its ROM words. Mnemonics and directives are this project's own.
 #![tactic(auto)]
 
 mod assembler;

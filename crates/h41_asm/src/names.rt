@@ -1,4 +1,4 @@
-//! Names of addresses: labels, and references to labels.
+//! Names of addresses in a source: labels (`name:`), and references to labels (`:name`).
 
 ghost use Rattle.std.specs.Prelude.{◌≡◌};
 ghost use Rattle.std.specs.List.{list_all};
@@ -6,31 +6,32 @@ ghost use Rattle.std.specs.Option.{option_map};
 ghost use Rattle.h41_asm.specs.SourceLines.{is_letter, is_name, is_name_byte, label_in};
 ghost use Rattle.h41_asm.specs.SourceLines.{reference_in};
 
-/// The greatest number of bytes after the first letter of a name.
+/// The greatest number of bytes of a label's name after its first letter.
 const MOST_BEHIND: usize = 11;
 
-/// Returns whether a byte is a letter, of either case.
+/// Returns whether a byte is an ASCII letter, in upper or lower case.
 fn is_letter(byte: u8) -> bool
     ensures { result ≡ is_letter byte }
 {
     matches!(byte, b'A'..=b'Z' | b'a'..=b'z')
 }
 
-/// Returns whether a byte can follow the first letter of a name.
+/// Returns whether a byte can follow the first letter of a label's name: whether it is a letter, a digit or `_`.
 fn is_name_byte(byte: u8) -> bool
     ensures { result ≡ is_name_byte byte }
 {
     is_letter(byte) || matches!(byte, b'0'..=b'9' | b'_')
 }
 
-/// Returns whether all bytes can follow the first letter of a name.
+/// Returns whether each of the bytes can follow the first letter of a label's name: whether each is a letter, a digit
+/// or `_`.
 fn are_name_bytes(bytes: &[u8]) -> bool
     ensures { result ≡ list_all is_name_byte bytes.now }
 {
     bytes.iter().all(|byte| is_name_byte(*byte))
 }
 
-/// Returns whether a word is a name: a letter, and up to eleven letters, digits or `_`.
+/// Returns whether a word of a source line is the name of a label: a letter, and up to eleven letters, digits or `_`.
 fn is_name(word: &[u8]) -> bool
     ensures { result ≡ is_name word.now }
 {
@@ -42,7 +43,8 @@ fn is_name(word: &[u8]) -> bool
     }
 }
 
-/// Returns the name in a word `name:`, or `None` for any other word.
+/// Returns the label's name in a word `name:` of a source line, or `None` for any other word. A name is a letter, and
+/// up to eleven letters, digits or `_`.
 #[inline(always)]
 pub(crate) fn label_in(word: &[u8]) -> Option<&[u8]>
     ensures { option_map (λ name. name.now) result ≡ label_in word.now }
@@ -55,7 +57,8 @@ pub(crate) fn label_in(word: &[u8]) -> Option<&[u8]>
     }
 }
 
-/// Returns the name in a word `:name`, or `None` for any other word.
+/// Returns the label's name in a word `:name`, which refers to the label, or `None` for any other word. A name is a
+/// letter, and up to eleven letters, digits or `_`.
 #[inline(always)]
 pub(crate) fn reference_in(word: &[u8]) -> Option<&[u8]>
     ensures { option_map (λ name. name.now) result ≡ reference_in word.now }

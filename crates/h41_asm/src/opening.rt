@@ -1,4 +1,4 @@
-//! Finds what the first word of a source line begins.
+//! Finds the kind of instruction or directive that the first word of a source line begins.
 
 ghost use Rattle.std.specs.Prelude.{◌≡◌, ◌<◌, IfSome};
 ghost use Rattle.h41_asm.specs.private.Openings.{IsTable, OpensAs, TellsWords, entries_in, hash_of};
@@ -7,7 +7,8 @@ ghost use Rattle.h41_asm.specs.private.Openings.{place_count};
 use crate::table::{OPENINGS, Opening, PLACES};
 use h41_lines::hashes::word_hash;
 
-/// Returns what the first word of a source line begins, or `None` if no mnemonic and no directive begins with it.
+/// Returns the kind of instruction or directive that begins with a given first word of a source line, or `None` if no
+/// mnemonic and no directive begins with it.
 #[inline(always)]
 pub(crate) fn opening_of(first: &[u8]) -> Option<Opening>
     ensures value { OpensAs first.now result }
@@ -16,7 +17,8 @@ pub(crate) fn opening_of(first: &[u8]) -> Option<Opening>
     opening_among(&OPENINGS, &PLACES, first)
 }
 
-/// Returns what a first word begins, from a table of first words and their positions.
+/// Returns the kind of instruction or directive that a hash table has for a first word, or `None` if the table does not
+/// have the word. `openings` has the first words, `places` the index of the word for each hash.
 #[inline(always)]
 fn opening_among(openings: &[(&str, Opening)], places: &[u8], first: &[u8]) -> Option<Opening>
     requires { IsTable (entries_in openings.now) places.now }
@@ -31,7 +33,7 @@ fn opening_among(openings: &[(&str, Opening)], places: &[u8], first: &[u8]) -> O
     }
 }
 
-/// Returns the hash of a word, by which it is found among the first words.
+/// Returns the hash, 0 to 255, of a word. It is the index in the table of first words' positions.
 #[inline(always)]
 fn hash_of(word: &[u8]) -> usize
     ensures value { result ≡ hash_of word.now }

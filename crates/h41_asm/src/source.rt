@@ -1,4 +1,4 @@
-//! A source line: its label, and the words after the label.
+//! A line of an assembler source: its label, and the words after the label.
 
 ghost use Rattle.std.specs.Prelude.{◌≡◌, ◌<◌, ◌≤◌, ◌∷◌, drop, length};
 ghost use Rattle.h41_asm.specs.private.CodeStatements.{in_line};
@@ -9,18 +9,19 @@ use crate::words::SourceWords;
 use h41_ends::line_end;
 use h41_lines::lines::without_return;
 
-/// A source line.
+/// The label of a source line, and the words after it. A word `name:` at the beginning of the line is the label.
 #[derive(Clone, Copy)]
 pub(crate) struct SourceLine<'a> {
-    /// The label of the line, if it has one.
+    /// The name of the label, without the `:`, if the source line has one.
     pub label: Option<&'a [u8]>,
-    /// The first word after the label.
+    /// The first word of the source line after its label, which is the mnemonic or the directive.
     pub first: Option<&'a [u8]>,
-    /// The words after the first word.
+    /// The words of the source line after its mnemonic or directive.
     pub others: SourceWords<'a>,
 }
 
-/// Returns the label and the words of a source line.
+/// Returns the label of a source line, without the `:`, and the words after it. A label is the first word of the line
+/// if it has the form `name:`.
 #[inline(always)]
 pub(crate) fn read_line(line: &[u8]) -> SourceLine<'_>
     ensures { in_line result ≡ line_of (words_of line.now) }
@@ -47,7 +48,8 @@ pub(crate) fn read_line(line: &[u8]) -> SourceLine<'_>
     }
 }
 
-/// Returns the line of a text that begins at a position, and the position at which the next line begins.
+/// Returns the line of a text that begins at position `start`, in bytes from 0, and the position at which the next line
+/// begins. The line has no LF and no CR before the LF.
 #[inline(always)]
 pub(crate) fn line_at(text: &[u8], start: usize) -> (&[u8], usize)
     requires { start < length text.now }

@@ -1,4 +1,4 @@
-//! Reads the statement of a source line, which follows its label.
+//! Reads the statement of a source line: its instruction or directive, which follows the label.
 
 ghost use Rattle.std.specs.Prelude.{◌≡◌, ◌+◌, ◌≤◌, ◌==◌, [], ◌∷◌, bytes_eq, codes, length};
 ghost use Rattle.std.specs.Option.{ok_or, option_map};
@@ -28,38 +28,40 @@ use h41_words::{
     Row, SecondWord, StatusBit, Word, word,
 };
 
-/// The statement of a source line: its words, some of which depend on the address of a label.
+/// The instruction or directive of a source line. It determines the line's words, some of which depend on the address
+/// of a label.
 #[derive(Clone, Copy)]
 pub(crate) struct Statement<'a> {
-    /// The form, which determines the words.
+    /// The form of the statement, which determines its words except for a label's address or a text.
     pub form: Form,
-    /// The name that the form needs: a label, or the text of a `NAME`. It is empty if the form needs none.
+    /// The name that the form needs: the label to which the statement refers, or the text of a `NAME`. It is empty if
+    /// the form needs none.
     pub name: &'a [u8],
 }
 
-/// The form of a statement.
+/// The form of a source line's statement: what its words are, apart from a label's address and the text of a `NAME`.
 #[derive(Clone, Copy)]
 pub(crate) enum Form {
-    /// No words.
+    /// A source line without words: it is empty or has only a label.
     Nothing,
-    /// An instruction of one word, or a word that is written as a number.
+    /// An instruction of one word, or a word that `CON` gives as a number.
     One(Word),
     /// An instruction of two words.
     Two(Word, Word),
-    /// The words of the text of a `NAME`.
+    /// The words of the text of a `NAME` directive, one word a character.
     Name,
-    /// A short jump by a displacement that no word has.
+    /// A short jump by a displacement out of range (not -64 to 63 words). It is an error, TooFar (34).
     OutOfReach,
-    /// A jump by address to the label.
+    /// A jump by address (two words), such as `?NC XQ`, to a label.
     LongJumpTo(Condition, LongJumpKind),
-    /// A short jump to the label.
+    /// A short jump (one word), `JNC` or `JC`, to a label.
     ShortJumpTo(Condition),
-    /// The two words of the table entry of a function that begins at the label.
+    /// The two words of the table entry of a function that begins at a label.
     EntryAt(EntryKind),
 }
 
 impl Form {
-    /// Returns the statement of this form without a name.
+    /// Returns the statement of a form that needs no name.
     #[inline(always)]
     fn alone<'a>(self) -> Statement<'a>
         ensures { in_code result ≡ in_form self [] }
@@ -70,7 +72,7 @@ impl Form {
         }
     }
 
-    /// Returns the statement of this form with a name.
+    /// Returns the statement of a form with the name that it needs: a label, or the text of a `NAME`.
     #[inline(always)]
     pub(crate) fn with(self, name: &[u8]) -> Statement<'_>
         ensures { in_code result ≡ in_form self name.now }
@@ -80,7 +82,7 @@ impl Form {
 }
 
 impl Statement<'_> {
-    /// Returns the number of words of the statement, 0 to 11.
+    /// Returns the number of ROM words that the statement takes, 0 to 11.
     #[inline(always)]
     pub(crate) fn length(&self) -> usize
         ensures { result ≡ spec.statement_length (in_code self.now) }
@@ -94,7 +96,9 @@ impl Statement<'_> {
     }
 }
 
-/// Returns the statement that the words after a line's label form, or BadLine (30) or BadOperand (31).
+/// Returns the statement that the words after a source line's label form; an empty line is a statement without words.
+/// The error is BadLine (30) if the mnemonic or directive is unknown, and BadOperand (31) if it does not take the
+/// operands.
 #[inline(always)]
 pub(crate) fn read(line: SourceLine<'_>) -> Result<Statement<'_>, SourceFault>
     ensures { read_in_code result ≡ spec.reading_of (in_line line.entry).code }
@@ -105,7 +109,8 @@ pub(crate) fn read(line: SourceLine<'_>) -> Result<Statement<'_>, SourceFault>
     }
 }
 
-/// Returns the statement that a first word and the words after it form, or an error.
+/// Returns the statement that a first word and the words `others` after it form. The error is BadLine (30) if the
+/// mnemonic or directive is unknown, and BadOperand (31) if it does not take the operands.
 #[inline(always)]
 fn read_from<'a>(first: &[u8], others: SourceWords<'a>) -> Result<Statement<'a>, SourceFault>
     ensures { read_in_code result ≡ spec.reading_of (first.now ∷ words_of others.entry.rest.now) }
@@ -116,7 +121,8 @@ fn read_from<'a>(first: &[u8], others: SourceWords<'a>) -> Result<Statement<'a>,
     }
 }
 
-/// Returns the statement that a known first word and the words after it form, or an error.
+/// Returns the statement that begins with a known first word and continues with the words `others`. The error is
+/// BadLine (30) if no mnemonic begins so, and BadOperand (31) if it does not take the operands.
 #[inline(always)]
 fn opened(opening: Opening, others: SourceWords<'_>) -> Result<Statement<'_>, SourceFault>
     requires { openings.TellsWords opening }
@@ -141,7 +147,8 @@ fn opened(opening: Opening, others: SourceWords<'_>) -> Result<Statement<'_>, So
     }
 }
 
-/// Returns the statement of an instruction without an operand. BadOperand (31) is returned if any word follows.
+/// Returns the statement of a one-word instruction without an operand. The error is BadOperand (31) if any word
+/// follows.
 #[inline(always)]
 fn alone(instruction: Word, others: SourceWords<'_>) -> Result<Statement<'_>, SourceFault>
     ensures { Reads (openings.without_operand instruction) others.entry result }
@@ -153,8 +160,9 @@ fn alone(instruction: Word, others: SourceWords<'_>) -> Result<Statement<'_>, So
     }
 }
 
-/// Returns the statement of an instruction that is followed by `DATA`, or of the instruction that begins with the same word and
-/// takes a number.
+/// Returns the statement of `instruction` (such as `READ DATA`) if the words after the first one are `DATA` alone, and
+/// otherwise the statement of the instruction that begins with the same word and takes a number (such as `READ 5`). The
+/// error is BadOperand (31).
 fn data_or(
     instruction: Word,
     numbered: Numbered,
@@ -169,7 +177,7 @@ fn data_or(
     }
 }
 
-/// Returns whether words are `DATA` alone.
+/// Returns whether the remaining words of a source line are `DATA` alone.
 fn is_data(words: SourceWords<'_>) -> bool
     ensures { result ≡ spec.is_whole (words_of words.entry.rest.now) (codes "DATA") }
 {
@@ -180,8 +188,8 @@ fn is_data(words: SourceWords<'_>) -> bool
     }
 }
 
-/// Returns the statement of an instruction whose mnemonic has this second word. BadLine (30) is returned if the second word is
-/// another.
+/// Returns the statement of the instruction `row`, whose mnemonic has the second word `name`, such as `ADR` in `PUSH
+/// ADR`. The error is BadLine (30) if the second word is missing or another, and BadOperand (31) if more words follow.
 fn pair<'a>(name: &str, row: Row, others: SourceWords<'a>) -> Result<Statement<'a>, SourceFault>
     ensures { ReadsSecond (openings.pair name.now (number_of row)) others.entry result }
 {
@@ -194,8 +202,9 @@ fn pair<'a>(name: &str, row: Row, others: SourceWords<'a>) -> Result<Statement<'
     }
 }
 
-/// Returns the statement of one of two instructions, which the second word selects. BadLine (30) is returned if the second word is
-/// another.
+/// Returns the statement of the instruction `row` if the second word of the mnemonic is `name`, and of `other_row` if
+/// it is `other_name`. The error is BadLine (30) if the second word is missing or another, and BadOperand (31) if more
+/// words follow.
 fn either<'a>(
     name: &str,
     row: Row,
@@ -218,7 +227,8 @@ fn either<'a>(
     }
 }
 
-/// Returns the statement of `C=C OR A` or `C=C AND A`, or an error.
+/// Returns the statement of `C=C OR A` or `C=C AND A`, by the words after `C=C`. The error is BadLine (30) if these are
+/// wrong, and BadOperand (31) if more words follow.
 fn logic(others: SourceWords<'_>) -> Result<Statement<'_>, SourceFault>
     ensures { ReadsSecond openings.logic others.entry result }
 {
@@ -233,7 +243,9 @@ fn logic(others: SourceWords<'_>) -> Result<Statement<'_>, SourceFault>
     }
 }
 
-/// Returns the statement of a return or a jump by address with a condition, or an error.
+/// Returns the statement of `RTN`, `XQ` or `GO` after `?C` or `?NC`: a return or a jump by address with a condition.
+/// The error is BadLine (30) if the second word of the mnemonic is missing or another, and BadOperand (31) if a jump
+/// has no valid operand or a return has one.
 fn at_carry(condition: Condition, others: SourceWords<'_>) -> Result<Statement<'_>, SourceFault>
     ensures { ReadsSecond (openings.at_carry condition) others.entry result }
 {
@@ -250,7 +262,7 @@ fn at_carry(condition: Condition, others: SourceWords<'_>) -> Result<Statement<'
     }
 }
 
-/// Returns whether a word is this text.
+/// Returns whether a word of a source line equals a text.
 #[inline(always)]
 fn is(word: &[u8], text: &str) -> bool
     ensures { result ≡ bytes_eq word.now text.now }
@@ -258,7 +270,7 @@ fn is(word: &[u8], text: &str) -> bool
     word == text.as_bytes()
 }
 
-/// Returns whether no word is left.
+/// Returns whether a source line has no more words.
 #[inline(always)]
 fn is_nothing(words: SourceWords<'_>) -> bool
     ensures { result ≡ (length (words_of words.entry.rest.now) == 0) }
@@ -267,8 +279,8 @@ fn is_nothing(words: SourceWords<'_>) -> bool
     words.next().is_none()
 }
 
-/// Returns the statement of a mnemonic that takes one operand. BadOperand (31) is returned if it is followed by no word or by
-/// several.
+/// Returns the statement of a mnemonic or directive that takes one operand. The error is BadOperand (31) if it is
+/// followed by no word, by several, or by one that it does not take.
 #[inline(always)]
 fn taken(taking: Taking, operands: SourceWords<'_>) -> Result<Statement<'_>, SourceFault>
     ensures { read_in_code result ≡ taken_operand taking operands.entry.rest }
@@ -280,8 +292,8 @@ fn taken(taking: Taking, operands: SourceWords<'_>) -> Result<Statement<'_>, Sou
     }
 }
 
-/// Returns the statement of a mnemonic with its only operand. BadOperand (31) is returned if the mnemonic does not take this
-/// operand.
+/// Returns the statement of a mnemonic or directive with a given operand. The error is BadOperand (31) if it does not
+/// take this operand.
 fn take_only(taking: Taking, operand: &[u8]) -> Result<Statement<'_>, SourceFault>
     ensures { read_in_code result ≡ ok_or (takes_in_code taking operand.now) BadOperand }
 {
@@ -291,7 +303,7 @@ fn take_only(taking: Taking, operand: &[u8]) -> Result<Statement<'_>, SourceFaul
     }
 }
 
-/// Returns the statement of a mnemonic with an operand, or `None` if the mnemonic does not take it.
+/// Returns the statement of a mnemonic or directive with a given operand, or `None` if it does not take this operand.
 #[inline(always)]
 fn take(taking: Taking, operand: &[u8]) -> Option<Statement<'_>>
     ensures { found_in_code result ≡ takes_in_code taking operand.now }
@@ -323,7 +335,8 @@ fn take(taking: Taking, operand: &[u8]) -> Option<Statement<'_>>
     }
 }
 
-/// Returns the statement of an instruction with a number as its operand, or `None`.
+/// Returns the statement of an instruction that takes a number, such as `SETF 5`, or `None` if the operand is not a
+/// number in its range.
 fn take_number(numbered: Numbered, operand: &[u8]) -> Option<Statement<'_>>
     ensures { found_in_code result ≡ takes_numbered numbered operand.now }
 {
@@ -331,7 +344,8 @@ fn take_number(numbered: Numbered, operand: &[u8]) -> Option<Statement<'_>>
     Some(Form::One(word(row)).alone())
 }
 
-/// Returns the row of an instruction with a number as its operand, or `None`.
+/// Returns the row of the table of words for an instruction that takes a number, such as `SETF 5`, or `None` if the
+/// operand is not a number in its range.
 fn numbered_row(numbered: Numbered, operand: &[u8]) -> Option<Row>
     ensures { option_map spec.one_word result ≡ takes_numbered numbered operand.now }
 {
@@ -348,21 +362,22 @@ fn numbered_row(numbered: Numbered, operand: &[u8]) -> Option<Row>
     })
 }
 
-/// Returns the status bit with the number that an operand is, 0 to 13, or `None`.
+/// Returns the status bit that an operand numbers in decimal, 0 to 13, or `None` for any other operand.
 fn status_bit_in(operand: &[u8]) -> Option<StatusBit>
     ensures { result ≡ number_in 0 status_bit_count operand.now }
 {
     Some(StatusBit::new(number_in(0, 14, operand)?))
 }
 
-/// Returns the place of a register with the number that an operand is, 0 to 13, or `None`.
+/// Returns the digit place of a register that an operand numbers in decimal, 0 to 13, or `None` for any other operand.
 fn place_in(operand: &[u8]) -> Option<DigitPlace>
     ensures { result ≡ number_in 0 place_count operand.now }
 {
     Some(DigitPlace::new(number_in(0, 14, operand)?))
 }
 
-/// Returns the statement of a jump to an address or to a label, or `None`.
+/// Returns the statement of a jump by address with an operand: four hexadecimal digits, or a label `:name`. Returns
+/// `None` for any other operand.
 fn take_address(condition: Condition, kind: LongJumpKind, operand: &[u8]) -> Option<Statement<'_>>
     ensures { found_in_code result ≡ spec.takes_address condition kind operand.now }
 {
@@ -378,7 +393,7 @@ fn take_address(condition: Condition, kind: LongJumpKind, operand: &[u8]) -> Opt
     }
 }
 
-/// Returns the two words of a jump to an address.
+/// Returns the two words of a jump by address, with its condition, kind (`XQ` or `GO`) and target address.
 pub(crate) fn long_jump_words(
     condition: Condition,
     kind: LongJumpKind,
@@ -394,7 +409,8 @@ pub(crate) fn long_jump_words(
     (word(Row::LongJump((address % 256) as u8)), second.word())
 }
 
-/// Returns the statement of a short jump by a displacement or to a label, or `None`.
+/// Returns the statement of a short jump with an operand: a displacement in words (a sign and two hexadecimal digits),
+/// or a label `:name`. Returns `None` for any other operand. The displacement may be out of range.
 fn take_displacement(condition: Condition, operand: &[u8]) -> Option<Statement<'_>>
     ensures { found_in_code result ≡ spec.takes_displacement condition operand.now }
 {
@@ -407,7 +423,8 @@ fn take_displacement(condition: Condition, operand: &[u8]) -> Option<Statement<'
     }
 }
 
-/// Returns the statement of a short jump by a displacement. It has no word if the displacement is not from -64 to 63.
+/// Returns the statement of a short jump by a displacement in words. If the displacement is not from -64 to 63, the
+/// statement is an error when its words are written, TooFar (34).
 pub(crate) fn short_jump_by<'a>(condition: Condition, displacement: i16) -> Statement<'a>
     ensures { in_code result ≡ spec.short_jump_by condition displacement }
 {

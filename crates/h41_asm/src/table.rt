@@ -1,90 +1,92 @@
-//! The first words of mnemonics, and the directives, each with what it begins.
+//! The first words of mnemonics, and the directives, each with the kind of instruction or directive that it begins.
 
 use h41_words::{Condition, LongJumpKind, Operation};
 
-/// The operand that a mnemonic or a directive takes.
+/// The operand that a mnemonic or a directive takes, with what it needs to form the words.
 #[derive(Clone, Copy)]
 pub(crate) enum Taking {
-    /// A field, for an operation on it.
+    /// The name of a field, such as `ALL` in `A=A+1 ALL`, with the operation on it.
     Field(Operation),
-    /// A number.
+    /// A number, such as the 5 in `SETF 5`, with the instruction that takes it.
     Number(Numbered),
-    /// `LDI hhh`: a word of three hexadecimal digits.
+    /// `LDI hhh`: three hexadecimal digits, for the second word of the instruction.
     Immediate,
-    /// `CON hhh`: a word of three hexadecimal digits.
+    /// `CON hhh`: three hexadecimal digits, which are the word itself.
     Constant,
-    /// An address of four digits, or a label.
+    /// For a jump by address, such as `?NC XQ`: four hexadecimal digits of an address, or a label.
     LongJump(Condition, LongJumpKind),
-    /// A displacement, or a label.
+    /// For a short jump, `JNC` or `JC`: a displacement in words, or a label.
     ShortJump(Condition),
-    /// `NAME "text"`: a text in quotes.
+    /// `NAME "text"`: a text in quotes, of 1 to 11 characters, for the name of a function.
     Name,
-    /// `ENTRY :name` and `FOCAL :name`: a label.
+    /// `ENTRY :name` and `FOCAL :name`: the label at which a function begins.
     Entry(EntryKind),
 }
 
-/// The kind of a function of a module.
+/// The kind of a function of a module, as its table entry gives it.
 #[derive(Clone, Copy)]
 pub(crate) enum EntryKind {
-    /// A function in microcode.
+    /// A function in microcode (`ENTRY`).
     Microcode,
-    /// A keystroke program.
+    /// A keystroke program (`FOCAL`).
     Keystroke,
 }
 
-/// An instruction that takes a number.
+/// An instruction that takes a decimal number.
 #[derive(Clone, Copy)]
 pub(crate) enum Numbered {
-    /// `CLRF n`: 0 to 13.
+    /// `CLRF n`: clears a status bit, 0 to 13.
     ClearStatus,
-    /// `SETF n`: 0 to 13.
+    /// `SETF n`: sets a status bit, 0 to 13.
     SetStatus,
-    /// `?FSET n`: 0 to 13.
+    /// `?FSET n`: tests a status bit, 0 to 13.
     TestStatus,
-    /// `?R= n`: 0 to 13.
+    /// `?R= n`: tests whether the active pointer is at a digit place, 0 to 13.
     TestPointer,
-    /// `R= n`: 0 to 13.
+    /// `R= n`: moves the active pointer to a digit place, 0 to 13.
     SetPointer,
-    /// `RCR n`: 0 to 13.
+    /// `RCR n`: rotates C right by 0 to 13 digits.
     RotateRight,
-    /// `LD@R n`: 0 to 15.
+    /// `LD@R n`: loads a digit, 0 to 15, into C.
     LoadDigit,
-    /// `WRIT n`: 0 to 15.
+    /// `WRIT n`: writes C to a register, 0 to 15, of a block of 16.
     Write,
-    /// `READ n`: 1 to 15.
+    /// `READ n`: reads a register, 1 to 15, of a block of 16 into C.
     Read,
 }
 
-/// What the first word of a mnemonic, or a directive, begins. Words of a ROM are given by their numbers.
+/// The kind of instruction or directive that the first word of a source line begins. ROM words are given by their
+/// numbers.
 #[derive(Clone, Copy)]
 pub(crate) enum Opening {
-    /// An instruction without an operand, and the number of its word.
+    /// An instruction without an operand, and the number of its word, 000 to 3FF (hexadecimal).
     Single(u16),
-    /// An instruction or a directive with an operand.
+    /// An instruction or a directive with one operand.
     Taker(Taking),
-    /// An instruction that is followed by `DATA`, with the number of its word, or else one that takes a number.
+    /// `READ` or `WRIT`: with `DATA` after it, the instruction with the given word; with a number, the given
+    /// instruction that takes a number.
     Data(u16, Numbered),
-    /// `PUSH ADR`.
+    /// The first word of `PUSH ADR`.
     Push,
-    /// `POP ADR`.
+    /// The first word of `POP ADR`.
     Pop,
-    /// `RAM SLCT`.
+    /// The first word of `RAM SLCT`.
     Ram,
-    /// `PRPH SLCT`.
+    /// The first word of `PRPH SLCT`.
     Peripheral,
-    /// `FETCH S&X`.
+    /// The first word of `FETCH S&X`.
     Fetch,
-    /// `SLCT P` and `SLCT Q`.
+    /// The first word of `SLCT P` and `SLCT Q`.
     Select,
-    /// `GOTO ADR` and `GOTO KEY`.
+    /// The first word of `GOTO ADR` and `GOTO KEY`.
     GoTo,
-    /// `C=C OR A` and `C=C AND A`.
+    /// The first word of `C=C OR A` and `C=C AND A`.
     Logic,
-    /// `?C RTN` and the like: a return or a jump by address, with a condition.
+    /// `?C` or `?NC`: the first word of a return or a jump by address with a condition.
     If(Condition),
 }
 
-/// The first words of mnemonics, and the directives, each with what it begins.
+/// The first words of all mnemonics and directives, each with the kind of instruction or directive that it begins.
 pub(crate) static OPENINGS: [(&str, Opening); 95] = [
     ("NOP", Opening::Single(0x000)),
     ("WROM", Opening::Single(0x040)),
@@ -243,7 +245,8 @@ pub(crate) static OPENINGS: [(&str, Opening); 95] = [
     ("FOCAL", Opening::Taker(Taking::Entry(EntryKind::Keystroke))),
 ];
 
-/// The index in `OPENINGS` of the word with each hash. For a hash that no word has, the index has no meaning.
+/// The index in `OPENINGS` of the first word that has a given hash, 0 to 255. For a hash that no first word has, the
+/// index has no meaning.
 pub(crate) static PLACES: [u8; 256] = [
     0, 16, 0, 0, 60, 0, 75, 0, 0, 0, 0, 53, 0, 0, 14, 0, 90, 50, 0, 0, 0, 0, 61, 5, 7, 89, 0, 0,
     62, 0, 0, 0, 0, 0, 0, 0, 0, 0, 84, 0, 0, 38, 73, 0, 0, 71, 0, 0, 31, 0, 0, 0, 0, 0, 15, 0, 51,

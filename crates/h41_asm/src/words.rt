@@ -1,4 +1,4 @@
-//! The words of a source line.
+//! The words of a line of an assembler source.
 
 ghost use Rattle.std.specs.Iterator.{YieldsFirstRef, item_count};
 ghost use Rattle.std.specs.Prelude.{◌≡◌, ◌≤◌, ◌==◌, ◌||◌, false, not, length};
@@ -10,12 +10,12 @@ use h41_lines::words::word_start;
 /// comment.
 #[derive(Clone, Copy)]
 pub struct SourceWords<'a> {
-    /// The part of the line that is not read yet. It begins outside quotes.
+    /// The part of the source line that is not read yet. It begins outside quotes.
     pub rest: &'a [u8],
 }
 
 impl<'a> SourceWords<'a> {
-    /// Returns an iterator over all words of a source line.
+    /// Returns an iterator over all words of a source line, up to a comment.
     #[inline(always)]
     pub fn new(line: &'a [u8]) -> Self
         ensures { result.rest.now ≡ line.now }
@@ -44,7 +44,8 @@ impl<'a> Iterator for SourceWords<'a> {
     }
 }
 
-/// Returns the number of bytes of a line before its first space, tab or `;` outside quotes.
+/// Returns the number of bytes of a source line before its first space, tab or `;` outside quotes, or of the whole line
+/// if it has none.
 #[inline(always)]
 fn word_end(line: &[u8]) -> usize
     ensures value { result ≡ part_length false line.now }
@@ -64,7 +65,8 @@ fn word_end(line: &[u8]) -> usize
     line.len()
 }
 
-/// A 1 for each byte that ends a word or begins or ends quotes: a space, a tab, a quote and a `;`.
+/// A table with a 1 for each byte that ends a word of a source line or that begins or ends quotes: tab, space, quote
+/// and `;`. All other bytes have a 0.
 #[rattlefmt::skip]
 const ENDS: [u8; 256] = [
     0, 0, 0, 0, 0, 0, 0, 0, 0, 1, 0, 0, 0, 0, 0, 0,
@@ -85,7 +87,8 @@ const ENDS: [u8; 256] = [
     0, 0, 0, 0, 0, 0, 0, 0, 0, 0, 0, 0, 0, 0, 0, 0,
 ];
 
-/// Returns whether a byte is an ordinary byte of a word: it neither ends the word nor begins or ends quotes.
+/// Returns whether a byte is an ordinary byte of a word: neither a space, a tab or a `;`, which end a word outside
+/// quotes, nor a quote.
 #[inline(always)]
 fn is_within(byte: u8) -> bool
     ensures { result ≡ not (is_blank byte || byte == 59 || byte == 34) }

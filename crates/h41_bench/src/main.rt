@@ -30,7 +30,8 @@ fn main(rt: HostRuntime) -> ExitCode {
     ExitCode::from(status)
 }
 
-/// Returns the words of the command line, of which the first is the program's name.
+/// Returns the words of the command line, of which the first is the program's name. The error says that allocation
+/// failed or that a word is not UTF-8.
 fn words_of(rt: &HostRuntime) -> io::Result<Vec<String>> {
     Ok(env::args(rt)?.collect(rt.alloc())?)
 }

@@ -6,7 +6,7 @@ ghost use Rattle.h41_breakpoints.specs.private.Tables.{IsWithBit};
 use std::alloc::{AllocError, Global};
 use std::marker::Model;
 
-/// The number of bits in each number of a table.
+/// The number of bits in each of the numbers that store a table: 64.
 const NUMBER_BITS: usize = 64;
 
 /// A table of `COUNT` bits, numbered from 0 on.
@@ -36,7 +36,7 @@ impl<const COUNT: usize> BitTable<COUNT> {
         Ok(BitTable { numbers })
     }
 
-    /// Returns the bit at a place, or `None` if `place` is not below `COUNT`.
+    /// Returns the bit with the number `place`, or `None` if `place` is not below `COUNT`.
     #[inline(always)]
     pub fn get(&self, place: usize) -> Option<bool>
         ensures { result ≡ slice_get self.now place }
@@ -48,7 +48,8 @@ impl<const COUNT: usize> BitTable<COUNT> {
         }
     }
 
-    /// Sets or clears the bit at a place. Does nothing if `place` is not below `COUNT`.
+    /// Sets the bit with the number `place` if `bit` is true, and clears it otherwise. Does nothing if `place` is not
+    /// below `COUNT`.
     pub fn set(&mut self, place: usize, bit: bool)
         ensures { self.new ≡ slice_set self.old place bit }
     {
@@ -59,7 +60,8 @@ impl<const COUNT: usize> BitTable<COUNT> {
     }
 }
 
-/// Returns the number with the bit at `place` set or cleared, and all other bits unchanged. Bit 0 is the lowest.
+/// Returns `number` with its bit `place` set if `bit` is true and cleared otherwise, and all other bits unchanged.
+/// `place` is 0, the lowest bit, to 63.
 fn with_bit(number: u64, place: usize, bit: bool) -> u64
     requires { place < 64 }
     ensures { IsWithBit number place bit result }

@@ -17,11 +17,11 @@ use std::marker::Model;
 /// The most breakpoints that can be set.
 const MOST: usize = 16;
 
-/// BreakFull (19): the breakpoint is not set, and 16 others are.
+/// The error of setting a breakpoint, BreakFull (19): it is not set, and 16 others are.
 #[derive(Clone, Copy, Debug, PartialEq, Eq)]
 pub struct BreakFull;
 
-/// NoBreak (20): the breakpoint is not set.
+/// The error of removing a breakpoint, NoBreak (20): it is not set.
 #[derive(Clone, Copy, Debug, PartialEq, Eq)]
 pub struct NoBreak;
 
@@ -29,7 +29,7 @@ pub struct NoBreak;
 #[derive(Drop)]
 pub struct Breakpoints {
     items: ArrayVec<Location, MOST>,
-    /// Which words and lines have a breakpoint, so that most steps need not search the list.
+    /// Which words and program lines have a breakpoint, so that `contains` rarely needs to search `items`.
     tables: Tables,
 }
 
@@ -115,7 +115,7 @@ impl Breakpoints {
     }
 }
 
-/// Returns whether a location is among these.
+/// Returns whether a location is among the locations in `set`.
 #[inline(never)]
 fn is_among(set: &[Location], location: Location) -> bool
     ensures { result ≡ list_any (is_same location) set.now }
@@ -123,7 +123,7 @@ fn is_among(set: &[Location], location: Location) -> bool
     set.iter().any(|each| location.is(*each))
 }
 
-/// Returns the index of the first of these that is this location, or `None` if there is none.
+/// Returns the index of the first location in `set` that is `location`, or `None` if there is none.
 fn index_among(set: &[Location], location: Location) -> Option<usize>
     ensures { result ≡ position (is_same location) set.now }
 {

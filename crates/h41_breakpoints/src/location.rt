@@ -18,14 +18,15 @@ pub enum Location {
 impl Default for Location {
     ghost is_default = { λ location. location ≡ Word 0 };
 
-    /// Returns the word at address 0.
+    /// Returns the location of the word at address 0000.
     fn default() -> Self {
         Location::Word(0)
     }
 }
 
 impl Location {
-    /// Returns whether the other location is the same.
+    /// Returns whether the other location is the same: both words at one address, or both program lines at one
+    /// position.
     pub(crate) fn is(self, other: Self) -> bool
         ensures { result ≡ is_same self other }
     {

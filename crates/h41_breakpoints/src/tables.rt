@@ -1,4 +1,4 @@
-//! Tables of bits that say which words and lines have a breakpoint.
+//! Tables of bits that record which words and program lines have a breakpoint.
 
 ghost use Rattle.std.specs.Prelude.{◌≡◌, [], IfOk};
 ghost use Rattle.h41_breakpoints.specs.private.Tables.{AreMarksOf, mark_at, with_mark};
@@ -9,14 +9,14 @@ use h41_positions::Position;
 use std::alloc::{AllocError, Global};
 use std::marker::Model;
 
-/// The number of addresses of words, and of positions in pages.
+/// The number of addresses of words, and of positions in pages: 0000 to FFFF.
 const ADDRESSES: usize = 65_536;
 
 /// The number of positions in program memory that have a bit: 0 to 9,999.
 const POSITIONS: usize = 10_000;
 
-/// Three tables of bits: one for each word's address, one for each of the first positions in program memory, and one for each position in a
-/// page.
+/// Three tables of bits that record where breakpoints are: one bit for each address of a word, one for each of the
+/// positions 0 to 9,999 in program memory, and one for each position in a page.
 #[derive(Drop)]
 pub struct Tables {
     words: BitTable<ADDRESSES>,
@@ -48,7 +48,8 @@ impl Tables {
         })
     }
 
-    /// Returns the bit of a location, or `None` if it has none: positions in program memory from 10,000 on have no bit.
+    /// Returns the bit of a location, which is set if the location has a breakpoint. `None` for a position in program
+    /// memory from 10,000 on, because it has no bit.
     #[inline(always)]
     pub fn get(&self, location: Location) -> Option<bool>
         ensures { result ≡ mark_at self.now location }
@@ -60,7 +61,8 @@ impl Tables {
         }
     }
 
-    /// Sets or clears the bit of a location. Does nothing if the location has none.
+    /// Sets or clears the bit of a location. Does nothing for a position in program memory from 10,000 on, because it
+    /// has no bit.
     pub fn set(&mut self, location: Location, bit: bool)
         ensures { self.new ≡ with_mark self.old location bit }
     {

@@ -1,4 +1,4 @@
-//! The shortest spelling of a line.
+//! The shortest spelling of a program line.
 ghost use Rattle.std.specs.Prelude.{◌≡◌};
 ghost use Rattle.h41_codes.specs.Canon.{canonical_line, shortest_function, shortest_branch};
 ghost use Rattle.h41_codes.specs.declared.line.Operand.TheVariants.{Direct};
@@ -7,14 +7,17 @@ use crate::functions::{Branch, ParameterFunction, RegisterFunction};
 use crate::line::{Line, Operand};
 use crate::numbers::{Distance, EndMarks, FinalMarks, Link, Parameter, ShortLabel, ShortRegister};
 
-/// The number of registers with a short spelling, 00 to 15; register 16 is the first without one.
+/// The number of registers, 00 to 15, for which `RCL` and `STO` have a spelling in one byte. Register 16 is the first
+/// without one.
 const SHORT_REGISTERS: u8 = 16;
 
-/// The number of labels with a short spelling, 00 to 14; label 15 is the first without one.
+/// The number of labels, 00 to 14, for which `LBL` has a spelling in one byte and `GTO` one in two bytes. Label 15 is
+/// the first without one.
 const SHORT_LABELS: u8 = 15;
 
-/// Returns the canonical line, which takes the fewest bytes of all lines that have the same canonical line. For example, `RCL 05` in two
-/// bytes becomes `RCL 05` in one. Distances, links, keys and the status bits of an END, which only the calculator uses, become 0.
+/// Returns the canonical line of a program line: the one that takes the fewest bytes of all lines with the same
+/// canonical line. For example, `RCL 05` in two bytes becomes `RCL 05` in one. Distances, links, keys and the status
+/// bits of an END, which only the calculator uses, become 0.
 pub fn canon(line: Line) -> Line
     ensures { result ≡ canonical_line line }
 {
@@ -29,7 +32,8 @@ pub fn canon(line: Line) -> Line
     }
 }
 
-/// Returns the shortest line of a function with a parameter.
+/// Returns the program line with the fewest bytes for a function with a parameter, direct or indirect. For example,
+/// `RCL 05` takes one byte, and `RCL 20` two.
 fn short_function(function: ParameterFunction, operand: Operand) -> Line
     ensures { result ≡ shortest_function function operand }
 {
@@ -39,7 +43,8 @@ fn short_function(function: ParameterFunction, operand: Operand) -> Line
     }
 }
 
-/// Returns the shortest line of a function with a direct parameter.
+/// Returns the program line with the fewest bytes for a function with a direct parameter: `RCL` and `STO` with
+/// registers 00 to 15, and `LBL` with labels 00 to 14, take one byte; all others two.
 fn short_direct(function: ParameterFunction, parameter: Parameter) -> Line
     ensures { result ≡ shortest_function function (Direct parameter) }
 {
@@ -58,7 +63,8 @@ fn short_direct(function: ParameterFunction, parameter: Parameter) -> Line
     }
 }
 
-/// Returns the shortest line of `GTO` or `XEQ` with a local label.
+/// Returns the program line with the fewest bytes for `GTO` or `XEQ` with a local label: `GTO` with labels 00 to 14
+/// takes two bytes; all others three. The distance becomes 0.
 fn short_branch(branch: Branch, label: Parameter) -> Line
     ensures { result ≡ shortest_branch branch label }
 {

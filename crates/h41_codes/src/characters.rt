@@ -8,10 +8,10 @@ ghost use Rattle.h41_codes.specs.declared.characters.Character.{Character as Sig
 
 use std::marker::Model;
 
-/// The most characters of a number.
+/// The greatest number of characters of a number entry: 16.
 pub const NUMBER_MOST: usize = 16;
 
-/// A text of at most `MOST` characters. Each character is a byte.
+/// A text of at most `MOST` characters, such as the name of a label. Each character is a byte.
 #[derive(Clone, Copy, Debug, PartialEq, Eq)]
 pub struct Text<const MOST: usize> {
     cells: [u8; MOST],
@@ -38,7 +38,7 @@ impl<const MOST: usize> Model for Text<MOST> {
 }
 
 impl<const MOST: usize> Text<MOST> {
-    /// Returns the text of these characters, or `None` if there are more than `MOST`.
+    /// Returns the text that consists of given characters, in their order, or `None` if there are more than `MOST`.
     pub fn new(characters: &[u8]) -> Option<Self>
         ensures fits { IsSome result ↔ (length characters.now ≤ MOST) }
         ensures value { IfSome result (λ text. text ≡ characters.now) }
@@ -50,7 +50,7 @@ impl<const MOST: usize> Text<MOST> {
         }
     }
 
-    /// Returns the text of these characters, of which there are at most `MOST`.
+    /// Returns the text that consists of given characters, in their order. There must be at most `MOST`.
     pub(crate) fn of(characters: &[u8]) -> Self
         requires { length characters.now ≤ MOST }
         ensures value { result ≡ characters.now }
@@ -66,7 +66,7 @@ impl<const MOST: usize> Text<MOST> {
         }
     }
 
-    /// Returns the characters of the text, at most `MOST`.
+    /// Returns the characters of the text, one byte each. There are at most `MOST`.
     pub fn characters(&self) -> &[u8]
         ensures value { result.now ≡ self.now }
         ensures bound { length self.now ≤ MOST }
@@ -76,7 +76,8 @@ impl<const MOST: usize> Text<MOST> {
     }
 }
 
-/// Returns the same characters. Its contract adds that the elements of a slice are bytes.
+/// Returns the given slice of bytes unchanged. Its contract adds that the elements of a slice of `u8` are bytes, which
+/// proofs need.
 fn bytes(characters: &[u8]) -> &[u8]
     ensures value { result.now ≡ characters.now }
     ensures bytes { IsBytes result.now }
@@ -84,7 +85,7 @@ fn bytes(characters: &[u8]) -> &[u8]
     characters
 }
 
-/// A character of a number.
+/// A character of a number entry: a digit, the radix mark, `E` or `-`.
 #[derive(Clone, Copy, Debug, PartialEq, Eq)]
 pub enum Character {
     /// The digit `0`.
@@ -118,21 +119,21 @@ pub enum Character {
 impl Character {
     ghost use Rattle.h41_codes.specs.NumberCharacters as spec;
 
-    /// Returns whether the character is the radix mark.
+    /// Returns whether a character of a number entry is `.`, the radix mark.
     pub fn is_point(self) -> bool
         ensures { result ≡ spec.is_point self }
     {
         matches!(self, Character::Point)
     }
 
-    /// Returns whether the character is the `E` before an exponent.
+    /// Returns whether a character of a number entry is `E`, which precedes the exponent.
     pub fn is_exponent(self) -> bool
         ensures { result ≡ spec.is_exponent self }
     {
         matches!(self, Character::Exponent)
     }
 
-    /// Returns whether the character is a minus sign.
+    /// Returns whether a character of a number entry is `-`, the sign of the mantissa or of the exponent.
     pub fn is_minus(self) -> bool
         ensures { result ≡ spec.is_minus self }
     {
@@ -140,7 +141,7 @@ impl Character {
     }
 }
 
-/// Returns the index of the first `E`, or the number of characters if there is none.
+/// Returns the index, from 0, of the first `E` in a number entry, or the number of its characters if there is no `E`.
 pub fn exponent_place(text: &[Character]) -> usize
     ensures place { result ≡ exponent_place text.now }
     ensures bound { result ≤ length text.now }
@@ -153,7 +154,7 @@ pub fn exponent_place(text: &[Character]) -> usize
     text.len()
 }
 
-/// A number as it is written: 1 to 16 characters, in any order.
+/// A number entry: 1 to 16 characters (digits, `.`, `E` and `-`), in any order.
 #[derive(Clone, Copy, Debug, PartialEq, Eq)]
 pub struct Number {
     cells: [Character; NUMBER_MOST],
@@ -184,7 +185,8 @@ impl Model for Number {
 }
 
 impl Number {
-    /// Returns the number of these characters, or `None` if there are none or more than 16.
+    /// Returns the number entry that consists of given characters, in their order, or `None` if there are no characters
+    /// or more than 16.
     pub fn new(characters: &[Character]) -> Option<Self>
         ensures fits { IsSome result ↔ FitsNumber characters.now }
         ensures value { IfSome result (λ number. number ≡ characters.now) }
@@ -196,7 +198,7 @@ impl Number {
         }
     }
 
-    /// Returns the number of these characters, of which there are 1 to 16.
+    /// Returns the number entry that consists of given characters, in their order. There must be 1 to 16.
     pub(crate) fn of(characters: &[Character]) -> Self
         requires low { 1 ≤ length characters.now }
         requires high { length characters.now ≤ number_most }
@@ -212,7 +214,7 @@ impl Number {
         }
     }
 
-    /// Returns the characters of the number, 1 to 16.
+    /// Returns the characters of the number entry, in their order. There are 1 to 16.
     pub fn characters(&self) -> &[Character]
         ensures value { result.now ≡ self.now }
         ensures low { 1 ≤ length self.now }

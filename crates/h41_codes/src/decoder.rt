@@ -1,4 +1,4 @@
-//! The decoder, which reads the line that bytes begin with.
+//! The decoder: reads the program line with which bytes begin.
 ghost use Rattle.std.specs.Prelude.{◌≡◌, ℕ, ◌+◌, ◌*◌, ◌<◌, ◌≤◌, ◌↔◌, ◌⊎◌, [], ◌∷◌, map, length};
 ghost use Rattle.std.specs.Prelude.{take, drop, slice_index, IfOk, OnErr, IfSome, IfNone, IsErr};
 ghost use Rattle.std.specs.Prelude.{IsTrue, Ok};
@@ -17,8 +17,8 @@ use crate::numbers::{EndMarks, FinalMarks, Link};
 use crate::short_lines::{short_branch, short_byte, short_pair};
 use crate::table::character;
 
-/// Returns the line that the bytes begin with, and the number of bytes that it takes. Other bytes may follow. A number takes as many
-/// characters as possible, at most 16. BrokenProgram (14) if the bytes begin with no line.
+/// Returns the program line with which the bytes begin, and the number of bytes that it takes. Other bytes may follow.
+/// A number takes as many characters as possible, at most 16. BrokenProgram (14) if the bytes begin with no line.
 #[inline(always)]
 pub fn decode(bytes: &[u8]) -> Result<(Line, usize), BrokenProgram>
     ensures line { AnswersLine result bytes.now }
@@ -27,7 +27,8 @@ pub fn decode(bytes: &[u8]) -> Result<(Line, usize), BrokenProgram>
     front(bytes)
 }
 
-/// Returns the line that the bytes begin with and its number of bytes. The first byte determines the kind of line.
+/// Returns the program line with which the bytes begin, and the number of bytes that it takes. The first byte
+/// determines the kind of line. BrokenProgram (14) if the bytes begin with no line.
 #[inline(always)]
 fn front(bytes: &[u8]) -> Result<(Line, usize), BrokenProgram>
     ensures line { IfOk result (λ found. Begins bytes.now found.0 found.1) }
@@ -49,8 +50,8 @@ fn front(bytes: &[u8]) -> Result<(Line, usize), BrokenProgram>
     }
 }
 
-/// Returns the line that this byte is on its own: the null, a short label, `RCL` or `STO` of a short register, or a function without an
-/// operand. `None` if the byte begins other lines, such as numbers, or no line.
+/// Returns the program line that a byte is on its own: the null, a label 00 to 14, `RCL` or `STO` of a register 00 to
+/// 15, or a function without an operand. `None` if the byte begins other lines, such as numbers, or no line.
 pub fn one_byte_line(byte: u8) -> Option<Line>
     ensures some { IfSome result (λ line. IsOneByte byte × Spells (byte ∷ []) line) }
     ensures none { IfNone result (IsOneByte byte → ⊥) }
@@ -61,7 +62,8 @@ pub fn one_byte_line(byte: u8) -> Option<Line>
     }
 }
 
-/// Returns whether this byte is a line on its own, as `one_byte_line` defines it, without building the line.
+/// Returns whether a byte is a program line on its own (the null, a label 00 to 14, `RCL` or `STO` of a register 00 to
+/// 15, or a function without an operand), without building the line.
 pub fn is_one_byte(byte: u8) -> bool
     ensures which { IsTrue result ↔ IsOneByte byte }
     ensures line { IsTrue result → IsAlone byte }
@@ -75,8 +77,8 @@ pub fn is_one_byte(byte: u8) -> bool
     }
 }
 
-/// Returns the line that these two bytes are: a function with an operand, `XROM`, `GTO IND`, `XEQ IND`, or `GTO 00` to `GTO 14`. `None` if
-/// the first byte begins other lines or none.
+/// Returns the program line that two bytes are: a function with an operand, `XROM`, `GTO IND`, `XEQ IND`, or `GTO 00`
+/// to `GTO 14`. `None` if the first byte begins lines of other lengths or none.
 #[inline(always)]
 pub fn two_byte_line(first: u8, second: u8) -> Option<Line>
     ensures some { IfSome result (λ line. IsTwoBytes first × Spells (first ∷ second ∷ []) line) }
@@ -88,7 +90,8 @@ pub fn two_byte_line(first: u8, second: u8) -> Option<Line>
     }
 }
 
-/// Returns the line of one byte.
+/// Returns the program line that is spelled by one byte: the null, a label 00 to 14, `RCL` or `STO` of a register 00 to
+/// 15, or a function without an operand.
 fn one_byte(first: u8) -> Line
     requires { IsOneByte first }
     ensures spelled { spelling result ≡ first ∷ [] }
@@ -100,7 +103,8 @@ fn one_byte(first: u8) -> Line
     short_byte(first).line()
 }
 
-/// Returns the line of two bytes that the bytes begin with.
+/// Returns the program line of two bytes, such as `ST+ 05`, with which the bytes begin, and its length of 2 bytes.
+/// BrokenProgram (14) if there is only one byte.
 fn pair(bytes: &[u8]) -> Result<(Line, usize), BrokenProgram>
     requires some { 0 < length bytes.now }
     requires first { IsTwoBytes (slice_index bytes.now 0) }
@@ -113,7 +117,8 @@ fn pair(bytes: &[u8]) -> Result<(Line, usize), BrokenProgram>
     Ok((two_bytes(bytes[0], bytes[1]), 2))
 }
 
-/// Returns the `GTO` or `XEQ` of three bytes that the bytes begin with.
+/// Returns the `GTO` or `XEQ` line of three bytes with which the bytes begin, and its length of 3 bytes. BrokenProgram
+/// (14) if there are fewer than three bytes.
 fn triple(bytes: &[u8]) -> Result<(Line, usize), BrokenProgram>
     requires some { 0 < length bytes.now }
     requires first { IsIn 0xD0 0xF0 (slice_index bytes.now 0) }
@@ -126,7 +131,8 @@ fn triple(bytes: &[u8]) -> Result<(Line, usize), BrokenProgram>
     Ok((short_branch(bytes[0], bytes[1], bytes[2]).line(), 3))
 }
 
-/// Returns the line of two bytes.
+/// Returns the program line that two bytes spell: a function with an operand, `XROM`, `GTO IND`, `XEQ IND`, or `GTO 00`
+/// to `GTO 14`.
 fn two_bytes(first: u8, second: u8) -> Line
     requires { IsTwoBytes first }
     ensures spelled { spelling result ≡ first ∷ second ∷ [] }
@@ -135,7 +141,8 @@ fn two_bytes(first: u8, second: u8) -> Line
     short_pair(first, second).line()
 }
 
-/// Returns the number that the bytes begin with, and how many characters it has.
+/// Returns the number entry with which the bytes begin, and how many characters, each a byte, it has: as many as
+/// possible, 1 to 16.
 #[inline(never)]
 fn number(bytes: &[u8]) -> (Line, usize)
     requires some { 0 < length bytes.now }
@@ -150,7 +157,7 @@ fn number(bytes: &[u8]) -> (Line, usize)
     (Line::Number(Number::of(&characters[..count])), count)
 }
 
-/// Returns how many characters of a number the bytes begin with, at most 16.
+/// Returns how many bytes at the start of `bytes` are characters of a number entry (10 to 1C, hexadecimal): at most 16.
 fn number_length(bytes: &[u8]) -> usize
     ensures most { result ≤ 16 }
     ensures inside { result ≤ length bytes.now }
@@ -165,7 +172,8 @@ fn number_length(bytes: &[u8]) -> usize
     bytes.len()
 }
 
-/// Returns the text that the bytes begin with: a byte F0 to FF, which counts the characters, and these. `None` if it is not complete.
+/// Returns the text with which the bytes begin: a byte F0 to FF (hexadecimal), whose low digit is the number of
+/// characters, and the characters. `None` if the first byte is not F0 to FF, or if characters are missing.
 fn text_at(bytes: &[u8]) -> Option<Text<15>>
     ensures text { IfSome result (λ text. take (1 + length text) bytes.now ≡ text_bytes text) }
     ensures inside { IfSome result (λ text. 1 + length text ≤ length bytes.now) }
@@ -183,7 +191,8 @@ fn text_at(bytes: &[u8]) -> Option<Text<15>>
     Some(Text::of(&bytes[1..end]))
 }
 
-/// Returns the `GTO`, `XEQ` or `W` with a name that the bytes begin with.
+/// Returns the `GTO`, `XEQ` or `W` line with a name with which the bytes begin, and the number of bytes that it takes.
+/// BrokenProgram (14) if the name is not complete.
 #[inline(never)]
 fn named(bytes: &[u8]) -> Result<(Line, usize), BrokenProgram>
     requires some { 0 < length bytes.now }
@@ -200,7 +209,8 @@ fn named(bytes: &[u8]) -> Result<(Line, usize), BrokenProgram>
     }
 }
 
-/// Returns what a line does with a name, by its first byte, 1D to 1F.
+/// Returns what a program line does with a name, by its first byte: `GTO` for 1D, `XEQ` for 1E, `W` for 1F
+/// (hexadecimal).
 fn name_function(first: u8) -> NameFunction
     requires { IsIn 0x1D 0x20 first }
     ensures { code.name_function_code result ≡ first }
@@ -212,7 +222,8 @@ fn name_function(first: u8) -> NameFunction
     }
 }
 
-/// Returns the text line that the bytes begin with.
+/// Returns the text line with which the bytes begin, and the number of bytes that it takes. BrokenProgram (14) if the
+/// text is not complete.
 #[inline(never)]
 fn text(bytes: &[u8]) -> Result<(Line, usize), BrokenProgram>
     requires some { 0 < length bytes.now }
@@ -229,7 +240,8 @@ fn text(bytes: &[u8]) -> Result<(Line, usize), BrokenProgram>
     }
 }
 
-/// Returns the global label, `END` or `.END.` that the bytes begin with.
+/// Returns the global label, `END` or `.END.` with which the bytes begin, and the number of bytes that it takes.
+/// BrokenProgram (14) if bytes are missing, or if the length of the label's name is not valid.
 #[inline(never)]
 fn linked(bytes: &[u8]) -> Result<(Line, usize), BrokenProgram>
     requires some { 0 < length bytes.now }
@@ -253,7 +265,8 @@ fn linked(bytes: &[u8]) -> Result<(Line, usize), BrokenProgram>
     Ok((Line::GlobalLabel(link, bytes[3], name), end))
 }
 
-/// Returns the `END` or `.END.` with this link and this third byte.
+/// Returns the `END` or `.END.` that a link and a third byte below F0 (hexadecimal) spell. Bit 5 of the third byte is
+/// clear for `END` and set for `.END.`; the other bits are the status bits.
 fn end(link: Link, third: u8) -> Line
     requires { third < 0xF0 }
     ensures spelled { spelling result ≡ link_high link ∷ link_low link ∷ third ∷ [] }

@@ -1,4 +1,4 @@
-//! The encoder, which writes the bytes of a line.
+//! The encoder: writes the bytes of a program line.
 ghost use Rattle.std.specs.Prelude.{◌≡◌, ◌+◌, ◌*◌, ◌<◌, ◌≤◌, ◌↔◌, [], ◌∷◌, ◌++◌, map, length, drop};
 ghost use Rattle.std.specs.Prelude.{IfOk, OnOk, OnErr, IsErr};
 ghost use Rattle.arrayvec.specs.ArrayVec.{array_vec_len};
@@ -20,14 +20,14 @@ use crate::table::{
 };
 use arrayvec::ArrayVec;
 
-/// The most bytes of a line. A label with a name of 14 characters has as many.
+/// The greatest number of bytes of a program line: 18, for a label with a name of 14 characters.
 pub const LINE_CAPACITY: usize = 18;
 
-/// The bytes of a line.
+/// A list of the bytes of a program line, at most 18.
 type Bytes = ArrayVec<u8, LINE_CAPACITY>;
 
-/// Writes the bytes of a line at the start of a slice, and returns how many there are. The rest of the slice is unchanged. BufferShort (40)
-/// if the line does not fit; the slice is then unchanged.
+/// Writes the bytes of a program line at the start of a slice, and returns the number of bytes, 1 to 18. The rest of
+/// the slice is unchanged. BufferShort (40) if the line does not fit; the slice is then unchanged.
 pub fn encode(line: Line, out: &mut [u8]) -> Result<usize, BufferShort>
     ensures length { IfOk result (λ count. count ≡ length (spelling line)) }
     ensures written { OnOk result (out.new ≡ written_over line out.old) }
@@ -43,7 +43,7 @@ pub fn encode(line: Line, out: &mut [u8]) -> Result<usize, BufferShort>
     Ok(count)
 }
 
-/// Returns the bytes of a line.
+/// Returns the bytes that spell a program line, 1 to 18.
 fn bytes_of(line: Line) -> Bytes
     ensures { result.items ≡ spelling line }
 {
@@ -78,7 +78,7 @@ fn bytes_of(line: Line) -> Bytes
     }
 }
 
-/// Returns the two bytes of an `XROM`.
+/// Returns the two bytes that spell an `XROM` line.
 fn module_bytes(number: ModuleNumber, entry: EntryNumber) -> Bytes
     ensures { result.items ≡ spelling (line.Module number entry) }
 {
@@ -86,7 +86,7 @@ fn module_bytes(number: ModuleNumber, entry: EntryNumber) -> Bytes
     two(0xA0 + bits / 4, bits % 4 * 64 + entry.number())
 }
 
-/// Returns the three bytes of a `GTO` or `XEQ`.
+/// Returns the three bytes that spell a `GTO` or `XEQ` line with a distance, a direction and a local label.
 fn branch_bytes(branch: Branch, distance: Distance, backwards: bool, label: Parameter) -> Bytes
     ensures { result.items ≡ spelling (line.BranchTo branch distance backwards label) }
 {
@@ -100,7 +100,7 @@ fn branch_bytes(branch: Branch, distance: Distance, backwards: bool, label: Para
     )
 }
 
-/// Returns one byte as a list.
+/// Returns the list that contains one given byte.
 fn one(byte: u8) -> Bytes
     ensures { result.items ≡ byte ∷ [] }
 {
@@ -109,7 +109,7 @@ fn one(byte: u8) -> Bytes
     bytes
 }
 
-/// Returns two bytes as a list.
+/// Returns the list that contains two given bytes.
 fn two(first: u8, second: u8) -> Bytes
     ensures { result.items ≡ first ∷ second ∷ [] }
 {
@@ -118,7 +118,7 @@ fn two(first: u8, second: u8) -> Bytes
     bytes
 }
 
-/// Returns three bytes as a list.
+/// Returns the list that contains three given bytes.
 fn three(first: u8, second: u8, third: u8) -> Bytes
     ensures { result.items ≡ first ∷ second ∷ third ∷ [] }
 {
@@ -127,7 +127,8 @@ fn three(first: u8, second: u8, third: u8) -> Bytes
     bytes
 }
 
-/// Appends the bytes of a text of at most 15 characters.
+/// Returns `front` with the bytes of a text of at most 15 characters appended: F0 (hexadecimal) plus the number of
+/// characters, then the characters. `front` has at most one byte.
 fn with_text(mut front: Bytes, text: &[u8]) -> Bytes
     requires front { length front.items ≤ 1 }
     requires text { length text.now ≤ 15 }
@@ -137,7 +138,7 @@ fn with_text(mut front: Bytes, text: &[u8]) -> Bytes
     with_all(front, text)
 }
 
-/// Appends bytes.
+/// Returns `front` with the bytes of `more` appended. They are at most 18 bytes together.
 fn with_all(mut front: Bytes, more: &[u8]) -> Bytes
     requires { length front.items + length more.now ≤ 18 }
     ensures { result.items ≡ front.items ++ more.now }
@@ -148,7 +149,7 @@ fn with_all(mut front: Bytes, more: &[u8]) -> Bytes
     front
 }
 
-/// Returns the bytes of a number of at most 16 characters.
+/// Returns the bytes that spell a number entry of at most 16 characters, one byte a character.
 fn number_bytes(characters: &[Character]) -> Bytes
     requires { length characters.now ≤ 16 }
     ensures { result.items ≡ map code.character_code characters.now }
@@ -160,7 +161,8 @@ fn number_bytes(characters: &[Character]) -> Bytes
     bytes
 }
 
-/// Returns the bytes of a label with a name of at most 14 characters.
+/// Returns the bytes that spell a global label with a name of at most 14 characters: the link, the length of the name,
+/// the assigned key and the name.
 fn global_label_bytes(link: u16, key: u8, name: &[u8]) -> Bytes
     requires link { link < link_count }
     requires name { length name.now ≤ 14 }
@@ -171,7 +173,7 @@ fn global_label_bytes(link: u16, key: u8, name: &[u8]) -> Bytes
     with_all(front, name)
 }
 
-/// Returns the two bytes of a link, and one more.
+/// Returns the two bytes that spell a link, 0 to 3583, followed by the byte `last`.
 fn link_bytes(link: u16, last: u8) -> Bytes
     requires { link < link_count }
     ensures { result.items ≡ link_high link ∷ link_low link ∷ last ∷ [] }
@@ -179,7 +181,7 @@ fn link_bytes(link: u16, last: u8) -> Bytes
     three(0xC0 + (link / 256) as u8, (link % 256) as u8, last)
 }
 
-/// Returns the byte of an operand.
+/// Returns the byte that encodes an operand: the parameter, with bit 7 set if it is indirect.
 fn operand_byte(operand: Operand) -> u8
     ensures { result ≡ grammar.operand_byte operand }
 {
@@ -189,7 +191,7 @@ fn operand_byte(operand: Operand) -> u8
     }
 }
 
-/// Returns the second byte of a `GTO IND` or `XEQ IND`, which contains the register.
+/// Returns the second byte of a `GTO IND` or `XEQ IND` line: the register, with bit 7 set for `XEQ IND`.
 fn indirect_byte(branch: Branch, register: Parameter) -> u8
     ensures { result ≡ grammar.indirect_byte branch register }
 {
@@ -199,7 +201,7 @@ fn indirect_byte(branch: Branch, register: Parameter) -> u8
     }
 }
 
-/// Returns the bits of the last byte of an `END` that contain its status bits, given as a number below 128.
+/// Returns the bits that encode the status bits of an `END`, 0 to 127, in its last byte: bits 7, 6 and 4 to 0.
 fn mark_bits(marks: u8) -> u8
     requires { marks < 128 }
     ensures value { result ≡ grammar.mark_bits marks }

@@ -27,51 +27,51 @@ pub enum Function {
     SubtractHours,
     /// `MOD`: the remainder of Y divided by X.
     Modulo,
-    /// `%`: X percent of Y.
+    /// `%`: X percent of Y, written to X.
     Percent,
-    /// `%CH`: the change from Y to X, in percent.
+    /// `%CH`: the change from Y to X in percent of Y.
     PercentChange,
-    /// `P-R`: polar to rectangular coordinates.
+    /// `P-R`: converts X and Y from polar to rectangular coordinates.
     PolarToRectangular,
-    /// `R-P`: rectangular to polar coordinates.
+    /// `R-P`: converts X and Y from rectangular to polar coordinates.
     RectangularToPolar,
-    /// `LN`: the natural logarithm.
+    /// `LN`: the natural logarithm of X.
     NaturalLogarithm,
-    /// `X^2`: the square.
+    /// `X^2`: the square of X.
     Square,
-    /// `SQRT`: the square root.
+    /// `SQRT`: the square root of X.
     SquareRoot,
     /// `Y^X`: Y to the power of X.
     Power,
     /// `CHS`: changes the sign of X.
     ChangeSign,
-    /// `E^X`: the natural exponential function.
+    /// `E^X`: e to the power of X.
     Exponential,
-    /// `LOG`: the common logarithm.
+    /// `LOG`: the common (base 10) logarithm of X.
     CommonLogarithm,
-    /// `10^X`: ten to the power of X.
+    /// `10^X`: 10 to the power of X.
     PowerOfTen,
-    /// `E^X-1`: the natural exponential function less 1.
+    /// `E^X-1`: e to the power of X, less 1.
     ExponentialLessOne,
-    /// `SIN`: the sine.
+    /// `SIN`: the sine of X.
     Sine,
-    /// `COS`: the cosine.
+    /// `COS`: the cosine of X.
     Cosine,
-    /// `TAN`: the tangent.
+    /// `TAN`: the tangent of X.
     Tangent,
-    /// `ASIN`: the arc sine.
+    /// `ASIN`: the arc sine of X.
     ArcSine,
-    /// `ACOS`: the arc cosine.
+    /// `ACOS`: the arc cosine of X.
     ArcCosine,
-    /// `ATAN`: the arc tangent.
+    /// `ATAN`: the arc tangent of X.
     ArcTangent,
-    /// `DEC`: octal to decimal.
+    /// `DEC`: converts X from octal to decimal.
     OctalToDecimal,
-    /// `1/X`: the reciprocal.
+    /// `1/X`: the reciprocal of X.
     Reciprocal,
-    /// `ABS`: the absolute value.
+    /// `ABS`: the absolute value of X.
     AbsoluteValue,
-    /// `FACT`: the factorial.
+    /// `FACT`: the factorial of X.
     Factorial,
     /// `X#0?`: tests whether X is not 0.
     TestXNotZero,
@@ -83,27 +83,27 @@ pub enum Function {
     TestXNegative,
     /// `X=0?`: tests whether X is 0.
     TestXZero,
-    /// `INT`: the integer part.
+    /// `INT`: the integer part of X.
     IntegerPart,
-    /// `FRC`: the fraction part.
+    /// `FRC`: the fraction part of X.
     FractionPart,
-    /// `D-R`: degrees to radians.
+    /// `D-R`: converts X from degrees to radians.
     DegreesToRadians,
-    /// `R-D`: radians to degrees.
+    /// `R-D`: converts X from radians to degrees.
     RadiansToDegrees,
-    /// `HMS`: decimal hours to hours, minutes and seconds.
+    /// `HMS`: converts X from decimal hours to hours, minutes and seconds.
     DecimalToHours,
-    /// `HR`: hours, minutes and seconds to decimal hours.
+    /// `HR`: converts X from hours, minutes and seconds to decimal hours.
     HoursToDecimal,
     /// `RND`: rounds X to the digits of the display.
     Round,
-    /// `OCT`: decimal to octal.
+    /// `OCT`: converts X from decimal to octal.
     DecimalToOctal,
     /// `CLS`: clears the statistics registers.
     ClearStatistics,
     /// `X<>Y`: exchanges X and Y.
     ExchangeXY,
-    /// `PI`: the number pi.
+    /// `PI`: enters the number pi in X.
     Pi,
     /// `CLST`: clears the stack.
     ClearStack,
@@ -111,7 +111,7 @@ pub enum Function {
     RollUp,
     /// `RDN`: rolls the stack down.
     RollDown,
-    /// `LASTX`: recalls LAST X.
+    /// `LASTX`: recalls the LAST X register to X.
     LastX,
     /// `CLX`: clears X.
     ClearX,
@@ -123,25 +123,25 @@ pub enum Function {
     Signum,
     /// `X<=0?`: tests whether X is at most 0.
     TestXAtMostZero,
-    /// `MEAN`: the means of the statistics.
+    /// `MEAN`: the means of the x and y values in the statistics registers.
     Mean,
-    /// `SDEV`: the standard deviations of the statistics.
+    /// `SDEV`: the standard deviations of the x and y values in the statistics registers.
     StandardDeviation,
     /// `AVIEW`: shows ALPHA.
     ViewAlpha,
     /// `CLD`: clears the display.
     ClearDisplay,
-    /// `DEG`: selects degrees.
+    /// `DEG`: selects degrees as the angular mode.
     Degrees,
-    /// `RAD`: selects radians.
+    /// `RAD`: selects radians as the angular mode.
     Radians,
-    /// `GRAD`: selects grads.
+    /// `GRAD`: selects grads as the angular mode.
     Grads,
     /// `ENTER^`: copies X to Y.
     Enter,
     /// `STOP`: stops the program.
     Stop,
-    /// `RTN`: returns from a program.
+    /// `RTN`: returns to the calling program, or stops if there is none.
     Return,
     /// `BEEP`: plays four tones.
     Beep,
@@ -165,10 +165,10 @@ pub enum Function {
     Advance,
 }
 
-/// A function with a parameter, direct or indirect.
+/// A function with a parameter, such as a register or a flag. The parameter may be direct or indirect.
 #[derive(Clone, Copy, Debug, PartialEq, Eq)]
 pub enum ParameterFunction {
-    /// `RCL`: recalls a register.
+    /// `RCL`: recalls the content of a register to X.
     Recall,
     /// `STO`: stores X in a register.
     Store,
@@ -180,17 +180,18 @@ pub enum ParameterFunction {
     StoreMultiply,
     /// `ST/`: divides a register by X.
     StoreDivide,
-    /// `ISG`: increments a loop counter, and skips a line if it is greater than its limit.
+    /// `ISG`: increments the loop counter in a register, and skips the next line if the counter is greater than its
+    /// limit.
     IncrementSkip,
-    /// `DSE`: decrements a loop counter, and skips a line if it is at most its limit.
+    /// `DSE`: decrements the loop counter in a register, and skips the next line if the counter is at most its limit.
     DecrementSkip,
-    /// `VIEW`: shows a register.
+    /// `VIEW`: shows the content of a register.
     View,
     /// `SREG`: selects the statistics registers.
     StatisticsRegisters,
     /// `ASTO`: stores characters of ALPHA in a register.
     StoreAlpha,
-    /// `ARCL`: appends a register to ALPHA.
+    /// `ARCL`: appends the content of a register to ALPHA.
     RecallAlpha,
     /// `FIX`: selects the fixed display format.
     Fixed,
@@ -214,20 +215,20 @@ pub enum ParameterFunction {
     TestClear,
     /// `X<>`: exchanges X with a register.
     Exchange,
-    /// `LBL`: a local label.
+    /// `LBL`: a local label, at which `GTO` and `XEQ` can continue.
     Label,
 }
 
-/// What a line with a label does: it continues at the label, or calls it.
+/// What a program line does with a local label: it continues there, or calls it.
 #[derive(Clone, Copy, Debug, PartialEq, Eq)]
 pub enum Branch {
-    /// `GTO`: continues at the label.
+    /// `GTO`: continues at the program line with the label.
     GoTo,
-    /// `XEQ`: calls the label, and adds a return address.
+    /// `XEQ`: calls the label: adds a return address and continues at the label.
     Execute,
 }
 
-/// What a line does with a name.
+/// What a program line does with a name.
 #[derive(Clone, Copy, Debug, PartialEq, Eq)]
 pub enum NameFunction {
     /// `GTO "NAME"`: continues at the label with this name.
@@ -238,11 +239,11 @@ pub enum NameFunction {
     Wordless,
 }
 
-/// A function with short spellings for the registers 00 to 15.
+/// A function that has spellings in one byte for the registers 00 to 15.
 #[derive(Clone, Copy, Debug, PartialEq, Eq)]
 pub enum RegisterFunction {
-    /// `RCL`: recalls a register.
+    /// `RCL`: recalls a register, 00 to 15.
     RecallRegister,
-    /// `STO`: stores X in a register.
+    /// `STO`: stores X in a register, 00 to 15.
     StoreRegister,
 }

@@ -25,7 +25,7 @@ impl Model for Parameter {
 }
 
 impl Parameter {
-    /// Returns the parameter with this number, 0 to 127.
+    /// Returns the parameter of a function with a number from 0 to 127.
     pub fn new(number: u8) -> Self
         requires { number < parameter_count }
         ensures { result ≡ number }
@@ -33,7 +33,7 @@ impl Parameter {
         Parameter { number }
     }
 
-    /// Returns the parameter's number, 0 to 127.
+    /// Returns the number, 0 to 127, of the parameter in the byte code.
     pub fn number(self) -> u8
         ensures value { result ≡ self }
         ensures bound { result < parameter_count }
@@ -42,7 +42,7 @@ impl Parameter {
     }
 }
 
-/// A label with a spelling in one byte, 0 to 14.
+/// A label, 00 to 14, for which `LBL` has a spelling in one byte.
 #[derive(Clone, Copy, Debug, PartialEq, Eq)]
 pub struct ShortLabel {
     number: u8,
@@ -59,7 +59,7 @@ impl Model for ShortLabel {
 }
 
 impl ShortLabel {
-    /// Returns the label with this number, 0 to 14.
+    /// Returns the label 00 to 14 (spelled in one byte) with a number from 0 to 14.
     pub fn new(number: u8) -> Self
         requires { number < short_label_count }
         ensures { result ≡ number }
@@ -67,7 +67,7 @@ impl ShortLabel {
         ShortLabel { number }
     }
 
-    /// Returns the label's number, 0 to 14.
+    /// Returns the number, 0 to 14, of a label that is spelled in one byte.
     pub fn number(self) -> u8
         ensures value { result ≡ self }
         ensures bound { result < short_label_count }
@@ -76,7 +76,7 @@ impl ShortLabel {
     }
 }
 
-/// A register with a spelling in one byte, 0 to 15.
+/// A register, 00 to 15, for which `RCL` and `STO` have a spelling in one byte.
 #[derive(Clone, Copy, Debug, PartialEq, Eq)]
 pub struct ShortRegister {
     number: u8,
@@ -93,7 +93,7 @@ impl Model for ShortRegister {
 }
 
 impl ShortRegister {
-    /// Returns the register with this number, 0 to 15.
+    /// Returns the register 00 to 15 (spelled in one byte with `RCL` or `STO`) with a number from 0 to 15.
     pub fn new(number: u8) -> Self
         requires { number < short_register_count }
         ensures { result ≡ number }
@@ -101,7 +101,7 @@ impl ShortRegister {
         ShortRegister { number }
     }
 
-    /// Returns the register's number, 0 to 15.
+    /// Returns the number, 0 to 15, of a register that is spelled in one byte with `RCL` or `STO`.
     pub fn number(self) -> u8
         ensures value { result ≡ self }
         ensures bound { result < short_register_count }
@@ -127,7 +127,7 @@ impl Model for ModuleNumber {
 }
 
 impl ModuleNumber {
-    /// Returns the module number, 0 to 31.
+    /// Returns the first number of an `XROM` line, the module's number, from a number from 0 to 31.
     pub fn new(number: u8) -> Self
         requires { number < module_count }
         ensures { result ≡ number }
@@ -135,7 +135,7 @@ impl ModuleNumber {
         ModuleNumber { number }
     }
 
-    /// Returns the module's number, 0 to 31.
+    /// Returns the first number of an `XROM` line, the module's number, 0 to 31.
     pub fn number(self) -> u8
         ensures value { result ≡ self }
         ensures bound { result < module_count }
@@ -161,7 +161,7 @@ impl Model for EntryNumber {
 }
 
 impl EntryNumber {
-    /// Returns the function number, 0 to 63.
+    /// Returns the second number of an `XROM` line, the function's number in its module, from a number from 0 to 63.
     pub fn new(number: u8) -> Self
         requires { number < entry_count }
         ensures { result ≡ number }
@@ -169,7 +169,7 @@ impl EntryNumber {
         EntryNumber { number }
     }
 
-    /// Returns the function's number, 0 to 63.
+    /// Returns the second number of an `XROM` line, the function's number in its module, 0 to 63.
     pub fn number(self) -> u8
         ensures value { result ≡ self }
         ensures bound { result < entry_count }
@@ -195,7 +195,7 @@ impl Model for Distance {
 }
 
 impl Distance {
-    /// Returns the distance with these bits, 0 to 4095.
+    /// Returns the distance of a branch to its label that twelve bits, 0 to 4095, encode.
     pub fn new(number: u16) -> Self
         requires { number < distance_count }
         ensures { result ≡ number }
@@ -203,7 +203,7 @@ impl Distance {
         Distance { number }
     }
 
-    /// Returns the distance's bits as a number, 0 to 4095.
+    /// Returns the twelve bits of the distance as a number, 0 to 4095.
     pub fn number(self) -> u16
         ensures value { result ≡ self }
         ensures bound { result < distance_count }
@@ -212,7 +212,8 @@ impl Distance {
     }
 }
 
-/// The link of a global label or `END` to the one before it, which the calculator writes. The crate stores it without using it.
+/// The link of a global label or `END` to the global label or `END` before it, which the calculator writes. The crate
+/// stores it without using it.
 #[derive(Clone, Copy, Debug, PartialEq, Eq)]
 pub struct Link {
     number: u16,
@@ -229,7 +230,7 @@ impl Model for Link {
 }
 
 impl Link {
-    /// Returns the link with these bits, 0 to 3583.
+    /// Returns the link of a global label or END that given bits, 0 to 3583, encode.
     pub fn new(number: u16) -> Self
         requires { number < link_count }
         ensures { result ≡ number }
@@ -237,7 +238,7 @@ impl Link {
         Link { number }
     }
 
-    /// Returns the link's bits as a number, 0 to 3583.
+    /// Returns the bits of the link as a number, 0 to 3583.
     pub fn number(self) -> u16
         ensures value { result ≡ self }
         ensures bound { result < link_count }
@@ -263,7 +264,7 @@ impl Model for EndMarks {
 }
 
 impl EndMarks {
-    /// Returns the status bits with this number, 0 to 127.
+    /// Returns the status bits of an `END` that are given as a number from 0 to 127.
     pub fn new(number: u8) -> Self
         requires { number < end_mark_count }
         ensures { result ≡ number }
@@ -271,7 +272,7 @@ impl EndMarks {
         EndMarks { number }
     }
 
-    /// Returns the status bits as a number, 0 to 127.
+    /// Returns the status bits of an `END` as a number, 0 to 127.
     pub fn number(self) -> u8
         ensures value { result ≡ self }
         ensures bound { result < end_mark_count }
@@ -298,7 +299,7 @@ impl Model for FinalMarks {
 }
 
 impl FinalMarks {
-    /// Returns the status bits with this number, 0 to 111.
+    /// Returns the status bits of `.END.` that are given as a number from 0 to 111.
     pub fn new(number: u8) -> Self
         requires { number < final_mark_count }
         ensures { result ≡ number }
@@ -306,7 +307,7 @@ impl FinalMarks {
         FinalMarks { number }
     }
 
-    /// Returns the status bits as a number, 0 to 111.
+    /// Returns the status bits of `.END.` as a number, 0 to 111.
     pub fn number(self) -> u8
         ensures value { result ≡ self }
         ensures bound { result < final_mark_count }

@@ -1,4 +1,4 @@
-//! Short lines: lines of one to three bytes that contain no characters.
+//! Program lines of one to three bytes that contain no characters.
 ghost use Rattle.std.specs.Prelude.{◌≡◌, ◌≢◌, ℕ, List, ◌∷◌, [], IfSome, IfNone};
 ghost use Rattle.h41_codes.specs.ByteGrammar.{operand_byte, spelling, Begins, IsLine};
 ghost use Rattle.h41_codes.specs.ByteGrammar as grammar;
@@ -10,30 +10,31 @@ use crate::line::{Line, Operand};
 use crate::numbers::{Distance, EntryNumber, ModuleNumber, Parameter, ShortLabel, ShortRegister};
 use crate::table::{function, parameter_function};
 
-/// A line of one to three bytes that is no null, number, text, global label, `END`, `.END.` or line with a name. It has the same parts as
-/// the `Line`, but no room for characters.
+/// A program line of one to three bytes that is no null, number, text, global label, `END`, `.END.` or line with a
+/// name. It has the same parts as the `Line`, but no room for characters.
 #[derive(Clone, Copy, Debug, PartialEq, Eq)]
 pub enum ShortLine {
-    /// `LBL 00` to `LBL 14` in one byte.
+    /// `LBL 00` to `LBL 14`, spelled in one byte.
     LocalLabel(ShortLabel),
-    /// `RCL 00` to `RCL 15` and `STO 00` to `STO 15` in one byte.
+    /// `RCL 00` to `RCL 15` and `STO 00` to `STO 15`, spelled in one byte.
     Register(RegisterFunction, ShortRegister),
     /// A function without a parameter, such as `SIN`.
     Plain(Function),
     /// A function with a parameter, such as `ST+ 05` or `FIX IND X`.
     WithOperand(ParameterFunction, Operand),
-    /// `XROM ii,jj`: a function of a module.
+    /// `XROM ii,jj`: function `jj` of the module with the number `ii`.
     Module(ModuleNumber, EntryNumber),
     /// `GTO IND` and `XEQ IND`, with the register that contains the label.
     BranchIndirect(Branch, Parameter),
-    /// `GTO 00` to `GTO 14` in two bytes. The second byte contains a distance.
+    /// `GTO 00` to `GTO 14`, spelled in two bytes. The second byte contains the distance to the label.
     ShortGoTo(ShortLabel, u8),
-    /// `GTO` and `XEQ` with a label in three bytes: the distance, whether it leads backwards, and the label.
+    /// `GTO` and `XEQ` with a label, spelled in three bytes: the distance to the label, whether the branch leads
+    /// backwards, and the label.
     BranchTo(Branch, Distance, bool, Parameter),
 }
 
 impl ShortLine {
-    /// Returns the short line as a `Line`.
+    /// Returns the `Line` with the same parts as this short program line.
     pub fn line(self) -> Line
         ensures { result ≡ line_of self }
     {
@@ -52,8 +53,9 @@ impl ShortLine {
     }
 }
 
-/// Returns the number of bytes, 1 to 3, of a short line that begins with this byte. `None` if the byte begins other lines or none. The
-/// kinds of lines that are most frequent in programs are tested first.
+/// Returns the number of bytes, 1 to 3, of a program line without characters that begins with a given byte. `None` if
+/// the byte begins other lines (null, number, text, global label, END, line with a name) or none. The kinds of lines
+/// that are most frequent in programs are tested first.
 #[inline(always)]
 pub fn short_size(first: u8) -> Option<u16>
     ensures some { IfSome result (IsShort first) }
@@ -71,7 +73,8 @@ pub fn short_size(first: u8) -> Option<u16>
     }
 }
 
-/// Returns the short line that these three bytes begin with. The first byte must begin a short line.
+/// Returns the program line of one to three bytes with which three given bytes begin. The first byte must begin a line
+/// without characters that is not the null; bytes that do not belong to the line are ignored.
 #[inline(always)]
 pub fn short_line(first: u8, second: u8, third: u8) -> ShortLine
     requires { (size : ℕ) × IsShort first size }
@@ -85,7 +88,8 @@ pub fn short_line(first: u8, second: u8, third: u8) -> ShortLine
     }
 }
 
-/// Returns the line of one byte, which is not the null.
+/// Returns the program line that is spelled by one byte, which is not the null: a label 00 to 14, `RCL` or `STO` of a
+/// register 00 to 15, or a function without an operand.
 #[inline(always)]
 pub(crate) fn short_byte(first: u8) -> ShortLine
     requires byte { IsOneByte first }
@@ -107,7 +111,8 @@ pub(crate) fn short_byte(first: u8) -> ShortLine
     }
 }
 
-/// Returns the line of two bytes.
+/// Returns the program line that is spelled by two bytes: a function with an operand, `XROM`, `GTO IND`, `XEQ IND`, or
+/// `GTO 00` to `GTO 14`.
 #[inline(always)]
 pub(crate) fn short_pair(first: u8, second: u8) -> ShortLine
     requires { IsTwoBytes first }
@@ -125,7 +130,8 @@ pub(crate) fn short_pair(first: u8, second: u8) -> ShortLine
     }
 }
 
-/// Returns the operand of a byte. Bit 7 is set if it is indirect.
+/// Returns the operand that the second byte of a line encodes. Bit 7 is set if the operand is indirect; the other bits
+/// are the parameter.
 #[inline(always)]
 fn operand(byte: u8) -> Operand
     ensures spelled { operand_byte result ≡ byte }
@@ -139,7 +145,8 @@ fn operand(byte: u8) -> Operand
     }
 }
 
-/// Returns the `GTO IND` or `XEQ IND` with this second byte. Bit 7 is set for `XEQ IND`.
+/// Returns the `GTO IND` or `XEQ IND` line with a given second byte. Bit 7 is set for `XEQ IND`; the other bits are the
+/// register.
 #[inline(always)]
 fn indirect_branch(second: u8) -> ShortLine
     ensures spelled { spelling (line_of result) ≡ 0xAE ∷ second ∷ [] }
@@ -154,7 +161,8 @@ fn indirect_branch(second: u8) -> ShortLine
     ShortLine::BranchIndirect(branch, register)
 }
 
-/// Returns the `GTO` or `XEQ` of three bytes.
+/// Returns the `GTO` or `XEQ` line that is spelled by three bytes. The first byte, D0 to EF (hexadecimal), determines
+/// which; the third has bit 7 set if the branch leads backwards.
 #[inline(always)]
 pub(crate) fn short_branch(first: u8, second: u8, third: u8) -> ShortLine
     requires { IsIn 0xD0 0xF0 first }

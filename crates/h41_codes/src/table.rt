@@ -1,4 +1,5 @@
-//! The codes of functions and characters. Each number is written once, in a list from which macros generate both directions.
+//! The byte codes of functions and of the characters of numbers. Each code is written once, in a list from which macros
+//! generate the translation in both directions.
 ghost use Rattle.std.specs.Prelude.{◌≡◌, ◌<◌, ◌≤◌, ◌⊎◌};
 ghost use Rattle.h41_codes.specs.Codes as spec;
 ghost use Rattle.h41_codes.specs.Heads.{IsParameterCode};
@@ -6,8 +7,8 @@ ghost use Rattle.h41_codes.specs.Heads.{IsParameterCode};
 use crate::characters::Character;
 use crate::functions::{Branch, Function, NameFunction, ParameterFunction, RegisterFunction};
 
-/// The functions whose line is a single byte, sixteen to a part. `$write` is the macro that generates one direction, and `$with` are its
-/// arguments.
+/// The functions whose program line is a single byte, each with its code, 40 to 8F (hexadecimal). A part of the list
+/// has 16 functions. `$write` is the macro that generates one direction, and `$with` its arguments.
 macro_rules! functions {
     ($write:ident $with:tt) => {
         $write! { $with Function
@@ -105,7 +106,7 @@ macro_rules! functions {
     };
 }
 
-/// The functions with a parameter.
+/// The functions with a parameter, each with its code, which is the first byte of the program line.
 macro_rules! parameter_functions {
     ($write:ident $with:tt) => {
         $write! { $with ParameterFunction
@@ -139,7 +140,7 @@ macro_rules! parameter_functions {
     };
 }
 
-/// The characters of numbers.
+/// The characters of number entries, each with its code, 10 to 1C (hexadecimal).
 macro_rules! characters {
     ($write:ident $with:tt) => {
         $write! { $with Character
@@ -173,7 +174,7 @@ macro_rules! name_beside {
     ($with:tt $kind:ident $other:ident $part:tt $($more:tt)*) => { name_beside!($with $kind $($more)*) };
 }
 
-/// Generates the match of `name_beside` for its part of the list.
+/// Generates the match from a code to its name for one part of a list. `name_beside` has selected this part.
 macro_rules! match_code {
     ($kind:ident { $($code:literal => $name:ident,)* } $value:expr) => {
         match $value {
@@ -192,7 +193,7 @@ macro_rules! code_beside {
     };
 }
 
-/// Returns the function with this code, 40 to 8F.
+/// Returns the one-byte function with a given code of HP's byte table, 40 to 8F (hexadecimal).
 pub(crate) fn function(code: u8) -> Function
     requires low { 0x40 ≤ code }
     requires high { code < 0x90 }
@@ -207,7 +208,7 @@ pub(crate) fn function(code: u8) -> Function
     }
 }
 
-/// Returns the function with this code, 40 to 4F.
+/// Returns the one-byte function with a given code of HP's byte table, 40 to 4F (hexadecimal).
 fn function_from_40(code: u8) -> Function
     requires low { 0x40 ≤ code }
     requires high { code ≤ 0x4F }
@@ -216,7 +217,7 @@ fn function_from_40(code: u8) -> Function
     functions!(name_beside (from_40 code))
 }
 
-/// Returns the function with this code, 50 to 5F.
+/// Returns the one-byte function with a given code of HP's byte table, 50 to 5F (hexadecimal).
 fn function_from_50(code: u8) -> Function
     requires low { 0x50 ≤ code }
     requires high { code ≤ 0x5F }
@@ -225,7 +226,7 @@ fn function_from_50(code: u8) -> Function
     functions!(name_beside (from_50 code))
 }
 
-/// Returns the function with this code, 60 to 6F.
+/// Returns the one-byte function with a given code of HP's byte table, 60 to 6F (hexadecimal).
 fn function_from_60(code: u8) -> Function
     requires low { 0x60 ≤ code }
     requires high { code ≤ 0x6F }
@@ -234,7 +235,7 @@ fn function_from_60(code: u8) -> Function
     functions!(name_beside (from_60 code))
 }
 
-/// Returns the function with this code, 70 to 7F.
+/// Returns the one-byte function with a given code of HP's byte table, 70 to 7F (hexadecimal).
 fn function_from_70(code: u8) -> Function
     requires low { 0x70 ≤ code }
     requires high { code ≤ 0x7F }
@@ -243,7 +244,7 @@ fn function_from_70(code: u8) -> Function
     functions!(name_beside (from_70 code))
 }
 
-/// Returns the function with this code, 80 to 8F.
+/// Returns the one-byte function with a given code of HP's byte table, 80 to 8F (hexadecimal).
 fn function_from_80(code: u8) -> Function
     requires low { 0x80 ≤ code }
     requires high { code ≤ 0x8F }
@@ -252,14 +253,14 @@ fn function_from_80(code: u8) -> Function
     functions!(name_beside (from_80 code))
 }
 
-/// Returns the code of a function, 40 to 8F.
+/// Returns the code of a one-byte function in HP's byte table, 40 to 8F (hexadecimal).
 pub(crate) fn function_code(function: Function) -> u8
     ensures { result ≡ spec.function_code function }
 {
     functions!(code_beside(function))
 }
 
-/// Returns the function with a parameter that has this code, 90 to 9F, A8 to AD, CE or CF.
+/// Returns the function with a parameter that has a given code: 90 to 9F, A8 to AD, CE or CF (hexadecimal).
 #[inline(always)]
 pub(crate) fn parameter_function(code: u8) -> ParameterFunction
     requires { IsParameterCode code }
@@ -268,14 +269,15 @@ pub(crate) fn parameter_function(code: u8) -> ParameterFunction
     parameter_functions!(name_beside (all code))
 }
 
-/// Returns the code of a function with a parameter.
+/// Returns the code of a function with a parameter, which is the first byte of its program line: 90 to 9F, A8 to AD, CE
+/// or CF (hexadecimal).
 pub(crate) fn parameter_function_code(function: ParameterFunction) -> u8
     ensures { result ≡ spec.parameter_function_code function }
 {
     parameter_functions!(code_beside(function))
 }
 
-/// Returns the character of a number with this code, 10 to 1C.
+/// Returns the character of a number entry with a given code, 10 to 1C (hexadecimal).
 pub(crate) fn character(code: u8) -> Character
     requires low { 0x10 ≤ code }
     requires high { code ≤ 0x1C }
@@ -284,14 +286,14 @@ pub(crate) fn character(code: u8) -> Character
     characters!(name_beside (all code))
 }
 
-/// Returns the code of a character of a number, 10 to 1C.
+/// Returns the code of a character of a number entry, 10 to 1C (hexadecimal).
 pub(crate) fn character_code(character: Character) -> u8
     ensures { result ≡ spec.character_code character }
 {
     characters!(code_beside(character))
 }
 
-/// Returns the code that precedes a name, 1D to 1F.
+/// Returns the first byte of a program line with a name: 1D for `GTO`, 1E for `XEQ`, 1F for `W` (hexadecimal).
 pub(crate) fn name_function_code(function: NameFunction) -> u8
     ensures { result ≡ spec.name_function_code function }
 {
@@ -302,7 +304,7 @@ pub(crate) fn name_function_code(function: NameFunction) -> u8
     }
 }
 
-/// Returns the code of `RCL 00` or `STO 00` in one byte.
+/// Returns the byte that spells `RCL 00` (20, hexadecimal) or `STO 00` (30). Registers 01 to 15 follow in order.
 pub(crate) fn register_function_code(function: RegisterFunction) -> u8
     ensures { result ≡ spec.register_function_code function }
 {
@@ -312,7 +314,8 @@ pub(crate) fn register_function_code(function: RegisterFunction) -> u8
     }
 }
 
-/// Returns the code of `GTO` or `XEQ` in three bytes, without a distance.
+/// Returns the first byte of a three-byte `GTO` (D0, hexadecimal) or `XEQ` (E0) line. Its low digit, here 0, is the
+/// high digit of the distance.
 pub(crate) fn branch_code(branch: Branch) -> u8
     ensures { result ≡ spec.branch_code branch }
 {

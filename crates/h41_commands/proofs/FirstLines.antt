@@ -87,7 +87,7 @@ unknown_by (Some own) plain e = cc
 unknown_by None (Some other) e = cc
 unknown_by None None e = (refl, refl)
 
-opening_words : (words : List (List ℕ)) (kind : BlockKind) → kind_by_words words ≡ Some (Named (Opening kind)) → is_opening words ≡ true
+pub opening_words : (words : List (List ℕ)) (kind : BlockKind) → kind_by_words words ≡ Some (Named (Opening kind)) → is_opening words ≡ true
 opening_words [] kind e = cc
 opening_words (name ∷ operands) kind e =
     let word : first_word name ≡ Opening kind = cc in
@@ -179,7 +179,7 @@ module _ (before after : Option (List ℕ)) (old new : InputLines) where
     spelled = fault_before why new.at_end (first.skipped ++ []) (nothing_still first.skipped first.nothing);
   }
 
-  spells : (kind : LineKind) (first : ReadsFirst {E = LineReadFault} (Ok (Some kind)) before after old new) → opens_block kind ≡ false
+  pub spells : (kind : LineKind) (first : ReadsFirst {E = LineReadFault} (Ok (Some kind)) before after old new) → opens_block kind ≡ false
       → Spell new.at_end (first.skipped ++ line_in new ∷ []) (line_spelled (line_in new) ∷ [])
   spells kind first shut =
       let line = line_in new in

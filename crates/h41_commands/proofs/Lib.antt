@@ -5,6 +5,7 @@ pub mod DeckItems
 pub mod EndLines
 pub mod Filling
 pub mod FirstLines
+pub mod HeardItems
 pub mod ItemLines
 pub mod KeptBytes
 pub mod KeyWords

@@ -1,5 +1,5 @@
-//! The block of a command. One type takes the lines of every kind of block one at a time, and one function decides whether
-//! they are refused.
+//! The block of a deck's command: the deck lines between the command's line and `end`. One type takes the lines of
+//! every kind of block one at a time, and one function decides whether they are refused.
 
 ghost use Rattle.std.specs.Prelude.{◌≡◌, ◌≤◌, IfOk, None, vec_len};
 ghost use Rattle.std.specs.Result.{result_err};
@@ -24,14 +24,14 @@ pub mod page_words;
 mod program_text;
 pub mod source_text;
 
-/// The lines that a command's block has taken so far. A command without a block has an empty one.
+/// The lines of a command's block that were taken so far. A command without a block has an empty one.
 #[derive(Debug, Drop)]
 pub struct Block {
     content: Content,
     has_long: bool,
 }
 
-/// The contents of a block's lines, by the kind of block.
+/// What the lines of a block that were taken so far contain, by the kind of block.
 #[derive(Debug, Drop)]
 enum Content {
     /// The command has no block.
@@ -62,14 +62,15 @@ impl Model for Block {
 }
 
 impl Block {
-    /// Returns an empty block for the lines after this command.
+    /// Returns an empty block for a command. It takes the deck lines after the command's line.
     pub fn new(alloc: Global, command: Command) -> Self
         ensures { IsNew (kind_of command) result }
     {
         Block::of_kind(alloc, command.block_kind())
     }
 
-    /// Returns an empty block of this kind.
+    /// Returns an empty block of the given kind. `None` is the kind of a command without a block; the contents of its
+    /// lines are ignored.
     pub(crate) fn of_kind(alloc: Global, kind: Option<BlockKind>) -> Self
         ensures { IsNew kind result }
     {
@@ -87,7 +88,7 @@ impl Block {
         }
     }
 
-    /// Takes one more line. If it has more than 200 bytes, the block is refused as LineTooLong (53).
+    /// Takes one more deck line of the block. If it has more than 200 bytes, the block is refused as LineTooLong (53).
     ///
     /// # Errors
     ///
@@ -110,7 +111,9 @@ impl Block {
         }
     }
 
-    /// Returns why the block's lines are refused, if they are. LineTooLong (53) is reported before any other error.
+    /// Returns the error for which the lines of the block are refused, or `None`: LineTooLong (53), before any other
+    /// error; BadNumber (51) or BadImage (04) for words, bytes and images. Sources and program texts are checked only
+    /// by `into_words` and `into_bytes`.
     pub fn refusal(&self) -> Option<LineRefusal>
         ensures { result ≡ result_err (judgement self.now) }
     {
@@ -123,8 +126,9 @@ impl Block {
         }
     }
 
-    /// Returns the words that the lines define for a page, 0 to 15, at most 4,096 of them, or why they define none: an
-    /// assembler error (30 to 35), or BadImage (04) if the source has more words than a page.
+    /// Returns the words that the lines of the block define for a page, 0 to 15, at most 4,096 of them, or the error
+    /// for which they define none: an assembler error (30 to 35), or BadImage (04) if the source has more words than a
+    /// page.
     ///
     /// # Errors
     ///
@@ -147,7 +151,8 @@ impl Block {
         }
     }
 
-    /// Returns the bytes of the program that the lines define, or BadText (41) if a line is not the text of a program line.
+    /// Returns the bytes of the program that the lines of the block define, or BadText (41) if a deck line of a
+    /// `program` block is not the text of a program line.
     ///
     /// # Errors
     ///

@@ -1,4 +1,4 @@
-//! The commands of a deck, as their first lines specify them.
+//! The commands of a deck, as their first deck lines specify them.
 
 ghost use Rattle.std.specs.Prelude.{◌≡◌};
 
@@ -9,16 +9,16 @@ pub mod keys;
 pub mod number;
 pub mod parse;
 
-/// What the block of a command defines.
+/// What the block of a command defines: the contents of a page, or a program.
 #[derive(Clone, Copy, Debug, PartialEq, Eq)]
 pub enum BlockKind {
-    /// The contents of a page.
+    /// The contents of a page, from `words`, `image` or `asm`.
     Page(PageKind),
-    /// A program.
+    /// A program, from `load` or `program`.
     Program(ProgramKind),
 }
 
-/// What the lines of a page's block contain.
+/// What the deck lines of a block contain that defines the contents of a page.
 #[derive(Clone, Copy, Debug, PartialEq, Eq)]
 pub enum PageKind {
     /// `words`: words of a page, of 1 to 3 hexadecimal digits each.
@@ -29,7 +29,7 @@ pub enum PageKind {
     Asm,
 }
 
-/// What the lines of a program's block contain.
+/// What the deck lines of a block contain that defines a program.
 #[derive(Clone, Copy, Debug, PartialEq, Eq)]
 pub enum ProgramKind {
     /// `load`: the bytes of a program, of 2 hexadecimal digits each.
@@ -41,7 +41,8 @@ pub enum ProgramKind {
 impl BlockKind {
     ghost use Rattle.h41_commands.specs.Commands.{kind_of_word};
 
-    /// Returns the kind of the block that a deck line opens, by its first word, or `None` if it opens none.
+    /// Returns the kind of the block that a deck line with this first word begins (`words`, `image`, `asm`, `load` or
+    /// `program`), or `None` for any other word.
     #[inline(always)]
     #[tactic(auto, unfolding(crate::specs::Commands::kind_of_word))]
     pub(crate) fn of_word(word: &[u8]) -> Option<Self>
@@ -58,21 +59,21 @@ impl BlockKind {
     }
 }
 
-/// What the first word of a deck line names.
+/// The kind of command that the first word of a deck line names.
 #[derive(Clone, Copy, Debug, PartialEq, Eq)]
 pub enum FirstWord {
-    /// A command with a block.
+    /// A command with a block: `words`, `image`, `asm`, `load` or `program`.
     Opening(BlockKind),
-    /// A command without a block.
+    /// A command without a block, such as `step`.
     Plain(PlainKind),
-    /// No command.
+    /// The word names no command: BadCommand (50).
     Unknown,
 }
 
 impl FirstWord {
     ghost use Rattle.h41_commands.specs.FirstLines.{first_word};
 
-    /// Returns what a word names as the first word of a deck line.
+    /// Returns the kind of command that a word names as the first word of a deck line.
     #[inline(always)]
     pub(crate) fn of_word(word: &[u8]) -> Self
         ensures { result ≡ first_word word.now }
@@ -87,14 +88,14 @@ impl FirstWord {
     }
 }
 
-/// The commands without a block, by their first word.
+/// The commands without a block, named by the first word of their deck line.
 #[derive(Clone, Copy, Debug, PartialEq, Eq)]
 pub enum PlainKind {
     /// `unplug`: unplugs a page.
     Unplug,
     /// `size`: sets the number of data registers.
     Size,
-    /// `reset`: restores the initial state.
+    /// `reset`: restores the initial state of the calculator, but keeps plugged pages and breakpoints.
     Reset,
     /// `call`: starts a function in microcode.
     Call,
@@ -108,9 +109,9 @@ pub enum PlainKind {
     Break,
     /// `unbreak`: removes a breakpoint.
     Unbreak,
-    /// `list`: prints a listing of words.
+    /// `list`: prints a listing of words of a page.
     List,
-    /// `show`: prints a view.
+    /// `show`: prints a part of the calculator's state, such as the stack.
     Show,
     /// `key`: presses keys.
     Key,
@@ -120,7 +121,8 @@ impl PlainKind {
     ghost use Rattle.std.specs.Prelude.{◌≤◌, length, IsSome};
     ghost use Rattle.h41_commands.specs.Commands.{plain_of_word};
 
-    /// Returns the command without a block that this word names, or `None` if it names none.
+    /// Returns the command without a block that a word names as the first word of a deck line, or `None` if it names
+    /// none.
     #[inline(always)]
     #[tactic(auto, unfolding(crate::specs::Commands::plain_of_word))]
     pub(crate) fn of_word(word: &[u8]) -> Option<Self>
@@ -145,7 +147,7 @@ impl PlainKind {
     }
 }
 
-/// What `show` prints.
+/// The part of the calculator's state that `show` prints.
 #[derive(Clone, Copy, Debug, PartialEq, Eq)]
 pub enum View {
     /// `cpu`: the registers and flags of the processor.
@@ -160,7 +162,7 @@ pub enum View {
     Alpha,
     /// `display`: the text of the display.
     Display,
-    /// `pos`: the mode, and where the calculator is.
+    /// `pos`: the mode, and the position of the calculator.
     Position,
     /// `lines`: the lines of program memory.
     Lines,
@@ -171,20 +173,20 @@ pub enum View {
     Functions,
 }
 
-/// A command of a deck.
+/// A command of a deck, with its operands.
 #[derive(Clone, Copy, Debug, PartialEq, Eq)]
 pub enum Command {
     /// `words P [bN] [rw]`, `image P [bN] [rw]` or `asm P [bN] [rw]`, with a block up to `end`: plugs the contents of the block
     /// into bank N of page P, 0 to 15; without `bN` into bank 1. With `rw` microcode may write to it. Pages 0 to 3, and banks
     /// other than 1 to 4, are refused only when the command is executed.
     Plug {
-        /// What the lines of the block contain.
+        /// What the deck lines of the block contain: words, an image or a source.
         kind: PageKind,
-        /// The page, 0 to 15.
+        /// The number of the page, 0 to 15, whose bank is plugged.
         page: u8,
-        /// The bank, 0 to 9.
+        /// The number of the bank, 0 to 9. The numbers 0 and 5 to 9 are refused only when the command is executed.
         bank: u8,
-        /// Whether microcode may write to it.
+        /// Whether microcode may write to the bank (`rw`).
         writable: bool,
     },
     /// `load` or `program`, with a block up to `end`: loads the program of the block after those in memory.
@@ -196,7 +198,7 @@ pub enum Command {
     Size(u16),
     /// `reset`: restores the initial state, but keeps plugged pages and breakpoints.
     Reset,
-    /// `call hhhh`: starts the function at an address.
+    /// `call hhhh`: starts the function in microcode at the address hhhh, four hexadecimal digits.
     Call(u16),
     /// `step [n]`: makes n single steps, 0 to 9,999,999; without n, one.
     Step(u32),
@@ -211,12 +213,12 @@ pub enum Command {
     Unbreak(Location),
     /// `list hhhh n`: prints the listing of n words, 1 to 4,096, of one page, from an address on.
     List {
-        /// The address of the first word.
+        /// The address, 0000 to FFFF, of the first word of the listing.
         address: u16,
-        /// The number of words, 1 to 4,096.
+        /// The number of words of the listing, 1 to 4,096.
         count: u16,
     },
-    /// `show WHAT`: prints a view.
+    /// `show WHAT`: prints a part of the calculator's state.
     Show(View),
     /// `key NAME ..`: presses 1 to 98 keys in turn.
     Key(PressedKeys),
@@ -225,7 +227,7 @@ pub enum Command {
 impl Command {
     ghost use Rattle.h41_commands.specs.Commands.{kind_of};
 
-    /// Returns the kind of the command's block, or `None` if it has no block.
+    /// Returns the kind of the command's block (page or program), or `None` if the command has no block.
     pub fn block_kind(self) -> Option<BlockKind>
         ensures { result ≡ kind_of self }
     {

@@ -6,7 +6,7 @@ ghost use Rattle.h41_commands.specs.declared.fault.ItemFault.TheVariants as item
 use h41_ends::LineReadFault;
 use std::alloc::AllocError;
 
-/// Why the next item of a deck was not read completely.
+/// Why the next command (or refused lines) of a deck could not be read completely.
 #[derive(Clone, Copy, Debug, PartialEq, Eq)]
 pub enum ItemFault {
     /// OutOfMemory (21): allocation failed.

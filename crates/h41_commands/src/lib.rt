@@ -1,4 +1,4 @@
-//! Reads the commands of a deck: what its lines specify, and what the lines of blocks contain. The
+//! Reads the commands of a deck: the commands that its lines specify, and the contents of the lines of blocks. The
 //! state of the calculator plays no part.
 #![tactic(auto)]
 

@@ -1,4 +1,4 @@
-//! Classifies a line before its words are read: too long, empty or a comment, or the end of a block.
+//! Classifies a deck line before its words are read: too long, empty or a comment, or the end of a block.
 
 ghost use Rattle.std.specs.List.{position};
 ghost use Rattle.std.specs.Prelude.{◌≡◌, ◌==◌, length};
@@ -9,22 +9,23 @@ ghost use Rattle.h41_commands.specs.FirstLines.{first_line, kind_by_words, told_
 use crate::commands::FirstWord;
 use h41_lines::words::{LineWords, is_blank, word_start};
 
-/// The most bytes of a line: 200.
+/// The greatest number of bytes of a deck line: 200. A longer line is refused as LineTooLong (53).
 const MOST_BYTES: usize = 200;
 
-/// What the first line of an item is.
+/// The kind of the first deck line of a command, before its operands are read.
 #[derive(Clone, Copy, Debug, PartialEq, Eq)]
 pub enum LineKind {
-    /// A line that is too long.
+    /// The line has more than 200 bytes: LineTooLong (53).
     Long,
-    /// A line with a first word, which names this.
+    /// The line has a first word, which names the given command.
     Named(FirstWord),
 }
 
 impl LineKind {
     ghost use Rattle.h41_commands.specs.FirstLines.{opens_block};
 
-    /// Returns whether the line opens a block.
+    /// Returns whether the deck line begins a block: whether its first word is `words`, `image`, `asm`, `load` or
+    /// `program`.
     #[inline(always)]
     pub fn opens_block(self) -> bool
         ensures { result ≡ opens_block self }
@@ -33,16 +34,17 @@ impl LineKind {
     }
 }
 
-/// The first line of an item, before its words are read.
+/// The first deck line of a command, before its operands are read.
 #[derive(Clone, Copy, Debug, PartialEq, Eq)]
 pub struct FirstLine {
-    /// What the line is.
+    /// Whether the line is too long, and otherwise the command that its first word names.
     pub kind: LineKind,
-    /// The number of bytes up to the end of its first word; 0 if the line is too long.
+    /// The number of bytes of the line up to the end of its first word; 0 if the line is too long.
     pub name_end: usize,
 }
 
-/// Classifies a line as the first line of an item. Returns `None` if it is empty or a comment.
+/// Returns the kind of a deck line that is the first of a command, and where its first word ends. Returns `None` if the
+/// line is empty or a comment (`#` in its first byte).
 #[inline(always)]
 pub(crate) fn first_line(line: &[u8]) -> Option<FirstLine>
     ensures { result ≡ first_line line.now }
@@ -59,7 +61,7 @@ pub(crate) fn first_line(line: &[u8]) -> Option<FirstLine>
     }
 }
 
-/// Classifies a line by its first word. Returns `None` if it has no word.
+/// Returns the kind of a deck line by its first word, and where this word ends. Returns `None` if the line has no word.
 #[inline(always)]
 fn named_line(line: &[u8]) -> Option<FirstLine>
     ensures { result ≡ told_by line.now (kind_by_words (words_of line.now)) }
@@ -74,7 +76,7 @@ fn named_line(line: &[u8]) -> Option<FirstLine>
     })
 }
 
-/// Returns the index of the first space or tab of a line, if it has one.
+/// Returns the index, in bytes from 0, of the first space or tab of a deck line, or `None` if it has none.
 #[inline(always)]
 fn word_end(line: &[u8]) -> Option<usize>
     ensures { result ≡ position is_blank line.now }
@@ -82,7 +84,7 @@ fn word_end(line: &[u8]) -> Option<usize>
     line.iter().position(|byte| is_blank(*byte))
 }
 
-/// Returns whether a line is too long: whether it has more than 200 bytes.
+/// Returns whether a deck line is too long: whether it has more than 200 bytes.
 #[inline(always)]
 pub fn is_long(line: &[u8]) -> bool
     ensures { result ≡ is_long line.now }
@@ -90,8 +92,7 @@ pub fn is_long(line: &[u8]) -> bool
     line.len() > MOST_BYTES
 }
 
-/// Returns whether a line is skipped, because it has no word or is a comment, whose first byte is
-/// `#`.
+/// Returns whether a deck line is skipped, because it has no word or is a comment (its first byte is `#`).
 #[inline(always)]
 pub fn is_skipped(line: &[u8]) -> bool
     ensures { result ≡ is_skipped line.now }
@@ -102,7 +103,7 @@ pub fn is_skipped(line: &[u8]) -> bool
     }
 }
 
-/// Returns whether a line has no word.
+/// Returns whether a deck line has no word: whether it is empty or has only spaces and tabs.
 #[inline(always)]
 fn is_blank_line(line: &[u8]) -> bool
     ensures { result ≡ (length (words_of line.now) == 0) }
@@ -110,7 +111,7 @@ fn is_blank_line(line: &[u8]) -> bool
     word_start(line).is_none()
 }
 
-/// Returns whether a line ends a block: whether its only word is `end` and it is not too long.
+/// Returns whether a deck line ends a block: whether its only word is `end` and it has at most 200 bytes.
 #[inline(always)]
 pub fn is_end(line: &[u8]) -> bool
     ensures { result ≡ is_end line.now }
@@ -122,7 +123,7 @@ pub fn is_end(line: &[u8]) -> bool
     }
 }
 
-/// Returns whether the only word of a line is `end`.
+/// Returns whether the only word of a deck line is `end`.
 fn is_only_end(line: &[u8]) -> bool
     ensures { result ≡ is_only_end (words_of line.now) }
 {

@@ -1,16 +1,17 @@
-//! Reads the items of a deck one at a time.
+//! Reads the items (commands with their blocks, or refused lines) of a deck one at a time.
 
 ghost use Rattle.std.specs.Prelude.{◌≡◌, ◌≢◌, ◌⊎◌, ◌≤◌, [], IfOk, OnOk, Err, Ok, true, false, None};
 ghost use Rattle.std.specs.Prelude.{length};
 ghost use Rattle.std.specs.Io.KnownBytes.{Keeps};
-ghost use Rattle.h41_ends.specs.InputLines.{IsCounted, IsStopped, IsTold, line_in, most_left};
+ghost use Rattle.h41_ends.specs.InputLines.{CountsOn, IsStopped, IsTold, line_in, most_left};
 ghost use Rattle.h41_lines.specs.Words.{words_of};
-ghost use Rattle.h41_commands.specs.private.BlockReading.{ReadsBlock, ReadsTaken};
+ghost use Rattle.h41_commands.specs.private.BlockReading.{HearsBlock, HearsTaken, ReadsBlock};
+ghost use Rattle.h41_commands.specs.private.BlockReading.{ReadsTaken};
 ghost use Rattle.h41_commands.specs.private.TakenBlocks.{HasTaken};
 ghost use Rattle.h41_commands.specs.private.Entries.{what_is_spelled};
 ghost use Rattle.h41_commands.specs.Commands.{command_of};
-ghost use Rattle.h41_commands.specs.private.ItemReading.{LeavesFewer, ReadsFirst, TellsFirst};
-ghost use Rattle.h41_commands.specs.private.ItemReading.{is_unended, kind_told};
+ghost use Rattle.h41_commands.specs.private.ItemReading.{HearsFirst, LeavesFewer, ReadsFirst};
+ghost use Rattle.h41_commands.specs.private.ItemReading.{TellsFirst, is_unended, kind_told};
 ghost use Rattle.h41_commands.specs.DeckLines.{longest_line};
 ghost use Rattle.h41_commands.specs.Items.{is_open, spelled_by};
 
@@ -21,28 +22,29 @@ use crate::fault::ItemFault;
 use crate::item::{GivenCommand, Item};
 use crate::line::{FirstLine, first_line, is_end};
 use crate::refusal::LineRefusal;
-use h41_ends::{InputLines, LineReadFault, Sink, Source};
+use h41_ends::{InputLines, LineReadFault, Sink, Talk};
 use std::alloc::Global;
 
-/// Reads up to the end of the first line of the next item, and returns what that line is and where its first word ends;
-/// `input.line()` then returns the line. Empty lines and comments are skipped. Returns `None` at the end of the deck. The writer
-/// is flushed before each read, unless it is flushed already.
+/// Reads up to the end of the first line of the next command, and returns the kind of that line and where its first
+/// word ends; `input.line()` then returns the line. Empty lines and comments are skipped. Returns `None` at the end of
+/// the deck. The writer is flushed before each read, unless it is flushed already.
 ///
 /// # Errors
 ///
 /// `ReadFault` (22) if a read fails, or the deck has more than 67,108,864 bytes; `WriteFault` (23) if the writer cannot be
 /// flushed.
 #[inline(always)]
-pub fn read_first_line<R: Source, W: Sink>(
+pub fn read_first_line<R: Talk<W>, W: Sink>(
     input: &mut InputLines,
     reader: &mut R,
     writer: &mut W,
 ) -> Result<Option<FirstLine>, LineReadFault>
     requires reader_clear { R.failed reader.old ≡ false }
     requires writer_clear { W.failed writer.old ≡ false }
-    requires counted { IsCounted input.old (R.given reader.old) }
     ensures line { ReadsFirst (kind_told result) (R.remaining reader.old) (R.remaining reader.new)
         input.old input.new }
+    ensures heard { HearsFirst (kind_told result) (R.reads reader.old) (R.reads reader.new)
+        (W.contents writer.old) input.old input.new }
     ensures first { IfOk result (TellsFirst (line_in input.new)) }
     ensures shorter { OnOk result (most_left input.new ≤ most_left input.old) }
     ensures fewer { IfOk result (LeavesFewer input.old input.new) }
@@ -55,7 +57,7 @@ pub fn read_first_line<R: Source, W: Sink>(
     ensures flushed { result ≡ Err LineReadFault.ReadFault → W.flushed writer.new ≡ true }
 
     ensures kept { Keeps (W.contents writer.old) (W.contents writer.new) }
-    ensures counted { IsCounted input.new (R.given reader.new) }
+    ensures counted { CountsOn input.old input.new (R.given reader.old) (R.given reader.new) }
     ensures reader { result ≢ Err LineReadFault.ReadFault → R.failed reader.new ≡ false }
     ensures writer { result ≢ Err LineReadFault.WriteFault → W.failed writer.new ≡ false }
     ensures write_fault { result ≡ Err LineReadFault.WriteFault → W.failed writer.new ≡ true }
@@ -68,14 +70,15 @@ pub fn read_first_line<R: Source, W: Sink>(
     Ok(None)
 }
 
-/// Reads the other lines of the item whose first line was read last and opens a block, and returns the item.
+/// Reads the remaining lines of a command whose first line was read last and begins a block, up to `end`, and returns
+/// the command with its block, or refuses the lines. NoEnd (52) is the reason if the deck ends before `end`.
 ///
 /// # Errors
 ///
 /// `OutOfMemory` (21) if allocation failed; `ReadFault` (22) if a read fails, or the deck has more than 67,108,864 bytes;
 /// `WriteFault` (23) if the writer cannot be flushed.
 #[inline(never)]
-pub fn read_block<R: Source, W: Sink>(
+pub fn read_block<R: Talk<W>, W: Sink>(
     alloc: Global,
     input: &mut InputLines,
     reader: &mut R,
@@ -83,10 +86,11 @@ pub fn read_block<R: Source, W: Sink>(
 ) -> Result<Item, ItemFault>
     requires reader_clear { R.failed reader.old ≡ false }
     requires writer_clear { W.failed writer.old ≡ false }
-    requires counted { IsCounted input.old (R.given reader.old) }
     requires line { length (line_in input.old) ≤ longest_line }
     ensures item { ReadsBlock result (command_of (words_of (line_in input.old)))
         (R.remaining reader.old) (R.remaining reader.new) input.old input.new }
+    ensures heard { HearsBlock result (command_of (words_of (line_in input.old)))
+        (R.reads reader.old) (R.reads reader.new) (W.contents writer.old) input.old input.new }
     ensures bound { OnOk result (most_left input.new ≤ most_left input.old) }
     ensures open { IfOk result (λ item. is_open (what_is_spelled item) ≡ true
         → input.new.at_end ≡ true) }
@@ -95,7 +99,7 @@ pub fn read_block<R: Source, W: Sink>(
         → (R.failed reader.new ≡ true) ⊎ (input.new.is_over ≡ true) }
     ensures flushed { result ≡ Err ItemFault.ReadFault → W.flushed writer.new ≡ true }
     ensures kept { Keeps (W.contents writer.old) (W.contents writer.new) }
-    ensures counted { IsCounted input.new (R.given reader.new) }
+    ensures counted { CountsOn input.old input.new (R.given reader.old) (R.given reader.new) }
     ensures reader { result ≢ Err ItemFault.ReadFault → R.failed reader.new ≡ false }
     ensures writer { result ≢ Err ItemFault.WriteFault → W.failed writer.new ≡ false }
     ensures write_fault { result ≡ Err ItemFault.WriteFault → W.failed writer.new ≡ true }
@@ -111,7 +115,8 @@ pub fn read_block<R: Source, W: Sink>(
     })
 }
 
-/// Returns the item of a single line of at most 200 bytes, without a block.
+/// Returns the command that a single deck line of at most 200 bytes specifies, with an empty block, or the reason why
+/// the line is refused: BadCommand (50) or BadNumber (51).
 pub fn line_item(alloc: Global, line: &[u8]) -> Item
     requires { length line.now ≤ longest_line }
     ensures item { what_is_spelled result ≡ spelled_by line.now [] }
@@ -127,8 +132,9 @@ pub fn line_item(alloc: Global, line: &[u8]) -> Item
     }
 }
 
-/// Reads the lines of a block up to its end and returns the block, or `None` if the input ends first.
-fn read_lines<R: Source, W: Sink>(
+/// Reads the deck lines of a block up to its `end` and returns the block, or `None` if the deck ends first. The errors
+/// are OutOfMemory (21), ReadFault (22) and WriteFault (23).
+fn read_lines<R: Talk<W>, W: Sink>(
     block: Block,
     input: &mut InputLines,
     reader: &mut R,
@@ -137,9 +143,10 @@ fn read_lines<R: Source, W: Sink>(
     requires empty { HasTaken block [] }
     requires reader_clear { R.failed reader.old ≡ false }
     requires writer_clear { W.failed writer.old ≡ false }
-    requires counted { IsCounted input.old (R.given reader.old) }
     ensures block { ReadsTaken result block.kind (R.remaining reader.old) (R.remaining reader.new)
         input.old input.new }
+    ensures heard { HearsTaken result block.kind (R.reads reader.old) (R.reads reader.new)
+        (W.contents writer.old) input.old input.new }
     ensures bound { OnOk result (most_left input.new ≤ most_left input.old) }
     ensures end { result ≡ Ok None → input.new.at_end ≡ true }
     ensures stopped { result ≡ Err ItemFault.ReadFault → IsStopped input.new }
@@ -147,7 +154,7 @@ fn read_lines<R: Source, W: Sink>(
         → (R.failed reader.new ≡ true) ⊎ (input.new.is_over ≡ true) }
     ensures flushed { result ≡ Err ItemFault.ReadFault → W.flushed writer.new ≡ true }
     ensures kept { Keeps (W.contents writer.old) (W.contents writer.new) }
-    ensures counted { IsCounted input.new (R.given reader.new) }
+    ensures counted { CountsOn input.old input.new (R.given reader.old) (R.given reader.new) }
     ensures reader { result ≢ Err ItemFault.ReadFault → R.failed reader.new ≡ false }
     ensures writer { result ≢ Err ItemFault.WriteFault → W.failed writer.new ≡ false }
     ensures write_fault { result ≡ Err ItemFault.WriteFault → W.failed writer.new ≡ true }

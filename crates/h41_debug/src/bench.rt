@@ -1,4 +1,4 @@
-//! The bench: the calculator, with breakpoints.
+//! The bench: a calculator with breakpoints, single steps and keys.
 
 ghost use Rattle.std.specs.Prelude.{◌≡◌, ◌≤◌, IfOk, OnErr, OnOk, is_err, is_ok};
 ghost use Rattle.std.specs.FinSet.{len};
@@ -70,7 +70,7 @@ impl<const REGS: usize> Bench<REGS> {
         })
     }
 
-    /// Returns the calculator, for reading.
+    /// Returns the calculator of the bench, for reading.
     pub fn calculator(&self) -> &Calculator<REGS>
         ensures state { result.now.state ≡ self.now.state.calculator }
         ensures cache { result.now.cache ≡ self.now.cache }
@@ -78,7 +78,7 @@ impl<const REGS: usize> Bench<REGS> {
         &self.calculator
     }
 
-    /// Returns the calculator, for calls that change it.
+    /// Returns the calculator of the bench, for calls that change it.
     pub fn calculator_mut(&mut self) -> &mut Calculator<REGS>
         ensures* writes_back { sem 𝓛 (LendsCalculator REGS.row self.entry result) }
         ensures value { result.now ≡ calculator_of self.old }
@@ -86,7 +86,8 @@ impl<const REGS: usize> Bench<REGS> {
         &mut self.calculator
     }
 
-    /// Returns where the calculator is: before the next word while a function runs, otherwise before the line at its position.
+    /// Returns the location of what is executed next: the address of the next word while a function in microcode runs,
+    /// otherwise the position of the next program line.
     pub fn location(&self) -> Location
         ensures { result ≡ location_of self.now.state.calculator }
     {
@@ -96,11 +97,14 @@ impl<const REGS: usize> Bench<REGS> {
         }
     }
 
-    /// Makes one single step.
+    /// Makes one single step: executes the next word while a function in microcode runs, otherwise the program line at
+    /// the position.
     ///
     /// # Errors
     ///
-    /// A word: 06 to 12. A line: MemoryLost (15), BrokenProgram (14) or NotInProfile (13). Nothing is changed then.
+    /// A word: UndefinedWord (06), WordNotInProfile (07), SystemRom (08), EmptyPage (09), PeripheralNotHeld (10),
+    /// Asleep (11) or ReadOnly (12). A line: MemoryLost (15), BrokenProgram (14) or NotInProfile (13). Nothing is
+    /// changed then.
     pub fn step(&mut self) -> Result<(), CalculatorRefusal>
         ensures refusal { RefusesStep self.old.state.calculator (result_err result) }
         ensures change { OnOk result (Step self.old.state.calculator self.new.state.calculator) }
@@ -117,8 +121,9 @@ impl<const REGS: usize> Bench<REGS> {
         Ok(())
     }
 
-    /// Executes one word while a function runs, as a single step, and returns whether the function still runs. It is inlined so
-    /// that the loop over words is compiled as one piece.
+    /// Executes the next word while a function in microcode runs, as a single step, and returns whether the function
+    /// still runs. `caller` is what continues when the function ends. The errors are those of `step` for a word;
+    /// nothing is changed then. It is inlined so that the loop over words is compiled as one piece.
     #[inline(always)]
     pub(crate) fn step_word(&mut self, caller: Caller) -> Result<bool, CalculatorRefusal>
         requires { self.old.state.calculator.mode ≡ Micro caller }
@@ -135,7 +140,8 @@ impl<const REGS: usize> Bench<REGS> {
         self.calculator.step_word(caller)
     }
 
-    /// Executes the line at the position, as a single step while no function runs.
+    /// Executes the program line at the position, as a single step while no function in microcode runs. The errors are
+    /// those of `step` for a line; nothing is changed then.
     #[inline(always)]
     pub(crate) fn step_line(&mut self) -> Result<(), CalculatorRefusal>
         ensures refusal { RefusesLine self.old.state.calculator (result_err result) }
@@ -150,7 +156,7 @@ impl<const REGS: usize> Bench<REGS> {
         self.calculator.step_line()
     }
 
-    /// Makes so many single steps, up to the first that is refused.
+    /// Makes `count` single steps, up to the first that is refused.
     ///
     /// # Errors
     ///
@@ -202,11 +208,11 @@ impl<const REGS: usize> Bench<REGS> {
         self.breakpoints.count()
     }
 
-    /// Sets a breakpoint. If it is set already, nothing changes.
+    /// Sets a breakpoint at a location. If it is set already, nothing changes.
     ///
     /// # Errors
     ///
-    /// BreakFull (19) if 16 others are set. Nothing is changed then.
+    /// BreakFull (19) if breakpoints are set at 16 other locations. Nothing is changed then.
     pub fn break_at(&mut self, location: Location) -> Result<(), BreakFull>
         ensures refusal { is_err result ≡ refuses_breakpoint self.old.state.breakpoints location }
         ensures change { OnOk result (self.new.state ≡ with_set location self.old.state) }
@@ -216,11 +222,11 @@ impl<const REGS: usize> Bench<REGS> {
         self.breakpoints.insert(location)
     }
 
-    /// Removes a breakpoint.
+    /// Removes the breakpoint at a location.
     ///
     /// # Errors
     ///
-    /// NoBreak (20) if it is not set. Nothing is changed then.
+    /// NoBreak (20) if no breakpoint is set there. Nothing is changed then.
     pub fn unbreak(&mut self, location: Location) -> Result<(), NoBreak>
         ensures refusal { is_err result ≡ lacks_breakpoint self.old.state.breakpoints location }
         ensures change { OnOk result (self.new.state ≡ without_set location self.old.state) }

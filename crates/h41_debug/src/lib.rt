@@ -1,5 +1,5 @@
-//! What a user can do with the calculator besides its own functions: single steps, keys in turn, runs up to a
-//! breakpoint, traces, and asking where it is.
+//! What a user can do with the calculator besides its own functions: single steps, keys that are pressed in turn, runs
+//! up to a breakpoint, traces, and asking where the calculator is.
 #![tactic(auto)]
 
 mod bench;

@@ -1,4 +1,4 @@
-//! Where the calculator is, as a text.
+//! Writes where the calculator is, as `show pos` prints it.
 
 ghost use Rattle.std.specs.Prelude.{◌≡◌, ◌≤◌, length};
 ghost use Rattle.h41_debug.specs.Positions as spec;
@@ -11,13 +11,14 @@ use h41_positions::Position;
 use h41_views::byte_digits;
 use h41_xrom::Mode;
 
-/// The most bytes of the text: a mode of at most 5, a space, and `P` with four digits.
+/// The most bytes of the text that `Bench::position` returns: a mode of at most 5, a space, and `P` with four digits.
 const CAPACITY: usize = 11;
 
 impl<const REGS: usize> Bench<REGS> {
-    /// Returns the mode and where the calculator is: `Micro` and the address of the next word while a function runs; otherwise
-    /// `Run` or `Idle`, and the position in program memory, or `P` and the address of the next line in a page. Addresses are
-    /// hexadecimal, positions in memory are decimal. For example `Run P6003`. The form is this project's choice.
+    /// Returns what the calculator is doing and where it is: `Micro` and the address of the next word while a function
+    /// in microcode runs; otherwise `Run` or `Idle`, and the index of the next line's byte in program memory, or `P`
+    /// and the address of the next line in a page. Addresses are hexadecimal, indices in memory are decimal. For
+    /// example `Run P6003`. The form is this project's choice.
     pub fn position(&self) -> ArrayString<CAPACITY>
         ensures { result.bytes ≡ spec.position_text self.now.state }
     {
@@ -29,7 +30,8 @@ impl<const REGS: usize> Bench<REGS> {
     }
 }
 
-/// Returns the name of a mode: `Idle`, `Run` or `Micro`.
+/// Returns the name of what the calculator is doing: `Idle`, `Run` (a program runs) or `Micro` (a function in microcode
+/// runs).
 fn mode_name(mode: Mode) -> &'static str
     ensures text { result.now ≡ spec.mode_name mode }
     ensures short { length result.now ≤ 5 }
@@ -41,8 +43,8 @@ fn mode_name(mode: Mode) -> &'static str
     }
 }
 
-/// Returns the digits of a location: those of an address, for a line of a page after `P`, or those of a position in program
-/// memory.
+/// Returns the text of a location: for a word its address as four hexadecimal digits, for a line in a page the same
+/// after `P`, and for a line in program memory the decimal index of its byte.
 fn location_digits(location: Location) -> ArrayString<5>
     ensures { result.bytes ≡ spec.location_digits location }
 {

@@ -1,4 +1,4 @@
-//! Runs: single steps up to a reason to stop.
+//! Makes runs, which are single steps up to a reason to stop.
 
 ghost use Rattle.std.specs.Prelude.{◌≡◌, ◌<◌, ◌≤◌, ◌+◌, false, true, if◌then◌else◌, nat_lt, None};
 ghost use Rattle.std.specs.FinSet.{len};
@@ -16,23 +16,24 @@ use h41_breakpoints::Location;
 use h41_xrom::laws::step_is_determined;
 use h41_xrom::{CalculatorRefusal, Caller, Mode};
 
-/// Why a run stops.
+/// Why a run of single steps stops.
 #[derive(Clone, Copy, Debug, PartialEq, Eq)]
 pub enum Stop {
-    /// Nothing runs.
+    /// Neither a program nor a function runs.
     Idle,
-    /// A breakpoint is set where the calculator is.
+    /// A breakpoint is set at the location of what would be executed next.
     Break,
-    /// As many steps were made as the limit permits.
+    /// As many single steps were made as the limit permits.
     Limit,
-    /// The next step is refused.
+    /// The next step is refused, for this reason.
     Refused(CalculatorRefusal),
 }
 
 impl<const REGS: usize> Bench<REGS> {
-    /// Makes single steps, at most `limit`, up to the first reason to stop. The reasons are tested in this order: nothing runs, a
-    /// breakpoint is set where the calculator is, `limit` steps were made, the next step is refused. Returns how many steps were
-    /// made, and the reason. A breakpoint where the run begins does not stop it. A refused step changes nothing.
+    /// Makes single steps, at most `limit`, up to the first reason to stop. Returns how many steps were made, and the
+    /// reason. The reasons are tested in this order: neither a program nor a function runs, a breakpoint is set at the
+    /// location of the next step, `limit` steps were made, the next step is refused. A breakpoint where the run begins
+    /// does not stop it. A refused step changes nothing.
     pub fn run(&mut self, limit: u32) -> (u32, Stop)
         ensures run { Run limit self.old.state self.new.state result.0 result.1 }
         ensures kept { KeepsAfterRun result.0 result.1 (calculator_of self.old)
@@ -47,8 +48,9 @@ impl<const REGS: usize> Bench<REGS> {
         self.advance(limit)
     }
 
-    /// Makes one single step in any state, and further ones up to the first reason to stop. If something runs, this is a run. All
-    /// single steps are made here.
+    /// Makes one single step in any state, and further ones, at most `limit` in all, up to the first reason to stop.
+    /// Returns how many steps were made, and the reason. If a program or a function runs at the start, the result is
+    /// that of `run`. All single steps are made here. `limit` is at least 1.
     pub(crate) fn advance(&mut self, limit: u32) -> (u32, Stop)
         requires some { 1 ≤ limit }
         ensures most { result.0 ≤ limit }
@@ -76,8 +78,9 @@ impl<const REGS: usize> Bench<REGS> {
         }
     }
 
-    /// Executes the next words of a function, or the next lines, if there is no reason to stop. Returns how many steps are made
-    /// then, and why the next one is refused, if it is.
+    /// Makes single steps of one kind, words or program lines, without testing for a reason to stop before the first.
+    /// `from` steps of at most `limit` were made before. If `watched` is false, no breakpoint may be set. Returns how
+    /// many steps are made then in all, and why the next one is refused, if it is.
     fn go_on(&mut self, from: u32, limit: u32, watched: bool) -> (u32, Option<CalculatorRefusal>)
         requires below { from < limit }
         requires clear { stop_behind (nat_lt 0 from) self.old.state ≡ None }
@@ -92,8 +95,9 @@ impl<const REGS: usize> Bench<REGS> {
         self.lines(from, limit, watched)
     }
 
-    /// Executes words while a function runs: up to the limit, to the end of the function, to a breakpoint, or to a word that is
-    /// refused. The machine code of words is in this loop only.
+    /// Executes words while a function in microcode runs: up to the limit, to the end of the function, to a breakpoint,
+    /// or to a word that is refused. `from` steps of at most `limit` were made before. Returns how many are made then
+    /// in all, and why the next one is refused, if it is. The machine code of words is in this loop only.
     #[inline(never)]
     fn words(
         &mut self,
@@ -129,7 +133,8 @@ impl<const REGS: usize> Bench<REGS> {
         (limit, None)
     }
 
-    /// Returns where the calculator is while a function runs, without testing its mode.
+    /// Returns the address of the next word as a location, while a function in microcode runs, without testing whether
+    /// one does.
     #[inline(always)]
     fn word_location(&self) -> Location
         requires { runs_function self.now.state.calculator.mode ≡ true }
@@ -138,8 +143,9 @@ impl<const REGS: usize> Bench<REGS> {
         Location::Word(self.calculator().cpu().pc())
     }
 
-    /// Executes lines while no function runs: up to the limit, to a line after which no program runs or a breakpoint is set, or
-    /// to a line that is refused.
+    /// Executes program lines while no function in microcode runs: up to the limit, to a line after which no program
+    /// runs or a breakpoint is set, or to a line that is refused. `from` steps of at most `limit` were made before.
+    /// Returns how many are made then in all, and why the next one is refused, if it is.
     #[inline(never)]
     fn lines(&mut self, from: u32, limit: u32, watched: bool) -> (u32, Option<CalculatorRefusal>)
         requires below { from < limit }
@@ -168,8 +174,8 @@ impl<const REGS: usize> Bench<REGS> {
         (limit, None)
     }
 
-    /// Returns why a run stops, apart from its limit: before its first step for no reason. Breakpoints are tested only if the run
-    /// is watched; otherwise none is set.
+    /// Returns why a run stops here, apart from its limit, or `None`. Before its first step (`behind` is false) a run
+    /// does not stop. Breakpoints are tested only if `watched`; otherwise none may be set.
     #[inline(always)]
     fn stop(&self, behind: bool, watched: bool) -> Option<Stop>
         requires { watched ≡ false → len self.now.state.breakpoints ≡ 0 }
@@ -184,7 +190,8 @@ impl<const REGS: usize> Bench<REGS> {
         }
     }
 
-    /// Returns why a run stops while something runs. Breakpoints are tested only if the run is watched; otherwise none is set.
+    /// Returns `Break` if a breakpoint is set at the location of what is executed next, otherwise `None`. Breakpoints
+    /// are tested only if `watched`; otherwise none may be set.
     #[inline(always)]
     fn stop_at_breakpoint(&self, watched: bool) -> Option<Stop>
         requires { watched ≡ false → len self.now.state.breakpoints ≡ 0 }
@@ -200,7 +207,8 @@ impl<const REGS: usize> Bench<REGS> {
     }
 }
 
-/// Returns after how many steps breakpoints are tested next: after one more if the run is watched, otherwise after the last.
+/// Returns after how many steps in all breakpoints are tested next: after one more than the `made` ones if `watched`,
+/// otherwise after the last, `limit`.
 #[inline(always)]
 fn next_look(made: u32, limit: u32, watched: bool) -> u32
     requires { made < limit }

@@ -15,18 +15,20 @@ use h41_text::write_line;
 use h41_words::{Word, length};
 use h41_xrom::Calculator;
 
-/// The most bytes of the text of an instruction or a line.
+/// The most bytes of the text of an instruction in microcode or of a program line.
 const NEXT: usize = 51;
 
-/// The most bytes that a trace prints for a step: a position of 11, a space, and what is executed next, at most 51.
+/// The most bytes that a trace prints for a step, without the line end: 11 for where the calculator is, a space, and at
+/// most 51 for what is executed next.
 pub const TRACE_CAPACITY: usize = 63;
 
-/// The text of an instruction or a line that cannot be read.
+/// The text that a trace prints for an instruction or a program line that cannot be read.
 const UNKNOWN: &str = "?";
 
 impl<const REGS: usize> Bench<REGS> {
-    /// Returns what a trace prints for the next step: where the calculator is, a space, and the text of the next instruction or
-    /// line. The text is `?` if the line, or a word of the instruction, cannot be read.
+    /// Returns what a trace prints for the next step, without the line end: where the calculator is, as
+    /// `Bench::position` returns it, a space, and the text of the next instruction or program line. This text is `?` if
+    /// the line, or a word of the instruction, cannot be read.
     pub fn trace_line(&self) -> ArrayString<TRACE_CAPACITY>
         ensures { TellsStep self.now.state result.bytes }
     {
@@ -38,7 +40,7 @@ impl<const REGS: usize> Bench<REGS> {
     }
 }
 
-/// Returns the text of the instruction or the line at a location.
+/// Returns the text of the instruction or the program line at a location, or `?` if it cannot be read.
 fn text_at<const REGS: usize>(
     calculator: &Calculator<REGS>,
     location: Location,
@@ -51,7 +53,8 @@ fn text_at<const REGS: usize>(
     }
 }
 
-/// Returns the text of the line at a position, `?` if it cannot be read.
+/// Returns the text of the program line at a position, or `?` if it cannot be read because memory is not sound
+/// (`Ram::is_sound`) or no line is there.
 fn line_text<const REGS: usize>(
     ram: &Ram<REGS>,
     pages: &Pages,
@@ -71,7 +74,7 @@ fn line_text<const REGS: usize>(
     text
 }
 
-/// Returns the text of the instruction at an address, `?` if it cannot be read.
+/// Returns the text of the instruction of one or two words at an address, or `?` if one of its words cannot be read.
 fn instruction_text(pages: &Pages, address: u16) -> ArrayString<NEXT>
     ensures { result.bytes ≡ spec.instruction_at pages.now address }
 {
@@ -87,7 +90,7 @@ fn instruction_text(pages: &Pages, address: u16) -> ArrayString<NEXT>
     text
 }
 
-/// Returns the text of an instruction of two words, `?` if the second cannot be read.
+/// Returns the text of an instruction of two words, or `?` if the second word could not be read.
 fn with_second(first: Word, second: Result<Word, FetchRefusal>) -> ArrayString<32>
     ensures { result.bytes ≡ spec.with_second first second }
 {

@@ -1,6 +1,6 @@
-//! The errors of operations.
+//! The errors of the arithmetic operations on decimals.
 
-/// The reason why an operation has no result.
+/// The reason why an arithmetic operation on decimals, for example a division, has no result.
 #[derive(Clone, Copy, Debug, PartialEq, Eq)]
 pub enum DecimalFault {
     /// The result does not exist: the divisor is zero, or the root is that of a negative number. The calculator shows DATA ERROR.

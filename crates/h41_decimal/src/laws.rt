@@ -15,23 +15,25 @@ pub fn units_are_injective()
     ensures { UnitsAreInjective }
 {}
 
-/// States that the nearest decimal of a fraction is determined.
+/// States that at most one result of rounding is right for an exact fraction, whose numerator and denominator are
+/// given: one decimal of ten digits, or one error.
 pub fn nearest_is_determined()
     ensures { NearestIsDetermined }
 {}
 
-/// States that the nearest decimal of a square root is determined.
+/// States that at most one result is right for the square root of a value: one decimal of ten digits, or one error.
 pub fn nearest_root_is_determined()
     ensures { NearestRootIsDetermined }
 {}
 
-/// States that the result of a division is determined, and so is its remainder.
+/// States that at most one result is right for the quotient of two numbers, and at most one for the remainder of their
+/// division (MOD).
 pub fn quotients_are_determined()
     ensures quotient { QuotientIsDetermined }
     ensures modulo { ModuloIsDetermined }
 {}
 
-/// States that the result of rounding a number to steps is determined.
+/// States that at most one result is right if a number is rounded to a multiple of a step, such as 0.01.
 pub fn steps_are_determined()
     ensures { StepsAreDetermined }
 {}
@@ -41,19 +43,21 @@ pub fn decimal_is_its_nearest()
     ensures { DecimalIsItsNearest }
 {}
 
-/// States that the number of whole ones of a size is determined, and so are the integer part and the fraction of a number.
+/// States that a number has only one integer part, only one fraction, and that its absolute value has only one integer
+/// part as a whole number.
 pub fn parts_are_determined()
     ensures ones { OnesAreDetermined }
     ensures integer { IntegerPartIsDetermined }
     ensures fraction { FractionIsDetermined }
 {}
 
-/// States that a typed number is determined.
+/// States that at most one number is right for a typed sign, digits, count of digits after the radix mark, and
+/// exponent.
 pub fn typed_is_determined()
     ensures { TypedIsDetermined }
 {}
 
-/// States that a number has only one register.
+/// States that a number is encoded by only one content of a 14-digit register.
 pub fn register_is_determined()
     ensures { RegisterIsDetermined }
 {}

@@ -1,4 +1,4 @@
-//! The remainder of a division to a whole number.
+//! The remainder that is left if the quotient of two decimals is rounded down to a whole number, as MOD returns it.
 
 ghost use Rattle.std.specs.Prelude.{◌≡◌, ◌+◌, ◌*◌, ◌%◌, ◌^◌, ◌<◌, ◌≤◌};
 ghost use Rattle.h41_decimal.specs.Signs.{with_sign, opposite_of};
@@ -12,10 +12,12 @@ use crate::sign::Sign;
 use crate::sizes;
 use crate::ten::Ten;
 
-/// The greatest power of ten by which a number of ten digits is multiplied in one step.
+/// The greatest power of ten by which a remainder of up to ten digits is multiplied at once, so that the product fits
+/// 64 bits.
 const AT_ONCE: u32 = 9;
 
-/// Returns the rounded remainder of dividing a size with a sign by another; it has the sign of the divisor.
+/// Returns y - x * floor(y / x), rounded to ten digits. The numbers y and x are given by their magnitudes and signs.
+/// The result is zero or has the sign of x.
 pub fn modulo(y_sign: Sign, y: Magnitude, x_sign: Sign, x: Magnitude) -> Result<Ten, DecimalFault>
     ensures { RoundsRest (with_sign y_sign (size y)) (with_sign x_sign (size x)) result }
 {
@@ -26,7 +28,8 @@ pub fn modulo(y_sign: Sign, y: Magnitude, x_sign: Sign, x: Magnitude) -> Result<
     }
 }
 
-/// Returns the rounded remainder if both have the same sign: it is the remainder of the sizes.
+/// Returns y - x * floor(y / x), rounded to ten digits, for a dividend y and a divisor x that both have the sign
+/// `sign`. It is the remainder of the two magnitudes, with this sign.
 fn rest_same(sign: Sign, y: Magnitude, x: Magnitude) -> Result<Ten, DecimalFault>
     ensures { RoundsRest (with_sign sign (size y)) (with_sign sign (size x)) result }
 {
@@ -40,8 +43,8 @@ fn rest_same(sign: Sign, y: Magnitude, x: Magnitude) -> Result<Ten, DecimalFault
     round_whole(sign, rest, x.steps() + UNIT_SCALE)
 }
 
-/// Returns the rounded remainder if the divisor has this sign and the dividend the other: it is the divisor minus the remainder of
-/// the sizes, or zero if that is zero.
+/// Returns y - x * floor(y / x), rounded to ten digits, for a divisor x with the sign `sign` and a dividend y with the
+/// other sign. It is x minus the remainder of the two magnitudes, or zero if that remainder is zero.
 fn rest_apart(sign: Sign, y: Magnitude, x: Magnitude) -> Result<Ten, DecimalFault>
     ensures { RoundsRest (with_sign (opposite_of sign) (size y)) (with_sign sign (size x)) result }
 {
@@ -55,7 +58,8 @@ fn rest_apart(sign: Sign, y: Magnitude, x: Magnitude) -> Result<Ten, DecimalFaul
     round_whole(sign, x.mantissa.digits - rest, x.steps() + UNIT_SCALE)
 }
 
-/// Returns the remainder of a number times a power of ten by a divisor of at most ten digits.
+/// Returns the remainder of `number` * 10^`power` divided by `divisor`, which must be greater than zero and have at
+/// most ten digits.
 fn remainder(number: u64, power: u32, divisor: u64) -> u64
     requires some { 0 < divisor }
     requires divisor { divisor < 10 ^ 10 }

@@ -12,7 +12,7 @@ pub struct Mantissa {
     pub ghost below: { digits < 10 ^ 10 },
 }
 
-/// An exponent: a power of ten from -99 to 99.
+/// The exponent of a decimal, -99 to 99: the power of ten of its first digit.
 #[derive(Clone, Copy, Debug, PartialEq, Eq)]
 pub struct Exponent {
     /// The exponent plus 99, 0 to 198.
@@ -21,7 +21,7 @@ pub struct Exponent {
 }
 
 impl Exponent {
-    /// Returns the exponent, -99 to 99.
+    /// Returns the exponent as a signed number, -99 to 99.
     pub fn power(self) -> i16
         ensures { result ≡ pos self.biased -ℤ pos 99 }
     {
@@ -29,17 +29,17 @@ impl Exponent {
     }
 }
 
-/// A size greater than zero: ten digits and an exponent.
+/// The absolute value of a decimal that is not zero: ten digits and an exponent.
 #[derive(Clone, Copy, Debug, PartialEq, Eq)]
 pub struct Magnitude {
-    /// The digits.
+    /// The ten digits, of which the first is not zero.
     pub mantissa: Mantissa,
-    /// The exponent.
+    /// The exponent, -99 to 99, which is the power of ten of the first digit.
     pub exponent: Exponent,
 }
 
 impl Magnitude {
-    /// Returns the exponent plus 99, 0 to 198.
+    /// Returns the exponent of the magnitude plus 99, 0 to 198.
     pub fn steps(self) -> u32
         ensures { result ≡ self.exponent.biased }
     {

@@ -1,4 +1,5 @@
-//! Numbers in registers of 14 digits: the sign is in place 13, the mantissa in places 12 to 3, the exponent in places 2 to 0.
+//! Numbers in registers of 14 digits, of which digit 0 is the rightmost: the sign is digit 13, the mantissa digits 12
+//! to 3, the exponent digits 2 to 0.
 
 ghost use Rattle.std.specs.Prelude.{◌≡◌, ℕ, ◌+◌, ◌*◌, ◌^◌, ◌<◌, ◌≤◌, IfSome, Some, None};
 ghost use Rattle.std.specs.Prelude.{slice_index};
@@ -15,16 +16,17 @@ use crate::sign::Sign;
 use crate::ten::Ten;
 use h41_digits::Reg;
 
-/// The lower four bits of each of five bytes.
+/// A mask of the lower four bits of each of the five lowest bytes.
 const LOW_HALVES: u64 = 0x0F_0F0F_0F0F;
 
-/// A six in each of five bytes. Adding it makes a digit above 9 reach 16.
+/// The number 6 in each of the five lowest bytes. If it is added to a decimal digit in each byte, a digit above 9 sets
+/// bit 4.
 const SIXES: u64 = 0x06_0606_0606;
 
-/// A sixteen in each of five bytes.
+/// The number 16 in each of the five lowest bytes: a mask of the carries that adding 6 to each byte causes.
 const SIXTEENS: u64 = 0x10_1010_1010;
 
-/// The two decimal digits of each number below 100, in four bits each.
+/// For each number from 0 to 99, its two decimal digits in four bits each (BCD).
 const PACKED_PAIRS: [u8; 100] = [
     0x00, 0x01, 0x02, 0x03, 0x04, 0x05, 0x06, 0x07, 0x08, 0x09, 0x10, 0x11, 0x12, 0x13, 0x14, 0x15,
     0x16, 0x17, 0x18, 0x19, 0x20, 0x21, 0x22, 0x23, 0x24, 0x25, 0x26, 0x27, 0x28, 0x29, 0x30, 0x31,
@@ -35,7 +37,8 @@ const PACKED_PAIRS: [u8; 100] = [
     0x96, 0x97, 0x98, 0x99,
 ];
 
-/// The number that the two decimal digits of each byte form, or 255 if one of them is above 9.
+/// For each byte, the number that its two digits of four bits form in decimal (BCD), or 255 if one of the digits is
+/// above 9.
 const UNPACKED_PAIRS: [u8; 256] = [
     0, 1, 2, 3, 4, 5, 6, 7, 8, 9, 255, 255, 255, 255, 255, 255, 10, 11, 12, 13, 14, 15, 16, 17, 18,
     19, 255, 255, 255, 255, 255, 255, 20, 21, 22, 23, 24, 25, 26, 27, 28, 29, 255, 255, 255, 255,
@@ -52,7 +55,8 @@ const UNPACKED_PAIRS: [u8; 256] = [
     255, 255, 255, 255, 255, 255,
 ];
 
-/// Returns the number in a register, or `None` if there is none. Zero is a register of zeros; no other mantissa begins with zero.
+/// Returns the number in a register, or `None` if the register contains no number. Zero is a register of zeros; no
+/// other number has a mantissa that begins with zero.
 #[inline(always)]
 pub fn read(register: Reg) -> Option<Ten>
     ensures { option_map units result ≡ worth (holding_of register) }
@@ -71,7 +75,8 @@ pub fn read(register: Reg) -> Option<Ten>
     Some(Ten::Nonzero(sign, Magnitude { mantissa, exponent }))
 }
 
-/// Returns the number that the ten digits of a register's mantissa form, or `None` if one of them is above 9.
+/// Returns the number that the digits 12 to 3 of a register, its mantissa, form in decimal, or `None` if one of them is
+/// above 9.
 #[inline(always)]
 fn mantissa_digits(register: Reg) -> Option<u64>
     ensures value { result ≡ decimal_in register 3 10 }
@@ -80,7 +85,7 @@ fn mantissa_digits(register: Reg) -> Option<u64>
     unpacked(register.number(3, 12))
 }
 
-/// Returns the number that ten decimal digits in four bits each form, or `None` if one of them is above 9.
+/// Returns the number that ten digits of four bits each form in decimal (BCD), or `None` if one of them is above 9.
 #[inline(always)]
 fn unpacked(digits: u64) -> Option<u64>
     requires { digits < 16 ^ 10 }
@@ -94,7 +99,8 @@ fn unpacked(digits: u64) -> Option<u64>
     Some(hundreds(low + 10 * high))
 }
 
-/// Returns the number in base 100 whose five digits are bytes. The lowest digit is in the lowest byte.
+/// Returns the number whose five digits in base 100 are the five lowest bytes of `bytes`. The lowest digit is in the
+/// lowest byte.
 #[inline(always)]
 fn hundreds(bytes: u64) -> u64
     requires { bytes < 256 ^ 5 }
@@ -105,7 +111,7 @@ fn hundreds(bytes: u64) -> u64
     low + 10_000 * middle + 100_000_000 * (bytes / 0x1_0000_0000)
 }
 
-/// Returns the sign that a digit encodes, or `None` for any other digit.
+/// Returns the sign that digit 13 of a register encodes: 0 is plus, 9 is minus; `None` for any other digit.
 #[inline(always)]
 fn sign_of(digit: u8) -> Option<Sign>
     ensures { result ≡ sign_in digit }
@@ -117,7 +123,8 @@ fn sign_of(digit: u8) -> Option<Sign>
     }
 }
 
-/// Returns the exponent, plus 99, that the last three digits encode, or `None` if they encode none.
+/// Returns the exponent, plus 99, that the digits 2 to 0 of a register encode, or `None` if they encode none. 000 to
+/// 099 are 0 to 99; 901 to 999 are -99 to -1.
 #[inline(always)]
 fn steps(register: Reg) -> Option<u32>
     ensures value { result ≡ steps_told (decimal_in register 0 3) }
@@ -131,7 +138,8 @@ fn steps(register: Reg) -> Option<u32>
     }
 }
 
-/// Returns the number that the two decimal digits of a byte form, or `None` if one of them is above 9.
+/// Returns the number that the two digits of four bits in a byte form in decimal (BCD), or `None` if one of them is
+/// above 9.
 #[inline(always)]
 fn unpacked_pair(byte: u8) -> Option<u8>
     ensures value { result ≡ decimal_of 2 byte }
@@ -141,7 +149,7 @@ fn unpacked_pair(byte: u8) -> Option<u8>
     if number < 100 { Some(number) } else { None }
 }
 
-/// Returns the register that contains a number.
+/// Returns the register content that encodes a number: zeros for zero, otherwise its sign, mantissa and exponent.
 #[inline(always)]
 pub fn write(number: Ten) -> Reg
     ensures { holding_of result ≡ Number (units number) }
@@ -152,7 +160,7 @@ pub fn write(number: Ten) -> Reg
     }
 }
 
-/// Returns the register that contains a size with a sign.
+/// Returns the register content that encodes a magnitude with a sign.
 #[inline(always)]
 fn write_size(sign: Sign, x: Magnitude) -> Reg
     ensures { holding_of result ≡ Number (with_sign sign (size x)) }
@@ -162,7 +170,7 @@ fn write_size(sign: Sign, x: Magnitude) -> Reg
     with_mantissa.with_number(0, 2, packed_exponent(x.exponent))
 }
 
-/// Returns the ten decimal digits of a number in four bits each, the lowest digit in the lowest bits.
+/// Returns the ten decimal digits of a number below 10^10 in four bits each (BCD), the lowest digit in the lowest bits.
 fn packed_ten(number: u64) -> u64
     requires { number < 10 ^ 10 }
     ensures digits { result ≡ word_of_digits 10 number }
@@ -173,7 +181,8 @@ fn packed_ten(number: u64) -> u64
     low + 0x1_0000 * middle + 0x1_0000_0000 * packed_pair(number / 100_000_000)
 }
 
-/// Returns the four decimal digits of a number in four bits each, the lowest digit in the lowest bits.
+/// Returns the four decimal digits of a number below 10,000 in four bits each (BCD), the lowest digit in the lowest
+/// bits.
 fn packed_four(number: u64) -> u64
     requires { number < 10 ^ 4 }
     ensures digits { result ≡ word_of_digits 4 number }
@@ -182,7 +191,7 @@ fn packed_four(number: u64) -> u64
     packed_pair(number % 100) + 0x100 * packed_pair(number / 100)
 }
 
-/// Returns the two decimal digits of a number in four bits each, the lower digit in the lower bits.
+/// Returns the two decimal digits of a number below 100 in four bits each (BCD), the lower digit in the lower bits.
 fn packed_pair(number: u64) -> u64
     requires { number < 10 ^ 2 }
     ensures digits { result ≡ word_of_digits 2 number }
@@ -191,7 +200,7 @@ fn packed_pair(number: u64) -> u64
     u64::from(PACKED_PAIRS[number as usize])
 }
 
-/// Returns the digit that encodes a sign: 0 for plus, 9 for minus.
+/// Returns the digit that encodes a sign in a register: 0 for plus, 9 for minus.
 fn sign_digit(sign: Sign) -> u8
     ensures sign { sign_in result ≡ Some sign }
     ensures digit { result < 16 }
@@ -202,7 +211,8 @@ fn sign_digit(sign: Sign) -> u8
     }
 }
 
-/// Returns the three digits of an exponent in four bits each. For a negative exponent, they are those of 1000 minus its size.
+/// Returns the three digits of a register that encode an exponent, in four bits each (BCD). For a negative exponent
+/// they are those of 1000 plus the exponent, for example 999 for -1.
 fn packed_exponent(exponent: Exponent) -> u64
     ensures digits { (digits : ℕ) × (steps_in digits ≡ Some exponent.biased) × (digits < 10 ^ 3)
         × (result ≡ word_of_digits 3 digits) }

@@ -1,4 +1,4 @@
-//! The rounding that all operations share.
+//! Rounds exact results to ten digits, halves away from zero, for all operations.
 
 ghost use Rattle.std.specs.Prelude.{◌≡◌, ℕ, ◌+◌, ◌-◌, ◌*◌, ◌/◌, ◌^◌, ◌<◌, ◌≤◌, pos};
 ghost use Rattle.h41_decimal.specs.NearestDecimal.{IsBounded};
@@ -9,7 +9,8 @@ use crate::parts::{Exponent, Magnitude, Mantissa};
 use crate::sign::Sign;
 use crate::ten::Ten;
 
-/// The scale of one unit. Scales count powers of ten, so that those below one unit can be counted, too.
+/// The scale of 10^-108. The scale of a digit is the power of ten that it counts, plus 236, so that smaller powers than
+/// -108 have a scale, too. A 1 in the tenth digit of a number with exponent -99 is 10^-108.
 pub const UNIT_SCALE: u32 = 128;
 
 /// Returns ten to a power from 0 to 19.
@@ -43,7 +44,8 @@ pub fn power_of_ten(power: u32) -> u64
     }
 }
 
-/// Returns a number without its last digits; the number of these is 0 to 10. It divides by constants, because that is faster.
+/// Returns `number` without its last `digits` decimal digits, which can be 0 to 10. It divides by constants, because
+/// that is faster.
 #[inline(always)]
 pub fn without_last(number: u64, digits: u32) -> u64
     requires { digits ≤ 10 }
@@ -65,7 +67,7 @@ pub fn without_last(number: u64, digits: u32) -> u64
     }
 }
 
-/// Returns the number of decimal digits of a number greater than zero, 1 to 20.
+/// Returns how many decimal digits a number greater than zero has, 1 to 20.
 pub fn digit_count(number: u64) -> u32
     requires { 0 < number }
     ensures least { 10 ^ result ≤ 10 * number }
@@ -75,7 +77,8 @@ pub fn digit_count(number: u64) -> u32
     number.ilog10() + 1
 }
 
-/// Returns the decimal of ten digits, the last of which is at a scale: an error if its exponent is above 99, zero if below -99.
+/// Returns the decimal with this sign and these ten digits, the last of which counts 10^(`scale` - 236). It is `Range`
+/// if the decimal's exponent is above 99, and zero if it is below -99.
 #[inline(always)]
 fn bounded(sign: Sign, mantissa: Mantissa, scale: u32) -> Result<Ten, DecimalFault>
     ensures low { scale < 128 → result ≡ Ok Ten.Zero }
@@ -92,7 +95,9 @@ fn bounded(sign: Sign, mantissa: Mantissa, scale: u32) -> Result<Ten, DecimalFau
     Ok(Ten::Nonzero(sign, Magnitude { mantissa, exponent }))
 }
 
-/// Returns the nearest decimal of a size that was cut to eleven digits at a scale.
+/// Returns the decimal nearest to an exact magnitude, with this sign. `whole` is the magnitude's first eleven digits,
+/// the last of which counts 10^(`scale` - 236); the digits after them are cut off. Halves are rounded away from zero.
+/// The only error is `Range`.
 #[inline(always)]
 fn round_eleven_digits(sign: Sign, whole: u64, scale: u32) -> Result<Ten, DecimalFault>
     requires at_least { 10 ^ 10 ≤ whole }
@@ -109,8 +114,9 @@ fn round_eleven_digits(sign: Sign, whole: u64, scale: u32) -> Result<Ten, Decima
     }
 }
 
-/// Returns the nearest decimal of a size greater than zero that was cut to a whole number at a scale. If that number has fewer than
-/// eleven digits, the size must be exactly this number.
+/// Returns the decimal nearest to an exact magnitude greater than zero, with this sign. `whole` is the magnitude in
+/// steps of 10^(`scale` - 236), rounded down. If `whole` has fewer than eleven digits, the magnitude must be exactly
+/// that many steps. Halves are rounded away from zero. The only error is `Range`.
 #[inline(always)]
 pub fn round_whole(sign: Sign, whole: u64, scale: u32) -> Result<Ten, DecimalFault>
     requires positive { 0 < whole }

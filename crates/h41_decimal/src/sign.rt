@@ -13,7 +13,7 @@ pub enum Sign {
 }
 
 impl Sign {
-    /// Returns the other sign.
+    /// Returns the other sign: minus for plus, and plus for minus.
     pub fn opposite(self) -> Self
         ensures { result ≡ opposite_of self }
     {
@@ -23,7 +23,8 @@ impl Sign {
         }
     }
 
-    /// Returns the sign of a product or a quotient of numbers with these signs.
+    /// Returns the sign of a product or a quotient of numbers with these two signs: plus if they are equal, otherwise
+    /// minus.
     pub fn times(self, other: Self) -> Self
         ensures { result ≡ product_of self other }
     {

@@ -1,4 +1,4 @@
-//! Operations on sizes, which are decimals without a sign.
+//! Operations on magnitudes, which are decimals without a sign.
 
 ghost use Rattle.std.specs.Prelude.{◌≡◌, ◌+◌, ◌*◌, ◌/◌, ◌^◌, ◌<◌, ◌≤◌, pos, ◌-ℤ◌};
 ghost use Rattle.std.specs.Ordering.{int_cmp};
@@ -15,11 +15,11 @@ use crate::sign::Sign;
 use crate::ten::Ten;
 use std::cmp::Ordering;
 
-/// The number of places after the last one of the greater of two sizes that are used in a sum or a difference. From the digits of
-/// the smaller size after these, only whether they are all zero matters.
+/// The number of decimal places after the last digit of the larger magnitude that a sum or a difference uses. Of the
+/// smaller magnitude's digits after these places, it only matters whether they are all zero.
 const COUNTED: u32 = 8;
 
-/// Returns the product of two sizes, rounded, with a sign.
+/// Returns the product of two magnitudes, rounded to ten digits, with the sign `sign`. The only error is `Range`.
 #[inline(always)]
 pub fn multiply(sign: Sign, x: Magnitude, y: Magnitude) -> Result<Ten, DecimalFault>
     ensures { IsRounded sign (Fraction (size x * size y) one) result }
@@ -27,14 +27,16 @@ pub fn multiply(sign: Sign, x: Magnitude, y: Magnitude) -> Result<Ten, DecimalFa
     round_whole(sign, product_cut(x, y), x.steps() + y.steps() + 25)
 }
 
-/// Returns a hundredth of the product of two sizes, rounded, with a sign.
+/// Returns a hundredth of the product of two magnitudes, rounded to ten digits, with the sign `sign`. The only error is
+/// `Range`.
 pub fn percent(sign: Sign, x: Magnitude, y: Magnitude) -> Result<Ten, DecimalFault>
     ensures { IsRounded sign (Fraction (size x * size y) (100 * one)) result }
 {
     round_whole(sign, product_cut(x, y), x.steps() + y.steps() + 23)
 }
 
-/// Returns the product of the digits of two sizes without its last five digits, computed from halves of five digits.
+/// Returns the product of the mantissas of two magnitudes, as whole numbers of ten digits, without its last five
+/// digits. It is computed from halves of five digits, so that it fits 64 bits.
 #[inline(always)]
 fn product_cut(x: Magnitude, y: Magnitude) -> u64
     ensures product { result ≡ x.mantissa.digits * y.mantissa.digits / 10 ^ 5 }
@@ -47,7 +49,7 @@ fn product_cut(x: Magnitude, y: Magnitude) -> u64
     x_high * y_high * 100_000 + (x_high * y_low + x_low * y_high) + x_low * y_low / 100_000
 }
 
-/// Returns the quotient of two sizes, rounded, with a sign.
+/// Returns x / y for two magnitudes, rounded to ten digits, with the sign `sign`. The only error is `Range`.
 #[inline(always)]
 pub fn divide(sign: Sign, x: Magnitude, y: Magnitude) -> Result<Ten, DecimalFault>
     ensures { IsRounded sign (Fraction (size x * size y * one) (size y * size y)) result }
@@ -56,8 +58,8 @@ pub fn divide(sign: Sign, x: Magnitude, y: Magnitude) -> Result<Ten, DecimalFaul
     round_whole(sign, quotient, x.steps() + 225 - y.steps())
 }
 
-/// Returns 10^11 times a number of up to ten digits divided by one of ten, rounded down. The probable quotient is used if its
-/// product with the divisor confirms it.
+/// Returns 10^11 * `number` / `divisor`, rounded down. `number` has up to ten digits, `divisor` exactly ten. A quotient
+/// by the floating-point unit is used if its product with the divisor confirms it.
 #[inline(always)]
 fn quotient_cut(number: u64, divisor: u64) -> u64
     requires few { number < 10 ^ 10 }
@@ -75,7 +77,8 @@ fn quotient_cut(number: u64, divisor: u64) -> u64
     }
 }
 
-/// Returns the same quotient by computing its first digits and its last two digits separately.
+/// Returns 10^11 * `number` / `divisor`, rounded down, by whole numbers alone: its last two digits are computed
+/// separately. `number` has up to ten digits, `divisor` exactly ten.
 #[inline(never)]
 fn quotient_by_parts(number: u64, divisor: u64) -> u64
     requires few { number < 10 ^ 10 }
@@ -87,7 +90,8 @@ fn quotient_by_parts(number: u64, divisor: u64) -> u64
     dividend / divisor * 100 + dividend % divisor * 100 / divisor
 }
 
-/// Returns the square root of a size, rounded. It is computed from a whole number of 21 or 22 digits, at an even power of ten.
+/// Returns the square root of a magnitude, rounded to ten digits. It is computed from a whole number of 21 or 22 digits
+/// that is multiplied by an even power of ten.
 pub fn root(x: Magnitude) -> Result<Ten, DecimalFault>
     ensures { IsRounded Sign.Plus (RootOf (size x * one)) result }
 {
@@ -97,8 +101,8 @@ pub fn root(x: Magnitude) -> Result<Ten, DecimalFault>
     round_whole(Sign::Plus, root, UNIT_SCALE + (steps + 98 - filled) / 2)
 }
 
-/// Returns the square root of 10^10 times a number of 11 or 12 digits, rounded down. The probable root is used if its square
-/// confirms it.
+/// Returns the square root of 10^10 * `number`, rounded down, for a number of 11 or 12 digits. A root by the
+/// floating-point unit is used if its square confirms it.
 fn eleven_digit_root(number: u64) -> u64
     requires at_least { 10 ^ 10 ≤ number }
     requires below { number < 10 ^ 12 }
@@ -116,8 +120,9 @@ fn eleven_digit_root(number: u64) -> u64
     }
 }
 
-/// Returns the same root. The root of the number itself gives six of its digits; one step of Newton's method gives five more, and
-/// is at most one too high.
+/// Returns the square root of 10^10 * `number`, rounded down, for a number of 11 or 12 digits, by whole numbers alone.
+/// The square root of `number` gives its first six digits. One step of Newton's method gives five more, and is at most
+/// one too high.
 #[inline(never)]
 fn root_by_parts(number: u64) -> u64
     requires at_least { 10 ^ 10 ≤ number }
@@ -136,7 +141,8 @@ fn root_by_parts(number: u64) -> u64
     }
 }
 
-/// Returns the sum of two sizes, rounded, with a sign. The exponent of the first must not be lower than that of the second.
+/// Returns x + y for two magnitudes, rounded to ten digits, with the sign `sign`. The exponent of x must not be lower
+/// than that of y. The only error is `Range`.
 #[inline(always)]
 pub fn add(sign: Sign, x: Magnitude, y: Magnitude) -> Result<Ten, DecimalFault>
     requires { y.exponent.biased ≤ x.exponent.biased }
@@ -153,8 +159,8 @@ pub fn add(sign: Sign, x: Magnitude, y: Magnitude) -> Result<Ten, DecimalFault>
     }
 }
 
-/// Returns the difference of two sizes with this sign, rounded. The exponent of the first must not be lower than that of the
-/// second.
+/// Returns x - y for two numbers that are given by their magnitudes and both have the sign `sign`, rounded to ten
+/// digits. The exponent of x must not be lower than that of y.
 #[inline(always)]
 pub fn subtract(sign: Sign, x: Magnitude, y: Magnitude) -> Result<Ten, DecimalFault>
     requires { y.exponent.biased ≤ x.exponent.biased }
@@ -180,7 +186,7 @@ pub fn subtract(sign: Sign, x: Magnitude, y: Magnitude) -> Result<Ten, DecimalFa
     }
 }
 
-/// Compares two sizes: first their exponents, then their digits.
+/// Compares two magnitudes: first their exponents, and if these are equal their digits.
 pub fn compare(x: Magnitude, y: Magnitude) -> Ordering
     ensures { result ≡ int_cmp (pos (size x)) (pos (size y)) }
 {
@@ -197,7 +203,8 @@ pub fn compare(x: Magnitude, y: Magnitude) -> Ordering
     }
 }
 
-/// Returns a size with a sign, rounded to a multiple of the step of a place, which is ten to this power in units.
+/// Returns the number with this magnitude and sign, rounded to a multiple of 10^(`place` - 108), halves away from zero.
+/// `place` is below 300. The only error is `Range`.
 pub fn round_at(sign: Sign, x: Magnitude, place: u32) -> Result<Ten, DecimalFault>
     requires { place < 300 }
     ensures { RoundsTo (10 ^ place) (with_sign sign (size x)) result }

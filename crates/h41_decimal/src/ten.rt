@@ -30,7 +30,7 @@ pub enum Ten {
 }
 
 impl Ten {
-    /// Returns the number with the other sign.
+    /// Returns the number with its sign changed. Zero does not change.
     pub fn negated(self) -> Self
         ensures { units result ≡ neg_ℤ (units self) }
     {
@@ -71,15 +71,17 @@ impl Ten {
         Ten::Nonzero(self.sign(), Magnitude { mantissa, exponent })
     }
 
-    /// Returns the greatest number with a sign: 9.999999999E99 or its negative.
+    /// Returns the number with the greatest absolute value that has this sign: 9.999999999E99 or -9.999999999E99.
     pub fn greatest(sign: Sign) -> Self
         ensures { units result ≡ with_sign sign size_of_greatest }
     {
         entry::greatest(sign)
     }
 
-    /// Returns the number with these digits, `places` of them after the point, an exponent and a sign, as it is typed. If its
-    /// exponent is above 99, it is the greatest number; if below -99, zero (this project's choice).
+    /// Returns the number that is typed with this sign, the whole number `digits` of which the last `places` digits (0
+    /// to 20) follow the radix mark, and this exponent. It is rounded to ten digits, halves away from zero. If the
+    /// exponent of the result, with one digit before the radix mark, would be above 99, it is the greatest number with
+    /// the sign; if below -99, zero (this project's choice).
     pub fn typed(sign: Sign, digits: u64, places: u8, exponent: Exponent) -> Self
         requires { places ≤ 20 }
         ensures { IsTyped sign digits places exponent result }
@@ -87,7 +89,7 @@ impl Ten {
         entry::typed(sign, digits, places, exponent)
     }
 
-    /// Returns the integer part of the number, with its sign: the digits before the radix mark.
+    /// Returns the integer part of the number, with its sign: the digits before the radix mark, as INT returns them.
     pub fn integer_part(self) -> Self
         ensures { IsIntegerPart (units self) (units result) }
     {
@@ -97,7 +99,7 @@ impl Ten {
         }
     }
 
-    /// Returns the fraction of the number, with its sign: the digits after the radix mark.
+    /// Returns the fraction of the number, with its sign: the digits after the radix mark, as FRC returns them.
     pub fn fraction(self) -> Self
         ensures { IsFraction (units self) (units result) }
     {
@@ -119,7 +121,7 @@ impl Ten {
         }
     }
 
-    /// Returns the number in a register, or `None` if there is none.
+    /// Returns the number in a register, or `None` if the register contains no number.
     #[inline(always)]
     pub fn from_reg(register: Reg) -> Option<Self>
         ensures { option_map units result ≡ worth (holding_of register) }
@@ -127,7 +129,7 @@ impl Ten {
         register::read(register)
     }
 
-    /// Returns the register that contains the number.
+    /// Returns the register content that encodes the number.
     #[inline(always)]
     pub fn to_reg(self) -> Reg
         ensures { holding_of result ≡ Number (units self) }
@@ -135,7 +137,7 @@ impl Ten {
         register::write(self)
     }
 
-    /// Returns the sum, rounded. The only error is `Range`.
+    /// Returns `self` + `other`, rounded to ten digits. The only error is `Range`.
     #[inline(always)]
     pub fn add(self, other: Self) -> Result<Self, DecimalFault>
         ensures { Nearest (units self +ℤ units other) 1 result }
@@ -147,7 +149,7 @@ impl Ten {
         }
     }
 
-    /// Returns the difference, rounded. The only error is `Range`.
+    /// Returns `self` - `other`, rounded to ten digits. The only error is `Range`.
     #[inline(always)]
     pub fn sub(self, other: Self) -> Result<Self, DecimalFault>
         ensures { Nearest (units self -ℤ units other) 1 result }
@@ -155,7 +157,7 @@ impl Ten {
         self.add(other.negated())
     }
 
-    /// Returns the product, rounded. The only error is `Range`.
+    /// Returns `self` * `other`, rounded to ten digits. The only error is `Range`.
     #[inline(always)]
     pub fn mul(self, other: Self) -> Result<Self, DecimalFault>
         ensures { Nearest (units self *ℤ units other) one result }
@@ -168,7 +170,8 @@ impl Ten {
         }
     }
 
-    /// Returns this number of percent of another: a hundredth of the product, rounded. The only error is `Range`.
+    /// Returns `self` percent of the number `of`: a hundredth of their product, rounded to ten digits. The only error
+    /// is `Range`.
     pub fn percent(self, of: Self) -> Result<Self, DecimalFault>
         ensures { Nearest (units self *ℤ units of) (100 * one) result }
     {
@@ -180,7 +183,7 @@ impl Ten {
         }
     }
 
-    /// Returns the quotient, rounded. The errors are `Data` for a zero divisor, and `Range`.
+    /// Returns `self` / `other`, rounded to ten digits. The errors are `Data` if `other` is zero, and `Range`.
     #[inline(always)]
     pub fn div(self, other: Self) -> Result<Self, DecimalFault>
         ensures { NearestQuotient (units self) (units other) result }
@@ -194,7 +197,7 @@ impl Ten {
         }
     }
 
-    /// Returns the square root, rounded. The only error is `Data`, for a negative number.
+    /// Returns the square root of the number, rounded to ten digits. The only error is `Data`, for a negative number.
     pub fn sqrt(self) -> Result<Self, DecimalFault>
         ensures { NearestRoot (units self) result }
     {
@@ -207,8 +210,8 @@ impl Ten {
         }
     }
 
-    /// Returns the number modulo a divisor, rounded: `self - divisor * floor(self / divisor)`, which has the sign of the divisor.
-    /// If the divisor is zero, returns the number itself. There is no error.
+    /// Returns the number modulo a divisor, rounded to ten digits: `self - divisor * floor(self / divisor)`, which is
+    /// zero or has the sign of the divisor. If the divisor is zero, returns the number itself. There is no error.
     pub fn modulo(self, divisor: Self) -> Result<Self, DecimalFault>
         ensures { NearestModulo self divisor result }
     {
@@ -221,7 +224,8 @@ impl Ten {
         }
     }
 
-    /// Returns the number rounded to decimals or digits, halves away from zero. The only error is `Range`.
+    /// Returns the number rounded to the decimals or digits that `places` says, halves away from zero. The only error
+    /// is `Range`.
     pub fn round_to(self, places: Places) -> Result<Self, DecimalFault>
         ensures { RoundsTo (step_of places self) (units self) result }
     {
@@ -240,7 +244,7 @@ impl Ten {
         }
     }
 
-    /// Compares two numbers.
+    /// Compares the values of two numbers.
     pub fn cmp(self, other: Self) -> Ordering
         ensures { result ≡ int_cmp (units self) (units other) }
     {
@@ -255,7 +259,7 @@ impl Ten {
     }
 }
 
-/// Compares zero with a size with a sign.
+/// Compares zero with a number other than zero, which is given by its sign and its magnitude.
 fn zero_against(sign: Sign, x: Magnitude) -> Ordering
     ensures { result ≡ int_cmp (pos 0) (with_sign sign (size x)) }
 {
@@ -265,7 +269,7 @@ fn zero_against(sign: Sign, x: Magnitude) -> Ordering
     }
 }
 
-/// Compares a size with a sign with zero.
+/// Compares a number other than zero, which is given by its sign and its magnitude, with zero.
 fn against_zero(sign: Sign, x: Magnitude) -> Ordering
     ensures { result ≡ int_cmp (with_sign sign (size x)) (pos 0) }
 {
@@ -275,7 +279,7 @@ fn against_zero(sign: Sign, x: Magnitude) -> Ordering
     }
 }
 
-/// Compares two sizes with signs.
+/// Compares the values of two numbers other than zero, which are given by their signs and magnitudes.
 fn compare_signed(x_sign: Sign, x: Magnitude, y_sign: Sign, y: Magnitude) -> Ordering
     ensures { result ≡ int_cmp (with_sign x_sign (size x)) (with_sign y_sign (size y)) }
 {
@@ -287,7 +291,8 @@ fn compare_signed(x_sign: Sign, x: Magnitude, y_sign: Sign, y: Magnitude) -> Ord
     }
 }
 
-/// Returns the sum of two sizes with signs, rounded.
+/// Returns the sum of two numbers other than zero, which are given by their signs and magnitudes, rounded to ten
+/// digits. The only error is `Range`.
 #[inline(always)]
 fn add_signed(x_sign: Sign, x: Magnitude, y_sign: Sign, y: Magnitude) -> Result<Ten, DecimalFault>
     ensures { Nearest (with_sign x_sign (size x) +ℤ with_sign y_sign (size y)) 1 result }
@@ -299,7 +304,8 @@ fn add_signed(x_sign: Sign, x: Magnitude, y_sign: Sign, y: Magnitude) -> Result<
     }
 }
 
-/// Returns the sum of two sizes with signs, rounded. The exponent of the first must not be lower than that of the second.
+/// Returns the sum of two numbers other than zero, which are given by their signs and magnitudes, rounded to ten
+/// digits. The exponent of x must not be lower than that of y. The only error is `Range`.
 #[inline(always)]
 fn add_smaller(x_sign: Sign, x: Magnitude, y_sign: Sign, y: Magnitude) -> Result<Ten, DecimalFault>
     requires { y.exponent.biased ≤ x.exponent.biased }

@@ -1,4 +1,4 @@
-//! The integer part and the fraction of a size, and decimals from whole numbers.
+//! Returns the integer part and the fraction of a number.
 
 ghost use Rattle.std.specs.Prelude.{◌≡◌, ◌*◌, ◌^◌, ◌<◌, ◌≤◌, IfSome, IfNone};
 ghost use Rattle.h41_decimal.specs.Signs.{with_sign};
@@ -10,13 +10,13 @@ use crate::rounding::{digit_count, power_of_ten, without_last};
 use crate::sign::Sign;
 use crate::ten::Ten;
 
-/// The exponent, plus 99, at which the tenth digit counts ones.
+/// The exponent, plus 99, of a number whose tenth digit is its ones digit.
 const ONES: u32 = 108;
 
-/// The exponent, plus 99, below which a size is less than 1.
+/// The exponent, plus 99, below which an absolute value is less than 1.
 const LEAST: u32 = 99;
 
-/// Returns the integer part of a size as a whole number, or `None` if it is 10^10 or more.
+/// Returns the integer part of a magnitude as a whole number, or `None` if it is 10^10 or more.
 pub fn ones(x: Magnitude) -> Option<u64>
     ensures ones { IfSome result (HasOnes (size x)) }
     ensures few { IfSome result (λ ones. ones < 10 ^ 10) }
@@ -32,7 +32,8 @@ pub fn ones(x: Magnitude) -> Option<u64>
     }
 }
 
-/// Returns the integer part of a size with a sign: its digits before the radix mark.
+/// Returns the integer part of the number with this sign and magnitude: its digits before the radix mark, with its
+/// sign.
 pub fn integer_part(sign: Sign, x: Magnitude) -> Ten
     ensures { IsIntegerPart (with_sign sign (size x)) (units result) }
 {
@@ -51,7 +52,7 @@ pub fn integer_part(sign: Sign, x: Magnitude) -> Ten
     Ten::Nonzero(sign, Magnitude { mantissa, exponent })
 }
 
-/// Returns the fraction of a size with a sign.
+/// Returns the fraction of the number with this sign and magnitude: its digits after the radix mark, with its sign.
 pub fn fraction(sign: Sign, x: Magnitude) -> Ten
     ensures { IsFraction (with_sign sign (size x)) (units result) }
 {
@@ -69,7 +70,8 @@ pub fn fraction(sign: Sign, x: Magnitude) -> Ten
     decimal(sign, rest, steps)
 }
 
-/// Returns the decimal, with a sign, of a whole number of up to ten digits times ten to a power, in units.
+/// Returns the decimal with this sign whose absolute value is `number` * 10^(`steps` - 108). `number` has one to ten
+/// digits, and `steps` is 9 to 198.
 fn decimal(sign: Sign, number: u64, steps: u32) -> Ten
     requires some { 0 < number }
     requires few { number < 10 ^ 10 }

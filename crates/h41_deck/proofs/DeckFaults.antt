@@ -4,7 +4,7 @@ use Rattle.std.proofs.Common.{◌<◌, ◌≤◌, Result, Ok, Err, flat_map, ref
 use Rattle.std.specs.Io.KnownBytes.{Appends, Keeps}
 use Rattle.std.proofs.KnownBytes.{Appends-kept}
 use Rattle.std.proofs.lemmas.Bool.{ltb-true}
-use Rattle.std.proofs.lemmas.List.{append-nil, take_all}
+use Rattle.std.proofs.lemmas.List.{append-nil, length-take, take_all}
 use Rattle.h41_commands.proofs.FirstLines.{first_fault}
 use Rattle.h41_commands.specs.private.ItemReading.{ReadsFirst, ReadsNext}
 use Rattle.h41_commands.specs.Items.{Spelled, commands}
@@ -18,7 +18,7 @@ use Rattle.h41_ends.specs.declared.fault.LineReadFault.TheVariants as read
 use Rattle.h41_ends.specs.declared.input_lines.InputLines.{InputLines}
 use Rattle.h41_ends.specs.declared.sink.Sink as sinks
 use Rattle.h41_ends.specs.declared.source.Source as sources
-use Rattle.h41_ends.proofs.InputReading.{consumes-both, consumes-nothing}
+use Rattle.h41_ends.proofs.InputReading.{consumes-both, consumes-nothing, gives_too_many}
 use Rattle.h41_lines.specs.Lines.{lines}
 use Rattle.h41_deck.specs.Answers.{printed_text}
 use Rattle.h41_deck.specs.Deck.{AnswersInTurn, Deck, DeckEnds, FaultLeaves, WritesText}
@@ -92,7 +92,8 @@ module _ {R W : Type 0} (registers : ℕ) (source : sources.Ghosts R) (sink : si
       → Told registers (sink.contents old) (sink.contents before) done s outcome
       → ReadsNext (Err fault) (source.remaining mid) (source.remaining after) input next
       → Keeps (sink.contents before) (sink.contents new) → (fault ≡ item.ReadFault → IsStopped next)
-      → (fault ≡ item.ReadFault → (source.failed after ≡ true) ⊎ (next.is_over ≡ true)) → IsCounted next (source.given after)
+      → (fault ≡ item.ReadFault → (source.failed after ≡ true) ⊎ (next.is_over ≡ true))
+      → IsCounted next (source.given first) (source.given after)
       → FaultLeaves registers (of_item fault) source sink first after old new
   leaves_item first mid after old before new input next done s outcome item.OutOfMemory so_far told more kept stopped cause counted =
       let block =
@@ -123,7 +124,11 @@ module _ {R W : Type 0} (registers : ℕ) (source : sources.Ghosts R) (sink : si
         ];
         why = λ is. elim (cause refl) [
           | inl failed ↦ inl failed
-          | inr over ↦ inr (counted.over over)
+          | inr over ↦
+              let beyond : most_bytes < length (so_far.bytes ++ more.reads.bytes) =
+              ltb-true most_bytes (length (so_far.bytes ++ more.reads.bytes)) (sym read.over ∙ over) in
+              inr (gives_too_many next (source.given first) (source.given after) counted over
+              (omega (arith, read.count, beyond, length-take most_bytes (so_far.bytes ++ more.reads.bytes))))
         ];
       }
   leaves_item first mid after old before new input next done s outcome item.WriteFault so_far told more kept stopped cause counted =
@@ -144,7 +149,8 @@ module _ {R W : Type 0} (registers : ℕ) (source : sources.Ghosts R) (sink : si
       → Told registers (sink.contents old) (sink.contents before) done s outcome
       → ReadsFirst (Err why) (source.remaining mid) (source.remaining after) input next
       → Keeps (sink.contents before) (sink.contents new) → (why ≡ read.ReadFault → IsStopped next)
-      → (why ≡ read.ReadFault → (source.failed after ≡ true) ⊎ (next.is_over ≡ true)) → IsCounted next (source.given after)
+      → (why ≡ read.ReadFault → (source.failed after ≡ true) ⊎ (next.is_over ≡ true))
+      → IsCounted next (source.given first) (source.given after)
       → FaultLeaves registers (of_line why) source sink first after old new
   leaves_first first mid after old before new input next done s outcome read.ReadFault so_far told more kept stopped cause counted =
       leaves_item first mid after old before new input next done s outcome item.ReadFault so_far told

@@ -47,12 +47,12 @@ read_none before input none read goes = record {
 }
 
 -- After the end nothing is buffered, and no further line is returned.
-held_nothing : (input : InputLines) → input.at_end ≡ true → held_in input ≡ []
+pub held_nothing : (input : InputLines) → input.at_end ≡ true → held_in input ≡ []
 held_nothing input end =
     ap (λ (k : ℕ). drop k (take input.end input.buffer)) (input.nothing end) ∙ nothing_behind input.buffer input.end
 
 -- What the lines of the bytes within the limit specify.
-same_commands : (bytes : List ℕ) (told : List (List ℕ)) → told_lines bytes ≡ told → commands (lines bytes) ≡ commands told
+pub same_commands : (bytes : List ℕ) (told : List (List ℕ)) → told_lines bytes ≡ told → commands (lines bytes) ≡ commands told
 same_commands bytes told is = sym (told_commands (lines bytes)) ∙ ap commands is
 
 module _ (before mid after : Option (List ℕ)) (old new : InputLines) (done : List Spelled) (so_far : ReadSoFar before mid old done) where
@@ -194,7 +194,7 @@ begins_block before mid after old new done so_far more =
     ] refl
 
 -- When reading stops, the items that are done are those whose last line end was read.
-shut_all : (items : List Spelled) → list_any is_open items ≡ false → without_open_block items ≡ items
+pub shut_all : (items : List Spelled) → list_any is_open items ≡ false → without_open_block items ≡ items
 shut_all [] shut = refl
 shut_all (item ∷ items) shut =
     let parts = or_parts (is_open item) (list_any is_open items) shut in

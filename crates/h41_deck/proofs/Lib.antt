@@ -2,6 +2,7 @@ pub mod AnswersInTurn
 pub mod Commanded
 pub mod DeckFaults
 pub mod DeckReading
+pub mod DeckTurns
 pub mod Determined
 pub mod LinesLeft
 pub mod MemoryNeeded

@@ -5,8 +5,9 @@ use Rattle.std.proofs.lemmas.List.Folds.{list_any-append}
 use Rattle.std.specs.List.{list_any}
 use Rattle.h41_commands.specs.Commands.{is_opening}
 use Rattle.h41_commands.specs.DeckLines.{is_long, is_skipped}
-use Rattle.h41_commands.specs.Items.{Spelled, opens_first}
+use Rattle.h41_commands.specs.Items.{Spelled, commands, opens_first}
 use Rattle.h41_debug.specs.Bench.{BenchState, start}
+use Rattle.h41_lines.specs.Lines.{lines}
 use Rattle.h41_lines.specs.Words.{words_of}
 use Rattle.h41_deck.specs.Answers.{Answer, printed_text}
 use Rattle.h41_deck.specs.Deck.{AnswersInTurn, next_takes_memory}
@@ -38,11 +39,17 @@ none_answered : (s : BenchState) (answers : List Answer) → AnswersInTurn [] s 
 none_answered s [] answered = refl
 none_answered s (answer ∷ answers) answered = absurd answered
 
+none_first : (first rest : List Spelled) → first ++ rest ≡ [] → first ≡ []
+none_first [] rest none = refl
+none_first (item ∷ first) rest none = cc
+
 pub memory_needed : MemoryIsNeeded
 memory_needed registers deck text memory takes lines_open = elim memory.1 [
-  | inl none ↦
+  | inl unread ↦
+      let none : memory.0.first ≡ [] = none_first memory.0.first memory.0.rest
+          (sym memory.0.begins ∙ ap (λ (bytes : List ℕ). commands (lines bytes)) unread) in
       let answered = subst (λ (items : List Spelled). AnswersInTurn items (start registers) memory.0.answers) none memory.0.answered in
-      memory.0.text_is ∙ ap (flat_map printed_text) (none_answered (start registers) memory.0.answers answered)
+      (unread, memory.0.text_is ∙ ap (flat_map printed_text) (none_answered (start registers) memory.0.answers answered))
   | inr (inl next) ↦
       let never = never_next memory.0.rest (none_later item_takes_memory _ memory.0.first memory.0.rest memory.0.begins takes) in
       absurd (false≢true (sym never ∙ next))

@@ -1,5 +1,5 @@
--- A deck: the replies to its commands in turn, and the text that it prints. The bench that executes
--- it has so many main registers.
+-- A deck: the replies to its commands in turn, and the text that it prints. `registers` is the
+-- number of main registers of the bench that executes the deck.
 use Rattle.std.specs.Prelude.{◌≡◌, ◌≢◌, ◌⊎◌, ℕ, ◌<◌, ◌≤◌, Bool, true, false, List, [], ◌∷◌}
 use Rattle.std.specs.Prelude.{◌++◌, flat_map, length, take, is_some, if◌then◌else◌, Option}
 use Rattle.std.specs.Prelude.{IfSome, Result, IfErr, OnOk}
@@ -14,12 +14,13 @@ use Rattle.h41_refusals.specs.declared.fault.Fault.TheVariants.{OutOfMemory, Rea
 use Rattle.h41_commands.specs.Items.{Spelled, commands, opens_first, without_open_block}
 use Rattle.h41_lines.specs.Lines.{ended_lines, lines}
 use Rattle.h41_debug.specs.Bench.{BenchState, start}
-use Rattle.h41_ends.specs.Ends.{most_bytes}
+use Rattle.h41_ends.specs.Ends.{GivesTooMany, most_bytes}
 use Rattle.h41_ends.specs.InputLines.{bytes_within}
+use Rattle.h41_ends.specs.ReadEvents.{AddsReads, EachRead, ReadEvent}
 use Rattle.h41_deck.specs.Answers.{Answer, printed_text}
 use Rattle.h41_deck.specs.Replies.{ItemReply, item_takes_memory}
 
--- The answers to commands in turn, from a state on.
+-- These are the answers to these commands, which are executed in turn from a state on.
 abbrev pub AnswersInTurn : List Spelled → BenchState → List Answer → Type 0
 AnswersInTurn [] s [] = Unit {0}
 AnswersInTurn [] s (answer ∷ answers) = ⊥
@@ -27,16 +28,18 @@ AnswersInTurn (item ∷ items) s [] = ⊥
 AnswersInTurn (item ∷ items) s (answer ∷ answers) =
     (t : BenchState) × ItemReply item s t answer × AnswersInTurn items t answers
 
--- The commands whose last line end is in the bytes that were read.
+-- The commands whose last line end is in these bytes. A block that these bytes leave unfinished is
+-- not among them.
 abbrev pub commands_ended : List ℕ → List Spelled
 commands_ended bytes = without_open_block (commands (lines (ended_lines bytes)))
 
--- The answers to a deck, from the initial state on. A deck that is too long has none.
+-- These are the answers to the commands of a deck, which are executed in turn from the initial
+-- state on. A deck of more than 67,108,864 bytes has none.
 pub record AnswersDeck (registers : ℕ) (deck : List ℕ) (answers : List Answer) : Type 0 where
   pub bound : length deck ≤ most_bytes
   pub answered : AnswersInTurn (commands (lines deck)) (start registers) answers
 
--- The text that a deck prints.
+-- The text that a deck prints: the answers to all its commands, in order.
 abbrev pub Deck : ℕ → List ℕ → List ℕ → Type 0
 Deck registers deck text =
     (answers : List Answer)
@@ -50,7 +53,7 @@ EndedText registers bytes text =
     × AnswersInTurn (commands_ended bytes) (start registers) answers
     × (text ≡ flat_map printed_text answers)
 
--- Whether one of the answers is a refusal.
+-- `Refused` if one of the answers has a refusal, otherwise `Accepted`.
 abbrev pub outcome_of : List Answer → Outcome
 outcome_of answers =
     if list_any (λ answer. is_some answer.refusal) answers then Refused else Accepted
@@ -60,11 +63,11 @@ abbrev pub DeckEnds : ℕ → List ℕ → Outcome → Type 0
 DeckEnds registers deck outcome =
     (answers : List Answer) × AnswersDeck registers deck answers × (outcome ≡ outcome_of answers)
 
--- If the deck is known, it ends in this way.
+-- If the bytes of the deck are known, the outcome is whether one of its answers has a refusal.
 abbrev pub EndsKnown : ℕ → Option (List ℕ) → Outcome → Type 0
 EndsKnown registers known outcome = IfSome known (λ deck. DeckEnds registers deck outcome)
 
--- What is written is a text of the deck, by one of the definitions of such texts.
+-- A text that `text_of` permits for this deck is appended to what was written.
 abbrev pub WritesText : (List ℕ → List ℕ → Type 0) → Option (List ℕ) → Option (List ℕ) → List ℕ
     → Type 0
 WritesText text_of old new deck = (text : List ℕ) × text_of deck text × Appends old new text
@@ -75,7 +78,7 @@ abbrev pub WritesDeck : {A W : Type 0} → ℕ → Result A Fault → Option (Li
 WritesDeck registers result known contents old new =
     OnOk result (IfSome known (WritesText (Deck registers) (contents old) (contents new)))
 
--- The text of the replies to the first of these commands, up to any of them.
+-- The text of the replies to the first few of these commands: none, some or all of them.
 pub record FirstReplies (registers : ℕ) (items : List Spelled) (text : List ℕ) : Type 0 where
   pub first : List Spelled
   pub rest : List Spelled
@@ -84,38 +87,40 @@ pub record FirstReplies (registers : ℕ) (items : List Spelled) (text : List �
   pub answered : AnswersInTurn first (start registers) answers
   pub text_is : text ≡ flat_map printed_text answers
 
--- The text of the replies to the first commands of a deck.
+-- The text of the replies to the first few commands of a deck: none, some or all of them.
 abbrev pub FirstText : ℕ → List ℕ → List ℕ → Type 0
 FirstText registers deck = FirstReplies registers (commands (lines deck))
 
--- The next of these commands allocates memory.
+-- Whether the first of these commands allocates memory.
 abbrev pub next_takes_memory : List Spelled → Bool
 next_takes_memory [] = false
 next_takes_memory (item ∷ items) = item_takes_memory item
 
--- The lines of a deck that remain after the lines of its first commands. The lines taken spell
--- exactly these commands, whatever lines follow them.
+-- `left` are the lines of a deck that remain after the lines of its first commands, `first`. The
+-- lines before them spell exactly these commands, whatever lines follow.
 pub record LinesLeft (deck : List ℕ) (first : List Spelled) (left : List (List ℕ)) : Type 0 where
   pub taken : List (List ℕ)
   pub whole : lines deck ≡ taken ++ left
   pub spelled : (more : List (List ℕ)) → commands (taken ++ more) ≡ first ++ commands more
 
--- When allocation can fail: before any command is executed, or if the deck's next command allocates
--- memory, or if the deck's next line that is not skipped opens a block.
+-- When allocation can fail, after the first commands of a deck (`first`) were executed: if no byte
+-- of the deck was read, or if the next command (of `rest`) allocates memory, or if the deck's next
+-- line that is not skipped opens a block.
 abbrev pub MayBeRefused : List ℕ → List Spelled → List Spelled → Type 0
 MayBeRefused deck first rest =
-    (first ≡ [])
+    (deck ≡ [])
     ⊎ ((next_takes_memory rest ≡ true)
     ⊎ ((left : List (List ℕ)) × LinesLeft deck first left × (opens_first left ≡ true)))
 
--- The text of the replies to the first commands of a deck, after which allocation can fail.
+-- The text of the replies to the first few commands of a deck, after which allocation can fail.
 abbrev pub MemoryText : ℕ → List ℕ → List ℕ → Type 0
 MemoryText registers deck text =
     (replies : FirstText registers deck text) × MayBeRefused deck replies.first replies.rest
 
--- What an error leaves written, of the bytes that were read: the replies to the first commands; if
--- reading failed, to all commands whose last line end was read; if writing failed, a prefix of such
--- a text.
+-- What is appended to what was written, if reading these bytes of a deck ends with an error.
+-- `OutOfMemory`: the replies to the first few commands, after which allocation can fail.
+-- `ReadFault`: the replies to all commands whose last line end was read. `WriteFault`: a prefix of
+-- the replies to the first few commands.
 abbrev pub LeavesOf : ℕ → Fault → Option (List ℕ) → Option (List ℕ) → List ℕ → Type 0
 LeavesOf registers OutOfMemory old new bytes = WritesText (MemoryText registers) old new bytes
 LeavesOf registers ReadFault old new bytes =
@@ -129,9 +134,15 @@ LeavesOf registers WriteFault old new bytes =
     × (count : ℕ)
     × Appends old new (take count text)
 
--- What an error leaves: the bytes that were read of the deck, and what is written of those within
--- the limit. `cause` and `why`: reading failed, or there were too many bytes; `why` holds also of a
--- source whose bytes are not known.
+-- The source's error flag is set, or it has delivered more bytes than a deck may have.
+abbrev pub FailedOrGaveMore : {R : Type 0} → sources.Ghosts R → R → R → Type 0
+FailedOrGaveMore source before after =
+    (source.failed after ≡ true) ⊎ GivesTooMany (source.given before) (source.given after)
+
+-- What holds after an error. `bytes`: those that were read of the deck. `leaves`: what is written
+-- of the replies to those within the limit. `cause` and `why`: after `ReadFault`, a read failed or
+-- there were too many bytes. `why` says this by the count of bytes that the source delivered, so
+-- that it holds also if the bytes are not known.
 pub record FaultLeaves {R W : Type 0} (registers : ℕ) (fault : Fault) (source : sources.Ghosts R)
     (sink : sinks.Ghosts W) (before after : R) (old new : W) : Type 0 where
   pub bytes : List ℕ
@@ -139,17 +150,35 @@ pub record FaultLeaves {R W : Type 0} (registers : ℕ) (fault : Fault) (source 
   pub leaves :
       LeavesOf registers fault (sink.contents old) (sink.contents new) (bytes_within bytes)
   pub cause : fault ≡ ReadFault → (source.failed after ≡ true) ⊎ (most_bytes < length bytes)
-  pub why : fault ≡ ReadFault → (source.failed after ≡ true) ⊎ (most_bytes < source.given after)
+  pub why : fault ≡ ReadFault → FailedOrGaveMore source before after
 
--- If a deck ends with an error, it leaves this.
+-- If the execution of a deck ends with an error, `FaultLeaves` holds.
 abbrev pub LeavesDeck : {A R W : Type 0} → ℕ → Result A Fault → sources.Ghosts R → sinks.Ghosts W
     → R → R → W → W → Type 0
 LeavesDeck registers result source sink before after old new =
     IfErr result (λ fault. FaultLeaves registers fault source sink before after old new)
 
--- Unless writing failed, everything that is written is flushed.
+-- After an error other than `WriteFault`, everything that is written is flushed.
 abbrev pub PassedOn : {A : Type 0} → Result A Fault → Bool → Type 0
 PassedOn result flushed = IfErr result (λ fault. fault ≢ WriteFault → flushed ≡ true)
+
+-- The state at a read, after `bytes` were read: they are within the limit, the replies to all
+-- commands whose last line end is in them are written and flushed, and nothing else is written.
+-- `old` is what was written before the deck.
+pub record ComesInTurn (registers : ℕ) (old : Option (List ℕ)) (bytes : List ℕ)
+    (read : ReadEvent) : Type 0 where
+  pub within : length bytes ≤ most_bytes
+  pub answered : WritesText (EndedText registers) old read.written bytes
+  pub flushed : read.flushed ≡ true
+
+-- If the reads of a source are known, those that the execution of the deck adds are all in turn:
+-- `ComesInTurn` holds at each of them.
+abbrev pub ReadsInTurn : ℕ → Option (List ReadEvent) → Option (List ReadEvent) → Option (List ℕ)
+    → Type 0
+ReadsInTurn registers before after old =
+    (reads : List ReadEvent)
+    × AddsReads before after reads
+    × EachRead (ComesInTurn registers old) [] reads
 
 -- The laws of decks. A deck determines its text.
 abbrev pub DeckDeterminesText : Type 0

@@ -11,9 +11,9 @@ abbrev pub opens : List ℕ → Bool
 opens line = opens_first (line ∷ [])
 
 -- If no command of a deck allocates memory and none of its lines opens a block, allocation fails
--- before any reply, or not at all.
+-- before any byte of it is read and any reply is written, or not at all.
 abbrev pub MemoryIsNeeded : Type 0
 MemoryIsNeeded =
     (registers : ℕ) (deck text : List ℕ) → MemoryText registers deck text
     → list_any item_takes_memory (commands (lines deck)) ≡ false
-    → list_any opens (lines deck) ≡ false → text ≡ []
+    → list_any opens (lines deck) ≡ false → (deck ≡ []) × (text ≡ [])

@@ -1,15 +1,16 @@
-//! A deck: its commands, executed in turn.
+//! Executes the commands of a deck in turn.
 
 ghost use Rattle.std.specs.Prelude.{◌≡◌, ◌≢◌, ◌≤◌, Err, IfOk, OnOk, true, false};
 ghost use Rattle.h41_debug.specs.Bench.{start};
-ghost use Rattle.h41_deck.specs.Deck.{EndsKnown, LeavesDeck, PassedOn, WritesDeck};
+ghost use Rattle.h41_ends.specs.Ends.{GivesWithin};
+ghost use Rattle.h41_deck.specs.Deck.{EndsKnown, LeavesDeck, PassedOn, ReadsInTurn, WritesDeck};
 ghost use Rattle.h41_deck.specs.private.AnsweredLines.{AnswersLines};
 
 use crate::lines::{answer, answer_line};
 use crate::replies::Outcome;
 use h41_commands::{read_block, read_first_line};
 use h41_debug::Bench;
-use h41_ends::{InputLines, Sink, Source, flush};
+use h41_ends::{InputLines, Sink, Talk, flush};
 use h41_refusals::Fault;
 use std::alloc::Global;
 
@@ -22,7 +23,7 @@ use std::alloc::Global;
 /// `ReadFault` (22) if a read fails, or the deck has more than 67,108,864 bytes; `WriteFault` (23) if a write fails;
 /// `OutOfMemory` (21) if allocation failed. Each ends the deck, and what was written before remains. After `ReadFault`, every
 /// command whose last line end was read within the limit has been executed.
-pub fn run_deck<R: Source, W: Sink, const REGS: usize>(
+pub fn run_deck<R: Talk<W>, W: Sink, const REGS: usize>(
     alloc: Global,
     reader: &mut R,
     writer: &mut W,
@@ -45,6 +46,12 @@ pub fn run_deck<R: Source, W: Sink, const REGS: usize>(
         reader.old reader.new writer.old writer.new }
     ensures passed { PassedOn result (W.flushed writer.new) }
 
+    // At each read, the replies to all commands whose last line end was read are written and flushed, and nothing else is written.
+    // At most one byte more is read than a deck may have.
+    ensures turns { ReadsInTurn REGS (R.reads reader.old) (R.reads reader.new)
+        (W.contents writer.old) }
+    ensures bound { GivesWithin (R.given reader.old) (R.given reader.new) }
+
     // The error flags say which stream failed.
     ensures write_fault { result ≡ Err Fault.WriteFault → W.failed writer.new ≡ true }
     ensures reader { result ≢ Err Fault.ReadFault → R.failed reader.new ≡ false }
@@ -59,8 +66,10 @@ pub fn run_deck<R: Source, W: Sink, const REGS: usize>(
     }
 }
 
-/// Executes the commands of a deck on a new bench, and writes what they print.
-fn answer_deck<R: Source, W: Sink, const REGS: usize>(
+/// Executes the commands of a deck, which it reads from `reader`, on a new bench, and writes what they print. Returns
+/// whether a refusal was printed. The errors are those of `run_deck`; after `OutOfMemory` (21), the replies may not be
+/// flushed yet.
+fn answer_deck<R: Talk<W>, W: Sink, const REGS: usize>(
     alloc: Global,
     reader: &mut R,
     writer: &mut W,
@@ -69,15 +78,20 @@ fn answer_deck<R: Source, W: Sink, const REGS: usize>(
     requires at_most { REGS ≤ 320 }
     requires reader_clear { R.failed reader.old ≡ false }
     requires writer_clear { W.failed writer.old ≡ false }
-    ensures { AnswersLines REGS result R.Source W.Sink
+    ensures lines { AnswersLines REGS result R.Source W.Sink
         reader.old reader.new writer.old writer.new }
+    ensures turns { ReadsInTurn REGS (R.reads reader.old) (R.reads reader.new)
+        (W.contents writer.old) }
+    ensures bound { GivesWithin (R.given reader.old) (R.given reader.new) }
 {
     let mut bench = Bench::<REGS>::new(alloc)?;
     answer_lines(alloc, &mut bench, reader, writer)
 }
 
-/// Executes the commands of a deck on a bench in its initial state.
-fn answer_lines<R: Source, W: Sink, const REGS: usize>(
+/// Executes the commands of a deck, which it reads from `reader`, on a bench in its initial state, and writes what they
+/// print. Returns whether a refusal was printed. The errors are those of `run_deck`; after `OutOfMemory` (21), the
+/// replies may not be flushed yet.
+fn answer_lines<R: Talk<W>, W: Sink, const REGS: usize>(
     alloc: Global,
     bench: &mut Bench<REGS>,
     reader: &mut R,
@@ -88,8 +102,11 @@ fn answer_lines<R: Source, W: Sink, const REGS: usize>(
     requires new { bench.old.state ≡ start REGS }
     requires reader_clear { R.failed reader.old ≡ false }
     requires writer_clear { W.failed writer.old ≡ false }
-    ensures { AnswersLines REGS result R.Source W.Sink
+    ensures lines { AnswersLines REGS result R.Source W.Sink
         reader.old reader.new writer.old writer.new }
+    ensures turns { ReadsInTurn REGS (R.reads reader.old) (R.reads reader.new)
+        (W.contents writer.old) }
+    ensures bound { GivesWithin (R.given reader.old) (R.given reader.new) }
 {
     let mut input = InputLines::new();
     let mut outcome = Outcome::Accepted;

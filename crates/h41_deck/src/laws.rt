@@ -11,8 +11,9 @@ use h41_debug::laws::{
 use h41_program::laws::lists_are_determined;
 use h41_xrom::laws::{display_is_determined, load_is_determined};
 
-/// States that a deck determines its text, whether a refusal is printed, and the text of the commands whose last line end was
-/// read; and that the replies to its first commands are a prefix of its text.
+/// States that a deck determines the text that it prints, and whether this contains a refusal; that the bytes which
+/// were read determine the text of the commands whose last line end is in them; and that the replies to the first
+/// commands of a deck are a prefix of its text.
 pub fn deck_is_determined()
     ensures text { DeckDeterminesText }
     ensures ended { EndedTextIsDetermined }
@@ -29,8 +30,8 @@ pub fn deck_is_determined()
     display_is_determined();
 }
 
-/// States that `OutOfMemory` (21) is reported before any reply, or not at all, if no command of a deck allocates memory and no line
-/// opens a block.
+/// States that `OutOfMemory` (21) is reported before any byte of a deck is read, or not at all, if no command of the deck allocates
+/// memory and none of its lines opens a block.
 pub fn memory_is_needed()
     ensures { MemoryIsNeeded }
 {}

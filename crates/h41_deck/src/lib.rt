@@ -14,7 +14,7 @@ pub use h41_commands::{
 };
 pub use h41_debug::{Bench, Stop};
 pub use h41_ends::{
-    FromRead, InputFault, ReadInput, Sink, Source, ToWrite, WriteFault, flush, read_whole,
+    FromRead, InputFault, ReadInput, Sink, Source, Talk, ToWrite, WriteFault, flush, read_whole,
     write_whole,
 };
 pub use h41_refusals::{CommandFault, Detail, Fault, Refusal};

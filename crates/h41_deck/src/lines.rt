@@ -32,12 +32,13 @@ use h41_lines::words::LineWords;
 use h41_refusals::{CommandFault, Refusal};
 use std::alloc::Global;
 
-/// Executes a line that opens no block, and writes its reply.
+/// Executes the command in a line that opens no block, and writes its reply. `first` says which command the first word
+/// of `line` names. Returns whether a refusal was printed. The error flag of the writer must be clear.
 ///
 /// # Errors
 ///
-/// `OutOfMemory` (21), only for commands that allocate memory: nothing is written. `WriteFault` (23): a prefix
-/// of the reply is written.
+/// `OutOfMemory` (21), only for commands that allocate memory: nothing is written. `WriteFault` (23): a prefix of the
+/// reply is written.
 #[inline(always)]
 pub fn answer_line<W: Sink, const REGS: usize>(
     alloc: Global,
@@ -67,8 +68,9 @@ pub fn answer_line<W: Sink, const REGS: usize>(
     }
 }
 
-/// Executes a command without a block, from the words after its first word if these suffice, otherwise from the
-/// line.
+/// Executes a command without a block, and writes its reply. `operands` are the words after the command's first word in
+/// `line`; commands for which they do not suffice are parsed from the line. The result and the errors are those of
+/// `answer_line`.
 #[inline(always)]
 fn answer_plain<W: Sink, const REGS: usize>(
     alloc: Global,
@@ -102,7 +104,8 @@ fn answer_plain<W: Sink, const REGS: usize>(
     }
 }
 
-/// Parses a line as a command and executes it.
+/// Parses a line of a deck as a command, executes it, and writes its reply. The result and the errors are those of
+/// `answer_line`.
 #[inline(never)]
 fn answer_whole<W: Sink, const REGS: usize>(
     alloc: Global,
@@ -122,12 +125,13 @@ fn answer_whole<W: Sink, const REGS: usize>(
     answer(alloc, bench, line_item(alloc, line), writer)
 }
 
-/// Executes one item of a deck, and writes its reply.
+/// Executes one item of a deck, which is a command with its block or lines that are refused, and writes its reply.
+/// Returns whether a refusal was printed. The error flag of the writer must be clear.
 ///
 /// # Errors
 ///
-/// `OutOfMemory` (21), only for commands that allocate memory: nothing is written. `WriteFault` (23): a prefix
-/// of the reply is written.
+/// `OutOfMemory` (21), only for commands that allocate memory: nothing is written. `WriteFault` (23): a prefix of the
+/// reply is written.
 pub fn answer<W: Sink, const REGS: usize>(
     alloc: Global,
     bench: &mut Bench<REGS>,
@@ -148,7 +152,7 @@ pub fn answer<W: Sink, const REGS: usize>(
     }
 }
 
-/// Writes the refusal of a line that is not a command, BadCommand (50).
+/// Writes the refusal BadCommand (50) of a line that is not a command. `WriteFault` (23) if writing fails.
 fn refuse_unknown<W: Sink>(writer: &mut W) -> Result<Outcome, WriteFault>
     requires { W.failed writer.old ≡ false }
     ensures outcome { IfOk result (EndsAs (Some (refusals.Line BadCommand))) }
@@ -161,7 +165,8 @@ fn refuse_unknown<W: Sink>(writer: &mut W) -> Result<Outcome, WriteFault>
     Ok(Outcome::Refused)
 }
 
-/// Makes the steps that the words after `step` specify, and writes the refusal, if there is one.
+/// Executes `step`: makes the single steps that the words after it specify, and writes the refusal, if there is one.
+/// `WriteFault` (23) if writing fails.
 #[inline(never)]
 fn step_counted<W: Sink, const REGS: usize>(
     bench: &mut Bench<REGS>,
@@ -180,7 +185,8 @@ fn step_counted<W: Sink, const REGS: usize>(
     }
 }
 
-/// Sets the breakpoint that the words after `break` name, and writes the refusal, if there is one.
+/// Executes `break`: sets the breakpoint that the words after it name, and writes the refusal, if there is one.
+/// `WriteFault` (23) if writing fails.
 #[inline(never)]
 fn break_placed<W: Sink, const REGS: usize>(
     bench: &mut Bench<REGS>,
@@ -199,7 +205,8 @@ fn break_placed<W: Sink, const REGS: usize>(
     }
 }
 
-/// Removes the breakpoint that the words after `unbreak` name, and writes the refusal, if there is one.
+/// Executes `unbreak`: removes the breakpoint that the words after it name, and writes the refusal, if there is one.
+/// `WriteFault` (23) if writing fails.
 #[inline(never)]
 fn unbreak_placed<W: Sink, const REGS: usize>(
     bench: &mut Bench<REGS>,
@@ -218,7 +225,8 @@ fn unbreak_placed<W: Sink, const REGS: usize>(
     }
 }
 
-/// Unplugs the page that the words after `unplug` name, and writes the refusal, if there is one.
+/// Executes `unplug`: unplugs the page that the word after it names, and writes the refusal, if there is one.
+/// `WriteFault` (23) if writing fails.
 #[inline(never)]
 fn unplug_named<W: Sink, const REGS: usize>(
     bench: &mut Bench<REGS>,
@@ -237,7 +245,8 @@ fn unplug_named<W: Sink, const REGS: usize>(
     }
 }
 
-/// Restores the initial state if no word follows `reset`, and writes the refusal, if there is one.
+/// Executes `reset`: restores the initial state if no word follows it, and writes the refusal, if there is one.
+/// `WriteFault` (23) if writing fails.
 #[inline(never)]
 fn reset_alone<W: Sink, const REGS: usize>(
     bench: &mut Bench<REGS>,
@@ -256,7 +265,8 @@ fn reset_alone<W: Sink, const REGS: usize>(
     }
 }
 
-/// Makes the run that the words after `run` specify, and writes its reply.
+/// Executes `run`: makes the run that the words after it specify, and writes how many steps it made, why it stopped,
+/// and the refusal, if there is one. `WriteFault` (23) if writing fails.
 #[inline(never)]
 fn run_counted<W: Sink, const REGS: usize>(
     bench: &mut Bench<REGS>,
@@ -278,7 +288,8 @@ fn run_counted<W: Sink, const REGS: usize>(
     }
 }
 
-/// Writes the view that the words after `show` name, or the refusal.
+/// Executes `show`: writes the text of the view that the words after it name, or the refusal. `OutOfMemory` (21) if
+/// allocation failed: nothing is written. `WriteFault` (23) if writing fails.
 #[inline(never)]
 fn show_named<W: Sink, const REGS: usize>(
     alloc: Global,

@@ -13,7 +13,7 @@ ghost use Rattle.h41_deck.specs.Views.{line_of};
 ghost use Rattle.h41_deck.specs.private.Blocks.{LoadsTaken, PlugsTaken, PlugsWordsOf};
 ghost use Rattle.h41_deck.specs.Replies.{LoadsBytes, Reply, is_silent, takes_memory};
 ghost use Rattle.h41_deck.specs.private.Writing.{Acts, SaysAlone, Says, EndsAs, IsAccepted};
-ghost use Rattle.h41_deck.specs.private.Writing.{IsRefusalOf, made_text};
+ghost use Rattle.h41_deck.specs.private.Writing.{IsRefusalOf, KeepsIfOutOfMemory, made_text};
 
 use crate::replies::listing::listed;
 use crate::replies::running::{run, set_break, trace, unbreak};
@@ -26,7 +26,7 @@ use h41_pages::PlugRefusal;
 use h41_refusals::{CommandFault, Refusal};
 use std::alloc::{AllocError, Global};
 
-/// The most bytes of a line that is assembled in a buffer before it is written.
+/// The capacity of the buffer in which a short line is assembled before it is written: 22 bytes and a line end.
 const SHORT_LINE: usize = 23;
 
 mod image;
@@ -46,7 +46,8 @@ pub enum Outcome {
 impl Outcome {
     ghost use Rattle.h41_deck.specs.private.AnsweredItems.{outcome_and};
 
-    /// Returns the outcome of a deck with this outcome so far and this one of its next command.
+    /// Returns the outcome of a deck whose outcome so far is `self`, after its next command with the outcome `next`:
+    /// `Refused` if one of them is, otherwise `Accepted`.
     pub(crate) fn and(self, next: Self) -> Self
         ensures { result ≡ outcome_and self next }
     {
@@ -81,7 +82,7 @@ pub fn apply<W: Sink, const REGS: usize>(
     // Allocation fails only for commands that allocate memory, and whose blocks are not refused.
     ensures memory { result ≡ Err CommandFault.OutOfMemory → takes_memory command ≡ true }
     ensures accepted { result ≡ Err CommandFault.OutOfMemory → IsAccepted block }
-    ensures unchanged { result ≡ Err CommandFault.OutOfMemory → bench.new.state ≡ bench.old.state }
+    ensures unchanged { KeepsIfOutOfMemory result bench.old.state bench.new.state }
 
     // The error flag says whether writing failed.
     ensures mark { result ≡ Err CommandFault.WriteFault → W.failed writer.new ≡ true }
@@ -91,8 +92,9 @@ pub fn apply<W: Sink, const REGS: usize>(
     Ok(end(refusal, writer)?)
 }
 
-/// Executes a command with its block, and writes its text. Returns why the command is refused, if it is; the line of the
-/// refusal is not written.
+/// Executes a command with its block, and writes what it prints except a refusal. Returns why the command is refused,
+/// if it is; the caller writes the refusal. `OutOfMemory` (21) if allocation failed: nothing is changed and nothing is
+/// written. `WriteFault` (23) if writing fails.
 fn say<W: Sink, const REGS: usize>(
     alloc: Global,
     bench: &mut Bench<REGS>,
@@ -106,7 +108,7 @@ fn say<W: Sink, const REGS: usize>(
         W.contents writer.old writer.new }
     ensures memory { result ≡ Err CommandFault.OutOfMemory → takes_memory command ≡ true }
     ensures accepted { result ≡ Err CommandFault.OutOfMemory → IsAccepted block }
-    ensures unchanged { result ≡ Err CommandFault.OutOfMemory → bench.new.state ≡ bench.old.state }
+    ensures unchanged { KeepsIfOutOfMemory result bench.old.state bench.new.state }
     ensures mark { result ≡ Err CommandFault.WriteFault → W.failed writer.new ≡ true }
     ensures clear { result ≢ Err CommandFault.WriteFault → W.failed writer.new ≡ false }
 {
@@ -125,8 +127,9 @@ fn say<W: Sink, const REGS: usize>(
     }
 }
 
-/// Executes a command without a block, and writes its text. Returns why the command is refused, if it is; the line of the
-/// refusal is not written.
+/// Executes a command that has no block, and writes what it prints except a refusal. Returns why the command is
+/// refused, if it is; the caller writes the refusal. `OutOfMemory` (21) if allocation failed: nothing is changed.
+/// `WriteFault` (23) if writing fails.
 fn say_alone<W: Sink, const REGS: usize>(
     alloc: Global,
     bench: &mut Bench<REGS>,
@@ -138,7 +141,7 @@ fn say_alone<W: Sink, const REGS: usize>(
     ensures text { SaysAlone result command bench.old.state bench.new.state
         W.contents writer.old writer.new }
     ensures memory { result ≡ Err CommandFault.OutOfMemory → takes_memory command ≡ true }
-    ensures unchanged { result ≡ Err CommandFault.OutOfMemory → bench.new.state ≡ bench.old.state }
+    ensures unchanged { KeepsIfOutOfMemory result bench.old.state bench.new.state }
     ensures mark { result ≡ Err CommandFault.WriteFault → W.failed writer.new ≡ true }
     ensures clear { result ≢ Err CommandFault.WriteFault → W.failed writer.new ≡ false }
 {
@@ -154,7 +157,8 @@ fn say_alone<W: Sink, const REGS: usize>(
     }
 }
 
-/// Executes a command that prints nothing, and returns why it is refused, if it is.
+/// Executes a command that has no block and prints nothing but a refusal, for example `step`, and returns why it is
+/// refused, if it is. The caller writes the refusal.
 fn carry_out<const REGS: usize>(bench: &mut Bench<REGS>, command: Command) -> Option<Refusal>
     requires { is_silent command ≡ true }
     ensures { (values : List ℕ)
@@ -173,8 +177,8 @@ fn carry_out<const REGS: usize>(bench: &mut Bench<REGS>, command: Command) -> Op
     }
 }
 
-/// Plugs the contents of a block into the bank of a page, and returns why this is refused, if it is. OutOfMemory (21) if
-/// allocation failed; nothing is changed then.
+/// Plugs the contents of a block into the bank of a page, as `plug` does, and returns why this is refused, if it is.
+/// OutOfMemory (21) if allocation failed; nothing is changed then.
 fn plug<const REGS: usize>(
     alloc: Global,
     bench: &mut Bench<REGS>,
@@ -195,8 +199,8 @@ fn plug<const REGS: usize>(
     }
 }
 
-/// Plugs words, filled with 000 to a whole page, into the bank of a page, and returns why this is refused, if it is.
-/// OutOfMemory (21) if allocation failed; nothing is changed then.
+/// Plugs at most 4096 words, filled with 000 to a whole page, into the bank of a page, and returns why this is refused,
+/// if it is. OutOfMemory (21) if allocation failed; nothing is changed then.
 fn plug_words<const REGS: usize>(
     alloc: Global,
     bench: &mut Bench<REGS>,
@@ -224,8 +228,8 @@ fn plug_words<const REGS: usize>(
     }
 }
 
-/// Loads the program of a block, and returns why this is refused, if it is. OutOfMemory (21) if allocation failed; nothing is
-/// changed then.
+/// Loads the program in a block into memory, as `load` does, and returns why this is refused, if it is. OutOfMemory
+/// (21) if allocation failed; nothing is changed then.
 fn load<const REGS: usize>(
     alloc: Global,
     bench: &mut Bench<REGS>,
@@ -242,7 +246,7 @@ fn load<const REGS: usize>(
     }
 }
 
-/// Loads the lines in the bytes, and returns why this is refused, if it is.
+/// Loads the program lines that these bytes spell into memory, and returns why this is refused, if it is.
 fn load_bytes<const REGS: usize>(bench: &mut Bench<REGS>, bytes: &[u8]) -> Option<Refusal>
     ensures { LoadsBytes (Ok bytes.now) bench.old.state bench.new.state (ends_by result) }
 {
@@ -252,7 +256,7 @@ fn load_bytes<const REGS: usize>(bench: &mut Bench<REGS>, bytes: &[u8]) -> Optio
     }
 }
 
-/// Unplugs all banks of a page, and returns why this is refused, if it is.
+/// Unplugs all banks of a page, and returns why this is refused, if it is. The caller writes the refusal.
 pub(crate) fn unplug<const REGS: usize>(bench: &mut Bench<REGS>, page: u8) -> Option<Refusal>
     ensures { Reply (commands.Unplug page) [] bench.old.state bench.new.state (ends_by result) }
 {
@@ -262,7 +266,7 @@ pub(crate) fn unplug<const REGS: usize>(bench: &mut Bench<REGS>, page: u8) -> Op
     }
 }
 
-/// Sets the number of data registers, and returns why this is refused, if it is.
+/// Sets the number of data registers to `count`, and returns why this is refused, if it is.
 fn size<const REGS: usize>(bench: &mut Bench<REGS>, count: u16) -> Option<Refusal>
     ensures { Reply (commands.Size count) [] bench.old.state bench.new.state (ends_by result) }
 {
@@ -272,7 +276,7 @@ fn size<const REGS: usize>(bench: &mut Bench<REGS>, count: u16) -> Option<Refusa
     }
 }
 
-/// Restores the initial state, and returns no refusal.
+/// Restores the initial state of the calculator, as `reset` does. It returns `None`, because this is never refused.
 pub(crate) fn reset<const REGS: usize>(bench: &mut Bench<REGS>) -> Option<Refusal>
     ensures { Reply commands.Reset [] bench.old.state bench.new.state (ends_by result) }
 {
@@ -280,7 +284,7 @@ pub(crate) fn reset<const REGS: usize>(bench: &mut Bench<REGS>) -> Option<Refusa
     None
 }
 
-/// Starts the function at an address, and returns why this is refused, if it is.
+/// Starts the function in microcode at an address, and returns why this is refused, if it is.
 fn call<const REGS: usize>(bench: &mut Bench<REGS>, address: u16) -> Option<Refusal>
     ensures { Reply (commands.Call address) [] bench.old.state bench.new.state (ends_by result) }
 {
@@ -290,7 +294,7 @@ fn call<const REGS: usize>(bench: &mut Bench<REGS>, address: u16) -> Option<Refu
     }
 }
 
-/// Presses keys in turn, and returns why the first refused one is refused, if there is one.
+/// Presses keys in turn, up to the first that is refused, and returns why that one is refused, if there is one.
 fn press<const REGS: usize>(bench: &mut Bench<REGS>, keys: &PressedKeys) -> Option<Refusal>
     ensures { Reply (commands.Key keys.now) [] bench.old.state bench.new.state (ends_by result) }
 {
@@ -300,7 +304,7 @@ fn press<const REGS: usize>(bench: &mut Bench<REGS>, keys: &PressedKeys) -> Opti
     }
 }
 
-/// Makes single steps, and returns why the first refused one is refused, if there is one.
+/// Makes `count` single steps, up to the first that is refused, and returns why that one is refused, if there is one.
 pub(crate) fn step<const REGS: usize>(bench: &mut Bench<REGS>, count: u32) -> Option<Refusal>
     ensures { Reply (commands.Step count) [] bench.old.state bench.new.state (ends_by result) }
 {
@@ -310,8 +314,9 @@ pub(crate) fn step<const REGS: usize>(bench: &mut Bench<REGS>, count: u32) -> Op
     }
 }
 
-/// Writes the text of a view, and returns why it is refused, if it is. The text of `show pos` is written without an
-/// allocation. OutOfMemory (21) if allocation failed; nothing is written then.
+/// Writes the text of a view, as `show` does, and returns why it is refused, if it is. The text of `show pos` is
+/// written without an allocation. OutOfMemory (21) if allocation failed; nothing is written then. `WriteFault` (23) if
+/// writing fails.
 #[inline(always)]
 pub(crate) fn show<W: Sink, const REGS: usize>(
     alloc: Global,
@@ -322,7 +327,7 @@ pub(crate) fn show<W: Sink, const REGS: usize>(
     requires clear { W.failed writer.old ≡ false }
     ensures text { SaysAlone result (commands.Show view) bench.old.state bench.new.state
         W.contents writer.old writer.new }
-    ensures unchanged { result ≡ Err CommandFault.OutOfMemory → bench.new.state ≡ bench.old.state }
+    ensures unchanged { KeepsIfOutOfMemory result bench.old.state bench.new.state }
     ensures mark { result ≡ Err CommandFault.WriteFault → W.failed writer.new ≡ true }
     ensures clear { result ≢ Err CommandFault.WriteFault → W.failed writer.new ≡ false }
 {
@@ -338,7 +343,7 @@ pub(crate) fn show<W: Sink, const REGS: usize>(
     }
 }
 
-/// Writes a text that was made, or returns its refusal.
+/// Writes the text of a reply, or returns the refusal if there is no text. `WriteFault` (23) if writing fails.
 fn say_made<W: Sink>(
     made: Result<Vec<u8>, Refusal>,
     writer: &mut W,
@@ -358,7 +363,8 @@ fn say_made<W: Sink>(
     }
 }
 
-/// Writes the line of a refusal, if there is one, and returns whether there is.
+/// Writes the line of a refusal, if there is one, and returns `Refused` if there is, otherwise `Accepted`. `WriteFault`
+/// (23) if writing fails.
 #[inline(always)]
 pub(crate) fn end<W: Sink>(refusal: Option<Refusal>, writer: &mut W) -> Result<Outcome, WriteFault>
     requires { W.failed writer.old ≡ false }
@@ -376,7 +382,8 @@ pub(crate) fn end<W: Sink>(refusal: Option<Refusal>, writer: &mut W) -> Result<O
     }
 }
 
-/// Writes the line of a refusal. A line without details needs no further text.
+/// Writes the line of a refusal, for example `! 50 BadCommand`. A line without details is written without building it
+/// first. `WriteFault` (23) if writing fails.
 #[inline(never)]
 fn tell<W: Sink>(refusal: Refusal, writer: &mut W) -> Result<(), WriteFault>
     requires { W.failed writer.old ≡ false }
@@ -390,7 +397,7 @@ fn tell<W: Sink>(refusal: Refusal, writer: &mut W) -> Result<(), WriteFault>
     }
 }
 
-/// Writes a short text and a line end in one write.
+/// Writes a text of at most 22 bytes and a line end in one call of `write_whole`. `WriteFault` (23) if writing fails.
 #[inline(always)]
 fn write_line<W: Sink>(text: &str, writer: &mut W) -> Result<(), WriteFault>
     requires clear { W.failed writer.old ≡ false }

@@ -55,7 +55,8 @@ impl<const N: usize> Digits<N> {
         Digits { word: 0 }
     }
 
-    /// Returns the register that holds a number, or `None` if the number is 16 to the power of `N` or greater.
+    /// Returns the register of `N` hexadecimal digits that holds a number, or `None` if the number is 16 to the power
+    /// of `N` or greater.
     pub fn from_u64(number: u64) -> Option<Self>
         requires { N ≤ 14 }
         ensures fits { IsSome result ↔ (number < 16 ^ N) }
@@ -69,7 +70,8 @@ impl<const N: usize> Digits<N> {
         }
     }
 
-    /// Returns the register that holds a number less than 16 to the power of `N`. Its text is the number in `N` hexadecimal digits.
+    /// Returns the register of `N` digits that holds a number less than 16 to the power of `N`. Its text is the number
+    /// in `N` hexadecimal digits.
     pub fn holding(number: u64) -> Self
         requires places { N ≤ 14 }
         requires fits { number < 16 ^ N }
@@ -88,7 +90,7 @@ impl<const N: usize> Digits<N> {
         self.word
     }
 
-    /// Returns the digit, 0 to 15, at a place from 0 to `N` - 1.
+    /// Returns the digit, 0 to 15, at a place from 0 to `N` - 1. Place 0 is the rightmost digit.
     pub fn get(&self, place: usize) -> u8
         requires { place < N }
         ensures digit { result ≡ slice_index self.now place }
@@ -97,7 +99,8 @@ impl<const N: usize> Digits<N> {
         (self.word >> (4 * place) & 0xF) as u8
     }
 
-    /// Returns a copy of the register with another digit, 0 to 15, at one place from 0 to `N` - 1.
+    /// Returns a copy of the register with another digit, 0 to 15, at one place from 0 to `N` - 1. Place 0 is the
+    /// rightmost digit.
     pub fn with(&self, place: usize, digit: u8) -> Self
         requires in_register { place < N }
         requires is_digit { digit < 16 }
@@ -110,7 +113,7 @@ impl<const N: usize> Digits<N> {
         }
     }
 
-    /// Writes a digit, 0 to 15, to one place from 0 to `N` - 1. The other places do not change.
+    /// Writes a digit, 0 to 15, to one place of the register, 0 (rightmost) to `N` - 1. The other places do not change.
     pub fn set(&mut self, place: usize, digit: u8)
         requires in_register { place < N }
         requires is_digit { digit < 16 }
@@ -142,7 +145,8 @@ impl<const N: usize> Digits<N> {
         }
     }
 
-    /// Returns the number that the digits from place `lo` to place `hi` form. The digit at `lo` is the least significant one.
+    /// Returns the number that the hexadecimal digits from place `lo` to place `hi`, both included, form. The digit at
+    /// `lo` is the least significant one.
     #[inline(always)]
     pub fn number(&self, lo: usize, hi: usize) -> u64
         requires ordered { lo ≤ hi }
@@ -157,8 +161,9 @@ impl<const N: usize> Digits<N> {
         digits & ((1 << (4 * (hi + 1 - lo))) - 1)
     }
 
-    /// Returns a copy of the register with the digits of a number at the places from `lo` to `hi`. The least significant digit is
-    /// written to `lo`.
+    /// Returns a copy of the register with the hexadecimal digits of a number at the places from `lo` to `hi`, both
+    /// included. The least significant digit is written to `lo`. The number is less than 16 to the power of the number
+    /// of these places.
     #[inline(always)]
     pub fn with_number(&self, lo: usize, hi: usize, number: u64) -> Self
         requires ordered { lo ≤ hi }
@@ -179,8 +184,8 @@ impl<const N: usize> Digits<N> {
         }
     }
 
-    /// Returns the digits of a span as a word in which they have their own places and all other digits are zero: the number of the
-    /// span's digits times 16 to the power of the span's first place.
+    /// Returns the register with the digits outside a span (consecutive places) set to zero, as one number: the number
+    /// that the span's digits form, times 16 to the power of the span's first place.
     pub fn in_span(&self, span: Span) -> u64
         requires { span.hi < N }
         ensures digits { result ≡ value_between self.now span.lo span.hi * 16 ^ span.lo }
@@ -191,8 +196,8 @@ impl<const N: usize> Digits<N> {
         word & span.mask
     }
 
-    /// Returns a copy of the register in which the places of a span have the digits that a word has there. The word's other digits
-    /// are ignored.
+    /// Returns a copy of the register in which the places of a span (consecutive places) have the hexadecimal digits
+    /// that the number `word` has at these places. The other digits of `word` are ignored.
     pub fn with_span(&self, span: Span, word: u64) -> Self
         requires { span.hi < N }
         ensures number { value_between result span.lo span.hi ≡ in_places word span.lo span.hi }
@@ -206,7 +211,8 @@ impl<const N: usize> Digits<N> {
         }
     }
 
-    /// Returns the digits as characters, the highest place first, in the first `N` bytes of the array. The other bytes are `0`.
+    /// Returns the register's digits as upper-case hexadecimal characters, the highest place first, in the first `N`
+    /// bytes of the array. The other bytes are the character `0`.
     #[inline(always)]
     fn glyphs(&self) -> [u8; PLACES]
         ensures digits { take N result ≡ text self.now }
@@ -221,8 +227,8 @@ impl<const N: usize> Digits<N> {
     }
 }
 
-/// Returns eight consecutive bytes of two adjacent registers as one number, the leftmost byte highest. They begin after `skipped`
-/// bytes, 0 to 6, of the first register.
+/// Returns eight consecutive bytes of two adjacent registers of seven bytes each as one number, the leftmost byte
+/// highest. The eight bytes begin after the first `skipped` bytes, 0 to 6, of `here`, and continue in `below`.
 #[inline(always)]
 pub fn eight_bytes(here: Reg, below: Reg, skipped: usize) -> u64
     requires { skipped < 7 }
@@ -232,7 +238,7 @@ pub fn eight_bytes(here: Reg, below: Reg, skipped: usize) -> u64
     (here.word << (8 * skipped + 8)) + (below.word >> (48 - 8 * skipped))
 }
 
-/// Returns byte `k`, 0 to 7, of a number. Byte 0 is the lowest.
+/// Returns byte `k`, 0 to 7, of a number of 64 bits. Byte 0 is the lowest.
 #[inline(always)]
 pub fn number_byte(number: u64, k: usize) -> u8
     requires { k < 8 }
@@ -255,7 +261,7 @@ pub fn glyph(digit: u8) -> u8
     }
 }
 
-/// Returns a word in which `width` bits, from bit `at` upwards, are replaced by others.
+/// Returns `word` with its `width` bits from bit `at` upwards replaced by `bits`. Bit 0 is the lowest.
 #[inline(always)]
 fn with_bits(word: u64, at: usize, width: usize, bits: u64) -> u64
     requires width { (0 < width) × (width < 64) }
@@ -267,7 +273,7 @@ fn with_bits(word: u64, at: usize, width: usize, bits: u64) -> u64
     word & !mask | bits << at
 }
 
-/// Prints the digits in upper-case hexadecimal, the highest place first.
+/// Prints the `N` digits of the register in upper-case hexadecimal, the highest place first.
 impl<const N: usize> fmt::Display for Digits<N> {
     ghost output = { λ digits. Some (text digits) };
 

@@ -5,7 +5,7 @@ ghost use Rattle.h41_digits.specs.Spans.{AreItsPlaces, IsFilled, IsNotFilled};
 
 use crate::PLACES;
 
-/// A six at each of the 14 places of a register.
+/// A number of 14 hexadecimal digits, each of them 6: one for each place of a register.
 const SIXES: u64 = 0x66_6666_6666_6666;
 
 /// The consecutive places of a register from `lo` to `hi`, both included. A span has at least one place.
@@ -15,7 +15,7 @@ pub struct Span {
     pub lo: usize,
     /// The last (leftmost) place, `lo` to 13.
     pub hi: usize,
-    /// A word with F at each place of the span and 0 elsewhere. Each place has four bits.
+    /// A number whose hexadecimal digit is F at each place of the span, and 0 elsewhere.
     pub mask: u64,
     ghost ordered: { lo ≤ hi },
     ghost in_register: { hi < 14 },
@@ -38,7 +38,9 @@ impl Span {
         }
     }
 
-    /// Returns the span that has this mask. If no span has it, returns the span of the whole register, places 0 to 13.
+    /// Returns the span whose places are those with digit F in a mask that is 0 elsewhere. If there is no such span,
+    /// because the mask has other digits or its places with F are not consecutive, returns the span of all 14 places, 0
+    /// to 13.
     #[cold]
     pub fn from_mask(mask: u64) -> Self
         ensures places { AreItsPlaces mask result.lo result.hi }
@@ -55,7 +57,8 @@ impl Span {
         if span.mask == mask { span } else { whole }
     }
 
-    /// Returns a word with 1 at the first place: 16 to the power of `lo`.
+    /// Returns the number whose hexadecimal digit is 1 at the first (rightmost) place of the span, and 0 elsewhere: 16
+    /// to the power of `lo`.
     pub fn first(&self) -> u64
         ensures weight { result ≡ 16 ^ self.now.lo }
         ensures next { self.now.mask + result ≡ 16 ^ (self.now.hi + 1) }
@@ -65,7 +68,8 @@ impl Span {
         self.mask & self.mask.wrapping_neg()
     }
 
-    /// Returns a word with 6 at each place. Adding six makes a digit of base 10 carry as a digit of base 16 does.
+    /// Returns the number whose hexadecimal digit is 6 at each place of the span, and 0 elsewhere. The sum of two
+    /// decimal digits and 6 carries in base 16 if and only if the sum of the two digits carries in base 10.
     pub fn sixes(&self) -> u64
         ensures fifths { 5 * result ≡ 2 * self.now.mask }
         ensures first { 16 ^ self.now.lo ≤ result }
@@ -74,7 +78,8 @@ impl Span {
     }
 }
 
-/// Returns the place, 0 to 14, whose weight is the given power of 16, or 0 if there is none.
+/// Returns the exponent, 0 to 14, of a power of 16, which is the place of a digit with this weight. Returns 0 for any
+/// other number.
 fn place_of(weight: u64) -> usize
     ensures { (place : ℕ) → place < 15 → weight ≡ 16 ^ place → result ≡ place }
 {

@@ -1,11 +1,11 @@
-//! Cuts words into instructions.
+//! Separates a sequence of the HP-41's words into instructions of one or two words.
 
 ghost use Rattle.std.specs.Iterator.{YieldsFirst, item_count};
 ghost use Rattle.std.specs.Prelude.{◌≡◌};
 
 use h41_words::{Word, length};
 
-/// An instruction: its first word, and its second word if it has two.
+/// An instruction of the HP-41's processor as one or two words: its first word, and its second word if it has two.
 #[derive(Clone, Copy)]
 pub struct Piece {
     /// The first word of the instruction.
@@ -17,7 +17,8 @@ pub struct Piece {
 impl Piece {
     ghost use Rattle.h41_dis.specs.Spelling.{piece_length};
 
-    /// Returns the number of words of the instruction, 1 or 2.
+    /// Returns the number of words of the instruction, 1 or 2. It is 1 if the instruction has two words, but the words
+    /// end before the second.
     pub fn length(&self) -> u16
         ensures { result ≡ piece_length self.now }
     {
@@ -28,7 +29,8 @@ impl Piece {
     }
 }
 
-/// An iterator over the instructions that words contain, from the first on.
+/// An iterator over the instructions in a sequence of words, in order. If the words end before the second word of the
+/// last instruction, this instruction is returned with its first word only.
 #[derive(Drop)]
 pub struct Pieces<'a> {
     /// The words that are not read yet, from the next instruction on.
@@ -36,7 +38,7 @@ pub struct Pieces<'a> {
 }
 
 impl<'a> Pieces<'a> {
-    /// Returns an iterator over all instructions of words.
+    /// Returns an iterator over all instructions in `words`, in order. The first instruction begins at `words[0]`.
     pub fn new(words: &'a [Word]) -> Self
         ensures { result.rest.now ≡ words.now }
     {

@@ -1,4 +1,4 @@
-//! The lines of a listing.
+//! Disassembles words: returns their text or their listing, with a line for each instruction.
 
 ghost use Rattle.std.specs.Prelude.{◌≡◌, ◌+◌, ◌%◌, ◌≤◌, ◌<◌, ◌++◌, IfOk, length};
 ghost use Rattle.std.specs.String.{string_bytes};
@@ -12,11 +12,13 @@ use arrayvec::ArrayString;
 use h41_words::Word;
 use std::alloc::{AllocError, Global};
 
-/// The greatest length of a line in bytes: 15 for the columns, 14 for the instruction, and 1 for the line end.
+/// The greatest length of a line of a listing, in bytes: 15 for the address and the words, 14 for the text of the
+/// instruction, and 1 for LF.
 const LINE: usize = 30;
 
-/// Returns the text of words: a line, with its line end, for each instruction. The address of the first word has no effect, since
-/// the text of a jump contains its target address or its displacement. The only error is `AllocError`, if allocation fails.
+/// Returns the disassembled text of `words`: for each instruction a line that ends with LF. `_origin`, the address of
+/// the first word, has no effect, because the text of a jump contains its target address or its displacement. The only
+/// error is `AllocError`, if allocation fails.
 pub fn disassemble(alloc: Global, words: &[Word], _origin: u16) -> Result<String, AllocError>
     ensures { IfOk result (λ text. string_bytes text ≡ spell words.now) }
 {
@@ -27,8 +29,9 @@ pub fn disassemble(alloc: Global, words: &[Word], _origin: u16) -> Result<String
     Ok(text)
 }
 
-/// Returns the listing of words: a line for each instruction, which begins with two columns, the address of the instruction (modulo
-/// 65,536) and its words. `origin` is the address of the first word. The only error is `AllocError`, if allocation fails.
+/// Returns the listing of `words`: a line for each instruction, which begins with two columns, the address of the
+/// instruction (four hexadecimal digits, modulo 65,536) and its words (three hexadecimal digits each). `origin` is the
+/// address of the first word. The only error is `AllocError`, if allocation fails.
 pub fn listing(alloc: Global, words: &[Word], origin: u16) -> Result<String, AllocError>
     ensures { IfOk result (λ text. string_bytes text ≡ listing_text words.now origin) }
 {
@@ -41,7 +44,8 @@ pub fn listing(alloc: Global, words: &[Word], origin: u16) -> Result<String, All
     Ok(text)
 }
 
-/// Appends the line of an instruction to a text.
+/// Appends the text of an instruction and LF, without the instruction's address and words. The only error is
+/// `AllocError`, if allocation fails.
 #[inline]
 fn push_line(text: &mut String, piece: Piece) -> Result<(), AllocError>
     ensures { IfOk result (λ _. string_bytes text.new ≡ string_bytes text.old ++ piece_line piece) }
@@ -52,7 +56,8 @@ fn push_line(text: &mut String, piece: Piece) -> Result<(), AllocError>
     text.push_str(line.as_str())
 }
 
-/// Appends the line of an instruction at an address, with its columns, to a text.
+/// Appends the line of a listing for an instruction: its address, its words, its text and LF. The only error is
+/// `AllocError`, if allocation fails.
 #[inline]
 fn push_columns_line(text: &mut String, address: u16, piece: Piece) -> Result<(), AllocError>
     ensures { IfOk result (λ _. GainsLine address piece text.old text.new) }
@@ -65,8 +70,8 @@ fn push_columns_line(text: &mut String, address: u16, piece: Piece) -> Result<()
     text.push_str(line.as_str())
 }
 
-/// Appends the columns before the text of an instruction: its address, two spaces, its words in a column of seven characters, and
-/// two spaces.
+/// Appends the columns before the text of an instruction, 15 bytes: its address (four hexadecimal digits), two spaces,
+/// its words (three hexadecimal digits each) in a column of seven characters, and two spaces. `columns` must be empty.
 #[inline]
 fn push_columns(columns: &mut ArrayString<LINE>, address: u16, piece: Piece)
     requires { array_string_len columns.old ≡ 0 }
@@ -80,7 +85,8 @@ fn push_columns(columns: &mut ArrayString<LINE>, address: u16, piece: Piece)
     columns.push_str("  ");
 }
 
-/// Appends a space and the second word of an instruction, or four spaces if it has none.
+/// Appends a space and the second word of an instruction as three hexadecimal digits, or four spaces if it has no
+/// second word.
 #[inline]
 fn push_second_column(columns: &mut ArrayString<LINE>, second: Option<Word>)
     requires { array_string_len columns.old ≤ 9 }

@@ -1,4 +1,4 @@
-//! The text of one instruction.
+//! Formats one instruction as text, for example `LDI 123`.
 
 ghost use Rattle.std.specs.Prelude.{◌≡◌, ◌+◌, ◌*◌, ◌≤◌, ◌<◌, ◌++◌, ℕ, ℤ, length};
 ghost use Rattle.std.specs.Fmt.{decimal};
@@ -18,9 +18,10 @@ mod names;
 /// The capacity of the text of an instruction, in bytes.
 const TEXT: usize = 32;
 
-/// Returns the text of an instruction in upper case: its mnemonic, followed by its operand if it has one. `second` is the word
-/// after `first`; it is used only if the instruction has two words. The text is `CON hhh` for a word that is no instruction, and
-/// for the first word of an instruction of two words if `second` is `None`.
+/// Returns the text of an instruction in upper case: its mnemonic, followed by its operand if it has one. `second` is
+/// the word after `first`; it is used only if the instruction has two words. The text is `CON hhh`, with the three
+/// hexadecimal digits of `first`, if `first` is no instruction, and if it is the first word of an instruction of two
+/// words and `second` is `None`.
 pub fn instruction(first: Word, second: Option<Word>) -> ArrayString<TEXT>
     ensures { result.bytes ≡ piece_text first second }
 {
@@ -29,7 +30,8 @@ pub fn instruction(first: Word, second: Option<Word>) -> ArrayString<TEXT>
     text
 }
 
-/// Appends the text of an instruction, at most 14 bytes.
+/// Appends the text of an instruction in upper case, its mnemonic and its operand, at most 14 bytes. `second` is the
+/// word after `first`; it is used only if the instruction has two words. `text` must have room for 14 more bytes.
 pub(crate) fn push_instruction<const N: usize>(
     text: &mut ArrayString<N>,
     first: Word,
@@ -51,7 +53,8 @@ pub(crate) fn push_instruction<const N: usize>(
     }
 }
 
-/// Appends the text of a jump by address.
+/// Appends the text of a jump by address, an instruction of two words: its mnemonic, a space and the target address as
+/// four hexadecimal digits. `low_byte`, from the first word, is the low byte of the target address.
 #[inline]
 fn push_long_jump<const N: usize>(text: &mut ArrayString<N>, low_byte: u8, second: SecondWord)
     requires { array_string_len text.old + 14 ≤ N }
@@ -66,7 +69,7 @@ fn push_long_jump<const N: usize>(text: &mut ArrayString<N>, low_byte: u8, secon
     );
 }
 
-/// Appends the four hexadecimal digits of an address.
+/// Appends an address as four hexadecimal digits. `text` must have room for four more bytes.
 #[inline]
 pub(crate) fn push_address<const N: usize>(text: &mut ArrayString<N>, address: u16)
     requires { array_string_len text.old + 4 ≤ N }
@@ -77,7 +80,9 @@ pub(crate) fn push_address<const N: usize>(text: &mut ArrayString<N>, address: u
 }
 
 #[tactic(auto, using(crate::proofs::Short::mnemonic_short))]
-/// Appends the text of a row of one word.
+/// Appends the text of a row of the word table, taken as an instruction of one word: its mnemonic, and its operand if
+/// it has one, at most 14 bytes. The text is `CON hhh`, with the word's three hexadecimal digits, if the row is no
+/// instruction of one word.
 #[inline]
 fn push_row<const N: usize>(text: &mut ArrayString<N>, row: Row)
     requires { array_string_len text.old + 14 ≤ N }
@@ -89,7 +94,8 @@ fn push_row<const N: usize>(text: &mut ArrayString<N>, row: Row)
 }
 
 #[tactic(auto, unfolding(h41_words::specs::WordTable::number_of))]
-/// Appends a space and the operand of a row of one word, or nothing if the row has no operand.
+/// Appends a space and the operand of a row of the word table, taken as an instruction of one word, or nothing if the
+/// row has no operand; at most 4 bytes.
 #[inline]
 fn push_operand<const N: usize>(text: &mut ArrayString<N>, row: Row)
     requires { array_string_len text.old + 4 ≤ N }
@@ -133,7 +139,7 @@ fn push_decimal<const N: usize>(text: &mut ArrayString<N>, number: u8)
     text.push_str(glyph_text(number % 10));
 }
 
-/// Appends a space and a displacement: its sign and two hexadecimal digits.
+/// Appends a space and the displacement of a short jump in words: its sign, `+` or `-`, and two hexadecimal digits.
 #[inline]
 fn push_displacement<const N: usize>(text: &mut ArrayString<N>, displacement: Displacement)
     requires { array_string_len text.old + 4 ≤ N }
@@ -146,7 +152,7 @@ fn push_displacement<const N: usize>(text: &mut ArrayString<N>, displacement: Di
     push_byte_digits(text, words.unsigned_abs());
 }
 
-/// Appends the three hexadecimal digits of a word.
+/// Appends a word as three hexadecimal digits. `text` must have room for three more bytes.
 #[inline]
 pub(crate) fn push_word<const N: usize>(text: &mut ArrayString<N>, word: Word)
     requires { array_string_len text.old + 3 ≤ N }

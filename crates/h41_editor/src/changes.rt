@@ -1,4 +1,4 @@
-//! Inserting, replacing and deleting lines in program mode.
+//! Inserts, replaces and deletes program lines in program mode.
 ghost use Rattle.std.specs.Prelude.{◌≡◌, is_ok, IfErr, IfOk, IsTrue, OnErr};
 ghost use Rattle.h41_editor.specs.Changes.{Deletes, Inserts, InsertsAt, MarksDeletion, Replaces};
 ghost use Rattle.h41_editor.specs.Changes.{with_line_shown};
@@ -19,11 +19,13 @@ use h41_positions::{Focal, PlacedLine, Position, line_at, next, start_of};
 use h41_program::{InFront, ProgramRefusal, delete, insert, is_final_end, replace};
 use h41_ram::Ram;
 
-/// Inserts a line after the shown line, and shows the new one. If an END or `.END.` is shown, the line is inserted before it; at line 00 it
-/// becomes the first line of the program. All return addresses are cleared. The line must not be a null or `.END.`.
+/// Inserts a line after the shown line, and shows the new one. If an END or `.END.` is shown, the line is inserted
+/// before it; at line 00 it becomes the first line of the program. All return addresses are cleared. The line must not
+/// be a null or `.END.`.
 ///
-/// BrokenProgram (14) if the program has no line at the position, if the list of lines does not reach `.END.`, or in a page; NoRoom (16) if
-/// there is no room. A refusal changes neither programs nor position. The rules are in docs/KEYBOARD.md.
+/// BrokenProgram (14) if the program has no line at the calculator's position, if the list of lines of program memory
+/// does not reach `.END.`, or if the position is in a page; NoRoom (16) if memory has no room for the line. A refusal
+/// changes neither programs nor position. The rules are in docs/KEYBOARD.md.
 pub fn insert_line<const REGS: usize>(
     ram: &mut Ram<REGS>,
     pages: &Pages,
@@ -56,7 +58,9 @@ pub fn insert_line<const REGS: usize>(
     }
 }
 
-/// Returns the position before which a line is inserted. BrokenProgram (14) if no line can be read at the position.
+/// Returns the position before which `insert_line` inserts a line: the start of the program at line 00, the position of
+/// the shown line if this is an END or `.END.`, and the position of the next line otherwise. BrokenProgram (14) if no
+/// line can be read at the calculator's position.
 fn place_for_line<const REGS: usize>(
     ram: &Ram<REGS>,
     pages: &Pages,
@@ -78,10 +82,12 @@ fn place_for_line<const REGS: usize>(
     }
 }
 
-/// Replaces the shown line by another one, and shows it. All return addresses are cleared. The line must not be a null or `.END.`.
+/// Replaces the shown line by another one, and shows it. All return addresses are cleared. The line must not be a null
+/// or `.END.`.
 ///
-/// BrokenProgram (14) if the list of lines has none at the position or does not reach `.END.`, or in a page; NoRoom (16) if there is no
-/// room. A refusal changes neither programs nor position.
+/// BrokenProgram (14) if the list of lines of program memory has no line at the calculator's position or does not reach
+/// `.END.`, or if the position is in a page; NoRoom (16) if memory has no room for the line. A refusal changes neither
+/// programs nor position.
 pub fn replace_line<const REGS: usize>(
     ram: &mut Ram<REGS>,
     focal: &mut Focal,
@@ -108,12 +114,12 @@ pub fn replace_line<const REGS: usize>(
     }
 }
 
-/// Deletes the shown line, and shows the line before it, or line 00 if it was the first line of its program. All return addresses are
-/// cleared. At line 00 and at `.END.` nothing changes.
+/// Deletes the shown line, and shows the line before it, or line 00 if it was the first line of its program. All return
+/// addresses are cleared. At line 00 and at `.END.` nothing changes.
 ///
-/// BrokenProgram (14) if no line can be read at the position, if the list of lines has none there or does not reach `.END.`, and at any
-/// line of a page except `.END.`; NoRoom (16) if there is no room. A refusal changes neither programs nor position. The rules are in
-/// docs/KEYBOARD.md.
+/// BrokenProgram (14) if no line can be read at the calculator's position, if the list of lines of program memory has
+/// none there or does not reach `.END.`, and at any line of a page except `.END.`; NoRoom (16) if memory has no room. A
+/// refusal changes neither programs nor position. The rules are in docs/KEYBOARD.md.
 pub fn delete_line<const REGS: usize>(
     ram: &mut Ram<REGS>,
     pages: &Pages,
@@ -146,7 +152,7 @@ pub fn delete_line<const REGS: usize>(
     }
 }
 
-/// Moves to a line in program memory, and clears all return addresses.
+/// Moves the calculator to the program line at position `byte` of program memory, and clears all return addresses.
 fn show_line(focal: &mut Focal, byte: u16)
     ensures state { focal.new.state ≡ with_line_shown (Memory byte) focal.old.state }
     ensures labels { focal.new.labels ≡ focal.old.labels }

@@ -9,14 +9,16 @@ ghost use Rattle.h41_pages.specs.PageMap.{PageMap};
 use h41_positions::laws::positions_are_read;
 use h41_program::laws::{edits_are_determined, lists_are_determined, searches_are_determined};
 
-/// A position has one line with one number, or none.
+/// States that for each position in programs there is at most one right answer: one program line with its number, or
+/// that there is none.
 pub fn numbered_is_determined()
     ensures { NumberedIsDetermined }
 {
     positions_are_read();
 }
 
-/// SST, BST and `GTO . .` have one outcome each.
+/// States that SST (`next`), BST (`before`) and `GTO . .` (`end`) have at most one result each in program mode, for
+/// each state of the calculator.
 pub fn moves_are_determined()
     ensures next { (pages : PageMap) → MoveIsDetermined (ShowsNext pages) }
     ensures before { (pages : PageMap) → MoveIsDetermined (ShowsBefore pages) }
@@ -27,7 +29,8 @@ pub fn moves_are_determined()
     positions_are_read();
 }
 
-/// Inserting a line, replacing a line and BACK have one outcome each.
+/// States that inserting a line (`insertion`), replacing a line (`replacement`) and deleting one with BACK (`deletion`)
+/// have at most one result each, for each state of the calculator.
 pub fn changes_are_determined()
     ensures insertion { (pages : PageMap) → ChangeIsDetermined (Inserts pages) }
     ensures replacement { ChangeIsDetermined Replaces }
@@ -37,7 +40,7 @@ pub fn changes_are_determined()
     edits_are_determined();
 }
 
-/// The display shows one text.
+/// States that the display shows at most one text in program mode, for each state of the calculator.
 pub fn text_is_determined()
     ensures { TextIsDetermined }
 {

@@ -15,8 +15,9 @@ use h41_program::laws::lists_are_determined;
 use h41_program::{ProgramRefusal, close_last, final_position, is_end, is_final_end, is_last_open};
 use h41_ram::Ram;
 
-/// Moves to the next line, as `SST` does in program mode: from line 00 to the line at the position, and from the last line of a program to
-/// its line 00. BrokenProgram (14) if no line can be read at the position; nothing changes then. The rules are in docs/KEYBOARD.md.
+/// Moves to the next program line, as `SST` does in program mode: from line 00 to the line at the calculator's
+/// position, and from the last line of a program to its line 00. BrokenProgram (14) if no line can be read at the
+/// position; nothing changes then. The rules are in docs/KEYBOARD.md.
 pub fn show_next<const REGS: usize>(
     ram: &Ram<REGS>,
     pages: &Pages,
@@ -42,9 +43,9 @@ pub fn show_next<const REGS: usize>(
     Ok(())
 }
 
-/// Moves to the line before, as `BST` does in program mode: from the first line to line 00, and from line 00 to the program's END or
-/// `.END.`. BrokenProgram (14) if the program has no line at the position, or from line 00 if it has no end; nothing changes then. The
-/// rules are in docs/KEYBOARD.md.
+/// Moves to the program line before, as `BST` does in program mode: from the first line to line 00, and from line 00 to
+/// the program's END or `.END.`. BrokenProgram (14) if the program has no line at the calculator's position, or from
+/// line 00 if it has no end; nothing changes then. The rules are in docs/KEYBOARD.md.
 pub fn show_before<const REGS: usize>(
     ram: &Ram<REGS>,
     pages: &Pages,
@@ -70,9 +71,10 @@ pub fn show_before<const REGS: usize>(
     Ok(())
 }
 
-/// Moves to line 00 of the last program, as `GTO . .` does. If the last program has lines but no END, an END is appended first, and all
-/// return addresses are cleared. BrokenProgram (14) if the list of lines does not reach `.END.`; NoRoom (16) if there is no room for the
-/// END. A refusal changes neither programs nor position.
+/// Moves to line 00 of the last program in memory, as `GTO . .` does. If the last program has lines but no END, an END
+/// is appended first, and all return addresses are cleared. BrokenProgram (14) if the list of lines of program memory
+/// does not reach `.END.`; NoRoom (16) if memory has no room for the END. A refusal changes neither programs nor
+/// position.
 pub fn go_to_end<const REGS: usize>(
     ram: &mut Ram<REGS>,
     focal: &mut Focal,
@@ -99,14 +101,14 @@ pub fn go_to_end<const REGS: usize>(
     Ok(())
 }
 
-/// Returns whether a line is the last of its program: an END or `.END.`.
+/// Returns whether a program line is the last of its program: an END or `.END.`.
 pub fn is_last(placed: &PlacedLine) -> bool
     ensures { result ≡ spec.is_last placed.now }
 {
     is_end(&placed.line) || is_final_end(placed.line)
 }
 
-/// Moves to line 00 of the position's program.
+/// Moves the calculator to line 00 of the program that contains its position.
 fn show_start<const REGS: usize>(ram: &Ram<REGS>, pages: &Pages, focal: &mut Focal)
     requires { IsTrue (is_sound ram.now.registers) }
     ensures done { ShowsStart pages.now (machine_with ram.now.registers focal.old.state)
@@ -117,7 +119,8 @@ fn show_start<const REGS: usize>(ram: &Ram<REGS>, pages: &Pages, focal: &mut Foc
     focal.go_to_line_00(start);
 }
 
-/// Moves to the end of the shown line's program. BrokenProgram (14) if it has none.
+/// Moves the calculator to the END or `.END.` of the program that contains the shown line. BrokenProgram (14) if the
+/// program has no end; nothing changes then.
 fn show_end<const REGS: usize>(
     ram: &Ram<REGS>,
     pages: &Pages,

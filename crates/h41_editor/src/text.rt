@@ -12,15 +12,17 @@ use h41_ram::Ram;
 use h41_text::write_line;
 use itoa::Buffer;
 
-/// The capacity of the text of a line with its number, in characters.
+/// The capacity, in bytes, of the text that the display shows in program mode: the number of a line, a space and the
+/// text of the line.
 pub const PROGRAM_TEXT_CAPACITY: usize = 60;
 
-/// The address of the first register of main memory.
+/// The address of the first register of main memory: 0C0 (hexadecimal).
 const MAIN_START: u16 = 0x0C0;
 
-/// Returns the text that the display shows in program mode: the number of the line at the position, with at least two digits, and its text.
-/// At line 00 it is `00 REG n`, with the number of registers that are free for programs. It is `?` if the program has no line at the
-/// position, or if memory is not sound. The rules are in docs/KEYBOARD.md.
+/// Returns the text that the display shows in program mode: the number of the line at the calculator's position, with
+/// at least two digits, a space, and the text of the line. At line 00 it is `00 REG n`, with the number of registers
+/// that are free for programs. It is `?` if the program has no line at the position, or if memory is not sound
+/// (`Ram::is_sound`). The rules are in docs/KEYBOARD.md.
 pub fn program_text<const REGS: usize>(
     ram: &Ram<REGS>,
     pages: &Pages,
@@ -41,7 +43,7 @@ pub fn program_text<const REGS: usize>(
     }
 }
 
-/// Returns the text for a line that cannot be shown.
+/// Returns `?`, the text that the display shows in program mode if no line can be shown.
 fn unknown_text() -> ArrayString<PROGRAM_TEXT_CAPACITY>
     ensures { result.bytes ≡ spec.unknown_text }
 {
@@ -50,7 +52,8 @@ fn unknown_text() -> ArrayString<PROGRAM_TEXT_CAPACITY>
     text
 }
 
-/// Returns the text of line 00, with the number of free registers.
+/// Returns the text that the display shows at line 00: `00 REG n`, with the number of registers that are free for
+/// programs, in decimal.
 fn line_00_text<const REGS: usize>(ram: &Ram<REGS>) -> ArrayString<PROGRAM_TEXT_CAPACITY>
     requires { IsTrue (is_sound ram.now.registers) }
     ensures { result.bytes ≡ spec.line_00_text ram.now.registers }
@@ -61,7 +64,8 @@ fn line_00_text<const REGS: usize>(ram: &Ram<REGS>) -> ArrayString<PROGRAM_TEXT_
     text
 }
 
-/// Returns the text of a line with its number.
+/// Returns the text that the display shows for a program line: its number with at least two digits, a space, and the
+/// text of the line.
 fn numbered_text(numbered: &NumberedLine) -> ArrayString<PROGRAM_TEXT_CAPACITY>
     ensures { result.bytes ≡ spec.numbered_text numbered.now }
 {

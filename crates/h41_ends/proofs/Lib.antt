@@ -1,5 +1,6 @@
 pub mod Answered
 pub mod EndedLines
+pub mod HeardReads
 pub mod InputBuffers
 pub mod InputReading
 pub mod LineEnds

@@ -1,8 +1,9 @@
--- Inputs up to their limit, failed writes, what the wrappers `FromRead` and `ToWrite` contain, and
--- what calls leave written.
-use Rattle.std.specs.Prelude.{◌≡◌, ◌==◌, ◌&&◌, ◌<◌, ℕ, Bool, true, not, List, length, nat_le, take}
-use Rattle.std.specs.Prelude.{◌+◌, is_some, min, Option, IfSome, Result, Ok, Err}
+-- Inputs up to their limit, the bytes that sources deliver, failed writes, what the wrappers
+-- `FromRead` and `ToWrite` contain, and what is written after a call.
+use Rattle.std.specs.Prelude.{◌≡◌, ◌==◌, ◌&&◌, ◌<◌, ◌≤◌, ℕ, Bool, true, not, List, length, nat_le}
+use Rattle.std.specs.Prelude.{◌+◌, ◌-◌, take, is_some, min, Option, Some, IfSome, Result, Ok, Err}
 use Rattle.std.specs.Io.KnownBytes.{Appends}
+use Rattle.std.specs.declared.io.Error.{Error}
 use Rattle.h41_ends.specs.declared.source.FromRead.{FromRead}
 use Rattle.h41_ends.specs.declared.sink.ToWrite.{ToWrite}
 
@@ -10,15 +11,34 @@ use Rattle.h41_ends.specs.declared.sink.ToWrite.{ToWrite}
 abbrev pub most_bytes : ℕ
 most_bytes = 67108864
 
--- One byte more than the limit: a source counts no further, because one byte too many is enough to
--- know that an input is too long.
+-- The greatest count of delivered bytes that a source keeps: 2 ^ 64 - 1.
 abbrev pub most_given : ℕ
-most_given = 67108865
+most_given = 18446744073709551615
 
--- The count of bytes delivered after one more read. A read that fails delivers none.
+-- The count of delivered bytes after `count` more bytes were delivered. It stops at `most_given`.
+abbrev pub given_after : ℕ → ℕ → ℕ
+given_after given count = given + min count (most_given - given)
+
+-- The count of delivered bytes after one more read. A read that fails delivers none.
 abbrev pub given_more : {E : Type 0} → ℕ → Result ℕ E → ℕ
-given_more given (Ok n) = min most_given (given + n)
+given_more given (Ok n) = given_after given n
 given_more given (Err e) = given
+
+-- Between these two counts of delivered bytes, at least one byte more was delivered than an input
+-- may have, or the count has reached `most_given`.
+abbrev pub GivesTooMany : ℕ → ℕ → Type 0
+GivesTooMany before after = given_after before (most_bytes + 1) ≤ after
+
+-- Between these two counts of delivered bytes, at most one byte more was delivered than an input
+-- may have.
+abbrev pub GivesWithin : ℕ → ℕ → Type 0
+GivesWithin before after = after ≤ before + (most_bytes + 1)
+
+-- The error of the last call that failed, after one more call with this result. If that call
+-- failed, it is its error.
+abbrev pub failure_after : {A : Type 0} → Option Error → Result A Error → Option Error
+failure_after failure (Ok done) = failure
+failure_after failure (Err error) = Some error
 
 -- The bytes are the known input up to the limit. Nothing is claimed of an input that is not known.
 abbrev pub IsFront : Option (List ℕ) → List ℕ → Type 0
@@ -40,6 +60,14 @@ reader_of s = s.reader
 -- The error flag of a `FromRead`.
 abbrev pub has_read_failed : {R : Type 0} → FromRead R → Bool
 has_read_failed s = is_some s.error
+
+-- The error of the last call of a `FromRead` that failed, if one has failed.
+abbrev pub read_failure : {R : Type 0} → FromRead R → Option Error
+read_failure s = s.error
+
+-- How many bytes a `FromRead` has delivered, counted up to 2 ^ 64 - 1.
+abbrev pub read_given : {R : Type 0} → FromRead R → ℕ
+read_given s = s.given
 
 -- The writer of a `ToWrite`.
 abbrev pub writer_of : {W : Type 0} → ToWrite W → W

@@ -1,11 +1,11 @@
 -- The lines of an input that is read in pieces of any size.
-use Rattle.std.specs.Prelude.{◌≡◌, ◌⊎◌, ◌==◌, ◌<◌, ◌≤◌, ℕ, ◌+◌, ◌-◌, Bool, true, false, List, []}
+use Rattle.std.specs.Prelude.{◌≡◌, ◌⊎◌, ◌==◌, ℕ, ◌+◌, ◌-◌, Bool, true, false, List, []}
 use Rattle.std.specs.Prelude.{◌∷◌, ◌++◌, length, map, nat_lt, take, drop, position, Option, None}
-use Rattle.std.specs.Prelude.{IfSome, Result, Ok, Err}
+use Rattle.std.specs.Prelude.{IfSome, Result, Ok, Err, if◌then◌else◌}
 use Rattle.std.specs.Io.KnownBytes.{Consumes, IsAtEnd}
 use Rattle.h41_lines.specs.Lines.{lines}
 use Rattle.h41_ends.specs.declared.input_lines.InputLines.{InputLines}
-use Rattle.h41_ends.specs.Ends.{most_bytes}
+use Rattle.h41_ends.specs.Ends.{given_after, most_bytes}
 
 -- The most bytes of a line that are returned.
 abbrev pub most_told : ℕ
@@ -73,11 +73,20 @@ pub record ReadsMore (before after : Option (List ℕ)) (old new : InputLines)
   pub ended : new.at_end ≡ true → (old.at_end ≡ true) ⊎ IfSome before (λ known. IsAtEnd after)
   pub stays : old.at_end ≡ true → (new.at_end ≡ true) × (bytes ≡ [])
 
--- The reader has delivered at least as many bytes as were counted, and more than the limit if there
--- were more.
-pub record IsCounted (input : InputLines) (given : ℕ) : Type 0 where
-  pub count : input.count ≤ given
-  pub over : input.is_over ≡ true → most_bytes < given
+-- How many bytes were read: those within the limit, and one more if the input is longer.
+abbrev pub read_count : InputLines → ℕ
+read_count input = input.count + (if input.is_over then 1 else 0)
+
+-- The count of bytes that the source has delivered is `given`. It was `first` before the first of
+-- these reads, and has been increased by the bytes that were read and by no others.
+abbrev pub IsCounted : InputLines → ℕ → ℕ → Type 0
+IsCounted input first given = given ≡ given_after first (read_count input)
+
+-- A call between the source's counts `before` and `after` preserves `IsCounted`, whatever the count
+-- was before the first read.
+abbrev pub CountsOn : InputLines → InputLines → ℕ → ℕ → Type 0
+CountsOn old new before after =
+    (first : ℕ) → IsCounted old first before → IsCounted new first after
 
 -- The whole input was returned.
 pub record IsTold (input : InputLines) : Type 0 where

@@ -11,7 +11,7 @@ use std::alloc::{AllocError, AllocFailed};
 #[derive(Clone, Copy, Debug, PartialEq, Eq)]
 pub struct WriteFault;
 
-/// Why an input was not read completely.
+/// Why `read_whole` could not read an input: allocation failed, or a read failed.
 #[derive(Clone, Copy, Debug, PartialEq, Eq)]
 pub enum InputFault {
     /// OutOfMemory (21): allocation failed.
@@ -36,7 +36,8 @@ impl<T: Drop> From<AllocFailed<T>> for InputFault {
     }
 }
 
-/// Why the next line of an input was not read completely.
+/// Why `InputLines::next_line` could not read the next line of an input: a read, the limit of the input's size, or the
+/// flush before a read.
 #[derive(Clone, Copy, Debug, PartialEq, Eq)]
 pub enum LineReadFault {
     /// ReadFault (22): a read failed, or the input has more than 67,108,864 bytes.

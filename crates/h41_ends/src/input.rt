@@ -1,7 +1,7 @@
 //! Reads an input completely.
 
-ghost use Rattle.std.specs.Prelude.{◌≡◌, ◌≢◌, ◌≤◌, ◌<◌, true, false, IfOk, Err, vec_len};
-ghost use Rattle.h41_ends.specs.Ends.{IsFront, SaysWhole, most_bytes};
+ghost use Rattle.std.specs.Prelude.{◌≡◌, ◌≢◌, ◌≤◌, true, false, IfOk, Err, vec_len};
+ghost use Rattle.h41_ends.specs.Ends.{GivesTooMany, GivesWithin, IsFront, SaysWhole, most_bytes};
 
 use crate::fault::InputFault;
 use crate::source::Source;
@@ -10,7 +10,7 @@ use std::alloc::Global;
 /// The greatest size of an input: 67,108,864 bytes (64 MiB).
 pub const MOST_BYTES: usize = 67_108_864;
 
-/// The size of the buffer of one read, in bytes.
+/// The size, in bytes, of the buffer into which each read of `read_whole` is made.
 const BLOCK: usize = 4096;
 
 /// The bytes that were read of an input, and whether they are all of it.
@@ -22,8 +22,8 @@ pub struct ReadInput {
     pub is_whole: bool,
 }
 
-/// Reads to the end of the input, or until more than `MOST_BYTES` bytes were read. The result says
-/// which of the two happened.
+/// Reads to the end of the input, or until more than `MOST_BYTES` bytes were read. The result contains the bytes, at
+/// most the first `MOST_BYTES`, and says which of the two happened. The error flag of the reader must be clear.
 ///
 /// # Errors
 ///
@@ -34,18 +34,20 @@ pub fn read_whole<R: Source>(alloc: Global, reader: &mut R) -> Result<ReadInput,
     ensures whole { IfOk result (λ input. SaysWhole (R.remaining reader.old) input.is_whole) }
     ensures bound { IfOk result (λ input. vec_len input.bytes ≤ most_bytes) }
     ensures given { IfOk result (λ input. input.is_whole ≡ false
-        → most_bytes < R.given reader.new) }
+        → GivesTooMany (R.given reader.old) (R.given reader.new)) }
+    ensures within { GivesWithin (R.given reader.old) (R.given reader.new) }
     ensures mark { result ≡ Err InputFault.ReadFault → R.failed reader.new ≡ true }
     ensures clear { result ≢ Err InputFault.ReadFault → R.failed reader.new ≡ false }
 {
     let mut bytes = Vec::new(alloc);
     let mut block = [0u8; BLOCK];
     loop {
-        let count = match reader.read(&mut block) {
+        let room = MOST_BYTES - bytes.len();
+        let most = BLOCK.min(room + 1);
+        let count = match reader.read(&mut block[..most]) {
             Ok(count) => count,
             Err(_) => return Err(InputFault::ReadFault),
         };
-        let room = MOST_BYTES - bytes.len();
         bytes.extend_from_slice(&block[..count.min(room)])?;
         if count == 0 || count > room {
             let is_whole = count == 0;

@@ -8,37 +8,37 @@ use crate::input::MOST_BYTES;
 use crate::line_ends::line_end;
 use crate::output::flush_rest;
 use crate::sink::Sink;
-use crate::source::Source;
+use crate::source::Talk;
 use h41_lines::lines::without_return;
 
-/// The most bytes of a line that `line` returns: 201, one more than a deck line may have, so that a caller sees that a line is
-/// too long.
+/// The most bytes of a line that `InputLines::line` returns: 201, one more than a deck line may have, so that a caller
+/// sees that a line is too long.
 pub const MOST_TOLD: usize = 201;
 
 /// How many bytes of an unfinished line are kept between reads: 202. A line with so many bytes is too long even if the last of
 /// them is a CR.
 const KEPT: usize = MOST_TOLD + 1;
 
-/// The size of the buffer, in bytes.
+/// The size of the buffer of an `InputLines`, in bytes.
 const BLOCK: usize = 4096;
 
 /// Reads an input line by line. It keeps a block of the bytes that were read and not yet returned.
 #[derive(Debug, Drop)]
 pub struct InputLines {
     buffer: [u8; BLOCK],
-    /// The first buffered byte.
+    /// The index in `buffer` of the first byte that was read and is not part of a returned line.
     start: usize,
-    /// The end of the buffered bytes.
+    /// The index in `buffer` just after the last byte that was read.
     end: usize,
-    /// Where the line that was returned last begins.
+    /// The index in `buffer` at which the line that was returned last begins.
     line_start: usize,
-    /// Where the line that was returned last ends.
+    /// The index in `buffer` just after the line that was returned last.
     line_end: usize,
-    /// How many bytes were read, at most `MOST_BYTES`.
+    /// How many bytes of the input were read, at most `MOST_BYTES`. A byte above this limit is not counted.
     count: usize,
-    /// Whether the input has more than `MOST_BYTES` bytes.
+    /// Whether a read has shown that the input has more than `MOST_BYTES` bytes.
     is_over: bool,
-    /// Whether the end of the input was reached.
+    /// Whether a read has reached the end of the input.
     at_end: bool,
     ghost held: { start ≤ end },
     ghost held_end: { end ≤ 4096 },
@@ -53,15 +53,17 @@ impl InputLines {
     ghost use Rattle.std.specs.Prelude.{◌≡◌, ◌≢◌, ◌⊎◌, ◌≤◌, ◌<◌, ◌+◌, ◌==◌, ℕ, [], true, false};
     ghost use Rattle.std.specs.Prelude.{Some, Err, Ok, OnErr, OnOk, position};
     ghost use Rattle.std.specs.Io.KnownBytes.{Keeps};
-    ghost use Rattle.h41_ends.specs.InputLines.{HasRead, IsCounted, IsStopped, IsTold, IsUnended};
+    ghost use Rattle.h41_ends.specs.HeardLines.{AreNone, Hears};
+    ghost use Rattle.h41_ends.specs.InputLines.{CountsOn, HasRead, IsCounted, IsStopped, IsTold};
+    ghost use Rattle.h41_ends.specs.InputLines.{IsUnended};
     ghost use Rattle.h41_ends.specs.InputLines.{ReadsMore, held_in, line_in, lines_told, most_left};
     ghost use Rattle.h41_ends.specs.private.ReadingOn.{Shortens, TakesRead, TellsEnded, TellsLast};
     ghost use Rattle.h41_ends.specs.private.ReadingOn.{ReachesEnd, reads_left};
 
-    /// Returns a reader of lines that has read nothing.
+    /// Returns an `InputLines` that has read nothing yet.
     pub fn new() -> Self
         ensures nothing { HasRead [] [] result }
-        ensures counted { (given : ℕ) → IsCounted result given }
+        ensures counted { (given : ℕ) → IsCounted result given given }
         ensures goes_on { result.at_end ≡ false }
     {
         InputLines {
@@ -76,7 +78,8 @@ impl InputLines {
         }
     }
 
-    /// Returns the line that `next_line` read last, without its line end. Of a longer line it returns the first 201 bytes.
+    /// Returns the line that `next_line` read last, without its line end (LF, or CR and LF). Of a line of more than 201
+    /// bytes, it returns the first 201. Before the first line, it returns no bytes.
     #[inline(always)]
     pub fn line(&self) -> &[u8]
         ensures { result.now ≡ line_in self.now }
@@ -84,24 +87,26 @@ impl InputLines {
         &self.buffer[self.line_start..self.line_end]
     }
 
-    /// Reads up to the end of the next line and returns whether there is one; `line` then returns it. Of a line of more than 201
-    /// bytes the rest is skipped and not kept. The writer is flushed before each read, unless it is flushed already.
+    /// Reads up to the end of the next line and returns whether there is one; `line` then returns it. Of a line of more
+    /// than 201 bytes the rest is skipped and not kept. The writer is flushed before each read, unless it is flushed
+    /// already. The error flags of the reader and the writer must be clear.
     ///
     /// # Errors
     ///
-    /// `ReadFault` (22) if a read fails, or if the line's end is not within the first 67,108,864 bytes; `WriteFault` (23) if the
-    /// writer cannot be flushed.
+    /// `ReadFault` (22) if a read fails, or if the line's end is not within the first 67,108,864 bytes; `WriteFault`
+    /// (23) if the writer cannot be flushed.
     #[inline(always)]
-    pub fn next_line<R: Source, W: Sink>(
+    pub fn next_line<R: Talk<W>, W: Sink>(
         &mut self,
         reader: &mut R,
         writer: &mut W,
     ) -> Result<bool, LineReadFault>
         requires reader_clear { R.failed reader.old ≡ false }
         requires writer_clear { W.failed writer.old ≡ false }
-        requires counted { IsCounted self.old (R.given reader.old) }
         ensures lines { ReadsMore (R.remaining reader.old) (R.remaining reader.new)
             self.old self.new (lines_told result self.new) }
+        ensures heard { Hears AreNone (R.reads reader.old) (R.reads reader.new)
+            (W.contents writer.old) self.old self.new (lines_told result self.new) }
         ensures end { result ≡ Ok false → IsTold self.new }
         ensures bound { OnOk result (most_left self.new ≤ most_left self.old) }
         ensures fewer { result ≡ Ok true → most_left self.new < most_left self.old }
@@ -113,7 +118,7 @@ impl InputLines {
         ensures flushed { result ≡ Err LineReadFault.ReadFault → W.flushed writer.new ≡ true }
 
         ensures kept { Keeps (W.contents writer.old) (W.contents writer.new) }
-        ensures counted { IsCounted self.new (R.given reader.new) }
+        ensures counted { CountsOn self.old self.new (R.given reader.old) (R.given reader.new) }
         ensures reader { result ≢ Err LineReadFault.ReadFault → R.failed reader.new ≡ false }
         ensures writer { result ≢ Err LineReadFault.WriteFault → W.failed writer.new ≡ false }
         ensures write_fault { result ≡ Err LineReadFault.WriteFault → W.failed writer.new ≡ true }
@@ -140,8 +145,8 @@ impl InputLines {
         &self.buffer[self.start..self.end]
     }
 
-    /// Makes the bytes up to the LF at `end`, counted from the first buffered byte, the line that `line` returns. A CR before the
-    /// LF is not part of the line.
+    /// Makes the buffered bytes before the LF at `end`, at most the first 201, the line that `line` returns. `end` is
+    /// counted from the first buffered byte. A CR before the LF is not part of the line.
     #[inline(always)]
     fn tell_ended(&mut self, end: usize)
         requires { Some end ≡ position (λ byte. byte == 10) (held_in self.old) }
@@ -153,7 +158,8 @@ impl InputLines {
         self.start += end + 1;
     }
 
-    /// Makes the buffered bytes the last line, if there are any, and returns whether there are. The end of the input was reached.
+    /// Makes the buffered bytes, at most the first 201, the last line of the input, if there are any, and returns
+    /// whether there are. It is called when a read has reached the end of the input.
     #[inline(never)]
     fn tell_last(&mut self) -> bool
         requires { self.old.is_over ≡ false }
@@ -167,9 +173,11 @@ impl InputLines {
         count > 0
     }
 
-    /// Shortens the unfinished line in the buffer to 202 bytes, and reads more bytes after it. Returns whether there were any.
+    /// Flushes the writer, shortens the unfinished line in the buffer to 202 bytes, and reads more bytes after it.
+    /// Returns whether there were any; if not, the end of the input is reached. `ReadFault` (22) if the read fails or
+    /// the input has more than 67,108,864 bytes; `WriteFault` (23) if the writer cannot be flushed.
     #[inline(never)]
-    fn read_more<R: Source, W: Sink>(
+    fn read_more<R: Talk<W>, W: Sink>(
         &mut self,
         reader: &mut R,
         writer: &mut W,
@@ -178,9 +186,10 @@ impl InputLines {
         requires goes_on { self.old.at_end ≡ false }
         requires reader_clear { R.failed reader.old ≡ false }
         requires writer_clear { W.failed writer.old ≡ false }
-        requires counted { IsCounted self.old (R.given reader.old) }
         ensures lines { ReadsMore (R.remaining reader.old) (R.remaining reader.new)
             self.old self.new [] }
+        ensures heard { Hears AreNone (R.reads reader.old) (R.reads reader.new)
+            (W.contents writer.old) self.old self.new [] }
         ensures goes_on { self.new.at_end ≡ false }
         ensures less { result ≡ Ok true → reads_left self.new < reads_left self.old }
         ensures end { result ≡ Ok false → ReachesEnd (R.remaining reader.new) self.new }
@@ -190,7 +199,7 @@ impl InputLines {
             → (R.failed reader.new ≡ true) ⊎ (self.new.is_over ≡ true) }
         ensures flushed { result ≡ Err LineReadFault.ReadFault → W.flushed writer.new ≡ true }
         ensures kept { Keeps (W.contents writer.old) (W.contents writer.new) }
-        ensures counted { IsCounted self.new (R.given reader.new) }
+        ensures counted { CountsOn self.old self.new (R.given reader.old) (R.given reader.new) }
         ensures reader { result ≢ Err LineReadFault.ReadFault → R.failed reader.new ≡ false }
         ensures writer { result ≢ Err LineReadFault.WriteFault → W.failed writer.new ≡ false }
         ensures write_fault { result ≡ Err LineReadFault.WriteFault → W.failed writer.new ≡ true }
@@ -200,7 +209,8 @@ impl InputLines {
             return Err(LineReadFault::ReadFault);
         }
         self.shorten();
-        match reader.read(&mut self.buffer[self.end..]) {
+        let most = (BLOCK - self.end).min(MOST_BYTES - self.count + 1);
+        match reader.read_after(writer, &mut self.buffer[self.end..self.end + most]) {
             Ok(count) => {
                 self.take_read(count);
                 Ok(count > 0)
@@ -209,7 +219,8 @@ impl InputLines {
         }
     }
 
-    /// Moves the buffered bytes to the start of the buffer, and drops those after the first 202.
+    /// Moves the buffered bytes to the start of the buffer, and drops those after the first 202. The line that was
+    /// returned last is dropped, too.
     fn shorten(&mut self)
         ensures { Shortens self.old self.new }
     {
@@ -221,7 +232,8 @@ impl InputLines {
         self.line_end = 0;
     }
 
-    /// Adds the bytes that were just read to the buffered bytes, as many as the limit of 67,108,864 bytes permits.
+    /// Adds the `count` bytes that were just read into the buffer to the buffered bytes, as many as the limit of
+    /// 67,108,864 bytes permits. If there are more, it notes that the input is too long.
     fn take_read(&mut self, count: usize)
         requires room { self.old.end + count ≤ 4096 }
         requires clear { self.old.is_over ≡ false }

@@ -16,4 +16,4 @@ pub use input_lines::{InputLines, MOST_TOLD};
 pub use line_ends::line_end;
 pub use output::{flush, write_whole};
 pub use sink::{Sink, ToWrite};
-pub use source::{FromRead, Source};
+pub use source::{FromRead, Source, Talk};

@@ -7,7 +7,7 @@ ghost use Rattle.h41_ends.specs.private.LineEndBits.{MarksEnds};
 use h41_lines::lines;
 use std::simd::prelude::*;
 
-/// How many bytes are compared at once.
+/// How many bytes of a text are compared with LF at once.
 const LANES: usize = 16;
 
 /// Returns the index of the first LF of a text, counted from 0, or `None` if it has none.
@@ -29,7 +29,8 @@ pub fn line_end(text: &[u8]) -> Option<usize>
     }
 }
 
-/// Returns a number whose bit k is set if byte k of the text is an LF, for the first sixteen bytes.
+/// Returns a number whose bit k is set if byte k of the text is an LF, for the first sixteen bytes. The text must have
+/// at least sixteen.
 #[inline(always)]
 fn line_ends(text: &[u8]) -> u64
     requires { 16 ≤ length text.now }
@@ -41,7 +42,7 @@ fn line_ends(text: &[u8]) -> u64
         .to_bitmask()
 }
 
-/// Returns the number of the lowest bit that is set.
+/// Returns the index of the lowest bit of `bits` that is set. The index of the lowest bit is 0. `bits` must not be 0.
 #[inline(always)]
 fn lowest(bits: u64) -> usize
     requires { bits ≢ 0 }

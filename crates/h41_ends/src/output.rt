@@ -7,12 +7,12 @@ ghost use Rattle.h41_ends.specs.Ends.{Writes};
 use crate::fault::WriteFault;
 use crate::sink::Sink;
 
-/// Writes all bytes, over writes that accept only a part of them.
+/// Writes all bytes to the sink. If a write accepts only a part of them, further writes follow. The error flag of the
+/// sink must be clear.
 ///
 /// # Errors
 ///
-/// `WriteFault` (23) if a write fails or accepts no byte. A prefix of the bytes, and not all of
-/// them, is written then.
+/// `WriteFault` (23) if a write fails or accepts no byte. A prefix of the bytes, and not all of them, is written then.
 pub fn write_whole<W: Sink>(writer: &mut W, bytes: &[u8]) -> Result<(), WriteFault>
     requires { W.failed writer.old ≡ false }
     ensures written { Writes result W.contents writer.old writer.new bytes.now }
@@ -29,7 +29,7 @@ pub fn write_whole<W: Sink>(writer: &mut W, bytes: &[u8]) -> Result<(), WriteFau
     Ok(())
 }
 
-/// Flushes the sink, so that bytes in its buffer are passed on.
+/// Flushes the sink, so that bytes in its buffer are passed on. The error flag of the sink must be clear.
 ///
 /// # Errors
 ///
@@ -47,7 +47,7 @@ pub fn flush<W: Sink>(writer: &mut W) -> Result<(), WriteFault>
     }
 }
 
-/// Flushes the sink as `flush` does, unless nothing was written since the last flush.
+/// Flushes the sink, unless it was flushed after its last write. The error flag of the sink must be clear.
 ///
 /// # Errors
 ///

@@ -15,7 +15,7 @@ pub trait Sink {
     // The bytes that the sink has accepted, if they are known.
     ghost contents: { Self → Option (List ℕ) };
 
-    // The error flag.
+    // The error flag: whether a call has failed.
     ghost failed: { Self → Bool };
 
     // Whether the sink was flushed after its last write.
@@ -68,7 +68,7 @@ impl<W> ToWrite<W> {
         }
     }
 
-    /// Returns the writer, without the flags.
+    /// Returns the `Write` that the sink writes to. The two flags are dropped.
     pub fn into_inner(self) -> W
         ensures { result ≡ writer_of self }
     {

@@ -2,7 +2,8 @@
 
 ghost use Rattle.h41_fields.specs.FieldLaws.{PlacesAreOrdered};
 
-/// States that the first place of a field is never above its last, whatever the pointers are.
+/// States that the first (rightmost) place of a field is never above its last (leftmost) place, whatever the pointers
+/// are.
 pub fn places_are_ordered()
     ensures { PlacesAreOrdered }
 {}

@@ -1,4 +1,4 @@
-//! The places of a field.
+//! Computes which places of a register, 0 to 13, a field consists of for given pointers.
 
 ghost use Rattle.std.specs.Prelude.{◌≡◌, ◌<◌, ◌≤◌, true};
 ghost use Rattle.h41_fields.specs.Field.{is_pointed, places, from_to, first_place, last_place};
@@ -9,7 +9,8 @@ use h41_digits::{PLACES, Span};
 /// The leftmost place of a register, 13.
 const LAST_PLACE: usize = PLACES - 1;
 
-/// The mask of each field, by its number. The entry is 0 for a field that depends on the pointers.
+/// The mask of each field, by its field number 0 to 7: four bits for each place, F inside the field and 0 outside. The
+/// entry is 0 for a field that depends on the pointers.
 static MASKS: [u64; 8] = [
     0,
     0xFFF,
@@ -21,7 +22,8 @@ static MASKS: [u64; 8] = [
     0xF0_0000_0000_0000,
 ];
 
-/// The first and the last place of each field, by its number. The entry is unused for a field that depends on the pointers.
+/// The first (rightmost) and the last (leftmost) place of each field, by its field number 0 to 7. The entry is unused
+/// for a field that depends on the pointers.
 static ENDS: [(usize, usize); 8] = [
     (0, 0),
     (0, 2),
@@ -33,8 +35,8 @@ static ENDS: [(usize, usize); 8] = [
     (LAST_PLACE, LAST_PLACE),
 ];
 
-/// Returns the places of a field as a span. `p` and `q` are the places, 0 to 13, that the pointers P and Q name; `active` is the
-/// pointer that is selected.
+/// Returns the places of a register that belong to a field, as a span. `p` and `q` are the places, 0 to 13, that the
+/// pointers P and Q name; `active` is the pointer that is selected.
 #[inline(always)]
 pub fn span(field: Field, p: usize, q: usize, active: Pointer) -> Span
     requires p_in_register { p < 14 }
@@ -53,7 +55,8 @@ pub fn span(field: Field, p: usize, q: usize, active: Pointer) -> Span
     }
 }
 
-/// Returns the first and the last place of a field that depends on the pointers. It is a function of its own, never inlined, so
+/// Returns the first and the last place, 0 to 13, of a field that depends on the pointers: `@R`, `R<` or `P-Q`. `p` and
+/// `q` are the places that P and Q name, `active` is the pointer that is selected. This function is never inlined, so
 /// that the other fields do not wait for the pointers.
 #[cold]
 #[inline(never)]

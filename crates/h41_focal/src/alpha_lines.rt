@@ -1,4 +1,4 @@
-//! Lines that change ALPHA.
+//! Program lines that change ALPHA or switch ALPHA mode.
 
 ghost use Rattle.std.specs.Prelude.{◌≡◌, ◌≤◌, ℕ, IfNone, IfSome, length};
 ghost use Rattle.h41_codes.specs.declared.line.Line.TheVariants as lines;
@@ -19,10 +19,11 @@ use h41_ram::Ram;
 use h41_ram::flags::ALPHA_MODE;
 use h41_rows::{append_text, replace_text, shift_six};
 
-/// The append sign: a text line that begins with it is appended to ALPHA.
+/// The code, 7F, of the append sign: a text line that begins with it is appended to ALPHA.
 const APPEND: u8 = 0x7F;
 
-/// Executes a function that clears ALPHA, shifts it by six characters, or switches ALPHA mode.
+/// Executes `CLA`, `ASHF` (removes the first six characters of ALPHA), `AON` or `AOFF`, and turns stack lift on. The
+/// program continues at the next line; for a typed line the position does not change.
 pub fn change_alpha<const REGS: usize>(
     machine: &mut Machine<REGS>,
     origin: Origin,
@@ -52,8 +53,8 @@ pub fn change_alpha<const REGS: usize>(
     }
 }
 
-/// Executes a text line: the text replaces ALPHA. If it begins with the append sign, the rest is appended to ALPHA instead. A text without
-/// characters leaves ALPHA unchanged.
+/// Executes a text line: the text replaces ALPHA. If it begins with the append sign (7F), the rest is appended to ALPHA
+/// instead. A text without characters leaves ALPHA unchanged. Stack lift is turned on.
 pub fn text_line<const REGS: usize>(
     machine: &mut Machine<REGS>,
     origin: Origin,
@@ -69,7 +70,8 @@ pub fn text_line<const REGS: usize>(
     BriefOutcome::Done
 }
 
-/// Writes a text to ALPHA. It replaces ALPHA, or is appended if it begins with the append sign. A text without characters changes nothing.
+/// Writes the text of a text line to ALPHA. It replaces ALPHA, or the rest is appended to ALPHA if the text begins with
+/// the append sign (7F). A text without characters changes nothing.
 fn put_text<const REGS: usize>(ram: &mut Ram<REGS>, text: &[u8])
     ensures change { PutsText text.now ram.old.registers ram.new.registers }
     ensures mark { KeepsMark ram.old ram.new }
@@ -84,7 +86,7 @@ fn put_text<const REGS: usize>(ram: &mut Ram<REGS>, text: &[u8])
     }
 }
 
-/// Returns the text after the append sign, or `None` if the text does not begin with it.
+/// Returns the part of a text after the append sign (7F), or `None` if the text does not begin with it.
 fn appended(text: &[u8]) -> Option<&[u8]>
     ensures behind { IfSome result (λ rest. IsBehind text.now rest.now) }
     ensures whole { IfNone result (IsWhole text.now) }

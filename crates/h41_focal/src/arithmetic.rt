@@ -1,4 +1,4 @@
-//! Functions that compute.
+//! Functions that compute a value from X, or from Y and X.
 
 ghost use Rattle.std.specs.Prelude.{ℕ};
 ghost use Rattle.h41_positions.specs.LabelledMachine.{Keeps, machine_of};
@@ -15,7 +15,9 @@ use crate::outcome::BriefOutcome;
 use h41_ram::StatusRegister;
 use h41_rows::{ValueOfOne, ValueOfTwo, compute_of_one, compute_of_two, drop_into, keep_last};
 
-/// Executes a function of Y and X: X receives the value, LAST X receives the old X, and the stack drops.
+/// Executes a function that computes a value from Y and X, for example `-` (Y minus X): X receives the value, LAST X
+/// receives the old X, and the stack drops. The errors are ALPHA DATA, DATA ERROR and OUT OF RANGE; then the outcome is
+/// `Failed`, or `Done` if flag 25 was set.
 #[inline(always)]
 pub fn of_y_and_x<const REGS: usize>(
     machine: &mut Machine<REGS>,
@@ -37,7 +39,9 @@ pub fn of_y_and_x<const REGS: usize>(
     }
 }
 
-/// Executes a function of X: X receives the value, and LAST X receives the old X.
+/// Executes a function that computes a value from X, for example `SQRT`: X receives the value, and LAST X receives the
+/// old X. The errors are ALPHA DATA, DATA ERROR and OUT OF RANGE; then the outcome is `Failed`, or `Done` if flag 25
+/// was set.
 #[inline(always)]
 pub fn of_x<const REGS: usize>(
     machine: &mut Machine<REGS>,
@@ -59,7 +63,8 @@ pub fn of_x<const REGS: usize>(
     }
 }
 
-/// Executes `X^2`: X receives its square, and LAST X receives the old X.
+/// Executes `X^2`: X receives X times X, and LAST X receives the old X. The errors are ALPHA DATA and OUT OF RANGE;
+/// then the outcome is `Failed`, or `Done` if flag 25 was set.
 pub fn square<const REGS: usize>(machine: &mut Machine<REGS>, origin: Origin) -> BriefOutcome
     ensures done { DoesWork origin Square (machine_of machine.old) (machine_of machine.new) result }
     ensures keeps { Keeps machine.old machine.new }
@@ -75,7 +80,8 @@ pub fn square<const REGS: usize>(machine: &mut Machine<REGS>, origin: Origin) ->
     }
 }
 
-/// Executes `%`: X receives X percent of Y, and LAST X receives the old X. Y is unchanged.
+/// Executes `%`: X receives X percent of Y, and LAST X receives the old X. Y is unchanged. The errors are ALPHA DATA
+/// and OUT OF RANGE; then the outcome is `Failed`, or `Done` if flag 25 was set.
 pub fn percent<const REGS: usize>(machine: &mut Machine<REGS>, origin: Origin) -> BriefOutcome
     ensures done { DoesWork origin Percent (machine_of machine.old)
         (machine_of machine.new) result }
@@ -92,7 +98,8 @@ pub fn percent<const REGS: usize>(machine: &mut Machine<REGS>, origin: Origin) -
     }
 }
 
-/// Executes `CHS`: the sign of X changes. LAST X is unchanged.
+/// Executes `CHS`: the sign of the number in X changes. LAST X is unchanged. The error is ALPHA DATA if X contains no
+/// number; then the outcome is `Failed`, or `Done` if flag 25 was set.
 pub fn change_sign<const REGS: usize>(machine: &mut Machine<REGS>, origin: Origin) -> BriefOutcome
     ensures done { DoesWork origin ChangeSign (machine_of machine.old)
         (machine_of machine.new) result }

@@ -1,4 +1,4 @@
-//! The outcome of a line, including what it calls outside program memory.
+//! The outcome of a program line, including what it calls outside program memory.
 
 ghost use Rattle.std.specs.Prelude.{◌≡◌, [], false};
 ghost use Rattle.h41_codes.specs.declared.line.Line.TheVariants.{BranchIndirect};
@@ -12,8 +12,9 @@ use h41_codes::{Branch, Line, Parameter, Text};
 use h41_ram::Ram;
 use h41_rows::{BranchTarget, branch_target};
 
-/// Returns the outcome of an executed line from its brief outcome: with its texts, and with the function of a module or the name that it
-/// calls. Other lines call nothing. The line must be supported.
+/// Returns the outcome of an executed line with the texts that the display shows, given its outcome without texts. If
+/// that is `Elsewhere`, the result says what the line calls: the module's function of an XROM line, or a name. The line
+/// must be supported.
 #[inline(never)]
 pub fn outcome_of<const REGS: usize>(
     ram: &Ram<REGS>,
@@ -35,7 +36,8 @@ pub fn outcome_of<const REGS: usize>(
     }
 }
 
-/// Returns what `GTO IND` and `XEQ IND` call, which is the name in the register.
+/// Returns the name that `GTO IND` or `XEQ IND` calls, which is the text in the given register, as `Seeks`. If the
+/// register contains no name, the name has no characters. The register must be supported.
 fn called_in<const REGS: usize>(ram: &Ram<REGS>, branch: Branch, register: Parameter) -> LineOutcome
     requires { is_parameter_left_out register ≡ false }
     ensures { answer_of result ≡ called_by ram.now.registers (BranchIndirect branch register) }
@@ -49,7 +51,7 @@ fn called_in<const REGS: usize>(ram: &Ram<REGS>, branch: Branch, register: Param
     }
 }
 
-/// Returns a name without characters.
+/// Returns a name that has no characters.
 fn no_name() -> Text<15>
     ensures { result ≡ [] }
 {

@@ -1,4 +1,4 @@
-//! Three functions for callers that store memory and the other state of programs separately.
+//! Functions that execute a program line for callers that store memory and the other state of programs separately.
 
 ghost use Rattle.std.specs.Prelude.{◌≡◌, false, None, Some, OnErr};
 ghost use Rattle.h41_focal.specs.LabelSearches.{StepKeeps, TypingKeeps};
@@ -16,8 +16,8 @@ use h41_positions::Focal;
 use h41_ram::Ram;
 use std::mem::replace;
 
-/// Executes the line at the position, as `Machine::step` does. Memory is moved into a machine and back, as in the other functions here, so
-/// that callers that execute many lines should keep a machine instead. Refusals are those of `Machine::step`.
+/// Executes the line at the position and returns its outcome, as `Machine::step` does, with the same errors. Memory is
+/// moved into a `Machine` and back; callers that execute many lines should keep a `Machine` instead.
 pub fn step_line<const REGS: usize>(
     ram: &mut Ram<REGS>,
     pages: &Pages,
@@ -46,7 +46,9 @@ pub fn step_line<const REGS: usize>(
     result
 }
 
-/// Executes a function instead of the line at the position, as `Machine::step_as` does, with the same refusals.
+/// Executes a function instead of the line at the position and returns its outcome, as `Machine::step_as` does, with
+/// the same errors. Memory is moved into a `Machine` and back; callers that execute many lines should keep a `Machine`
+/// instead.
 pub fn step_as<const REGS: usize>(
     ram: &mut Ram<REGS>,
     pages: &Pages,
@@ -73,7 +75,8 @@ pub fn step_as<const REGS: usize>(
     result
 }
 
-/// Executes a typed line, as `Machine::key` does, with the same refusals.
+/// Executes a typed line and returns its outcome, as `Machine::key` does, with the same errors. Memory is moved into a
+/// `Machine` and back; callers that execute many lines should keep a `Machine` instead.
 pub fn key_line<const REGS: usize>(
     ram: &mut Ram<REGS>,
     pages: &Pages,

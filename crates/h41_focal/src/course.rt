@@ -1,4 +1,4 @@
-//! The place at which execution continues after a line, or after its error.
+//! The position at which a program continues after a line or after its error, and whether stack lift is then on.
 
 ghost use Rattle.std.specs.Prelude.{◌≡◌};
 ghost use Rattle.h41_positions.specs.LabelledMachine.{Keeps, machine_of};
@@ -16,7 +16,8 @@ use h41_positions::{Focal, Position};
 use h41_ram::flags::ERROR_IGNORE;
 use h41_rows::LineFault;
 
-/// Moves to the next line. A typed line leaves the position unchanged. Stack lift is unchanged.
+/// Moves the position to the next line if the line that was executed is from a program. A typed line leaves the
+/// position unchanged. Stack lift is unchanged.
 #[inline(always)]
 pub fn go_on(focal: &mut Focal, origin: Origin)
     ensures state { focal.new.state ≡ on_to_next origin AsItWas focal.old.state }
@@ -27,7 +28,8 @@ pub fn go_on(focal: &mut Focal, origin: Origin)
     }
 }
 
-/// Moves to the next line, and turns stack lift on. A typed line leaves the position unchanged.
+/// Turns stack lift on, and moves the position to the next line if the line that was executed is from a program. A
+/// typed line leaves the position unchanged.
 #[inline(always)]
 pub fn go_on_lifting(focal: &mut Focal, origin: Origin)
     ensures state { focal.new.state ≡ on_to_next origin On focal.old.state }
@@ -37,7 +39,8 @@ pub fn go_on_lifting(focal: &mut Focal, origin: Origin)
     focal.lift = true;
 }
 
-/// Moves to the line after a line that calls a function elsewhere. An XROM line turns stack lift on; other lines leave it unchanged.
+/// Moves the position to the line at `next`, after a line that calls a function outside program memory. An XROM line
+/// turns stack lift on; other lines leave it unchanged.
 pub fn go_behind(focal: &mut Focal, line: &Line, next: Position)
     ensures state { focal.new.state ≡ behind_line line.now next focal.old.state }
     ensures labels { focal.new.labels ≡ focal.old.labels }
@@ -48,8 +51,9 @@ pub fn go_behind(focal: &mut Focal, line: &Line, next: Position)
     }
 }
 
-/// Handles an error of a line. If flag 25 is set, the flag is cleared and the program continues at the next line. Otherwise the display
-/// shows the error, and the program stops at the line.
+/// Handles an error of a program line or a typed line, and returns the line's outcome. If flag 25 is set, the flag is
+/// cleared, the program continues at the next line, and the outcome is `Done`. Otherwise the outcome is `Failed`, and
+/// the position remains at the line.
 #[inline(always)]
 pub fn fail<const REGS: usize>(
     machine: &mut Machine<REGS>,
@@ -67,8 +71,8 @@ pub fn fail<const REGS: usize>(
     }
 }
 
-/// Returns whether flag 25 is set, so that an error is ignored. In that case it clears the flag and moves to the next line; otherwise the
-/// position remains at the line.
+/// Returns whether flag 25 is set, so that an error of a line is ignored. In that case it clears the flag and moves the
+/// position to the next line, unless the line was typed; otherwise the position remains at the line.
 #[inline(never)]
 fn passes_fault<const REGS: usize>(machine: &mut Machine<REGS>, origin: Origin) -> bool
     ensures done { (fault : LineFault) → FailsAs origin fault (machine_of machine.old)

@@ -12,7 +12,8 @@ use crate::origin::Origin;
 use crate::outcome::BriefOutcome;
 use crate::works::DisplayWork;
 
-/// Executes a function that shows something or stops the program. All of them turn stack lift on, except `STOP`, which leaves it unchanged.
+/// Executes `AVIEW`, `CLD`, `PROMPT`, `STOP` or `OFF`, and returns its outcome. All of them turn stack lift on, except
+/// `STOP`, which leaves it unchanged.
 pub fn show<const REGS: usize>(
     machine: &mut Machine<REGS>,
     origin: Origin,

@@ -1,4 +1,4 @@
-//! Lines with a flag, which set, clear or test it.
+//! Program lines with a flag, which set, clear or test it.
 
 ghost use Rattle.std.specs.Prelude.{◌≡◌, ℕ, ◌<◌, OnErr, IsTrue};
 ghost use Rattle.h41_positions.specs.LabelledMachine.{Keeps, machine_of};
@@ -19,7 +19,7 @@ use crate::uses::FlagUse;
 use h41_pages::Pages;
 use h41_ram::Ram;
 
-/// Returns whether a flag, 0 to 55, is set for `on`, or is clear otherwise.
+/// Returns whether a flag, 0 to 55, has the state `on`: whether it is set if `on` is true, or clear if `on` is false.
 fn agrees_with<const REGS: usize>(ram: &Ram<REGS>, flag: u8, on: bool) -> bool
     requires { flag < 56 }
     ensures { result ≡ agrees on (flag_of ram.now.registers flag) }
@@ -28,8 +28,9 @@ fn agrees_with<const REGS: usize>(ram: &Ram<REGS>, flag: u8, on: bool) -> bool
     if on { is_set } else { !is_set }
 }
 
-/// Executes `FS?` or `FC?`: if the flag, 0 to 55, has the required state, the program continues at the next line, otherwise after it. A
-/// typed line returns the result instead. BrokenProgram (14) if the line to be skipped cannot be read; nothing changes then.
+/// Executes `FS?` (`on` is true) or `FC?` (`on` is false) with a flag, 0 to 55: if the flag is set or clear, as asked,
+/// the program continues at the next line, otherwise at the one after it. A typed line returns the answer (`Answered`)
+/// instead. Stack lift is turned on. BrokenProgram (14) if the line to be skipped cannot be read; nothing changes then.
 fn ask_flag<const REGS: usize>(
     machine: &mut Machine<REGS>,
     pages: &Pages,
@@ -51,8 +52,10 @@ fn ask_flag<const REGS: usize>(
     Ok(answer(origin, holds))
 }
 
-/// Executes `FS?C` or `FC?C`: like `ask_flag`, and the flag is then cleared. BrokenProgram (14) if the line to be skipped cannot be read;
-/// nothing changes then.
+/// Executes `FS?C` (`on` is true) or `FC?C` (`on` is false) with a flag, 0 to 55: if the flag is set or clear, as
+/// asked, the program continues at the next line, otherwise at the one after it. A typed line returns the answer
+/// (`Answered`) instead. The flag is then cleared, and stack lift turned on. BrokenProgram (14) if the line to be
+/// skipped cannot be read; nothing changes then.
 fn ask_and_clear_flag<const REGS: usize>(
     machine: &mut Machine<REGS>,
     pages: &Pages,
@@ -75,8 +78,8 @@ fn ask_and_clear_flag<const REGS: usize>(
     Ok(answer(origin, holds))
 }
 
-/// Executes a line with a flag, 0 to 55, which sets, clears or tests it. BrokenProgram (14) if the line to be skipped cannot be read;
-/// nothing changes then.
+/// Executes a function with a flag, 0 to 55: `SF`, `CF`, `FS?`, `FC?`, `FS?C` or `FC?C`. BrokenProgram (14) if the line
+/// that a test skips cannot be read; nothing changes then.
 pub fn use_flag<const REGS: usize>(
     machine: &mut Machine<REGS>,
     pages: &Pages,

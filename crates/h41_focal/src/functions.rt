@@ -1,4 +1,4 @@
-//! Functions without an operand.
+//! Executing functions without an operand, for example `+` or `CLX`.
 
 ghost use Rattle.std.specs.Prelude.{◌≡◌, OnErr, IsTrue};
 ghost use Rattle.h41_focal.specs.BriefOutcomes.{end_told};
@@ -23,8 +23,9 @@ use crate::works::{FunctionWork, work_of};
 use h41_codes::Function;
 use h41_pages::Pages;
 
-/// Executes a function without an operand. NotInProfile (13) if it is not supported; BrokenProgram (14) if a line to be skipped cannot be
-/// read. A refusal changes nothing.
+/// Executes a function without an operand and returns its outcome without texts. NotInProfile (13) if the bench does
+/// not support the function; BrokenProgram (14) if the line that a test skips cannot be read. After these errors
+/// nothing has changed.
 #[inline(never)]
 pub fn plain<const REGS: usize>(
     machine: &mut Machine<REGS>,
@@ -61,8 +62,9 @@ pub fn plain<const REGS: usize>(
     }
 }
 
-/// Executes a function without an operand, as `plain` does, and returns whether its outcome is `Done`. If not, `told` receives the
-/// outcome or the refusal. The functions that are most frequent in programs are executed here, all others by `plain`.
+/// Executes a function without an operand, as `plain` does, and returns whether its outcome is `Done`. If not, `told`
+/// receives the outcome without texts, or the error: NotInProfile (13) or BrokenProgram (14). The functions that are
+/// most frequent in programs are executed here, all others by `plain`.
 #[inline(always)]
 pub fn plain_at_once<const REGS: usize>(
     machine: &mut Machine<REGS>,

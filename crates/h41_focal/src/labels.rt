@@ -1,4 +1,4 @@
-//! Labels, calls and returns.
+//! Branches to labels, calls of programs, and returns.
 
 ghost use Rattle.std.specs.Prelude.{◌≡◌, ℕ, IsTrue, Some};
 ghost use Rattle.h41_positions.specs.LabelledMachine.{local_search};
@@ -23,8 +23,9 @@ use h41_pages::Pages;
 use h41_positions::{Focal, Position, start_of};
 use h41_rows::LineFault;
 
-/// Executes a branch to a local label. The search begins after the line, or for a typed line at the position. NONEXISTENT if the program
-/// has no such label.
+/// Executes `GTO` (`Branch::GoTo`) or `XEQ` (`Branch::Execute`) with a local label. The search begins after the line,
+/// or for a typed line at the position. If the program has no such label, the error is NONEXISTENT; then the outcome is
+/// `Failed`, or `Done` if flag 25 was set.
 #[inline(always)]
 pub fn to_label<const REGS: usize>(
     machine: &mut Machine<REGS>,
@@ -52,8 +53,9 @@ pub fn to_label<const REGS: usize>(
     }
 }
 
-/// Executes a branch to the last label with a name in memory. If there is none, `GTO` is an error (NONEXISTENT), and for `XEQ` the caller
-/// has to search elsewhere.
+/// Executes `GTO` or `XEQ` with a name: moves to the last global label in memory with this name. If there is none,
+/// `GTO` fails with NONEXISTENT (the outcome is `Failed`, or `Done` if flag 25 was set), and the outcome of `XEQ` is
+/// `Elsewhere`: the caller searches for the name outside memory.
 pub fn to_name<const REGS: usize>(
     machine: &mut Machine<REGS>,
     origin: Origin,
@@ -78,8 +80,9 @@ pub fn to_name<const REGS: usize>(
     }
 }
 
-/// Moves to a label that was found. For `XEQ` in a program the next line becomes the newest return address, and a seventh one replaces the
-/// oldest. A typed `XEQ` clears all return addresses and runs the program.
+/// Moves the position to a label that `GTO` or `XEQ` found, and returns the outcome. For `XEQ` in a program the next
+/// line becomes the newest return address, and a seventh one replaces the oldest. A typed `XEQ` clears all return
+/// addresses, and its outcome is `Runs`.
 #[inline(always)]
 pub fn arrive(focal: &mut Focal, origin: Origin, branch: Branch, position: Position) -> BriefOutcome
     ensures state { focal.new.state ≡ focal_at origin branch position focal.old.state }
@@ -107,8 +110,9 @@ pub fn arrive(focal: &mut Focal, origin: Origin, branch: Branch, position: Posit
     }
 }
 
-/// Returns to the newest return address. If there is none, or if the line is typed, it moves to line 00 of the program and clears all
-/// return addresses.
+/// Executes `RTN`, `END` or `.END.`: moves the position to the newest return address and removes it. If there is none,
+/// or if the line is typed, moves to line 00 of the program and clears all return addresses. The outcome is `Stopped`
+/// if a program has no return address.
 pub fn go_back<const REGS: usize>(
     machine: &mut Machine<REGS>,
     pages: &Pages,
@@ -130,7 +134,8 @@ pub fn go_back<const REGS: usize>(
     }
 }
 
-/// Returns to the newest return address. If there is none, it moves to line 00 of the program, and the program stops.
+/// Moves the position to the newest return address and removes it. If there is none, moves to line 00 of the program,
+/// and the outcome is `Stopped`.
 fn return_from<const REGS: usize>(machine: &mut Machine<REGS>, pages: &Pages) -> BriefOutcome
     requires { IsTrue (is_sound machine.old.ram.registers) }
     ensures done { ReturnsFrom pages.now (machine_of machine.old) (machine_of machine.new) result }

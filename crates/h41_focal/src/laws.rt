@@ -1,4 +1,5 @@
-//! Laws of lines. Each law is the contract of a function that does little besides calling the laws on which it rests.
+//! Laws of program lines. Each law is the contract of a function that does little besides calling the laws on which it
+//! is based.
 
 ghost use Rattle.std.specs.Prelude.{◌≡◌, ◌≤◌, length};
 ghost use Rattle.h41_focal.specs.LabelLaws.{KeepingStaysRight, SearchingStaysRight};
@@ -13,7 +14,7 @@ use h41_positions::laws::positions_are_read;
 use h41_program::laws::searches_are_determined;
 use h41_rows::laws::values_are_determined;
 
-/// Returns the number of return addresses, which is at most six.
+/// Returns the number of return addresses in the state of programs, which is at most six.
 pub fn six_returns_at_most(focal: &Focal) -> usize
     ensures count { result ≡ length focal.now.state.returns }
     ensures most { result ≤ 6 }
@@ -21,8 +22,9 @@ pub fn six_returns_at_most(focal: &Focal) -> usize
     focal.returns.len()
 }
 
-/// A line has one outcome, whether it is stepped, typed, or fails, is skipped or calls a program because of what the calculator finds
-/// elsewhere.
+/// States that executing a program line has one outcome: if it is stepped or typed, if it fails because what it calls
+/// does not exist, if it is skipped because its function was executed elsewhere, or if it calls a program in a plug-in
+/// page.
 pub fn line_is_determined()
     ensures step { StepIsDetermined }
     ensures typed { TypedIsDetermined }
@@ -36,8 +38,8 @@ pub fn line_is_determined()
     searches_are_determined();
 }
 
-/// Lines that continue at the next line leave the same memory and the same stack lift, whether they are typed or stepped. If they can be
-/// stepped, they can be typed. They call nothing outside program memory.
+/// States that lines which continue at the next line leave the same memory and the same stack lift, whether they are
+/// typed or stepped. Lines that can be stepped in this way can also be typed, and call nothing outside program memory.
 pub fn typed_as_stepped()
     ensures same { TypedAsStepped }
     ensures typed { SteppedCanBeTyped }
@@ -48,8 +50,9 @@ pub fn typed_as_stepped()
     searches_are_determined();
 }
 
-/// If the dirty flag is clear, cached answers are right. This remains true after a step that searches no label and sets the dirty flag if
-/// it changes programs, and after a line that began with right answers and made at most one search.
+/// States that cached answers of label searches are right (each is what its search would find) as long as the dirty
+/// flag of memory is clear. This remains true after an operation that searches no label and sets the dirty flag if it
+/// changes programs, and after a line that began with right answers and made at most one search.
 pub fn kept_answers_stay_right()
     ensures keeping { KeepingStaysRight }
     ensures searching { SearchingStaysRight }

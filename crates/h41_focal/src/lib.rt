@@ -1,4 +1,4 @@
-//! The lines of keystroke programs: their effects and their outcomes.
+//! The lines of keystroke programs: what each line does to memory, the position and the display, and how it ends.
 #![tactic(auto)]
 
 mod addresses;

@@ -1,4 +1,4 @@
-//! Reading the line at the position, and executing it by its kind.
+//! Reading the program line at the position, and executing a line of any kind.
 
 ghost use Rattle.std.specs.Prelude.{◌≡◌, ℕ, Ok, OnErr, IsTrue};
 ghost use Rattle.h41_codes.specs.declared.line.Line.TheVariants.{BranchIndirect, Named};
@@ -34,8 +34,8 @@ use h41_positions::{Position, line_and_next};
 use h41_ram::Ram;
 use h41_rows::{BranchTarget, branch_target, data_address, written};
 
-/// Returns the line at the position, and the position of the next line. MemoryLost (15) if memory is not sound; BrokenProgram (14) if no
-/// line can be read there.
+/// Returns the program line at the position, and the position of the next line. MemoryLost (15) if memory is not sound;
+/// BrokenProgram (14) if no line can be read there.
 #[inline(always)]
 pub fn standing<const REGS: usize>(
     machine: &Machine<REGS>,
@@ -53,8 +53,9 @@ pub fn standing<const REGS: usize>(
     }
 }
 
-/// Executes a line and returns its outcome. NotInProfile (13) if it is not supported; BrokenProgram (14) if a line to be skipped cannot be
-/// read. A refusal changes nothing.
+/// Executes a program line or a typed line, and returns its outcome. NotInProfile (13) if the bench does not support
+/// the line; BrokenProgram (14) if the line that a test or loop skips cannot be read. After these errors nothing has
+/// changed.
 pub fn carry_out<const REGS: usize>(
     machine: &mut Machine<REGS>,
     pages: &Pages,
@@ -74,7 +75,9 @@ pub fn carry_out<const REGS: usize>(
     Ok(outcome_of(&machine.ram, line, brief))
 }
 
-/// Executes a line as `carry_out` does, but returns its outcome without texts. The refusals are the same.
+/// Executes a program line or a typed line, and returns its outcome without texts. NotInProfile (13) if the bench does
+/// not support the line; BrokenProgram (14) if the line that a test or loop skips cannot be read. After these errors
+/// nothing has changed.
 #[inline(never)]
 pub fn carry_briefly<const REGS: usize>(
     machine: &mut Machine<REGS>,
@@ -124,7 +127,8 @@ pub fn carry_briefly<const REGS: usize>(
     }
 }
 
-/// Executes `GTO` or `XEQ` with a name. NotInProfile (13) for `W`, the code that has no function.
+/// Executes `GTO` or `XEQ` with the name of a global label. NotInProfile (13) for `W`, the line with a name whose code
+/// has no function; nothing changes then.
 fn named<const REGS: usize>(
     machine: &mut Machine<REGS>,
     origin: Origin,
@@ -147,7 +151,8 @@ fn named<const REGS: usize>(
     }
 }
 
-/// Executes `RCL` or `STO` with one of the registers 00 to 15.
+/// Executes `RCL` or `STO` with one of the data registers 00 to 15. If there is no such register, the error is
+/// NONEXISTENT; then the outcome is `Failed`, or `Done` if flag 25 was set.
 #[inline(always)]
 pub fn short<const REGS: usize>(
     machine: &mut Machine<REGS>,
@@ -171,7 +176,9 @@ pub fn short<const REGS: usize>(
     }
 }
 
-/// Executes `GTO IND` or `XEQ IND`. NotInProfile (13) if the register is not supported.
+/// Executes `GTO IND` or `XEQ IND` with a register, which contains the number or the name of the label. The errors are
+/// NONEXISTENT and ALPHA DATA; then the outcome is `Failed`, or `Done` if flag 25 was set. NotInProfile (13) if the
+/// bench does not support the register; nothing changes then.
 pub fn indirect<const REGS: usize>(
     machine: &mut Machine<REGS>,
     pages: &Pages,
@@ -197,7 +204,8 @@ pub fn indirect<const REGS: usize>(
     }
 }
 
-/// Executes `GTO` or `XEQ` with the label or name in a register.
+/// Executes `GTO IND` or `XEQ IND` after its register was read: `target` is the local label or the name in the
+/// register.
 fn to_target<const REGS: usize>(
     machine: &mut Machine<REGS>,
     pages: &Pages,

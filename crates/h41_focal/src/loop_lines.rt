@@ -1,4 +1,4 @@
-//! Lines that count in a register, and skip the next line when their loop ends.
+//! Program lines that count in a register (`ISG` and `DSE`), and skip the next line when their loop ends.
 
 ghost use Rattle.std.specs.Prelude.{IsTrue, ◌≡◌, OnErr};
 ghost use Rattle.h41_positions.specs.LabelledMachine.{Keeps, machine_of};
@@ -16,8 +16,9 @@ use crate::refusal::FocalRefusal;
 use h41_pages::Pages;
 use h41_rows::{loop_down, loop_up};
 
-/// Executes `ISG`: the register at an address is counted up. While the loop continues, the program continues at the next line, otherwise
-/// after it. BrokenProgram (14) if the line to be skipped cannot be read; nothing changes then.
+/// Executes `ISG` with the register at an address: its counter is increased. While the loop continues, the program
+/// continues at the next line, otherwise at the one after it; a typed line does not move. If the register contains no
+/// number, the error is ALPHA DATA. BrokenProgram (14) if the line to be skipped cannot be read; nothing changes then.
 pub fn count_up<const REGS: usize>(
     machine: &mut Machine<REGS>,
     pages: &Pages,
@@ -43,8 +44,9 @@ pub fn count_up<const REGS: usize>(
     }
 }
 
-/// Executes `DSE`: the register at an address is counted down. While the loop continues, the program continues at the next line, otherwise
-/// after it. BrokenProgram (14) if the line to be skipped cannot be read; nothing changes then.
+/// Executes `DSE` with the register at an address: its counter is decreased. While the loop continues, the program
+/// continues at the next line, otherwise at the one after it; a typed line does not move. If the register contains no
+/// number, the error is ALPHA DATA. BrokenProgram (14) if the line to be skipped cannot be read; nothing changes then.
 pub fn count_down<const REGS: usize>(
     machine: &mut Machine<REGS>,
     pages: &Pages,

@@ -1,4 +1,4 @@
-//! The machine: memory and the other state of programs as one value.
+//! The machine: memory and the other state of keystroke programs as one value.
 
 ghost use Rattle.std.specs.Prelude.{◌≡◌, ◌≤◌, ℕ, false, true, [], None, Ok, Some, OnErr};
 ghost use Rattle.h41_focal.specs.BriefOutcomes.{StepsBriefly, end_told};
@@ -32,12 +32,12 @@ use h41_ram::Ram;
 use h41_rows::{LineFault, number_register};
 use std::marker::Model;
 
-/// Memory and the other state of keystroke programs. Lines, edits and keys change it.
+/// Memory and the other state of keystroke programs. Executing lines, editing programs and pressing keys change it.
 #[derive(Drop)]
 pub struct Machine<const REGS: usize> {
     /// Memory: the stack, ALPHA, flags, data registers and programs.
     pub ram: Ram<REGS>,
-    /// The state besides memory: the position, the return addresses, stack lift and the label cache.
+    /// The state besides memory: the position in programs, the return addresses, stack lift and the label cache.
     pub focal: Focal,
 }
 
@@ -50,8 +50,8 @@ impl<const REGS: usize> Model for Machine<REGS> {
 }
 
 impl<const REGS: usize> Machine<REGS> {
-    /// Returns the initial state: initial memory, line 00 of its empty program, no return addresses, stack lift on, and an empty label
-    /// cache. `REGS`, the number of registers of main memory, must be 64 to 320.
+    /// Returns a machine in its initial state: initial memory, line 00 of its empty program, no return addresses,
+    /// stack lift on, and an empty label cache. `REGS`, the number of registers of main memory, must be 64 to 320.
     pub fn new() -> Self
         requires at_least { 64 ≤ REGS }
         requires at_most { REGS ≤ 320 }
@@ -66,7 +66,8 @@ impl<const REGS: usize> Machine<REGS> {
         }
     }
 
-    /// Begins a line: if the dirty flag of memory is set, clears it and empties the label cache, because programs may have changed.
+    /// Prepares the label cache for the execution of a line: if the dirty flag of memory is set, clears it and empties
+    /// the cache, because programs may have changed.
     #[inline(always)]
     fn begin(&mut self)
         requires { AreRight self.old }
@@ -79,9 +80,10 @@ impl<const REGS: usize> Machine<REGS> {
         }
     }
 
-    /// Executes the line at the position and returns its outcome. Refusals, in this order: MemoryLost (15) if memory is not sound;
-    /// BrokenProgram (14) if no line can be read at the position; NotInProfile (13) if the line is not supported; BrokenProgram (14) if a
-    /// line that a test or loop skips cannot be read. A refusal changes nothing. The rules are in docs/LINES.md.
+    /// Executes the program line at the position and returns its outcome. The errors, in this order: MemoryLost (15) if
+    /// memory is not sound; BrokenProgram (14) if no line can be read at the position; NotInProfile (13) if the bench
+    /// does not support the line; BrokenProgram (14) if a line that a test or loop skips cannot be read. After an error
+    /// nothing has changed. The rules are in docs/LINES.md.
     #[inline(always)]
     pub fn step(&mut self, pages: &Pages) -> Result<LineOutcome, FocalRefusal>
         requires { AreRight self.old }
@@ -99,9 +101,9 @@ impl<const REGS: usize> Machine<REGS> {
         carry_out(self, pages, Origin::Program(next), &line)
     }
 
-    /// Executes the line at the position as `step` does, and returns whether its outcome is `Done`. If not, `told` receives the outcome
-    /// without texts, or the refusal, which is the same as in `step`. A line that calls something outside program memory changes nothing;
-    /// `step` then returns what it calls.
+    /// Executes the program line at the position as `step` does, and returns whether its outcome is `Done`. If not,
+    /// `told` receives the outcome without texts, or the error, which is the same as in `step`. A line that calls
+    /// something outside program memory changes nothing; `step` then returns what it calls.
     #[inline(always)]
     pub fn step_briefly(
         &mut self,
@@ -127,8 +129,9 @@ impl<const REGS: usize> Machine<REGS> {
         }
     }
 
-    /// Executes a line that is no short line, and returns its outcome without texts. It is a function of its own so that the machine code
-    /// for short lines remains small.
+    /// Executes the program line at the position if it is no short line (one of at most three bytes, without a text),
+    /// and returns its outcome without texts. The errors are those of `step`. This is a function of its own so that the
+    /// machine code for short lines remains small.
     #[inline(never)]
     fn step_long(&mut self, pages: &Pages) -> Result<BriefOutcome, FocalRefusal>
         requires { AreRight self.old }
@@ -145,7 +148,8 @@ impl<const REGS: usize> Machine<REGS> {
         }
     }
 
-    /// Executes any line at the position, and returns its outcome without texts.
+    /// Executes any program line at the position, and returns its outcome without texts. The errors are those of
+    /// `step`.
     #[inline(never)]
     fn step_whole(&mut self, pages: &Pages) -> Result<BriefOutcome, FocalRefusal>
         requires { AreRight self.old }
@@ -157,8 +161,8 @@ impl<const REGS: usize> Machine<REGS> {
         carry_briefly(self, pages, Origin::Program(next), &line)
     }
 
-    /// Executes a function instead of the line at the position, whatever that line is. This is used for an `XEQ` that names the function.
-    /// The refusals are those of `step`.
+    /// Executes a function without an operand instead of the line at the position, whatever that line is. This is used
+    /// for an `XEQ` line that names the function. The errors are those of `step`; after an error nothing has changed.
     pub fn step_as(
         &mut self,
         pages: &Pages,
@@ -179,9 +183,10 @@ impl<const REGS: usize> Machine<REGS> {
         carry_out(self, pages, Origin::Program(next), &Line::Plain(function))
     }
 
-    /// Makes the line at the position fail, for example because nothing has the name that it calls. If flag 25 is set, it is cleared and
-    /// the program continues at the next line; otherwise the outcome is the error. The only refusals are MemoryLost (15) if memory is
-    /// not sound, and BrokenProgram (14) if the line at the position cannot be read.
+    /// Makes the program line at the position fail with an error, for example NONEXISTENT because nothing has the name
+    /// that it calls. If flag 25 is set, it is cleared and the program continues at the next line; otherwise the
+    /// outcome is the error. The only errors of the call itself are MemoryLost (15) if memory is not sound, and
+    /// BrokenProgram (14) if the line at the position cannot be read.
     pub fn fail(&mut self, pages: &Pages, fault: LineFault) -> Result<LineOutcome, FocalRefusal>
         ensures line { Fails pages.now fault (machine_of self.old) (machine_of self.new) result }
         ensures unchanged { OnErr result (machine_of self.new ≡ machine_of self.old) }
@@ -192,8 +197,9 @@ impl<const REGS: usize> Machine<REGS> {
         Ok(fail(self, Origin::Program(next), fault).outcome(&self.ram))
     }
 
-    /// Makes a typed line fail, for example because nothing has the name that it calls. If flag 25 is set, it is cleared; otherwise the
-    /// outcome is the error. MemoryLost (15) if memory is not sound.
+    /// Makes a typed line fail with an error, for example NONEXISTENT because nothing has the name that it calls. If
+    /// flag 25 is set, it is cleared; otherwise the outcome is the error. The only error of the call itself is
+    /// MemoryLost (15) if memory is not sound.
     pub fn fail_typed(&mut self, fault: LineFault) -> Result<LineOutcome, FocalRefusal>
         ensures line { FailsTyped fault (machine_of self.old) (machine_of self.new) result }
         ensures unchanged { OnErr result (machine_of self.new ≡ machine_of self.old) }
@@ -206,9 +212,9 @@ impl<const REGS: usize> Machine<REGS> {
         Ok(fail(self, Origin::Typed, fault).outcome(&self.ram))
     }
 
-    /// Moves to the line after the line at the position, whose function is executed elsewhere. An XROM line enables stack lift. The
-    /// error is MemoryLost (15) if memory is not sound, and BrokenProgram (14) if the line at the position cannot be read. Nothing
-    /// changes then.
+    /// Moves to the line after the line at the position, whose function is executed outside program memory. An XROM
+    /// line turns stack lift on. MemoryLost (15) if memory is not sound, BrokenProgram (14) if the line at the position
+    /// cannot be read. After an error nothing has changed.
     pub fn pass(&mut self, pages: &Pages) -> Result<(), FocalRefusal>
         ensures line { Passes pages.now (machine_of self.old) (machine_of self.new) result }
         ensures unchanged { OnErr result (machine_of self.new ≡ machine_of self.old) }
@@ -220,9 +226,9 @@ impl<const REGS: usize> Machine<REGS> {
         Ok(())
     }
 
-    /// Calls the program that begins at an address of a page, from the line at the position. The next line becomes the newest of at most
-    /// six return addresses. An XROM line enables stack lift. The error is MemoryLost (15) if memory is not sound, and BrokenProgram
-    /// (14) if the line at the position cannot be read. Nothing changes then.
+    /// Calls the program that begins at an address of a plug-in page, from the line at the position. The next line
+    /// becomes the newest of at most six return addresses. An XROM line turns stack lift on. MemoryLost (15) if memory
+    /// is not sound, BrokenProgram (14) if the line at the position cannot be read. After an error nothing has changed.
     pub fn enter(&mut self, pages: &Pages, address: u16) -> Result<(), FocalRefusal>
         ensures line { Enters pages.now address (machine_of self.old) (machine_of self.new) result }
         ensures unchanged { OnErr result (machine_of self.new ≡ machine_of self.old) }
@@ -237,8 +243,8 @@ impl<const REGS: usize> Machine<REGS> {
         Ok(())
     }
 
-    /// Calls the program that begins at an address of a page, from a typed line. The position moves there, and all return addresses are
-    /// cleared. Stack lift is unchanged. The caller then runs the program.
+    /// Calls the program that begins at an address of a plug-in page, from a typed line. The position moves there, and
+    /// all return addresses are cleared. Stack lift is unchanged. The caller then runs the program.
     pub fn enter_typed(&mut self, address: u16)
         ensures machine { machine_of self.new
             ≡ with_program_run (Page address) (machine_of self.old) }
@@ -249,8 +255,8 @@ impl<const REGS: usize> Machine<REGS> {
         arrive(&mut self.focal, Origin::Typed, Branch::Execute, start);
     }
 
-    /// Executes a typed line and returns its outcome. MemoryLost (15) if memory is not sound; NotInProfile (13) if the line is not
-    /// supported. A refusal changes nothing.
+    /// Executes a typed line and returns its outcome. The errors, in this order: MemoryLost (15) if memory is not
+    /// sound; NotInProfile (13) if the bench does not support the line. After an error nothing has changed.
     pub fn key(&mut self, pages: &Pages, line: &Line) -> Result<LineOutcome, FocalRefusal>
         requires { AreRight self.old }
         ensures line { Types pages.now line.now (machine_of self.old) (machine_of self.new) result }
@@ -269,7 +275,7 @@ impl<const REGS: usize> Machine<REGS> {
         carry_out(self, pages, Origin::Typed, line)
     }
 
-    /// Separates the machine into memory and the other state of programs.
+    /// Separates the machine: writes its memory to `ram`, and the other state of programs to `focal`.
     pub fn part(self, ram: &mut Ram<REGS>, focal: &mut Focal)
         ensures { labelled_with ram.new focal.new ≡ self.entry }
     {

@@ -1,4 +1,4 @@
-//! Lines that select the unit of angles and the display format.
+//! Program lines that select the unit of angles or the display format.
 
 ghost use Rattle.std.specs.Prelude.{◌<◌, ℕ};
 ghost use Rattle.h41_positions.specs.LabelledMachine.{Keeps, machine_of};
@@ -13,7 +13,8 @@ use crate::outcome::BriefOutcome;
 use crate::uses::DigitsUse;
 use h41_rows::{set_angles, set_format};
 
-/// Executes `DEG`, `RAD` or `GRAD`: sets or clears flag 42 (`grads`) and flag 43 (`radians`).
+/// Executes `DEG`, `RAD` or `GRAD`: sets or clears flag 42 (`grads`) and flag 43 (`radians`), both clear for degrees.
+/// Stack lift is turned on.
 pub fn set_angle_unit<const REGS: usize>(
     machine: &mut Machine<REGS>,
     origin: Origin,
@@ -30,7 +31,8 @@ pub fn set_angle_unit<const REGS: usize>(
     BriefOutcome::Done
 }
 
-/// Executes a function with a number of digits, 0 to 9. `TONE` only turns stack lift on, because the bench has no sound.
+/// Executes `FIX`, `SCI`, `ENG` or `TONE` with a digit, 0 to 9. The first three set the display format; `TONE` has no
+/// effect, because the bench has no sound. All turn stack lift on.
 pub fn use_digits<const REGS: usize>(
     machine: &mut Machine<REGS>,
     origin: Origin,

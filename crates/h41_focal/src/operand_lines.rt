@@ -1,4 +1,4 @@
-//! Functions with an operand.
+//! Executing functions with an operand, for example `RCL 05` or `FIX IND 02`.
 
 ghost use Rattle.std.specs.Prelude.{◌≡◌, false, OnErr, IsTrue};
 ghost use Rattle.h41_positions.specs.LabelledMachine.{Keeps, machine_of};
@@ -24,8 +24,9 @@ use h41_codes::{Operand, Parameter, ParameterFunction};
 use h41_pages::Pages;
 use h41_rows::{digit_of, flag_of, register_of};
 
-/// Executes a function with an operand. NotInProfile (13) if it is not supported; BrokenProgram (14) if a line to be skipped cannot be
-/// read. A refusal changes nothing.
+/// Executes a function with an operand, and returns its outcome without texts. NotInProfile (13) if the bench does not
+/// support the function or the register of the operand; BrokenProgram (14) if the line that a test or loop skips cannot
+/// be read. After these errors nothing has changed.
 #[inline(always)]
 pub fn with_operand<const REGS: usize>(
     machine: &mut Machine<REGS>,
@@ -52,7 +53,8 @@ pub fn with_operand<const REGS: usize>(
     }
 }
 
-/// Returns whether a function with this operand is not supported.
+/// Returns whether the bench does not support a function with this operand: `SREG`, or an operand with a register from
+/// 100 on, except T, Z, Y, X and L.
 #[inline(always)]
 fn is_left_out(function: ParameterFunction, operand: &Operand) -> bool
     ensures { result ≡ is_use_left_out function operand.now }
@@ -67,7 +69,8 @@ fn is_left_out(function: ParameterFunction, operand: &Operand) -> bool
     }
 }
 
-/// Returns whether the register of a parameter is not supported. These are the registers 100 and above, except T, Z, Y, X and L.
+/// Returns whether the bench does not support the register that a parameter names. These are the parameters 100 to 111
+/// and those from 117 on; 112 to 116 are T, Z, Y, X and L.
 pub fn is_parameter_out(parameter: Parameter) -> bool
     ensures { result ≡ is_parameter_left_out parameter }
 {
@@ -75,7 +78,9 @@ pub fn is_parameter_out(parameter: Parameter) -> bool
     (100 <= number && number <= 111) || 117 <= number
 }
 
-/// Executes a function with the register of an operand. NONEXISTENT if there is no such register.
+/// Executes a function with a register, for example `RCL` or `ISG`, with the register that the operand names. If there
+/// is no such data register, the error is NONEXISTENT; ALPHA DATA if the register of an indirect operand contains no
+/// number. BrokenProgram (14) if the line that a loop skips cannot be read; nothing changes then.
 #[inline(always)]
 fn with_register<const REGS: usize>(
     machine: &mut Machine<REGS>,
@@ -98,7 +103,8 @@ fn with_register<const REGS: usize>(
     }
 }
 
-/// Executes a function with the number of digits of an operand. DATA ERROR if it is above 9.
+/// Executes `FIX`, `SCI`, `ENG` or `TONE` with the digit that the operand names. If it is above 9, the error is DATA
+/// ERROR; NONEXISTENT or ALPHA DATA if the register of an indirect operand does not exist or contains no number.
 fn with_digits<const REGS: usize>(
     machine: &mut Machine<REGS>,
     origin: Origin,
@@ -118,7 +124,9 @@ fn with_digits<const REGS: usize>(
     }
 }
 
-/// Executes a function with the flag of an operand. NONEXISTENT if there is no such flag.
+/// Executes a function with a flag, for example `SF` or `FS?`, with the flag that the operand names. If there is no
+/// such flag, the error is NONEXISTENT; ALPHA DATA if the register of an indirect operand contains no number.
+/// BrokenProgram (14) if the line that a test skips cannot be read; nothing changes then.
 fn with_flag<const REGS: usize>(
     machine: &mut Machine<REGS>,
     pages: &Pages,

@@ -1,12 +1,12 @@
-//! The origin of a line.
+//! The origin of a line: a program or the keyboard.
 
 use h41_positions::Position;
 
-/// The origin of a line that is executed.
+/// The origin of a line that is executed: a program or the keyboard.
 #[derive(Clone, Copy)]
 pub enum Origin {
-    /// The line is at the program's position. The next line is at this position.
+    /// From a program: the line at the position. The value is the position of the next line.
     Program(Position),
-    /// The line was typed.
+    /// From the keyboard: the line was typed.
     Typed,
 }

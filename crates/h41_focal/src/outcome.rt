@@ -1,4 +1,4 @@
-//! The outcome of a line, which the calculator acts on.
+//! The outcome of an executed line: what the calculator shows, calls or does next.
 
 ghost use Rattle.std.specs.Prelude.{◌≡◌, ◌≢◌};
 ghost use Rattle.h41_focal.specs.BriefOutcomes.{brief_answer, end_told};
@@ -12,65 +12,66 @@ use h41_ram::Ram;
 use h41_rows::LineFault;
 use h41_show::{Format, alpha_text, register_text};
 
-/// A text for the display.
+/// A text that the display shows, at most 80 bytes.
 pub type DisplayText = ArrayString<80>;
 
-/// The outcome of an executed line.
+/// The outcome of an executed line: what the calculator shows, calls or does next.
 #[derive(Clone, Copy)]
 pub enum LineOutcome {
-    /// The program continues.
+    /// The line was executed, and a program continues.
     Done,
-    /// The program stops.
+    /// The line stops a program.
     Stopped,
-    /// The program stops, and the display is turned off.
+    /// The line stops a program and turns the display off (`OFF`).
     TurnedOff,
-    /// The display shows a text, and the program continues.
+    /// The display shows this text (`VIEW` or `AVIEW`), and the program continues.
     Viewed(DisplayText),
-    /// The display shows a text, and the program stops.
+    /// The display shows this text (`PROMPT`), and the program stops.
     Prompted(DisplayText),
-    /// The display no longer shows a text.
+    /// The display no longer shows a text (`CLD`), and the program continues.
     Cleared,
-    /// The result of a typed test.
+    /// The answer of a typed test: true if the calculator shows `YES`, false if it shows `NO`.
     Answered(bool),
-    /// A typed line moved to a label: the program runs.
+    /// A typed `XEQ` moved the position to a program: the program runs.
     Runs,
-    /// A function of a module is called. Nothing was changed.
+    /// A line calls the function of a module with this XROM number and entry number. Nothing was changed.
     Calls(ModuleNumber, EntryNumber),
-    /// A function with this name is called, which is not in memory. Nothing was changed.
+    /// A line calls what has this name, which is not a label in memory. Nothing was changed.
     Seeks(Text<15>),
     /// The line has an error: the display shows it, and the program stops.
     Failed(LineFault),
 }
 
-/// A `LineOutcome` without its texts. A running program needs no more of each line, except of those that show a text or call something
-/// outside memory.
+/// The outcome of an executed line without the texts that the display shows and without what the line calls. A running
+/// program needs no more for most lines; `LineOutcome` has the rest.
 #[derive(Clone, Copy)]
 pub enum BriefOutcome {
-    /// The program continues.
+    /// The line was executed, and a program continues.
     Done,
-    /// The program stops.
+    /// The line stops a program.
     Stopped,
-    /// The program stops, and the display is turned off.
+    /// The line stops a program and turns the display off (`OFF`).
     TurnedOff,
-    /// The display shows ALPHA, and the program continues.
+    /// The display shows ALPHA (`AVIEW`), and the program continues.
     ViewedAlpha,
-    /// The display shows the register at this address, and the program continues.
+    /// The display shows the register at this address (`VIEW`), and the program continues.
     ViewedRegister(u16),
-    /// The display shows ALPHA, and the program stops.
+    /// The display shows ALPHA (`PROMPT`), and the program stops.
     Prompted,
-    /// The display no longer shows a text.
+    /// The display no longer shows a text (`CLD`), and the program continues.
     Cleared,
-    /// The result of a typed test.
+    /// The answer of a typed test: true if the calculator shows `YES`, false if it shows `NO`.
     Answered(bool),
-    /// A typed line moved to a label: the program runs.
+    /// A typed `XEQ` moved the position to a program: the program runs.
     Runs,
-    /// A function is called that is not in memory. Nothing was changed.
+    /// A line calls a function or a name that is not in memory. Nothing was changed.
     Elsewhere,
     /// The line has an error: the display shows it, and the program stops.
     Failed(LineFault),
 }
 
-/// Returns whether an outcome is `Done`. If not, `told` receives the outcome or the refusal.
+/// Returns whether the result of an executed line is the outcome `Done`. If not, `told` receives the result: another
+/// outcome or an error.
 #[inline(always)]
 pub fn is_done(
     end: Result<BriefOutcome, FocalRefusal>,
@@ -88,8 +89,9 @@ pub fn is_done(
 }
 
 impl BriefOutcome {
-    /// Returns the outcome with its texts, from memory as the line left it. The outcome must not be `Elsewhere`, because only the line
-    /// itself says what it calls.
+    /// Returns the outcome of an executed line with the texts that the display shows, which are made from `ram`, memory
+    /// after the line. The outcome must not be `Elsewhere`, because only the line itself says what it calls (see
+    /// `outcome_of`).
     #[inline(never)]
     pub fn outcome<const REGS: usize>(self, ram: &Ram<REGS>) -> LineOutcome
         requires { self ≢ Elsewhere }

@@ -1,4 +1,4 @@
-//! Tests, which skip the next line if they are false.
+//! Tests of X, which skip the next line if they are false.
 
 ghost use Rattle.std.specs.Prelude.{◌≡◌, ℕ, IsTrue, OnErr};
 ghost use Rattle.h41_positions.specs.LabelledMachine.{Keeps, machine_of};
@@ -17,8 +17,9 @@ use h41_positions::next;
 use h41_ram::Ram;
 use h41_rows::{Test, asks};
 
-/// Returns the origin at which execution continues after a test: at the next line if the test is true, otherwise after it. A typed line
-/// does not move. BrokenProgram (14) if the line to be skipped cannot be read.
+/// Returns the origin of a line after its test, with the position at which a program continues: the next line if the
+/// test is true (`holds`), otherwise the one after it. A typed line remains a typed line. BrokenProgram (14) if the
+/// line to be skipped cannot be read.
 pub fn lead<const REGS: usize>(
     ram: &Ram<REGS>,
     pages: &Pages,
@@ -38,7 +39,7 @@ pub fn lead<const REGS: usize>(
     }
 }
 
-/// Returns the outcome of a test: its result if the line was typed, otherwise `Done`.
+/// Returns the outcome of a test: `Answered` with its result if the line was typed, otherwise `Done`.
 pub fn answer(origin: Origin, holds: bool) -> BriefOutcome
     ensures { result ≡ test_answer origin holds }
 {
@@ -48,8 +49,10 @@ pub fn answer(origin: Origin, holds: bool) -> BriefOutcome
     }
 }
 
-/// Executes a test of X: if it is true, the program continues at the next line, otherwise after it. A typed test returns its result
-/// instead. BrokenProgram (14) if the line to be skipped cannot be read; nothing changes then.
+/// Executes a test of X, for example `X=0?` or `X<Y?`: if it is true, the program continues at the next line, otherwise
+/// at the one after it. A typed test returns its answer (`Answered`) instead. Stack lift is turned on. If the test
+/// compares numbers and a register contains none, the error is ALPHA DATA. BrokenProgram (14) if the line to be skipped
+/// cannot be read; nothing changes then.
 pub fn ask<const REGS: usize>(
     machine: &mut Machine<REGS>,
     pages: &Pages,

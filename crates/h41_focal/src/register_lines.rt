@@ -1,4 +1,4 @@
-//! Lines with a register.
+//! Program lines with a register, for example `RCL` and `STO`.
 
 ghost use Rattle.h41_positions.specs.LabelledMachine.{Keeps, machine_of};
 ghost use Rattle.h41_focal.specs.private.Carrying.{UsesAt};
@@ -16,7 +16,8 @@ use h41_rows::{
     ValueOfTwo, append_register, bring_in_from, compute_of_two, exchange, first_six, store_x,
 };
 
-/// Executes `RCL`: writes the register to X. If stack lift is on, the stack is lifted first.
+/// Executes `RCL`: writes the content of the register at an address to X. If stack lift is on, the stack is lifted
+/// first. Stack lift is turned on.
 #[inline(always)]
 pub fn recall<const REGS: usize>(
     machine: &mut Machine<REGS>,
@@ -33,7 +34,7 @@ pub fn recall<const REGS: usize>(
     BriefOutcome::Done
 }
 
-/// Executes `STO`: writes X to the register.
+/// Executes `STO`: writes X to the register at an address, and turns stack lift on.
 #[inline(always)]
 pub fn store<const REGS: usize>(
     machine: &mut Machine<REGS>,
@@ -51,7 +52,9 @@ pub fn store<const REGS: usize>(
     BriefOutcome::Done
 }
 
-/// Executes `ST+`, `ST-`, `ST*` or `ST/`: the register receives a value of itself and X. X and LAST X are unchanged.
+/// Executes `ST+`, `ST-`, `ST*` or `ST/`: the register at an address receives the register plus, minus, times or
+/// divided by X. X and LAST X are unchanged. The errors are ALPHA DATA, DATA ERROR (division by zero) and OUT OF RANGE;
+/// then the outcome is `Failed`, or `Done` if flag 25 was set.
 #[inline(always)]
 pub fn combine<const REGS: usize>(
     machine: &mut Machine<REGS>,
@@ -75,7 +78,7 @@ pub fn combine<const REGS: usize>(
     }
 }
 
-/// Executes `VIEW`: the display shows the register, and the program continues.
+/// Executes `VIEW`: the display shows the register at an address, and the program continues. Stack lift is turned on.
 pub fn view<const REGS: usize>(
     machine: &mut Machine<REGS>,
     origin: Origin,
@@ -90,7 +93,8 @@ pub fn view<const REGS: usize>(
     BriefOutcome::ViewedRegister(address)
 }
 
-/// Executes `ASTO`: writes the first six characters of ALPHA to the register. ALPHA is unchanged.
+/// Executes `ASTO`: writes the first six characters of ALPHA to the register at an address. ALPHA is unchanged.
+/// Stack lift is turned on.
 pub fn store_alpha<const REGS: usize>(
     machine: &mut Machine<REGS>,
     origin: Origin,
@@ -108,7 +112,7 @@ pub fn store_alpha<const REGS: usize>(
     BriefOutcome::Done
 }
 
-/// Executes `ARCL`: appends the text of the register to ALPHA.
+/// Executes `ARCL`: appends the text of the register at an address to ALPHA, and turns stack lift on.
 pub fn recall_alpha<const REGS: usize>(
     machine: &mut Machine<REGS>,
     origin: Origin,
@@ -124,7 +128,7 @@ pub fn recall_alpha<const REGS: usize>(
     BriefOutcome::Done
 }
 
-/// Executes `X<>`: exchanges X and the register.
+/// Executes `X<>`: exchanges X and the register at an address, and turns stack lift on.
 pub fn exchange_x<const REGS: usize>(
     machine: &mut Machine<REGS>,
     origin: Origin,

@@ -1,4 +1,4 @@
-//! Executing a function with a register.
+//! Executing a function with a register, after the address of the register is known.
 
 ghost use Rattle.std.specs.Prelude.{IsTrue, ◌≡◌, OnErr};
 ghost use Rattle.h41_positions.specs.LabelledMachine.{Keeps, machine_of};
@@ -15,8 +15,8 @@ use crate::register_lines::{combine, exchange_x, recall, recall_alpha, store, st
 use crate::uses::RegisterUse;
 use h41_pages::Pages;
 
-/// Executes a function with the register at an address. BrokenProgram (14) if the line that a loop skips cannot be read; nothing changes
-/// then.
+/// Executes a function with the register at an address, for example `RCL`, `ST+` or `ISG`. BrokenProgram (14) if the
+/// line that `ISG` or `DSE` skips cannot be read; nothing changes then.
 #[inline(always)]
 pub fn use_register<const REGS: usize>(
     machine: &mut Machine<REGS>,

@@ -1,4 +1,4 @@
-//! Executing short lines, which need no room for a text.
+//! Executing short lines: program lines of at most three bytes, without a text.
 
 ghost use Rattle.std.specs.Prelude.{◌≡◌, false, IfNone, IfSome, Ok, OnErr, IsTrue};
 ghost use Rattle.h41_codes.specs.ShortLines.{line_of};
@@ -30,8 +30,9 @@ use h41_plain_numbers::plain_number;
 use h41_positions::{Position, short_line};
 use h41_ram::Ram;
 
-/// Returns the short line whose first byte is at the position, and the position of the next line, as `standing` returns them. `None` for
-/// all other lines, if `standing` refuses, and if the dirty flag of memory is set.
+/// Returns the short line (at most three bytes, without a text) whose first byte is at the position, and the position
+/// of the next line. `None` for all other lines, if no line can be read there, if memory is not sound, and if the dirty
+/// flag of memory is set.
 #[inline(always)]
 pub fn short_standing<const REGS: usize>(
     machine: &Machine<REGS>,
@@ -50,8 +51,8 @@ pub fn short_standing<const REGS: usize>(
     short_line(ram, pages, focal.position)
 }
 
-/// Returns the number of the number line at the position, and the position of the next line, if it can be read in one pass. `None`
-/// otherwise, and always in pages.
+/// Returns the number that the number line at the position writes to X, and the position of the next line, if it can be
+/// read in one pass. `None` otherwise, and always for a position in a plug-in page.
 #[inline(always)]
 pub fn number_standing<const REGS: usize>(machine: &Machine<REGS>) -> Option<(Ten, Position)>
     ensures some { IfSome result (λ found. (pages : PageMap)
@@ -71,8 +72,9 @@ pub fn number_standing<const REGS: usize>(machine: &Machine<REGS>) -> Option<(Te
     }
 }
 
-/// Executes a short line, and returns whether its outcome is `Done`. If not, `told` receives the outcome without texts, or the refusal:
-/// NotInProfile (13) if the line is not supported, or BrokenProgram (14) if a line to be skipped cannot be read.
+/// Executes a short line (at most three bytes, without a text), and returns whether its outcome is `Done`. If not,
+/// `told` receives the outcome without texts, or the error: NotInProfile (13) if the bench does not support the line,
+/// or BrokenProgram (14) if a line to be skipped cannot be read.
 #[inline(always)]
 pub fn carry_short<const REGS: usize>(
     machine: &mut Machine<REGS>,

@@ -1,4 +1,4 @@
-//! Lines that change the stack, and lines that do little else.
+//! Program lines that change the stack or clear data registers, number lines, and lines that do nothing.
 
 ghost use Rattle.std.specs.Prelude.{◌≡◌, ℕ, List};
 ghost use Rattle.h41_codes.specs.declared.characters.Character.{Character};
@@ -28,8 +28,8 @@ use h41_rows::{
     bring_in, bring_in_from, clear_data, clear_stack, enter, exchange, pi, roll_down, roll_up, zero,
 };
 
-/// Executes a function that changes the stack. If it brings a register into X and stack lift is on, the stack is lifted first. Stack lift
-/// is off after `ENTER^` and `CLX`, and on after the others.
+/// Executes `X<>Y`, `R^`, `RDN`, `LASTX`, `ENTER^`, `PI`, `CLST` or `CLX`. If stack lift is on, the stack is lifted
+/// before `LASTX` and `PI` write to X. Stack lift is off after `ENTER^` and `CLX`, and on after the others.
 #[inline(always)]
 pub fn move_stack<const REGS: usize>(
     machine: &mut Machine<REGS>,
@@ -46,7 +46,8 @@ pub fn move_stack<const REGS: usize>(
     BriefOutcome::Done
 }
 
-/// Changes the registers of the stack. If a register is brought into X and stack lift is on, the stack is lifted first.
+/// Changes the stack as `X<>Y`, `R^`, `RDN`, `LASTX`, `ENTER^`, `PI`, `CLST` or `CLX` does. If `lift` is true, the
+/// stack is lifted before `LASTX` and `PI` write to X.
 #[inline(always)]
 fn move_registers<const REGS: usize>(ram: &mut Ram<REGS>, movement: Movement, lift: bool)
     ensures change { Moves movement ram.old.registers ram.new.registers lift }
@@ -65,7 +66,8 @@ fn move_registers<const REGS: usize>(ram: &mut Ram<REGS>, movement: Movement, li
     }
 }
 
-/// Moves to the next line. Stack lift is off after `ENTER^` and `CLX`, so that the next number replaces X, and on after the others.
+/// Moves to the next line after a function that changes the stack; a typed line leaves the position unchanged.
+/// Stack lift is off after `ENTER^` and `CLX`, so that the next number replaces X, and on after the others.
 #[inline(always)]
 fn go_on_behind(focal: &mut Focal, origin: Origin, movement: Movement)
     ensures state { focal.new.state
@@ -86,7 +88,8 @@ fn go_on_behind(focal: &mut Focal, origin: Origin, movement: Movement)
     }
 }
 
-/// Executes a number line: writes the number to X. If stack lift is on, the stack is lifted first.
+/// Executes a number line: writes its number, which `number` contains, to X. If stack lift is on, the stack is lifted
+/// first. Stack lift is turned on.
 pub fn number_line<const REGS: usize>(
     machine: &mut Machine<REGS>,
     origin: Origin,
@@ -103,7 +106,7 @@ pub fn number_line<const REGS: usize>(
     BriefOutcome::Done
 }
 
-/// Executes `CLRG`: all data registers become zero.
+/// Executes `CLRG`: all data registers become zero. Stack lift is turned on.
 pub fn clear_registers<const REGS: usize>(
     machine: &mut Machine<REGS>,
     origin: Origin,
@@ -118,7 +121,8 @@ pub fn clear_registers<const REGS: usize>(
     BriefOutcome::Done
 }
 
-/// Executes a line that only turns stack lift on.
+/// Executes a line that has no effect except that it turns stack lift on. The program continues at the next line; a
+/// typed line leaves the position unchanged.
 pub fn do_nothing<const REGS: usize>(machine: &mut Machine<REGS>, origin: Origin) -> BriefOutcome
     ensures done { LeavesRow origin lifting_row (machine_of machine.old)
         (machine_of machine.new) result }
@@ -129,7 +133,8 @@ pub fn do_nothing<const REGS: usize>(machine: &mut Machine<REGS>, origin: Origin
     BriefOutcome::Done
 }
 
-/// Executes a line that changes nothing, stack lift included.
+/// Executes a line that has no effect, not even on stack lift, for example `LBL`. The program continues at the next
+/// line; a typed line leaves the position unchanged.
 #[inline(always)]
 pub fn be_silent<const REGS: usize>(machine: &mut Machine<REGS>, origin: Origin) -> BriefOutcome
     ensures done { LeavesRow origin silent_row (machine_of machine.old)

@@ -1,4 +1,4 @@
-//! The effects of functions with an operand.
+//! What functions with an operand do, by the kind of their operand.
 
 ghost use Rattle.std.specs.Prelude.{◌≡◌, ◌≢◌};
 ghost use Rattle.h41_focal.specs.private.Works.{IsUse, highest_of};
@@ -7,51 +7,53 @@ ghost use Rattle.h41_codes.specs.declared.functions.ParameterFunction.TheVariant
 use h41_codes::ParameterFunction;
 use h41_rows::ValueOfTwo;
 
-/// The effect of a function with a register.
+/// What a function with a register does.
 #[derive(Clone, Copy)]
 pub enum RegisterUse {
-    /// `RCL`: recalls the register.
+    /// `RCL`: writes the register to X.
     Recall,
     /// `STO`: stores X in the register.
     Store,
-    /// `ST+`, `ST-`, `ST*` and `ST/`: the register receives a value of itself and X.
+    /// `ST+`, `ST-`, `ST*` and `ST/`: the register receives the register plus, minus, times or divided by X.
     Combine(ValueOfTwo),
-    /// `ISG`: counts the register up.
+    /// `ISG`: increases the counter in the register, and skips the next line when the loop ends.
     CountUp,
-    /// `DSE`: counts the register down.
+    /// `DSE`: decreases the counter in the register, and skips the next line when the loop ends.
     CountDown,
-    /// `VIEW`: shows the register.
+    /// `VIEW`: shows the register in the display.
     View,
-    /// `ASTO`: stores characters of ALPHA in the register.
+    /// `ASTO`: stores the first six characters of ALPHA in the register.
     StoreAlpha,
-    /// `ARCL`: appends the register to ALPHA.
+    /// `ARCL`: appends the text of the register to ALPHA.
     RecallAlpha,
     /// `X<>`: exchanges X and the register.
     Exchange,
 }
 
-/// The effect of a function with a number of digits.
+/// What a function whose operand is a digit, 0 to 9, does.
 #[derive(Clone, Copy)]
 pub enum DigitsUse {
-    /// `FIX`, `SCI` and `ENG`: whether flags 40 and 41 are set.
+    /// `FIX`, `SCI` and `ENG`: set the display format. The values are those of flag 40 (set for `FIX`) and flag 41 (set
+    /// for `ENG`).
     Format(bool, bool),
     /// `TONE`: has no effect, because the bench has no sound.
     Tone,
 }
 
-/// The effect of a function with a flag.
+/// What a function with a flag does.
 #[derive(Clone, Copy)]
 pub enum FlagUse {
     /// `SF` (true) and `CF` (false): sets or clears the flag.
     Change(bool),
-    /// `FS?` (true) and `FC?` (false): tests whether the flag is set or clear.
+    /// `FS?` (true) and `FC?` (false): tests whether the flag is set or clear, and skips the next line if not.
     Ask(bool),
-    /// `FS?C` (true) and `FC?C` (false): tests whether the flag is set or clear, and clears it.
+    /// `FS?C` (true) and `FC?C` (false): tests whether the flag is set or clear, skips the next line if not, and clears
+    /// the flag.
     AskAndClear(bool),
 }
 
 impl FlagUse {
-    /// Returns the highest flag that the function accepts: 55 for `FS?` and `FC?`, otherwise 29.
+    /// Returns the highest flag that a function with a flag accepts: 55 for `FS?` and `FC?`, otherwise 29.
     pub fn highest(self) -> u8
         ensures { result ≡ highest_of self }
     {
@@ -63,20 +65,21 @@ impl FlagUse {
     }
 }
 
-/// The effect of a function with an operand.
+/// What a function with an operand does, by the kind of its operand.
 #[derive(Clone, Copy)]
 pub enum OperandUse {
-    /// It works on a register.
+    /// The operand is a register, for example of `RCL`.
     Register(RegisterUse),
-    /// It works on a number of digits.
+    /// The operand is a digit, 0 to 9, for example of `FIX`.
     Digits(DigitsUse),
-    /// It works on a flag.
+    /// The operand is a flag, for example of `SF`.
     Flag(FlagUse),
-    /// `LBL`: has no effect.
+    /// The operand is a label: `LBL`, which has no effect when it is executed.
     Label,
 }
 
-/// Returns the effect of a function with an operand, which must not be `SREG`.
+/// Returns what a function with an operand does, by the kind of its operand. The function must not be `SREG`, which the
+/// bench does not support.
 #[inline(always)]
 pub fn use_of(function: ParameterFunction) -> OperandUse
     requires { function ≢ functions.StatisticsRegisters }

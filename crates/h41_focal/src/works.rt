@@ -1,4 +1,4 @@
-//! The effects of functions without an operand.
+//! What functions without an operand do.
 
 ghost use Rattle.std.specs.Prelude.{◌≡◌};
 ghost use Rattle.std.specs.Option.{option_map};
@@ -8,31 +8,31 @@ ghost use Rattle.h41_focal.specs.private.Works.{row_of_work};
 use h41_codes::Function;
 use h41_rows::{Test, ValueOfOne, ValueOfTwo};
 
-/// A change of the stack.
+/// How a function without an operand changes the stack.
 #[derive(Clone, Copy)]
 pub enum Movement {
     /// `X<>Y`: exchanges X and Y.
     Exchange,
-    /// `R^`: rolls the stack up.
+    /// `R^`: rolls the stack up: Z to T, Y to Z, X to Y and T to X.
     RollUp,
-    /// `RDN`: rolls the stack down.
+    /// `RDN`: rolls the stack down: T to Z, Z to Y, Y to X and X to T.
     RollDown,
-    /// `LASTX`: recalls LAST X.
+    /// `LASTX`: writes LAST X to X.
     LastX,
     /// `ENTER^`: lifts the stack and leaves X unchanged.
     Enter,
-    /// `PI`: brings the number pi into X.
+    /// `PI`: writes the number pi to X.
     Pi,
-    /// `CLST`: clears the stack.
+    /// `CLST`: writes zero to X, Y, Z and T.
     ClearStack,
-    /// `CLX`: clears X.
+    /// `CLX`: writes zero to X.
     ClearX,
 }
 
-/// A change of ALPHA.
+/// How a function without an operand changes ALPHA or ALPHA mode.
 #[derive(Clone, Copy)]
 pub enum AlphaWork {
-    /// `CLA`: clears ALPHA.
+    /// `CLA`: removes all characters of ALPHA.
     Clear,
     /// `ASHF`: removes the first six characters of ALPHA.
     Shift,
@@ -40,12 +40,12 @@ pub enum AlphaWork {
     Mode(bool),
 }
 
-/// A change of the display, or a stop.
+/// How a function without an operand changes the display or stops the program.
 #[derive(Clone, Copy)]
 pub enum DisplayWork {
     /// `AVIEW`: shows ALPHA.
     ViewAlpha,
-    /// `CLD`: clears the display.
+    /// `CLD`: removes the text that the display shows instead of X.
     Clear,
     /// `PROMPT`: shows ALPHA and stops the program.
     Prompt,
@@ -55,38 +55,39 @@ pub enum DisplayWork {
     TurnOff,
 }
 
-/// The effect of a function without an operand.
+/// What a function without an operand does.
 #[derive(Clone, Copy)]
 pub enum FunctionWork {
-    /// A value of Y and X is written to X, and the stack drops.
+    /// Writes a value computed from Y and X to X and drops the stack, for example `+`. LAST X receives the old X.
     OfYAndX(ValueOfTwo),
-    /// A value of X is written to X.
+    /// Writes a value computed from X to X, for example `SQRT`. LAST X receives the old X.
     OfX(ValueOfOne),
-    /// `X^2`: X receives its square.
+    /// `X^2`: X receives X times X, and LAST X the old X.
     Square,
-    /// `%`: X receives X percent of Y. Y is unchanged.
+    /// `%`: X receives X percent of Y, and LAST X the old X. Y is unchanged.
     Percent,
-    /// `CHS`: the sign of X changes. LAST X is unchanged.
+    /// `CHS`: the sign of the number in X changes. LAST X is unchanged.
     ChangeSign,
-    /// A test of X.
+    /// A test of X, for example `X=0?`, which skips the next line if it is false.
     Ask(Test),
-    /// The stack changes.
+    /// Changes the stack, for example `RDN`.
     Move(Movement),
-    /// ALPHA changes.
+    /// Changes ALPHA or ALPHA mode, for example `CLA`.
     Alpha(AlphaWork),
-    /// The display shows something, or the program stops.
+    /// Changes the display or stops the program, for example `AVIEW`.
     Display(DisplayWork),
-    /// `DEG`, `RAD` and `GRAD`: whether flags 42 and 43 are set.
+    /// `DEG`, `RAD` and `GRAD`: select the unit of angles. The values are those of flag 42 (set for grads) and flag 43
+    /// (set for radians).
     Angles(bool, bool),
-    /// `CLRG`: clears the data registers.
+    /// `CLRG`: writes zero to all data registers.
     ClearRegisters,
-    /// `RTN`: returns.
+    /// `RTN`: returns to the newest return address, or stops the program if there is none.
     Return,
-    /// `BEEP`, `PSE` and `ADV`: no effect, because the bench has no sound, pause or printer.
+    /// `BEEP`, `PSE` and `ADV`: have no effect, because the bench has no sound, pause or printer.
     Nothing,
 }
 
-/// Returns the effect of a function without an operand, or `None` if it is not supported.
+/// Returns what a function without an operand does, or `None` if the bench does not support the function.
 #[inline(always)]
 pub fn work_of(function: Function) -> Option<FunctionWork>
     ensures { option_map row_of_work result ≡ function_row function }

@@ -1,7 +1,7 @@
 -- What was read of an input that is read completely.
 use Rattle.std.specs.Prelude.{◌≡◌, ◌⊎◌, ◌<◌, ◌≤◌, ℕ, true, List, length, IfSome}
 use Rattle.h41_ends.specs.declared.source.Source as sources
-use Rattle.h41_ends.specs.Ends.{most_bytes}
+use Rattle.h41_ends.specs.Ends.{GivesTooMany, most_bytes}
 
 -- These bytes are all of an input that is not too long.
 pub record IsWhole (bytes input : List ℕ) : Type 0 where
@@ -12,5 +12,5 @@ pub record IsWhole (bytes input : List ℕ) : Type 0 where
 abbrev pub IsUnread : {R : Type 0} → sources.Ghosts R → R → R → Type 0
 IsUnread source before after =
     (source.failed after ≡ true)
-    ⊎ ((most_bytes < source.given after)
+    ⊎ (GivesTooMany (source.given before) (source.given after)
     × IfSome (source.remaining before) (λ input. most_bytes < length input))

@@ -1,4 +1,4 @@
-//! What is printed for a source.
+//! Assembles a source, and formats its words or its error as `bench asm` prints them.
 
 ghost use Rattle.std.specs.Prelude.{◌≡◌, ◌≤◌, IfOk, length};
 ghost use Rattle.h41_ends.specs.Ends.{most_bytes};
@@ -13,8 +13,9 @@ use h41_refusals::Refusal;
 use h41_words::Word;
 use std::alloc::{AllocError, Global};
 
-/// Returns the words of a source that is assembled at the origin, each as three hexadecimal digits on a line of its own; or the
-/// line of its refusal (30 to 35) and nothing else.
+/// Returns what `bench asm` prints for a source whose first word is at the address `origin`: its words, each as three
+/// hexadecimal digits on a line of its own, or only the line of its first error (30 to 35), for example
+/// `! 30 BadLine 2`.
 ///
 /// # Errors
 ///
@@ -39,7 +40,8 @@ pub fn assembly(alloc: Global, source: &[u8], origin: u16) -> Result<Answer, All
     }
 }
 
-/// Returns the lines of words. OutOfMemory (21) if allocation failed.
+/// Returns words as text: each as three hexadecimal digits in upper case on a line of its own. OutOfMemory (21) if
+/// allocation failed.
 fn word_lines(alloc: Global, words: &[Word]) -> Result<Vec<u8>, AllocError>
     ensures { IfOk result (λ lines. lines.items ≡ word_lines words.now) }
 {

@@ -1,4 +1,4 @@
-//! How a job ends.
+//! How assembling, listing or executing a deck ends, and what is printed for it.
 
 ghost use Rattle.std.specs.Prelude.{◌≡◌, ◌++◌, ◌≤◌, length};
 ghost use Rattle.h41_jobs.specs.Texts.{mistake_line};
@@ -6,11 +6,11 @@ ghost use Rattle.h41_jobs.specs.Texts.{mistake_line};
 use arrayvec::ArrayString;
 use itoa::Buffer;
 
-/// The most bytes of the line that reports a wrong word: 51 without the number of the word, which has up to 20
+/// The most bytes of the line that reports a wrong word by its number: 51 without the number, which has up to 20
 /// digits.
 const LINE: usize = 72;
 
-/// How a job ended in which reading, writing and allocation succeeded.
+/// How a deck, a source or a list of words ended if reading, writing and allocation succeeded.
 #[derive(Clone, Copy, Debug, PartialEq, Eq)]
 pub enum Ended {
     /// No refusal was printed.
@@ -21,16 +21,17 @@ pub enum Ended {
     WrongWord(usize),
 }
 
-/// What is printed for an input, and how the job ends.
+/// What the program prints for a source or a list of words, and which exit status follows from it.
 #[derive(Debug, Drop)]
 pub struct Answer {
-    /// The text that is printed.
+    /// The text that goes to standard output.
     pub text: Vec<u8>,
-    /// How the job ends.
+    /// Whether a refusal is printed or a word of the list is wrong.
     pub ended: Ended,
 }
 
-/// Returns the line that reports a wrong word by its number.
+/// Returns the line which reports that the word with this number, counted from 1, is not a hexadecimal number up to
+/// 3FF.
 pub fn mistake_line(number: usize) -> ArrayString<LINE>
     ensures { result.bytes ≡ mistake_line number }
 {

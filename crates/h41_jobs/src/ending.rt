@@ -1,4 +1,4 @@
-//! What the program prints if it ends without a job.
+//! What the program prints if its command line asks for no task.
 
 ghost use Rattle.std.specs.Prelude.{◌≡◌};
 ghost use Rattle.h41_jobs.specs.Endings.{text_of};
@@ -6,8 +6,8 @@ ghost use Rattle.h41_jobs.specs.Endings.{text_of};
 use h41_arguments::Ending;
 use h41_refusals::Refusal;
 
-/// Returns the text that the program prints if it ends without a job. For `OutOfMemory` (21) it is
-/// the line of the error without its line end.
+/// Returns the text that the program prints if its command line asks for help or the version, is wrong, or cannot be
+/// read. For `OutOfMemory` (21) it is the line `! 21 OutOfMemory` without its line end.
 pub fn text_of(ending: &Ending) -> &str
     ensures { result.now ≡ text_of ending.now }
 {

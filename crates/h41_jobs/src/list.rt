@@ -1,4 +1,4 @@
-//! What is printed for a list of words.
+//! Lists words as `bench dis` prints them.
 
 ghost use Rattle.std.specs.Prelude.{◌≡◌, ◌≤◌, IfOk, length};
 ghost use Rattle.h41_ends.specs.Ends.{most_bytes};
@@ -11,8 +11,9 @@ use h41_dis::disassemble;
 use h41_words::Word;
 use std::alloc::{AllocError, Global};
 
-/// Returns the listing of the words in a text, which white space separates: a line for each instruction. If a word is wrong, the
-/// text of the answer is empty.
+/// Returns what `bench dis` prints for a text of words, which white space separates: a line for each instruction. If a
+/// word is not a hexadecimal number up to 3FF, the text of the answer is empty, and `ended` has the number of the first
+/// such word.
 ///
 /// # Errors
 ///
@@ -33,7 +34,8 @@ pub fn listing(alloc: Global, text: &[u8], origin: u16) -> Result<Answer, AllocE
     }
 }
 
-/// Returns the words in a text, or the number of the first that is wrong, counted from 1. OutOfMemory (21) if allocation failed.
+/// Returns the words in a text, which white space separates, or the number of the first one that is not a hexadecimal
+/// number up to 3FF, counted from 1. OutOfMemory (21) if allocation failed.
 fn words_in(alloc: Global, text: &[u8]) -> Result<Result<Vec<Word>, usize>, AllocError>
     ensures { IfOk result (λ said. ReadsAs text.now (words_or_number said)) }
 {

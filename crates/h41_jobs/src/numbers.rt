@@ -6,7 +6,7 @@ ghost use Rattle.h41_jobs.specs.WordTexts.{word_value};
 use h41_lines::numbers::number_up_to;
 use h41_words::Word;
 
-/// The greatest number of a word: 3FF, because a word has ten bits.
+/// The greatest number that a word of ten bits can have: 3FF (hexadecimal).
 const GREATEST_WORD: u32 = 0x3FF;
 
 /// Returns the word that hexadecimal digits write, of either case and with any number of leading zeros, or `None`

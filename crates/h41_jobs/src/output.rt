@@ -1,4 +1,4 @@
-//! Writes a text, or the text of an answer, and flushes it.
+//! Writes a text, or the answer to a source or a list of words, and flushes it.
 
 ghost use Rattle.std.specs.Prelude.{◌≡◌, true, false, IfOk, OnOk, OnErr};
 ghost use Rattle.h41_ends.specs.Ends.{Appended};
@@ -24,7 +24,7 @@ pub fn write_text<W: Sink>(writer: &mut W, text: &[u8]) -> Result<(), WriteFault
     flush(writer)
 }
 
-/// Writes the text of an answer completely, flushes it, and returns how the job ended.
+/// Writes the text of `answer` completely, flushes it, and returns `answer.ended`.
 ///
 /// # Errors
 ///

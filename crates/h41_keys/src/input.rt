@@ -8,17 +8,18 @@ use h41_codes::{Number, Text};
 pub enum TypedEntry {
     /// Neither a number nor a text is being typed.
     Nothing,
-    /// A number, with its characters so far.
+    /// A number is being typed. The value has its characters so far.
     Number(Number),
-    /// A text that will be appended to ALPHA, before its first letter.
+    /// SHIFT XEQ was pressed in ALPHA mode: letters that follow are appended to ALPHA. No letter has been typed yet.
     Append,
-    /// A text for ALPHA, after its first letter.
+    /// Letters are being typed into ALPHA, outside program mode.
     Letters,
-    /// In program mode, a text line with its characters so far. If the line appends to ALPHA, they begin with 7F.
+    /// In program mode, a text line is being typed. The value has its characters so far; if the line appends to ALPHA,
+    /// they begin with 7F (hexadecimal).
     TextLine(Text<15>),
 }
 
-/// The state of the keyboard between keys.
+/// The state of the keyboard between two keys: SHIFT, program mode, and what is being typed.
 #[derive(Clone, Copy, Debug, PartialEq, Eq)]
 pub struct Input {
     /// Whether `SHIFT` was pressed for the next key.
@@ -27,31 +28,32 @@ pub struct Input {
     pub program_mode: bool,
     /// The number or text that is being typed.
     pub entry: TypedEntry,
-    /// The function that waits for its parameter.
+    /// The function that waits for its parameter, if a prompt is open.
     pub prompt: Option<Prompt>,
 }
 
 /// What the calculator is doing.
 #[derive(Clone, Copy, Debug, PartialEq, Eq)]
 pub enum Activity {
-    /// It waits for keys.
+    /// The calculator waits for keys.
     Idle,
-    /// It runs a program.
+    /// The calculator runs a program.
     Run,
-    /// It runs a function in microcode.
+    /// The calculator runs a function in microcode.
     Micro,
 }
 
-/// The place of the shown line, as far as it determines what keys can do in program mode.
+/// Whether the shown program line is in program memory or in a page of a module. This determines what keys can do in
+/// program mode.
 #[derive(Clone, Copy, Debug, PartialEq, Eq)]
 pub enum Place {
-    /// The line is in program memory. Keys insert, replace and delete lines.
+    /// The shown program line is in program memory. Keys insert, replace and delete lines.
     Memory,
-    /// The line is in a page. Keys change no lines there.
+    /// The shown program line is in a page. Keys that would insert, replace or delete lines are refused.
     Page {
-        /// Whether BACK would change nothing in memory either: the shown line is line 00 or `.END.`.
+        /// Whether BACK would not delete a line even in program memory, because the shown line is line 00 or `.END.`.
         deletes_nothing: bool,
-        /// Whether `GTO . .` would insert an END into program memory.
+        /// Whether `GTO . .` would insert an END into program memory, in which case it is refused.
         puts_end: bool,
     },
 }
@@ -61,18 +63,18 @@ pub enum Place {
 pub struct Flags {
     /// Flag 48: ALPHA mode, in which keys type letters.
     pub alpha: bool,
-    /// Whether a message is shown.
+    /// Whether the display shows a message.
     pub message: bool,
-    /// The place of the shown line. It is used in program mode only.
+    /// Where the shown program line is. It is used in program mode only.
     pub place: Place,
 }
 
-/// The result of an accepted key.
+/// The result of an accepted key: the calculator's action and the new state of the keyboard.
 #[derive(Clone, Copy, Debug, PartialEq, Eq)]
 pub struct Pressed {
-    /// The action of the calculator.
+    /// The action that the calculator has to perform because of the key.
     pub action: Action,
-    /// The new state of the keyboard.
+    /// The state of the keyboard after the key.
     pub input: Input,
 }
 
@@ -80,7 +82,8 @@ impl Input {
     ghost use Rattle.std.specs.Prelude.{◌≡◌};
     ghost use Rattle.h41_keys.specs.KeyPress.{start};
 
-    /// Returns the state at the start: SHIFT and program mode are off, and nothing is typed.
+    /// Returns the initial state of the keyboard: SHIFT and program mode are off, no number or text is being typed, and
+    /// no prompt is open.
     pub fn new() -> Self
         ensures { result ≡ start }
     {

@@ -44,14 +44,15 @@ const KEYS: [Key; 39] = [
     Key::RunStop,
 ];
 
-/// The names of the keys in the same order, as decks spell the text that is printed on them.
+/// The names of the keys in the order of the enum, as decks spell the text that is printed on the keys.
 static KEY_NAMES: [&str; 39] = [
     "ON", "USER", "PRGM", "ALPHA", "SIGMA+", "1/X", "SQRT", "LOG", "LN", "X<>Y", "RDN", "SIN",
     "COS", "TAN", "SHIFT", "XEQ", "STO", "RCL", "SST", "ENTER", "CHS", "EEX", "BACK", "-", "7",
     "8", "9", "+", "4", "5", "6", "*", "1", "2", "3", "/", "0", ".", "R/S",
 ];
 
-/// The codes of the keys in the same order: a hexadecimal digit for the row, and one for the column.
+/// The codes of the keys in the order of the enum: a hexadecimal digit for the row and one for the column, as microcode
+/// reads them.
 static KEY_CODES: [u8; 39] = [
     0x01, 0x02, 0x03, 0x04, 0x11, 0x12, 0x13, 0x14, 0x15, 0x21, 0x22, 0x23, 0x24, 0x25, 0x31, 0x32,
     0x33, 0x34, 0x35, 0x41, 0x42, 0x43, 0x44, 0x51, 0x52, 0x53, 0x54, 0x61, 0x62, 0x63, 0x64, 0x71,
@@ -145,7 +146,7 @@ impl Key {
     ghost use Rattle.std.specs.Prelude.{◌≡◌};
     ghost use Rattle.h41_keys.specs.Keyboard.{code_of, first_named, key_named, name_of};
 
-    /// Returns the key with a name, exactly as decks spell it, or `None` if there is none.
+    /// Returns the key with a name, such as `XEQ`, exactly as decks spell it, or `None` if there is none.
     pub fn named(name: &[u8]) -> Option<Key>
         ensures { result ≡ key_named name.now }
     {
@@ -171,7 +172,8 @@ impl Key {
         KEY_NAMES[self as usize]
     }
 
-    /// Returns the code of the key, which microcode reads: a hexadecimal digit for its row, and one for its column.
+    /// Returns the code of the key, which microcode reads: a hexadecimal digit for the key's row, 0 to 8, and one for
+    /// its column, 1 to 5.
     pub fn code(self) -> u8
         ensures { result ≡ code_of self }
     {
@@ -179,7 +181,7 @@ impl Key {
     }
 }
 
-/// A decimal digit.
+/// A decimal digit that a digit key types.
 #[derive(Clone, Copy, Debug, PartialEq, Eq)]
 pub enum Digit {
     /// The digit 0.
@@ -204,7 +206,7 @@ pub enum Digit {
     Nine,
 }
 
-/// The texts of the digits, in the same order.
+/// The characters of the decimal digits 0 to 9, in this order.
 static DIGIT_TEXTS: [&str; 10] = ["0", "1", "2", "3", "4", "5", "6", "7", "8", "9"];
 
 impl Digit {
@@ -219,14 +221,14 @@ impl Digit {
         self as u8
     }
 
-    /// Returns the text of the digit, one character.
+    /// Returns the decimal digit as a text of one character, `0` to `9`.
     pub(crate) fn text(self) -> &'static str
         ensures { result.now ≡ (0x30 + value_of self) ∷ [] }
     {
         DIGIT_TEXTS[self as usize]
     }
 
-    /// Returns the digit as a character of a number line.
+    /// Returns the decimal digit as a character of a number entry.
     pub fn character(self) -> Character
         ensures { result ≡ character_of self }
     {

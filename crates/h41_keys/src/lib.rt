@@ -1,5 +1,5 @@
-//! The keyboard of the HP-41: the meaning of each key in each state. Memory, stack and program belong to the calculator: a key
-//! results in an action, which the calculator performs.
+//! The keyboard of the HP-41: the meaning of each key in each state of the keyboard. Memory, stack and program belong
+//! to the calculator: a key results in an action, which the calculator performs.
 #![tactic(auto)]
 
 mod action;

@@ -1,4 +1,4 @@
-//! The meanings of keys, before the state of the keyboard is considered.
+//! The meanings of keys. They depend on SHIFT and ALPHA mode, not on what is being typed.
 ghost use Rattle.std.specs.Prelude.{◌≡◌};
 ghost use Rattle.h41_keys.specs.Keyboard as spec;
 
@@ -6,10 +6,10 @@ use crate::key::{Digit, Key};
 use crate::prompt::PromptFunction;
 use h41_codes::Function;
 
-/// The meaning of a key.
+/// What a key means, depending on SHIFT and ALPHA mode.
 #[derive(Clone, Copy, Debug, PartialEq, Eq)]
 pub enum Meaning {
-    /// None: the key is refused.
+    /// The key has no meaning and is refused.
     Nothing,
     /// `SHIFT`: the next key has its shifted meaning.
     Shift,
@@ -17,7 +17,7 @@ pub enum Meaning {
     Alpha,
     /// `PRGM`: program mode begins or ends.
     Program,
-    /// `SST`: one program line is executed, or shown.
+    /// `SST`: the next program line is executed, or in program mode shown.
     Step,
     /// `BST`: the program line before the shown one is shown.
     StepBack,
@@ -27,25 +27,25 @@ pub enum Meaning {
     Back,
     /// `BACK` in ALPHA mode: the last letter is deleted.
     LetterBack,
-    /// A digit of a number.
+    /// A decimal digit of a number that is being typed.
     Digit(Digit),
-    /// The decimal point of a number.
+    /// The decimal point of a number that is being typed.
     Point,
-    /// `EEX`: the exponent of a number begins.
+    /// `EEX`: the exponent of a number that is being typed begins.
     Exponent,
-    /// `CHS`: the sign of a number changes.
+    /// `CHS`: the sign of the number that is being typed changes, or else that of X.
     Sign,
-    /// A function without a parameter.
+    /// A function without a parameter, such as SIN.
     Function(Function),
-    /// A function that asks for its parameter.
+    /// A function that asks for its parameter, such as STO.
     Ask(PromptFunction),
-    /// A letter, given as its byte.
+    /// A letter or other character that is typed in ALPHA mode, given as its byte.
     Letter(u8),
-    /// The letters that follow are appended to ALPHA.
+    /// `SHIFT XEQ` in ALPHA mode: letters that follow are appended to ALPHA.
     Append,
 }
 
-/// Returns the meaning of a key, depending on ALPHA mode and on whether SHIFT was pressed before it.
+/// Returns the meaning of a key if ALPHA mode is on (`letters`) or off and SHIFT was or was not pressed before it.
 pub(crate) fn meaning_of(key: Key, letters: bool, shift: bool) -> Meaning
     ensures { result ≡ spec.meaning_of key letters shift }
 {

@@ -13,7 +13,8 @@ use crate::key::Digit;
 use crate::typing::{does, ended, typing};
 use h41_codes::{Character, Line, NUMBER_MOST, Number, exponent_place};
 
-/// Returns the result of a digit key.
+/// Returns the action and the new keyboard state for a digit key. The digit is appended to the number that is being
+/// typed, or begins one. Nothing is appended if the mantissa has ten digits or the exponent two.
 pub(crate) fn digit_typed(input: Input, digit: Digit) -> Pressed
     ensures { result ≡ press.number_typed input (λ text. spec.with_digit text digit) }
 {
@@ -26,7 +27,8 @@ pub(crate) fn digit_typed(input: Input, digit: Digit) -> Pressed
     }
 }
 
-/// Returns the result of the key of the decimal point.
+/// Returns the action and the new keyboard state for the decimal point key. The point is appended to the number that is
+/// being typed, or begins one. Nothing changes if the number has a point or an exponent.
 pub(crate) fn point_typed(input: Input) -> Pressed
     ensures { result ≡ press.number_typed input spec.with_point }
 {
@@ -39,7 +41,8 @@ pub(crate) fn point_typed(input: Input) -> Pressed
     }
 }
 
-/// Returns the result of EEX.
+/// Returns the action and the new keyboard state for EEX. `E` is appended to the number that is being typed; if it has
+/// no digit, `1E`. Nothing changes if it has an exponent already.
 pub(crate) fn exponent_typed(input: Input) -> Pressed
     ensures { result ≡ press.number_typed input spec.with_exponent }
 {
@@ -54,7 +57,8 @@ pub(crate) fn exponent_typed(input: Input) -> Pressed
     }
 }
 
-/// Returns the result of CHS while a number is being typed.
+/// Returns the action and the new keyboard state for CHS while a number is being typed: the sign of the exponent
+/// changes, or that of the mantissa if there is no exponent.
 pub(crate) fn sign_turned(input: Input) -> Pressed
     ensures { result ≡ press.number_typed input spec.with_sign_turned }
 {
@@ -87,7 +91,8 @@ pub(crate) fn sign_turned(input: Input) -> Pressed
     }
 }
 
-/// Returns the result of BACK while a number is being typed.
+/// Returns the action and the new keyboard state for BACK while a number is being typed: its last character is deleted,
+/// which ends the number if it was its only one.
 pub(crate) fn shortened(input: Input, number: &Number) -> Pressed
     ensures { result ≡ press.number_becomes input number.now (spec.without_last number.now) }
 {
@@ -95,7 +100,7 @@ pub(crate) fn shortened(input: Input, number: &Number) -> Pressed
     becomes(input, text, &text[..text.len() - 1])
 }
 
-/// Returns the characters of the number that is being typed, or none if no number is being typed.
+/// Returns the characters of the number that is being typed, or an empty slice if no number is being typed.
 fn characters(entry: &TypedEntry) -> &[Character]
     ensures text { result.now ≡ press.number_in entry.now }
     ensures bound { length result.now ≤ number_most }
@@ -106,7 +111,8 @@ fn characters(entry: &TypedEntry) -> &[Character]
     }
 }
 
-/// Returns the result of appending characters to a number.
+/// Returns the action and the new keyboard state for appending characters to a number. The number does not change if it
+/// would have more than 16 characters.
 fn grown(input: Input, text: &[Character], more: &[Character]) -> Pressed
     requires text { length text.now ≤ number_most }
     requires more { length more.now ≤ number_most }
@@ -115,8 +121,8 @@ fn grown(input: Input, text: &[Character], more: &[Character]) -> Pressed
     spliced(input, text, text, more, &[])
 }
 
-/// Returns the result of replacing a number by three parts, one after the other. If they are too long together, the number does not
-/// change.
+/// Returns the action and the new keyboard state for replacing the number that is being typed by three parts, one after
+/// the other. The number does not change if they have more than 16 characters together.
 fn spliced(
     input: Input,
     text: &[Character],
@@ -142,7 +148,8 @@ fn spliced(
     becomes(input, text, &cells[..count])
 }
 
-/// Returns the result of a change of a number's text: the number begins, changes, ends, or remains as it is.
+/// Returns the action and the new keyboard state for the characters of a number before and after a key: the number
+/// begins, changes, ends (if `after` is empty), or remains as it is.
 fn becomes(input: Input, before: &[Character], after: &[Character]) -> Pressed
     requires { length after.now ≤ number_most }
     ensures { result ≡ press.number_becomes input before.now after.now }
@@ -161,7 +168,8 @@ fn becomes(input: Input, before: &[Character], after: &[Character]) -> Pressed
     }
 }
 
-/// Returns the result of the first character of a number.
+/// Returns the action and the new keyboard state for the first character of a number. In program mode a number line is
+/// inserted; otherwise the number is entered into X.
 fn number_begun(input: Input, number: Number) -> Pressed
     ensures { result ≡ press.number_begun input input.program_mode number }
 {
@@ -173,7 +181,8 @@ fn number_begun(input: Input, number: Number) -> Pressed
     does(action, typing(input, TypedEntry::Number(number)))
 }
 
-/// Returns the result of a change of a number.
+/// Returns the action and the new keyboard state for another change of a number that is being typed. In program mode
+/// its number line is replaced; otherwise the number in X is.
 fn number_changed(input: Input, number: Number) -> Pressed
     ensures { result ≡ press.number_changed input input.program_mode number }
 {
@@ -185,7 +194,8 @@ fn number_changed(input: Input, number: Number) -> Pressed
     does(action, typing(input, TypedEntry::Number(number)))
 }
 
-/// Returns the result of deleting the last character of a number.
+/// Returns the action and the new keyboard state for deleting the only character of a number. In program mode its line
+/// is deleted; otherwise X becomes zero.
 fn number_ended(input: Input) -> Pressed
     ensures { result ≡ press.number_ended input input.program_mode }
 {
@@ -196,7 +206,8 @@ fn number_ended(input: Input) -> Pressed
     }
 }
 
-/// Returns whether a number has room for one more digit: a mantissa has at most ten, an exponent two.
+/// Returns whether one more digit may be typed to a number: the mantissa has at most ten digits, the exponent at most
+/// two.
 fn has_room(text: &[Character]) -> bool
     ensures { result ≡ spec.has_room text.now }
 {
@@ -208,7 +219,7 @@ fn has_room(text: &[Character]) -> bool
     }
 }
 
-/// Returns the number of digits in a text.
+/// Returns how many of a number entry's characters are digits; `.`, `E` and `-` are not.
 fn count_of_digits(text: &[Character]) -> usize
     ensures { result ≡ spec.count_of_digits text.now }
 {
@@ -221,7 +232,7 @@ fn count_of_digits(text: &[Character]) -> usize
     count
 }
 
-/// Returns whether a text has a decimal point.
+/// Returns whether a number entry has a decimal point.
 fn has_point(text: &[Character]) -> bool
     ensures { result ≡ list_any is_point text.now }
 {
@@ -233,7 +244,7 @@ fn has_point(text: &[Character]) -> bool
     false
 }
 
-/// Returns whether a part of a number begins with its sign.
+/// Returns whether the mantissa or the exponent of a number entry begins with `-`.
 fn begins_with_minus(part: &[Character]) -> bool
     ensures value { result ≡ spec.begins_with_minus part.now }
     ensures some { IsTrue result → 1 ≤ length part.now }
@@ -241,7 +252,7 @@ fn begins_with_minus(part: &[Character]) -> bool
     !part.is_empty() && part[0].is_minus()
 }
 
-/// Returns whether a character is a digit.
+/// Returns whether a character of a number entry is a digit, not `.`, `E` or `-`.
 fn is_digit(character: Character) -> bool
     ensures { result ≡ spec.is_digit character }
 {

@@ -40,7 +40,7 @@ pub fn press(
     }
 }
 
-/// Returns the result of a key, or `None` if it is refused.
+/// Returns the action and the new keyboard state for a key, or `None` if the key is refused as KeyNotHeld (18).
 fn pressed(input: Input, key: Key, mode: Activity, flags: Flags) -> Option<Pressed>
     ensures { result ≡ spec.presses input key mode flags }
 {
@@ -54,7 +54,8 @@ fn pressed(input: Input, key: Key, mode: Activity, flags: Flags) -> Option<Press
     }
 }
 
-/// Returns the result of a key while a program runs.
+/// Returns the action and the new keyboard state for a key while a program runs: R/S stops the program, and other keys
+/// cause no action. Returns `None` if the key has no meaning.
 fn while_running(input: Input, meaning: Meaning) -> Option<Pressed>
     ensures { result ≡ spec.while_running input meaning }
 {
@@ -65,7 +66,8 @@ fn while_running(input: Input, meaning: Meaning) -> Option<Pressed>
     }
 }
 
-/// Returns the result of a key while a function in microcode runs.
+/// Returns the action and the new keyboard state for a key while a function in microcode runs: no key causes an action.
+/// Returns `None` if the key has no meaning.
 fn while_in_microcode(input: Input, meaning: Meaning) -> Option<Pressed>
     ensures { result ≡ spec.while_in_microcode input meaning }
 {
@@ -75,7 +77,8 @@ fn while_in_microcode(input: Input, meaning: Meaning) -> Option<Pressed>
     }
 }
 
-/// Returns the result of a key if nothing runs, depending on the place of the shown line.
+/// Returns the given result of a key while nothing runs, or `None` if the key is refused: in program mode, while a line
+/// of a page is shown, because it would change lines.
 fn held_at(place: Place, program_mode: bool, pressed: Option<Pressed>) -> Option<Pressed>
     ensures { result ≡ spec.held_at place program_mode pressed }
 {
@@ -95,7 +98,8 @@ fn held_at(place: Place, program_mode: bool, pressed: Option<Pressed>) -> Option
     }
 }
 
-/// Returns whether an action is supported in program mode while a line of a page is shown.
+/// Returns whether an action is supported in program mode while a line of a page is shown. Inserting and replacing
+/// lines is not; deleting a line is only if nothing would be deleted; `GTO . .` only if no END would be inserted.
 fn is_held(deletes_nothing: bool, puts_end: bool, action: Action) -> bool
     ensures { result ≡ spec.is_held deletes_nothing puts_end action }
 {
@@ -107,7 +111,8 @@ fn is_held(deletes_nothing: bool, puts_end: bool, action: Action) -> bool
     }
 }
 
-/// Returns the result of a key if nothing runs and the shown line is in program memory.
+/// Returns the action and the new keyboard state for a key while nothing runs and the shown line is in program memory.
+/// BACK without SHIFT, while a message is shown, only removes the message. Returns `None` if the key is refused.
 fn idle(input: Input, key: Key, flags: Flags) -> Option<Pressed>
     ensures { result ≡ spec.press_in_idle input key flags }
 {
@@ -121,7 +126,8 @@ fn idle(input: Input, key: Key, flags: Flags) -> Option<Pressed>
     }
 }
 
-/// Returns the result of a key while a prompt is open.
+/// Returns the action and the new keyboard state for a key while a prompt is open. Returns `None` if the prompt does
+/// not accept the key. While a name is typed, SHIFT acts on the next letter.
 fn in_prompt(input: Input, prompt: Prompt, key: Key) -> Option<Pressed>
     ensures { result ≡ spec.in_prompt input prompt key }
 {
@@ -132,7 +138,7 @@ fn in_prompt(input: Input, prompt: Prompt, key: Key) -> Option<Pressed>
     }
 }
 
-/// Returns the result of a step of a prompt.
+/// Returns the action and the new keyboard state for an effect of a key on a prompt, or `None` if there is none.
 fn stepped(input: Input, step: Option<PromptStep>) -> Option<Pressed>
     ensures { result ≡ spec.press_of_step input step }
 {
@@ -152,7 +158,7 @@ fn stepped(input: Input, step: Option<PromptStep>) -> Option<Pressed>
     }
 }
 
-/// Returns the state of the keyboard after its prompt ended.
+/// Returns a keyboard state in which SHIFT is off and no prompt is open.
 fn prompt_ended(input: Input) -> Input
     ensures { result ≡ spec.prompt_ended input }
 {
@@ -163,7 +169,8 @@ fn prompt_ended(input: Input) -> Input
     }
 }
 
-/// Returns the result of a key with a meaning while no prompt is open.
+/// Returns the action and the new keyboard state for a key with a given meaning while no prompt is open. Returns `None`
+/// if the key has no meaning.
 fn acts(input: Input, meaning: Meaning) -> Option<Pressed>
     ensures { result ≡ spec.acts input meaning }
 {
@@ -188,7 +195,7 @@ fn acts(input: Input, meaning: Meaning) -> Option<Pressed>
     })
 }
 
-/// Returns the state of the keyboard after SHIFT, which turns the shift on or off.
+/// Returns the keyboard state after SHIFT: shift is on if it was off, and off if it was on.
 fn shifted(input: Input) -> Input
     ensures { result ≡ spec.with_shift_turned input }
 {
@@ -198,7 +205,7 @@ fn shifted(input: Input) -> Input
     }
 }
 
-/// Returns the state of the keyboard after PRGM.
+/// Returns the keyboard state after PRGM: program mode is toggled, SHIFT is off, and no number or text is being typed.
 fn program_mode_turned(input: Input) -> Input
     ensures { result ≡ spec.program_mode_turned input }
 {
@@ -208,7 +215,8 @@ fn program_mode_turned(input: Input) -> Input
     }
 }
 
-/// Returns the state of the keyboard after a prompt opened.
+/// Returns the keyboard state after a function asked for its parameter: a prompt of the function is open, of which
+/// nothing is typed. SHIFT is off, and a number that was being typed ends.
 fn asking(input: Input, function: PromptFunction) -> Input
     ensures { result ≡ spec.with_prompt input function }
 {
@@ -222,7 +230,8 @@ fn asking(input: Input, function: PromptFunction) -> Input
     }
 }
 
-/// Returns the result of R/S.
+/// Returns the action and the new keyboard state for R/S while nothing runs: STOP is inserted in program mode, and
+/// otherwise the program runs.
 fn run_pressed(input: Input) -> Pressed
     ensures { result ≡ spec.run_pressed input input.program_mode }
 {
@@ -233,7 +242,8 @@ fn run_pressed(input: Input) -> Pressed
     }
 }
 
-/// Returns the result of CHS.
+/// Returns the action and the new keyboard state for CHS: the sign of a number that is being typed changes; otherwise
+/// the function CHS is typed.
 fn sign_pressed(input: Input) -> Pressed
     ensures { result ≡ spec.sign_pressed input input.entry }
 {
@@ -243,7 +253,8 @@ fn sign_pressed(input: Input) -> Pressed
     }
 }
 
-/// Returns the result of BACK.
+/// Returns the action and the new keyboard state for BACK outside ALPHA mode: the last character of a number that is
+/// being typed is deleted; otherwise the shown line (in program mode) is, or X is cleared.
 fn back_pressed(input: Input) -> Pressed
     ensures { result ≡ spec.back_pressed input input.entry }
 {
@@ -254,7 +265,8 @@ fn back_pressed(input: Input) -> Pressed
     }
 }
 
-/// Returns the result of BACK while no number is being typed.
+/// Returns the action and the new keyboard state for BACK outside ALPHA mode while no number is being typed: in program
+/// mode the shown line is deleted, and otherwise X is cleared (CLX).
 fn clearing(input: Input) -> Pressed
     ensures { result ≡ spec.press_of_clear input input.program_mode }
 {

@@ -10,19 +10,19 @@ use h41_codes::{
 };
 use h41_text::{branch_name, parameter_function_name};
 
-/// The greatest number of characters of a name that is typed.
+/// The greatest number of characters of a name that is typed into a prompt: 7.
 pub const NAME_MOST: usize = 7;
 
-/// The number of the local label A. The other letters follow it.
+/// The parameter that means the local label A: 102. The labels B to J follow it.
 const FIRST_LETTER: u8 = 102;
 
-/// The greatest number of characters of a prompt's text, as in `ASTO IND "ABCDEFG_`.
+/// The greatest number of characters of the text that the display shows for a prompt, as in `ASTO IND "ABCDEFG_`: 18.
 pub const PROMPT_CAPACITY: usize = 18;
 
-/// A function that asks for its parameter.
+/// A function that asks for its parameter before its program line is typed.
 #[derive(Clone, Copy, Debug, PartialEq, Eq)]
 pub enum PromptFunction {
-    /// `XEQ`: executes a label.
+    /// `XEQ`: calls the program line with a label.
     Execute,
     /// `STO`: stores X in a register.
     Store,
@@ -34,11 +34,11 @@ pub enum PromptFunction {
     StoreMultiply,
     /// `ST/`: divides a register by X.
     StoreDivide,
-    /// `RCL`: recalls a register.
+    /// `RCL`: recalls the content of a register to X.
     Recall,
-    /// `LBL`: a label.
+    /// `LBL`: a label, at which GTO and XEQ can continue.
     Label,
-    /// `GTO`: goes to a label.
+    /// `GTO`: continues at a label.
     GoTo,
     /// `ISG`: increments a counter in a register, and skips the next line if the counter exceeds its final value.
     IncrementSkip,
@@ -48,11 +48,11 @@ pub enum PromptFunction {
     ClearFlag,
     /// `FS?`: tests whether a flag is set.
     TestSet,
-    /// `VIEW`: shows a register.
+    /// `VIEW`: shows the content of a register.
     View,
     /// `ASTO`: stores characters of ALPHA in a register.
     StoreAlpha,
-    /// `ARCL`: appends a register to ALPHA.
+    /// `ARCL`: appends the content of a register to ALPHA.
     RecallAlpha,
     /// `FIX`: selects the fixed format of the display.
     Fixed,
@@ -62,53 +62,53 @@ pub enum PromptFunction {
     Engineering,
 }
 
-/// The lines that can result from a prompt.
+/// The kind of program line that a prompt produces.
 #[derive(Clone, Copy)]
 pub(crate) enum PromptLines {
-    /// Lines of a function with a parameter.
+    /// Program lines of a function with a parameter, such as `STO 05`.
     Parameter(ParameterFunction),
-    /// Lines that go to labels or execute them.
+    /// Program lines that continue at a label or call it (GTO and XEQ).
     Branching(Branch),
 }
 
-/// A row of the table of prompts.
+/// The row of the table of prompts for a function: which parameters it accepts.
 #[derive(Clone, Copy)]
 pub(crate) struct PromptRow {
-    /// The lines of the function, which begin with its name.
+    /// The kind of program line that the prompt produces. It also gives the function's name.
     pub(crate) lines: PromptLines,
-    /// The number of digits of the parameter. After IND, it is always two.
+    /// The number of digits of a direct parameter, 1 or 2. An indirect parameter always has two.
     pub(crate) digits: u8,
-    /// Whether IND can precede the parameter.
+    /// Whether the parameter may be indirect (IND), so that SHIFT turns IND on or off.
     pub(crate) indirect: bool,
-    /// Whether the function works on registers, so that those of the stack can be named without IND.
+    /// Whether the parameter is a register, so that the stack registers can be named without IND.
     pub(crate) registers: bool,
-    /// Whether the function takes a name.
+    /// Whether the parameter may be a name, which ALPHA begins.
     pub(crate) named: bool,
 }
 
-/// The part of a parameter that is typed.
+/// The part of a parameter that is typed into a prompt so far.
 #[derive(Clone, Copy, Debug, PartialEq, Eq)]
 pub enum Typed {
-    /// Nothing yet.
+    /// No part of the parameter is typed yet.
     Nothing,
-    /// The first of two digits.
+    /// The first digit of a parameter of two digits.
     Digit(Digit),
-    /// The decimal point, after which the letter of a stack register follows.
+    /// The decimal point of a stack register such as `ST X`, before the letter.
     Stack,
     /// The point of `GTO .`. Another point goes to the end of program memory.
     Point,
-    /// A name, with at most 7 characters so far.
+    /// A name, with at most seven characters, that is being typed.
     Name(Text<NAME_MOST>),
 }
 
 /// A function that waits for its parameter, and the part of the parameter that is typed.
 #[derive(Clone, Copy, Debug, PartialEq, Eq)]
 pub struct Prompt {
-    /// The function.
+    /// The function that waits for its parameter.
     pub function: PromptFunction,
-    /// Whether the parameter is indirect (`IND`): its value is in the given register.
+    /// Whether the parameter is indirect (IND): the function takes its parameter from the given register.
     pub indirect: bool,
-    /// The part of the parameter that is typed.
+    /// The part of the parameter that is typed so far.
     pub typed: Typed,
 }
 
@@ -117,7 +117,7 @@ impl PromptFunction {
     ghost use Rattle.h41_codes.specs.Counts.{parameter_count};
     ghost use Rattle.h41_keys.specs.Prompts.{name_line, parameter_line, prompt_name, prompt_row};
 
-    /// Returns the function's row of the table of prompts.
+    /// Returns the row of the table of prompts for the function: which parameters it accepts, and the kind of line.
     pub(crate) fn row(self) -> PromptRow
         ensures { result ≡ prompt_row self }
     {
@@ -150,7 +150,7 @@ impl PromptFunction {
         }
     }
 
-    /// Returns the function's name as the display shows it, at most four characters.
+    /// Returns the name of the function, such as `STO`, as the display shows it: at most four characters.
     pub fn name(self) -> &'static str
         ensures text { result.now ≡ prompt_name self }
         ensures bound { length result.now ≤ 4 }
@@ -158,7 +158,8 @@ impl PromptFunction {
         self.row().lines.name()
     }
 
-    /// Returns the function's line with a parameter.
+    /// Returns the program line of the function with a parameter, 0 to 127, direct or indirect (IND), in its shortest
+    /// spelling.
     pub(crate) fn parameter_line(self, indirect: bool, parameter: u8) -> Line
         requires { parameter < parameter_count }
         ensures { result ≡ parameter_line self indirect parameter }
@@ -168,7 +169,8 @@ impl PromptFunction {
             .with_parameter(indirect, Parameter::new(parameter))
     }
 
-    /// Returns the function's line with a name.
+    /// Returns the program line of the function with a name of at most seven characters. A name of one letter A to J
+    /// means a local label.
     pub(crate) fn name_line(self, name: &[u8]) -> Line
         requires { length name.now ≤ NAME_MOST }
         ensures { result ≡ name_line self name.now }
@@ -190,7 +192,7 @@ impl PromptRow {
     ghost use Rattle.std.specs.Prelude.{◌≡◌};
     ghost use Rattle.h41_keys.specs.Prompts as spec;
 
-    /// Returns the row of a function on registers.
+    /// Returns the row of the table of prompts for a function whose parameter is a register.
     fn register(function: ParameterFunction) -> Self
         ensures { result ≡ spec.register function }
     {
@@ -203,7 +205,7 @@ impl PromptRow {
         }
     }
 
-    /// Returns the row of a function on flags.
+    /// Returns the row of the table of prompts for a function whose parameter is a flag.
     fn flag(function: ParameterFunction) -> Self
         ensures { result ≡ spec.flag function }
     {
@@ -216,7 +218,7 @@ impl PromptRow {
         }
     }
 
-    /// Returns the row of a function whose parameter is a number of display digits.
+    /// Returns the row of the table of prompts for a function whose parameter is a number of display digits, 0 to 9.
     fn format(function: ParameterFunction) -> Self
         ensures { result ≡ spec.format function }
     {
@@ -229,7 +231,7 @@ impl PromptRow {
         }
     }
 
-    /// Returns the row of a function that goes to a label or executes it.
+    /// Returns the row of the table of prompts for GTO or XEQ, whose parameter is a label or a name.
     fn branching(branch: Branch) -> Self
         ensures { result ≡ spec.branch_row branch }
     {
@@ -247,7 +249,7 @@ impl PromptLines {
     ghost use Rattle.std.specs.Prelude.{◌≡◌, ◌≤◌, length};
     ghost use Rattle.h41_keys.specs.Prompts.{line_naming, line_with, lines_name};
 
-    /// Returns the name with which the lines begin.
+    /// Returns the name of the function, such as `STO`, with which the program lines begin: at most four characters.
     fn name(self) -> &'static str
         ensures text { result.now ≡ lines_name self }
         ensures bound { length result.now ≤ 4 }
@@ -258,7 +260,7 @@ impl PromptLines {
         }
     }
 
-    /// Returns the line with a parameter, in its shortest form.
+    /// Returns the program line with a given parameter, direct or indirect (IND), in its shortest spelling.
     fn with_parameter(self, indirect: bool, parameter: Parameter) -> Line
         ensures { result ≡ line_with self indirect parameter }
     {
@@ -276,7 +278,8 @@ impl PromptLines {
         }
     }
 
-    /// Returns the line with a name other than the letter of a local label. Of the functions with a parameter, only LBL has one.
+    /// Returns the program line with a given name, of at most seven characters, that is not the letter of a local
+    /// label. Among the functions with a parameter, only LBL takes a name.
     fn with_name(self, name: &[u8]) -> Line
         requires { length name.now ≤ NAME_MOST }
         ensures { result ≡ line_naming self name.now }
@@ -293,7 +296,7 @@ impl PromptLines {
     }
 }
 
-/// Returns a text of characters, of which there are at most `MOST`.
+/// Returns the text that consists of given characters, of which there are at most `MOST`.
 fn text<const MOST: usize>(characters: &[u8]) -> Text<MOST>
     requires { length characters.now ≤ MOST }
     ensures { result ≡ characters.now }
@@ -304,7 +307,7 @@ fn text<const MOST: usize>(characters: &[u8]) -> Text<MOST>
     }
 }
 
-/// Returns whether a letter is one of A to J, which local labels have.
+/// Returns whether a character is one of the letters A to J, which are also names of local labels.
 fn is_local_letter(letter: u8) -> bool
     ensures { result ≡ spec.is_local_letter letter }
 {
@@ -316,7 +319,7 @@ impl Prompt {
     ghost use Rattle.std.specs.Prelude.{codes};
     ghost use Rattle.h41_keys.specs.Prompts.{prompt_text, digits_wanted, typed_text};
 
-    /// Returns the number of digits of the parameter, 1 or 2.
+    /// Returns the number of digits that the parameter of the prompt has, 1 or 2. An indirect parameter has two.
     pub(crate) fn digits(&self) -> u8
         ensures { result ≡ digits_wanted self.now.function self.now.indirect }
     {
@@ -327,7 +330,7 @@ impl Prompt {
         }
     }
 
-    /// Returns the text of the prompt in the display, for example `STO IND 1_`.
+    /// Returns the text that the display shows for the prompt, for example `STO IND 1_`. It ends in `_`.
     pub fn text(&self) -> ArrayVec<u8, PROMPT_CAPACITY>
         ensures { result.items ≡ prompt_text self.now }
     {
@@ -343,7 +346,8 @@ impl Prompt {
         text
     }
 
-    /// Returns the text of the prompt before the typed part of the parameter, and this part; `_` follows them.
+    /// Returns two parts of the text that the display shows for the prompt: the one before the typed part of the
+    /// parameter, and the typed part. `_` follows them.
     fn typed_parts(&self) -> (&str, &[u8])
         ensures parts { typed_text self.now.function self.now.indirect self.now.typed
             ≡ result.0.now ++ result.1.now ++ codes "_" }

@@ -1,4 +1,4 @@
-//! The effect of each key on a prompt.
+//! The effect of each key on an open prompt, which waits for the parameter of a function.
 ghost use Rattle.std.specs.Prelude.{◌≡◌, ◌<◌, ◌≤◌, [], length, IfSome};
 ghost use Rattle.h41_codes.specs.Counts.{parameter_count};
 ghost use Rattle.h41_keys.specs.Keyboard.{row_of};
@@ -12,7 +12,8 @@ use crate::prompt::{NAME_MOST, Prompt, PromptFunction, Typed};
 use crate::prompt_step::PromptStep;
 use h41_codes::{Function, Text};
 
-/// Returns the effect of a key on a prompt, or `None` if the key is refused.
+/// Returns the effect of a key on an open prompt, depending on what is typed of the parameter and on whether SHIFT was
+/// pressed. Returns `None` if the key is refused.
 pub(crate) fn prompt_step(prompt: Prompt, shift: bool, key: Key) -> Option<PromptStep>
     ensures { result ≡ spec.prompt_step prompt prompt.typed shift key }
 {
@@ -26,14 +27,14 @@ pub(crate) fn prompt_step(prompt: Prompt, shift: bool, key: Key) -> Option<Promp
     }
 }
 
-/// Returns the prompt with this part of the parameter typed.
+/// Returns the step that keeps the prompt open with a given part of the parameter typed.
 fn goes_on(prompt: Prompt, typed: Typed) -> Option<PromptStep>
     ensures { result ≡ spec.goes_on prompt typed }
 {
     Some(PromptStep::Becomes(Prompt { typed, ..prompt }))
 }
 
-/// Returns the line with a complete parameter.
+/// Returns the step that ends the prompt with the program line of its function and a parameter, 0 to 127.
 fn ends_with(prompt: Prompt, parameter: u8) -> Option<PromptStep>
     requires { parameter < parameter_count }
     ensures { result ≡ spec.ends_with prompt parameter }
@@ -41,7 +42,8 @@ fn ends_with(prompt: Prompt, parameter: u8) -> Option<PromptStep>
     Some(PromptStep::Types(prompt.function.parameter_line(prompt.indirect, parameter)))
 }
 
-/// Returns the prompt after IND was added or removed.
+/// Returns the step that keeps the prompt open and adds IND if the parameter is direct, or removes IND if it is
+/// indirect.
 fn turns_indirect(prompt: Prompt) -> Option<PromptStep>
     ensures { result ≡ spec.turns_indirect prompt }
 {
@@ -51,7 +53,8 @@ fn turns_indirect(prompt: Prompt) -> Option<PromptStep>
     }))
 }
 
-/// Returns the effect of a key while nothing is typed yet.
+/// Returns the effect of a key on a prompt of which nothing is typed yet: a digit, `.`, `+ - * /` after STO, SHIFT
+/// (IND), ALPHA (a name) or BACK. Returns `None` if the function does not accept the key.
 fn with_nothing(prompt: Prompt, meaning: Meaning) -> Option<PromptStep>
     ensures { result ≡ spec.with_nothing prompt meaning }
 {
@@ -78,7 +81,7 @@ fn with_nothing(prompt: Prompt, meaning: Meaning) -> Option<PromptStep>
     }
 }
 
-/// Returns an empty name.
+/// Returns a name without characters, for a prompt whose name is about to be typed.
 fn no_name() -> Text<NAME_MOST>
     ensures { result ≡ [] }
 {
@@ -88,7 +91,8 @@ fn no_name() -> Text<NAME_MOST>
     }
 }
 
-/// Returns the effect of the first digit.
+/// Returns the effect of the first digit on a prompt: the parameter is complete if it has one digit; otherwise a second
+/// digit is expected.
 fn first_digit(prompt: Prompt, digit: Digit) -> Option<PromptStep>
     ensures { result ≡ spec.first_digit prompt digit }
 {
@@ -99,7 +103,8 @@ fn first_digit(prompt: Prompt, digit: Digit) -> Option<PromptStep>
     }
 }
 
-/// Returns the effect of the decimal point as the first key.
+/// Returns the effect of the decimal point as the first key of a prompt: a stack register is expected, or the second
+/// point of `GTO . .`. Returns `None` if the function takes neither.
 fn first_point(prompt: Prompt) -> Option<PromptStep>
     ensures { result ≡ spec.first_point prompt }
 {
@@ -112,7 +117,8 @@ fn first_point(prompt: Prompt) -> Option<PromptStep>
     }
 }
 
-/// Returns the function that the key + - * or / selects after STO, or `None` for any other function.
+/// Returns the function ST+, ST-, ST* or ST/ that the key `+`, `-`, `*` or `/` selects after STO, or `None` for any
+/// other function.
 fn combining(function: Function) -> Option<PromptFunction>
     ensures { result ≡ spec.combined_function function }
 {
@@ -125,7 +131,8 @@ fn combining(function: Function) -> Option<PromptFunction>
     }
 }
 
-/// Returns the effect of + - * or / after STO without IND.
+/// Returns the effect of `+`, `-`, `*` or `/` on a prompt of STO without IND: the prompt becomes one of ST+, ST-, ST*
+/// or ST/. Returns `None` for other prompts and functions.
 fn combined(prompt: Prompt, sign: Option<PromptFunction>) -> Option<PromptStep>
     ensures { result ≡ spec.step_combined prompt sign }
 {
@@ -141,7 +148,9 @@ fn combined(prompt: Prompt, sign: Option<PromptFunction>) -> Option<PromptStep>
     }
 }
 
-/// Returns the effect of a key after the first of two digits.
+/// Returns the effect of a key on a prompt of which the first of two digits is typed: the second digit completes the
+/// parameter, SHIFT turns IND on or off if the function allows it, and BACK deletes the digit. Returns `None` for any
+/// other key.
 fn with_digit_typed(prompt: Prompt, first: Digit, meaning: Meaning) -> Option<PromptStep>
     ensures { result ≡ spec.with_digit_typed prompt first meaning }
 {
@@ -159,7 +168,9 @@ fn with_digit_typed(prompt: Prompt, first: Digit, meaning: Meaning) -> Option<Pr
     }
 }
 
-/// Returns the effect of a key after the decimal point: the letter of a stack register is expected.
+/// Returns the effect of a key on a prompt after the decimal point: a letter T, Z, Y, X or L names a stack register,
+/// SHIFT turns IND on or off if the function works on registers, and BACK deletes the point. Returns `None` for any
+/// other key.
 fn with_stack_typed(prompt: Prompt, key: Key) -> Option<PromptStep>
     ensures { result ≡ spec.with_stack_typed prompt (row_of key).plain (row_of key).letter }
 {
@@ -176,7 +187,8 @@ fn with_stack_typed(prompt: Prompt, key: Key) -> Option<PromptStep>
     }
 }
 
-/// Returns the effect of a key with a letter after the decimal point.
+/// Returns the effect of a letter on a prompt after the decimal point: the parameter is complete if the letter names a
+/// stack register. Returns `None` for other letters.
 fn lettered(prompt: Prompt, meaning: Meaning) -> Option<PromptStep>
     ensures { result ≡ spec.step_by_letter prompt meaning }
 {
@@ -189,7 +201,7 @@ fn lettered(prompt: Prompt, meaning: Meaning) -> Option<PromptStep>
     }
 }
 
-/// Returns the number of the stack register with a letter, or `None` if there is none.
+/// Returns the parameter, 112 to 116, that means the stack register T, Z, Y, X or L, or `None` for any other letter.
 fn stack_parameter(letter: u8) -> Option<u8>
     ensures value { result ≡ stack_register letter }
     ensures bound { IfSome result (λ parameter. parameter < parameter_count) }
@@ -204,7 +216,8 @@ fn stack_parameter(letter: u8) -> Option<u8>
     }
 }
 
-/// Returns the effect of a key after `GTO .`.
+/// Returns the effect of a key on the prompt `GTO .`: another point goes to the end of program memory, and BACK deletes
+/// the point. Returns `None` for any other key.
 fn with_point_typed(prompt: Prompt, meaning: Meaning) -> Option<PromptStep>
     ensures { result ≡ spec.with_point_typed prompt meaning }
 {
@@ -215,7 +228,8 @@ fn with_point_typed(prompt: Prompt, meaning: Meaning) -> Option<PromptStep>
     }
 }
 
-/// Returns the effect of a key while a name is typed.
+/// Returns the effect of a key on a prompt of which a name is being typed: ALPHA ends the name, BACK deletes its last
+/// letter, and letters are added to it. Returns `None` for any other key.
 fn with_name_typed(prompt: Prompt, name: &[u8], shift: bool, key: Key) -> Option<PromptStep>
     requires { length name.now ≤ NAME_MOST }
     ensures { result ≡ spec.in_name prompt name.now shift (row_of key) }
@@ -228,7 +242,8 @@ fn with_name_typed(prompt: Prompt, name: &[u8], shift: bool, key: Key) -> Option
     }
 }
 
-/// Returns the effect of one more letter of a name.
+/// Returns the effect of a letter key on a prompt of which a name is being typed. Returns `None` if the key types no
+/// letter, or if the name already has seven characters.
 fn name_letter(prompt: Prompt, name: &[u8], meaning: Meaning) -> Option<PromptStep>
     ensures { result ≡ spec.name_letter prompt name.now meaning }
 {
@@ -241,7 +256,8 @@ fn name_letter(prompt: Prompt, name: &[u8], meaning: Meaning) -> Option<PromptSt
     }
 }
 
-/// Returns the effect of ALPHA, which ends a name.
+/// Returns the effect of ALPHA on a prompt of which a name is being typed: the program line with the name is typed.
+/// Returns `None` if the name is empty, or if the function takes no name.
 fn name_ended(prompt: Prompt, name: &[u8]) -> Option<PromptStep>
     requires { length name.now ≤ NAME_MOST }
     ensures { result ≡ spec.name_ended prompt name.now }
@@ -253,7 +269,8 @@ fn name_ended(prompt: Prompt, name: &[u8]) -> Option<PromptStep>
     }
 }
 
-/// Returns the effect of BACK on a name.
+/// Returns the effect of BACK on a prompt of which a name is being typed: the last letter is deleted, or the prompt is
+/// cancelled if the name is empty.
 fn name_shortened(prompt: Prompt, name: &[u8]) -> Option<PromptStep>
     requires { length name.now ≤ NAME_MOST }
     ensures { result ≡ spec.name_shortened prompt name.now }

@@ -13,7 +13,8 @@ use h41_codes::{Line, Text};
 /// The append sign: a text line that begins with it appends its other characters to ALPHA.
 const APPEND: u8 = 0x7F;
 
-/// Returns the result of a letter key.
+/// Returns the action and the new keyboard state for a letter key in ALPHA mode. Outside program mode, the letter is
+/// appended to ALPHA, or is the first of a new text; in program mode, it is added to a text line.
 pub(crate) fn letter_typed(input: Input, letter: u8) -> Pressed
     ensures { result ≡ press.letter_typed input input.program_mode input.entry letter }
 {
@@ -28,7 +29,8 @@ pub(crate) fn letter_typed(input: Input, letter: u8) -> Pressed
     }
 }
 
-/// Returns the result of a letter key in program mode.
+/// Returns the action and the new keyboard state for a letter key in program mode. The letter begins a text line, or is
+/// added to the text line that is being typed, if it has fewer than 15 characters.
 fn letter_of_line(input: Input, letter: u8) -> Pressed
     ensures { result ≡ press.letter_typed input true input.entry letter }
 {
@@ -43,7 +45,8 @@ fn letter_of_line(input: Input, letter: u8) -> Pressed
     }
 }
 
-/// Returns the result of beginning a text line.
+/// Returns the action and the new keyboard state for beginning a text line with the given letters, in program mode: the
+/// line is inserted.
 fn line_begun(input: Input, letters: &[u8]) -> Pressed
     requires { length letters.now ≤ text_most }
     ensures { result ≡ press.text_line input press.inserts letters.now }
@@ -57,7 +60,8 @@ fn line_begun(input: Input, letters: &[u8]) -> Pressed
     }
 }
 
-/// Returns the result of changing a text line.
+/// Returns the action and the new keyboard state for changing the text of the text line that is being typed, in program
+/// mode: the line is replaced.
 fn line_changed(input: Input, text: Text<15>) -> Pressed
     ensures { result ≡ press.changed_line input text }
 {
@@ -67,7 +71,9 @@ fn line_changed(input: Input, text: Text<15>) -> Pressed
     )
 }
 
-/// Returns the result of BACK in ALPHA mode.
+/// Returns the action and the new keyboard state for BACK in ALPHA mode. Outside program mode, the last letter is
+/// deleted if letters are being typed; otherwise ALPHA is cleared. In program mode, the last letter of the text line,
+/// or the line, is deleted.
 pub(crate) fn letter_taken(input: Input) -> Pressed
     ensures { result ≡ press.letter_taken input input.program_mode input.entry }
 {
@@ -80,7 +86,8 @@ pub(crate) fn letter_taken(input: Input) -> Pressed
     }
 }
 
-/// Returns the result of BACK in ALPHA mode and program mode.
+/// Returns the action and the new keyboard state for BACK in ALPHA mode and program mode. The last letter is deleted if
+/// a text line is being typed; otherwise the shown line is.
 fn letter_taken_of_line(input: Input) -> Pressed
     ensures { result ≡ press.letter_taken input true input.entry }
 {
@@ -91,7 +98,8 @@ fn letter_taken_of_line(input: Input) -> Pressed
     }
 }
 
-/// Returns the result of deleting the last letter of a text line.
+/// Returns the action and the new keyboard state for deleting the last letter of a text line. If no letter remains
+/// other than the append sign 7F (hexadecimal), the line is deleted.
 fn shortened(input: Input, text: &[u8]) -> Pressed
     requires { length text.now ≤ text_most }
     ensures { result ≡ press.text_shortened input (typed.without_last text.now) }
@@ -104,7 +112,8 @@ fn shortened(input: Input, text: &[u8]) -> Pressed
     }
 }
 
-/// Returns whether a text line has a letter other than the append sign.
+/// Returns whether a text line has a character other than the append sign 7F (hexadecimal), which can only be its
+/// first.
 fn has_letter(text: &[u8]) -> bool
     ensures { result ≡ press.has_letter text.now }
 {
@@ -115,7 +124,8 @@ fn has_letter(text: &[u8]) -> bool
     }
 }
 
-/// Returns the result of SHIFT XEQ in ALPHA mode.
+/// Returns the action and the new keyboard state for SHIFT XEQ in ALPHA mode: letters that follow are appended to
+/// ALPHA. If letters are already being typed outside program mode, only SHIFT goes off.
 pub(crate) fn append_pressed(input: Input) -> Pressed
     ensures { result ≡ press.append_pressed input input.program_mode input.entry }
 {

@@ -6,14 +6,15 @@ use crate::action::Action;
 use crate::input::{Input, Pressed, TypedEntry};
 use h41_codes::{Function, Line};
 
-/// Returns the result of an accepted key with this action and this state of the keyboard.
+/// Returns the result of an accepted key, which is a given action of the calculator and a given state of the keyboard.
 pub(crate) fn does(action: Action, input: Input) -> Pressed
     ensures { result ≡ press.does action input }
 {
     Pressed { action, input }
 }
 
-/// Returns the state of the keyboard with SHIFT off and this being typed.
+/// Returns a keyboard state in which SHIFT is off and a given number or text is being typed. Program mode and the
+/// prompt stay.
 pub(crate) fn typing(input: Input, entry: TypedEntry) -> Input
     ensures { result ≡ press.with_entry input entry }
 {
@@ -24,14 +25,15 @@ pub(crate) fn typing(input: Input, entry: TypedEntry) -> Input
     }
 }
 
-/// Returns the state of the keyboard with SHIFT off and nothing being typed.
+/// Returns a keyboard state in which SHIFT is off and no number or text is being typed. Program mode and the prompt
+/// stay.
 pub(crate) fn ended(input: Input) -> Input
     ensures { result ≡ press.without_entry input }
 {
     typing(input, TypedEntry::Nothing)
 }
 
-/// Returns what is being typed, or nothing if it is a number.
+/// Returns the text that is being typed, or `Nothing` if a number is being typed.
 pub(crate) fn without_number(entry: TypedEntry) -> TypedEntry
     ensures { result ≡ press.without_number entry }
 {
@@ -41,7 +43,8 @@ pub(crate) fn without_number(entry: TypedEntry) -> TypedEntry
     }
 }
 
-/// Returns the result of typing a line: in program mode it is inserted, otherwise it is executed.
+/// Returns the result of typing a program line: it is inserted in program mode, and executed otherwise. Outside program
+/// mode a text that is being typed continues, and a number ends.
 pub(crate) fn line_typed(input: Input, line: Line) -> Pressed
     ensures { result ≡ press.line_typed input line }
 {
@@ -55,7 +58,8 @@ pub(crate) fn line_typed(input: Input, line: Line) -> Pressed
     }
 }
 
-/// Returns the result of typing a function without a parameter.
+/// Returns the result of typing a function without a parameter, such as SIN: its program line is inserted in program
+/// mode, and executed otherwise.
 pub(crate) fn function_typed(input: Input, function: Function) -> Pressed
     ensures { result ≡ press.function_typed input function }
 {

@@ -16,17 +16,19 @@ use h41_program::{global, local};
 use h41_ram::Ram;
 use std::marker::Model;
 
-/// The most answers that the cache stores. The number is this project's choice.
+/// The most answers that the label cache stores, 64. The number is this project's choice.
 const MOST: usize = 64;
 
-/// A list of at most 64 recent searches for labels with their answers, the oldest first. "No such label" is an answer too.
+/// A list of at most 64 recent searches for labels with their answers, the oldest first. An answer can also be that
+/// there is no such label.
 #[derive(Drop)]
 pub struct LabelCache {
-    /// The answers in their slots. If all slots are used, the next answer replaces the oldest one.
+    /// The answers, one in each slot. If all 64 slots are used, the next answer replaces the oldest one.
     slots: ArrayVec<KeptAnswer, MOST>,
-    /// A key for each search, in the slot of its answer. Keys are compared first, because they differ for most pairs of searches.
+    /// A number for each search, in the slot of its answer. These numbers are compared before the searches, because
+    /// they differ for most pairs of searches.
     marks: ArrayVec<u32, MOST>,
-    /// The slot of the oldest answer.
+    /// The index, 0 to 63, of the slot with the oldest answer.
     oldest: usize,
 }
 
@@ -43,7 +45,7 @@ impl Model for LabelCache {
 }
 
 impl LabelCache {
-    /// Returns an empty cache, which is right for any memory.
+    /// Returns a label cache without answers, which is right for any memory: it has no answer that is out of date.
     pub fn new() -> Self
         ensures none { result ≡ [] }
         ensures right { (memory : RegisterMap) → IsRight result memory }
@@ -55,9 +57,10 @@ impl LabelCache {
         }
     }
 
-    /// Returns the byte of program memory at which the `LBL n` is that a search from the byte `at` finds, or `None` if there is no such
-    /// label. The answer is the cached one if there is one. Otherwise it is that of `h41_program::local`, and the cache stores it. Memory
-    /// must be sound.
+    /// Returns the position (a byte of program memory, counted from 0) of the local label that a search for `LBL n`
+    /// from the position `at` finds, or `None` if there is no such label. n is the number of `label`. The answer is the
+    /// cached one if there is one. Otherwise it is that of `h41_program::local`, and the cache stores it. Memory must
+    /// be sound.
     pub fn local<const REGS: usize>(
         &mut self,
         ram: &Ram<REGS>,
@@ -77,8 +80,9 @@ impl LabelCache {
         self.answer(ram, Search::Local(at, label))
     }
 
-    /// Returns the byte of program memory at which the last `LBL` with this name is, or `None` if there is no such label. The answer is the
-    /// cached one if there is one. Otherwise it is that of `h41_program::global`, and the cache stores it. Memory must be sound.
+    /// Returns the position (a byte of program memory, counted from 0) of the last global label with the name `name`,
+    /// or `None` if there is no such label. The answer is the cached one if there is one. Otherwise it is that of
+    /// `h41_program::global`, and the cache stores it. Memory must be sound.
     pub fn global<const REGS: usize>(&mut self, ram: &Ram<REGS>, name: Text<15>) -> Option<u16>
         requires { IsTrue (is_sound ram.now.registers) }
         ensures answer { Answers ram.now.registers self.old (Global name) result }
@@ -91,23 +95,26 @@ impl LabelCache {
         self.answer(ram, Search::Global(name))
     }
 
-    /// Returns the cached answer for `LBL n` from the byte `at`, or `None` if the cache has none. Does not read program memory. An answer
-    /// `Some(None)` means that there is no such label.
+    /// Returns the cached answer of a search for the local label `LBL n` from the position `at`, with the number n of
+    /// `label`, or `None` if the cache has none. Does not read program memory. `Some(None)` means that there is no such
+    /// label; otherwise the answer is the position of the label, a byte of program memory.
     pub fn kept_local(&self, at: u16, label: Parameter) -> Option<Option<u16>>
         ensures { result ≡ answer_of (Local at label) self.now }
     {
         self.kept(&Search::Local(at, label))
     }
 
-    /// Returns the cached answer for the `LBL` with this name, or `None` if the cache has none. Does not read program memory. An answer
-    /// `Some(None)` means that there is no such label.
+    /// Returns the cached answer of a search for the global label with the name `name`, or `None` if the cache has
+    /// none. Does not read program memory. `Some(None)` means that there is no such label; otherwise the answer is the
+    /// position of the label, a byte of program memory.
     pub fn kept_global(&self, name: Text<15>) -> Option<Option<u16>>
         ensures { result ≡ answer_of (Global name) self.now }
     {
         self.kept(&Search::Global(name))
     }
 
-    /// Removes all answers. Callers do this if the program may have changed, because the answers may then be out of date.
+    /// Removes all answers from the label cache. Callers do this if the program may have changed, because the answers
+    /// may then be out of date.
     pub fn forget(&mut self)
         ensures none { self.new ≡ [] }
         ensures right { (memory : RegisterMap) → IsRight self.new memory }
@@ -117,7 +124,8 @@ impl LabelCache {
         self.oldest = 0;
     }
 
-    /// Returns the cached answer of a search. If there is none, makes the search in memory and stores its answer.
+    /// Returns the cached answer of a search for a label. If there is none, searches program memory and stores the
+    /// answer in the cache.
     fn answer<const REGS: usize>(&mut self, ram: &Ram<REGS>, search: Search) -> Option<u16>
         requires { IsTrue (is_sound ram.now.registers) }
         ensures answer { Answers ram.now.registers self.old search result }
@@ -136,7 +144,8 @@ impl LabelCache {
         }
     }
 
-    /// Returns the cached answer of a search, or `None` if the cache has none.
+    /// Returns the cached answer of a search for a label, or `None` if the cache has none. `Some(None)` means that
+    /// there is no such label.
     fn kept(&self, search: &Search) -> Option<Option<u16>>
         ensures value { result ≡ answer_of search.now self.now }
         ensures most { length self.now ≤ most_answers }
@@ -149,7 +158,7 @@ impl LabelCache {
         }
     }
 
-    /// Appends an answer. If the cache is full, the oldest answer is dropped.
+    /// Appends the answer of a search for a label to the cache. If there are already 64 answers, the oldest is removed.
     fn keep(&mut self, search: Search, answer: Option<u16>)
         ensures { self.new ≡ with_answer search answer self.old }
     {
@@ -166,7 +175,8 @@ impl LabelCache {
     }
 }
 
-/// Returns the first answer of a search among these answers, whose keys are `marks`.
+/// Returns the first answer among `slots` whose search for a label is the same as `search`, or `None` if there is none.
+/// `marks` are the numbers (`Search::mark`) of the searches in `slots`.
 fn kept_among(slots: &[KeptAnswer], marks: &[u32], search: &Search) -> Option<Option<u16>>
     requires { marks.now ≡ map mark_beside slots.now }
     ensures { result ≡ answer_of search.now slots.now }
@@ -180,7 +190,8 @@ fn kept_among(slots: &[KeptAnswer], marks: &[u32], search: &Search) -> Option<Op
     None
 }
 
-/// Returns what a search finds in program memory, without the cache.
+/// Returns what a search for a label finds in program memory, without the label cache: the position of the label, or
+/// `None` if there is no such label.
 fn found<const REGS: usize>(ram: &Ram<REGS>, search: &Search) -> Option<u16>
     requires { IsTrue (is_sound ram.now.registers) }
     ensures { Finds ram.now.registers search.now result }

@@ -1,4 +1,4 @@
-//! Searches for labels, and their answers.
+//! Searches for labels in program memory, and their answers, as the label cache stores them.
 
 ghost use Rattle.std.specs.Prelude.{◌≡◌, ◌≤◌, ◌<◌, length, None};
 ghost use Rattle.h41_labels.specs.KeptAnswers.{is_same};
@@ -7,31 +7,34 @@ ghost use Rattle.h41_labels.specs.declared.search.Search.TheVariants.{Local};
 
 use h41_codes::{Parameter, Text};
 
-/// The lowest key of a name. The keys of local labels are lower.
+/// The lowest number (`Search::mark`) of a search for a global label. The numbers of searches for local labels are
+/// lower.
 const NAMES: u32 = 0x800000;
 
-/// A search for a label in program memory.
+/// A search for a label in program memory: for a local label from a position, or for a global label by its name.
 #[derive(Clone, Copy, Debug, PartialEq, Eq)]
 pub enum Search {
-    /// A search for `LBL n`, forward from this byte of program memory. The cache has no searches from positions in pages.
+    /// A search for the local label `LBL n`, forward from this position, a byte of program memory counted from 0.
+    /// Searches from positions in plug-in pages are not cached.
     Local(u16, Parameter),
-    /// A search for the last `LBL` with this name, in all of program memory. A name has at most 15 characters.
+    /// A search for the last global label with this name, in all of program memory. A name has at most 15 characters.
     Global(Text<15>),
 }
 
-/// A search for a label with its answer.
+/// A search for a label in program memory with its answer, as the label cache stores it.
 #[derive(Clone, Copy, Debug, PartialEq, Eq)]
 pub struct KeptAnswer {
-    /// The search.
+    /// The search for a label.
     pub search: Search,
-    /// The byte of program memory at which the label is, or `None` if there is no such label.
+    /// The position of the label, a byte of program memory counted from 0, or `None` if there is no such label.
     pub answer: Option<u16>,
 }
 
 impl Default for KeptAnswer {
     ghost is_default = { λ kept. kept ≡ record { search = Local 0 0; answer = None } };
 
-    /// Returns the value of a slot that is not used: a search for `LBL 00` from byte 0, without a label.
+    /// Returns the value of an unused slot of the label cache: a search for `LBL 00` from byte 0 of program memory that
+    /// found no label.
     fn default() -> Self {
         KeptAnswer {
             search: Search::Local(0, Parameter::new(0)),
@@ -41,7 +44,8 @@ impl Default for KeptAnswer {
 }
 
 impl Search {
-    /// Returns whether the other search is the same: for the same label from the same byte, or for the same name.
+    /// Returns whether another search is the same as this one: for the same local label from the same byte of program
+    /// memory, or for the global label with the same name.
     pub(crate) fn is(&self, other: &Self) -> bool
         ensures { result ≡ is_same self.now other.now }
     {
@@ -56,7 +60,8 @@ impl Search {
         }
     }
 
-    /// Returns the key of the search, which is below 2^24. Equal searches have equal keys; most different searches have different ones.
+    /// Returns a number below 2^24 by which searches are compared first. Equal searches have equal numbers; most
+    /// different searches have different ones.
     pub(crate) fn mark(&self) -> u32
         ensures { result ≡ mark_of self.now }
     {
@@ -67,7 +72,8 @@ impl Search {
     }
 }
 
-/// Returns the key of a name, made of its length, its first and its last character. An empty name has the key 0.
+/// Returns a number below 2^23 for a name, which is computed from its length and its first and last characters. An
+/// empty name has the number 0.
 fn mark_of_name(name: &[u8]) -> u32
     requires { length name.now ≤ 15 }
     ensures value { result ≡ name_mark name.now }

@@ -1,4 +1,5 @@
-//! The laws. Each law is the contract of a function whose body only calls the laws that it depends on.
+//! Laws of existence for the calculator. Each law is the contract of a function whose body only calls the laws that it
+//! depends on.
 
 ghost use Rattle.h41_laws_numbers.specs.HasOne.{HasOne};
 ghost use Rattle.h41_editor.specs.Changes.{Deletes, Inserts, Replaces};
@@ -32,7 +33,7 @@ use h41_xrom::laws::{
     display_is_determined, key_is_determined, load_is_determined, step_is_determined,
 };
 
-/// States that any characters name exactly one function of the calculator, or none.
+/// States that any sequence of characters is the name of exactly one function of the calculator, or of none.
 pub fn names_have_one_function()
     ensures { NameHasOneFunction }
 {
@@ -40,8 +41,9 @@ pub fn names_have_one_function()
     line_text_round_trip();
 }
 
-/// States that a line at the position, or a typed one, has exactly one end, whatever is plugged: it answers, or it starts a
-/// module's function, or it is refused. A line that calls a module's program answers.
+/// States that a program line, at the calculator's position or typed, has exactly one end, whatever pages are plugged:
+/// it is executed, it starts a module's function in microcode, or it is refused. A line that calls a module's program
+/// is executed.
 pub fn line_has_one_end()
     ensures { LineHasOneEnd }
 {
@@ -51,8 +53,9 @@ pub fn line_has_one_end()
     line_text_round_trip();
 }
 
-/// States that SST, BST, `GTO . .` and BACK have exactly one outcome each in program mode, for any machine, in memory and in any
-/// pages; and that a line that is inserted, or replaces another, does if memory is sound.
+/// States that SST, BST, `GTO . .` and BACK have exactly one outcome each in program mode, for any memory and pages;
+/// and that inserting a line, or replacing one by it, has exactly one outcome if memory is sound and the line is
+/// neither a null nor `.END.`.
 pub fn program_mode_has_one_outcome()
     ensures next { (pages : PageMap) → MoveHasOneOutcome (ShowsNext pages) }
     ensures before { (pages : PageMap) → MoveHasOneOutcome (ShowsBefore pages) }
@@ -70,8 +73,9 @@ pub fn program_mode_has_one_outcome()
     changes_are_determined();
 }
 
-/// States that a step from any state has exactly one refusal, or none; and that from a state whose registers A, B and C are
-/// registers it leaves exactly one state, if it is not refused (`state`), and with the refusal (`outcome`).
+/// States that a single step of the calculator from any state has exactly one refusal, or none (`refusal`); and that,
+/// from a state whose registers A, B and C have 14 digits, it leaves exactly one state if it is not refused (`state`),
+/// and exactly one state together with its refusal or none (`outcome`).
 pub fn step_has_one_outcome()
     ensures refusal { StepHasOneRefusal }
     ensures state { AcceptedStepHasOneState }
@@ -82,7 +86,8 @@ pub fn step_has_one_outcome()
     step_is_determined();
 }
 
-/// States that a load of any bytes has exactly one outcome from any state, and that a new number of data registers has.
+/// States that loading any bytes as a program (`load`) and setting a number of data registers (`size`) have exactly one
+/// outcome each, from any state of the calculator.
 pub fn load_has_one_outcome()
     ensures load { LoadHasOneOutcome }
     ensures size { SizeHasOneOutcome }
@@ -91,7 +96,7 @@ pub fn load_has_one_outcome()
     load_is_determined();
 }
 
-/// States that the display shows exactly one text in any state.
+/// States that the display shows exactly one text in any state of the calculator.
 pub fn display_has_one_text()
     ensures { DisplayHasOneText }
 {
@@ -99,8 +104,8 @@ pub fn display_has_one_text()
     display_is_determined();
 }
 
-/// States that a key has exactly one outcome from any state, a change or a refusal, if the line that it stores, if it stores one,
-/// can be encoded in bytes.
+/// States that pressing a key has exactly one outcome from any state of the calculator, a change or a refusal, if the
+/// program line that the key stores, if it stores one, can be encoded in bytes.
 pub fn key_has_one_outcome()
     ensures { KeyHasOneOutcome }
 {
@@ -113,8 +118,8 @@ pub fn key_has_one_outcome()
     key_is_determined();
 }
 
-/// States that each key has exactly one outcome from each calculator that can exist, because the lines that a keyboard stores can
-/// be encoded in bytes.
+/// States that pressing a key has exactly one outcome from each calculator that can exist, because the program lines
+/// that a keyboard stores can be encoded in bytes.
 pub fn key_has_one_effect<const REGS: usize>(calculator: &mut Calculator<REGS>, key: Key)
     ensures { HasOne (KeyLeaves key calculator.old.state) }
 {

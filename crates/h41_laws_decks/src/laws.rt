@@ -1,4 +1,5 @@
-//! The laws. Each law is the contract of a function whose body only calls the laws that it depends on.
+//! Laws of existence for decks. Each law is the contract of a function whose body only calls the laws that it depends
+//! on.
 
 ghost use Rattle.h41_laws_decks.specs.DeckAnswers.{PageBlockSaysOne, ReplyHasOneAnswer};
 ghost use Rattle.h41_laws_decks.specs.DeckAnswers.{ViewHasOneText};
@@ -20,7 +21,7 @@ use h41_laws_states::laws::{
 use h41_program::laws::{lists_are_determined, one_list};
 use h41_text::laws::line_text_round_trip;
 
-/// States that each view has exactly one text or one refusal, in any state.
+/// States that each `show` command has exactly one text or one refusal, in any state of the bench.
 pub fn view_has_one_text()
     ensures { ViewHasOneText }
 {
@@ -29,7 +30,8 @@ pub fn view_has_one_text()
     display_has_one_text();
 }
 
-/// States that a block for a page defines exactly one list of words or one refusal, whatever its values, sources included.
+/// States that the lines after `words`, `image` or `asm` define exactly one list of words for the page or one refusal,
+/// whatever their values are.
 pub fn page_block_says_one()
     ensures { PageBlockSaysOne }
 {
@@ -37,7 +39,8 @@ pub fn page_block_says_one()
     words_are_determined();
 }
 
-/// States that a block of a program's bytes or text means exactly one program, or one refusal, whatever its values.
+/// States that the lines after `load` or `program`, bytes or text, mean exactly one program or one refusal, whatever
+/// their values are.
 pub fn program_block_means_one()
     ensures { ProgramBlockMeansOne }
 {
@@ -45,8 +48,8 @@ pub fn program_block_means_one()
     line_text_round_trip();
 }
 
-/// States that each command has exactly one reply from each state, a state and an answer, if the results that it depends on
-/// exist.
+/// States that each command has exactly one reply, a new state and an answer, from each state of the bench in which the
+/// results that the command depends on exist, for example those of its steps.
 pub fn reply_has_one_answer()
     ensures { ReplyHasOneAnswer }
 {
@@ -56,8 +59,9 @@ pub fn reply_has_one_answer()
     runs_have_one_outcome();
 }
 
-/// States that commands in turn have exactly one list of answers, and a deck within the limit one text and one end, if the
-/// results that each command depends on exist in the state that the commands before it leave.
+/// States that a list of commands has exactly one list of answers (`answers`), and a deck of at most 67,108,864 bytes
+/// exactly one text and one end (`text`), if the results that each command depends on exist in the state that the
+/// commands before it leave.
 pub fn deck_follows_its_replies()
     ensures answers { AnswersHaveOneList }
     ensures text { DeckHasOneText }
@@ -65,8 +69,8 @@ pub fn deck_follows_its_replies()
     reply_has_one_answer();
 }
 
-/// States that each command leaves a bench whose calculator is well-formed (`leaves`), and that the results that it depends on
-/// exist there (`rests`).
+/// States that each command leaves a bench with a well-formed calculator, if the calculator was well-formed before
+/// (`leaves`), and that in such a bench all results that a command depends on exist (`rests`).
 pub fn replies_leave_whole()
     ensures leaves { ReplyLeavesWhole }
     ensures rests { WholeBenchRests }
@@ -81,9 +85,9 @@ pub fn replies_leave_whole()
     program_block_means_one();
 }
 
-/// States that each deck within the limit has exactly one text, and ends in one way, with each size of memory (`text`); that any
-/// bytes, even those of a longer deck, have exactly one text of the commands that end in them (`front`); and that the replies to
-/// the first commands are a prefix of the deck's text (`rest`).
+/// States that each deck of at most 67,108,864 bytes has exactly one text, and ends in one way, with each size of
+/// memory (`text`); that any bytes, even those of a longer deck, have exactly one text of the commands that end in them
+/// (`front`); and that the replies to the first commands are a prefix of the deck's text (`rest`).
 pub fn deck_has_one_text()
     ensures text { EachDeckHasOneText }
     ensures front { EachFrontHasOneText }

@@ -1,4 +1,5 @@
-//! The laws. Each law is the contract of a function whose body only calls the laws that it depends on.
+//! Laws of existence for program lines. Each law is the contract of a function whose body only calls the laws that it
+//! depends on.
 
 ghost use Rattle.h41_laws_lines.specs.LineOutcomes.{EnteringHasOneOutcome, FailureHasOneOutcome};
 ghost use Rattle.h41_laws_lines.specs.LineOutcomes.{PassingHasOneOutcome};
@@ -11,9 +12,12 @@ use h41_laws_values::laws::value_has_one_register;
 use h41_positions::laws::positions_are_read;
 use h41_program::laws::each_is_listed;
 
-/// States that a line has exactly one outcome, the state and answer that it leaves or its refusal, whatever the machine and the
-/// pages contain. This holds for a line that is stepped (`step`), typed (`typed`), made to fail (`failure`, `typed_failure`),
-/// passed (`passing`), or that calls a program of a page (`entering`).
+/// States that a program line has exactly one outcome, the state and answer that it leaves or its refusal, whatever
+/// memory and the pages contain.
+///
+/// This holds for a line that is executed by a step (`step`), typed (`typed`), ended by an error in a step (`failure`)
+/// or when typed (`typed_failure`), left after its function was executed in microcode (`passing`), or that calls a
+/// program of a page (`entering`).
 pub fn line_has_one_outcome()
     ensures step { StepHasOneOutcome }
     ensures typed { TypedHasOneOutcome }

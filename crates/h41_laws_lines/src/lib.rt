@@ -1,4 +1,4 @@
-//! Laws of existence for lines: a line that is stepped or typed, that fails or is passed, has exactly one
+//! Laws of existence for program lines: a line that is executed by a step, typed or ended by an error has exactly one
 //! outcome.
 #![tactic(auto)]
 

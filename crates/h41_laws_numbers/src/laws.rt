@@ -1,4 +1,5 @@
-//! The laws. Each law is the contract of a function whose body only calls the laws that it depends on.
+//! Laws of existence for numbers. Each law is the contract of a function whose body only calls the laws that it depends
+//! on.
 
 ghost use Rattle.h41_laws_numbers.specs.DigitAnswers.{SumHasOneResult, DifferenceHasOneResult};
 ghost use Rattle.h41_laws_numbers.specs.DecimalAnswers.{FractionHasOneNearest, RootHasOneNearest};
@@ -15,38 +16,40 @@ use h41_decimal::laws::{
     units_are_injective,
 };
 
-/// States that two registers and a carry have exactly one sum, a register and a carry, in any range of digits and in both
-/// bases, for all digits from 0 to F.
+/// States that two registers and a carry have exactly one sum, a register and a carry, in any range of digits and in
+/// base 10 and 16, for all digits from 0 to F.
 pub fn sum_has_one_result()
     ensures { SumHasOneResult }
 {
     sum_is_determined();
 }
 
-/// States that two registers and a borrow have exactly one difference, a register and a borrow, in any range of digits and
-/// in both bases.
+/// States that two registers and a borrow have exactly one difference, a register and a borrow, in any range of digits
+/// and in base 10 and 16.
 pub fn difference_has_one_result()
     ensures { DifferenceHasOneResult }
 {
     difference_is_determined();
 }
 
-/// States that a fraction of units has exactly one nearest decimal, or is out of range.
+/// States that each fraction of whole numbers, which is a value in units of 10^-108, has exactly one nearest decimal of
+/// ten digits, or is out of range. Sums, differences and products are such fractions.
 pub fn fraction_has_one_nearest()
     ensures { FractionHasOneNearest }
 {
     nearest_is_determined();
 }
 
-/// States that the square root of a number of units has exactly one nearest decimal. A negative number has none, which is
-/// its answer.
+/// States that the square root of each whole number, which is a value in units of 10^-108, has exactly one nearest
+/// decimal of ten digits, or, for a negative number, the answer that there is none.
 pub fn root_has_one_nearest()
     ensures { RootHasOneNearest }
 {
     nearest_root_is_determined();
 }
 
-/// States that a quotient, and the remainder of a division, have exactly one answer.
+/// States that dividing two numbers has exactly one quotient, a decimal of ten digits or an error (`quotient`), and
+/// exactly one remainder or error (`modulo`), even if the divisor is zero.
 pub fn quotients_have_one_nearest()
     ensures quotient { QuotientHasOneNearest }
     ensures modulo { ModuloHasOneNearest }
@@ -54,14 +57,15 @@ pub fn quotients_have_one_nearest()
     quotients_are_determined();
 }
 
-/// States that a number is rounded to steps of any size in exactly one way.
+/// States that each number is rounded to a multiple of a step in exactly one way, for each step greater than zero. Both
+/// are whole numbers of units of 10^-108.
 pub fn number_has_one_of_steps()
     ensures { NumberHasOneOfSteps }
 {
     steps_are_determined();
 }
 
-/// States that a number has exactly one integer part and one fraction.
+/// States that a number has exactly one integer part (`integer`) and exactly one fractional part (`fraction`).
 pub fn number_has_parts()
     ensures integer { NumberHasOneInteger }
     ensures fraction { NumberHasOneFraction }
@@ -69,15 +73,16 @@ pub fn number_has_parts()
     parts_are_determined();
 }
 
-/// States that the digits that are typed are exactly one number.
+/// States that typed digits with a sign, a number of digits after the radix mark and an exponent are exactly one
+/// number.
 pub fn typed_has_one_number()
     ensures { TypedHasOneNumber }
 {
     typed_is_determined();
 }
 
-/// States that a decimal has exactly one register, and that the value of a register that contains a number is that of
-/// exactly one decimal.
+/// States that for each decimal of ten digits exactly one register of 14 digits contains its value (`register`), and
+/// that the value of a register that contains a number is that of exactly one decimal (`decimal`).
 pub fn decimal_has_one_register()
     ensures register { DecimalHasOneRegister }
     ensures decimal { RegisterHoldsDecimal }

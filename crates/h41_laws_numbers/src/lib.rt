@@ -1,4 +1,5 @@
-//! Laws of existence for numbers: the digit rule and the nearest decimals have exactly one answer to each question.
+//! Laws of existence for numbers: sums and differences of registers, nearest decimals, quotients, roundings and typed
+//! digits each have exactly one result.
 #![tactic(auto)]
 
 pub mod laws;

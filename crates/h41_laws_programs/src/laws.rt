@@ -1,4 +1,5 @@
-//! The laws. Each law is the contract of a function whose body only calls the laws that it depends on.
+//! Laws of existence for program memory. Each law is the contract of a function whose body only calls the laws that it
+//! depends on.
 
 ghost use Rattle.std.specs.Prelude.{ℕ, Bool, Option, Result};
 ghost use Rattle.h41_laws_programs.specs.ProgramAnswers.{BytesHaveOneList, MemoryHasOneAnswer};
@@ -16,8 +17,9 @@ use h41_program::laws::{
     each_is_listed, edits_are_determined, lists_are_determined, one_list, searches_are_determined,
 };
 
-/// States that bytes are read as exactly one list of lines from each position on, whatever they are, wherever their last line is
-/// and whichever lines end a list: those of memory, and those of a page.
+/// States that from each position on bytes are read as exactly one list of program lines, whatever the bytes are,
+/// wherever their last line is and whichever lines end the list: those that end one in memory, or those that end one in
+/// a page.
 pub fn bytes_have_one_list()
     ensures { BytesHaveOneList }
 {
@@ -25,8 +27,9 @@ pub fn bytes_have_one_list()
     lists_are_determined();
 }
 
-/// States that each question about the list of lines in memory has exactly one answer: the beginning of a program, the position
-/// of a name, whether the last program is open, and the questions about the program of a position.
+/// States that each search in the list of program lines in memory has exactly one result: for the start of a program
+/// (`start`), the position of a global label (`global`), whether the last program is open (`last`), and what is found
+/// in the program that contains a position (`program`).
 pub fn searches_have_one_answer()
     ensures start { MemoryHasOneAnswer ℕ }
     ensures global { MemoryHasOneAnswer (Option ℕ) }
@@ -37,9 +40,9 @@ pub fn searches_have_one_answer()
     searches_are_determined();
 }
 
-/// States that each position in any pages and memory, sound or not, has exactly one line, one next position, one start of its
-/// program, one position of each local label, one end, one line before it and one line number. Each of these may be a refusal, or
-/// that there is none.
+/// States that each position in any pages and memory, sound or not, has exactly one program line, one next position,
+/// one start of its program, one position of each local label, one end of its program, one line before it and one line
+/// number. Each of these may be a refusal, or that there is none.
 pub fn positions_have_one_answer()
     ensures line { PositionHasOne LineAt }
     ensures next { PositionHasOne NextAt }
@@ -55,8 +58,9 @@ pub fn positions_have_one_answer()
     positions_are_read();
 }
 
-/// States that a change of the list, and a load of any bytes, have exactly one outcome, a memory or a refusal; and that each
-/// question about a changed list has exactly one answer.
+/// States that inserting, replacing or deleting a program line (`edit`), and loading any bytes (`load`), have exactly
+/// one outcome, a memory or a refusal; and that each search in the changed list of lines has exactly one result, if
+/// there was a line at the position of the change (`answer`, `front`).
 pub fn changes_have_one_outcome()
     ensures edit { EditHasOneOutcome }
     ensures load { LoadHasOneOutcome }

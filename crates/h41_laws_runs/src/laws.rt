@@ -1,5 +1,5 @@
-//! The laws. Each law is the contract of a function that only calls the laws that it depends on, and calls of the bench that
-//! allocate no memory.
+//! Laws of existence for the bench: keys, steps, runs and traces. Each law is the contract of a function that only
+//! calls the laws that it depends on, and calls of the bench that allocate no memory.
 
 ghost use Rattle.h41_laws_numbers.specs.HasOne.{HasOne};
 ghost use Rattle.h41_laws_runs.specs.BenchOutcomes.{KeysLeave, RunLeaves, StateHasOneText};
@@ -17,8 +17,9 @@ use h41_laws_calculator::laws::step_has_one_outcome;
 use h41_laws_programs::laws::positions_have_one_answer;
 use h41_xrom::laws::step_is_determined;
 
-/// States that steps in turn, a run of any limit and a trace have exactly one outcome each, from each state from which single
-/// steps lead only to states with registers of 14 digits. This follows from the definitions alone.
+/// States that any number of steps (`steps`), a run of at most any number of steps (`run`) and a trace (`trace`) have
+/// exactly one outcome each, from each state of the bench from which single steps lead only to states whose registers
+/// A, B and C have 14 digits. This follows from the definitions alone.
 pub fn runs_have_one_outcome()
     ensures steps { StepsHaveOneOutcome }
     ensures run { RunHasOneOutcome }
@@ -41,7 +42,8 @@ pub fn steps_have_one_outcome<const REGS: usize>(bench: &mut Bench<REGS>, count:
     let _ = bench.steps(count);
 }
 
-/// States that keys in turn have exactly one outcome from each bench that can exist: a state, and the first refusal or none.
+/// States that pressing keys in turn has exactly one outcome from each bench that can exist: a state, and the first
+/// refusal or none.
 pub fn keys_have_one_outcome<const REGS: usize>(bench: &mut Bench<REGS>, keys: &[Key])
     ensures { HasOne (KeysLeave keys.now bench.old.state) }
 {
@@ -58,7 +60,8 @@ pub fn run_has_one_outcome<const REGS: usize>(bench: &mut Bench<REGS>, limit: u3
     let _ = bench.run(limit);
 }
 
-/// States that the next step has exactly one description, in any state.
+/// States that in any state of the bench the next step, a microcode word or a program line, has exactly one
+/// description, as a trace prints it.
 pub fn next_has_one_text()
     ensures { StateHasOneText }
 {

@@ -1,4 +1,5 @@
-//! The laws. Each law is the contract of a function whose body only calls the laws that it depends on.
+//! Laws of existence for the values that program lines compute. Each law is the contract of a function whose body only
+//! calls the laws that it depends on.
 
 ghost use Rattle.h41_laws_values.specs.LineValues.{NumberLineHasOneNumber, ValueHasOneRegister};
 ghost use Rattle.h41_laws_values.specs.LineValues.{ValueHasOneAnswer};
@@ -12,7 +13,7 @@ use h41_laws_numbers::laws::{
 use h41_numbers::laws::numbers_are_determined;
 use h41_rows::laws::values_are_determined;
 
-/// States that the characters of number lines, whatever they are, are exactly one number.
+/// States that the characters of a number line, whatever they are, are exactly one number.
 pub fn number_line_has_one_number()
     ensures { NumberLineHasOneNumber }
 {
@@ -20,8 +21,9 @@ pub fn number_line_has_one_number()
     numbers_are_determined();
 }
 
-/// States that each value that a line can ask for is computed in exactly one way: it is the register of its
-/// nearest decimal, or an error.
+/// States that each value that a program line computes is computed in exactly one way, from any registers: it is the
+/// register of its nearest decimal, or an error (`computed`); and that it has exactly one result even if a register
+/// that must contain a number contains none (`answered`).
 pub fn value_has_one_register()
     ensures computed { ValueHasOneRegister }
     ensures answered { ValueHasOneAnswer }
@@ -36,7 +38,9 @@ pub fn value_has_one_register()
     values_are_determined();
 }
 
-/// States that what is promised for the places of a row is promised for each address, and for any two registers.
+/// States that each address can be that of an operand of a program line: a register of the stack, LAST X or the
+/// register that the line names (`address`); and that any two registers of a memory can be two operands in a memory
+/// with the same flag 24 (`both`).
 pub fn registers_have_places()
     ensures address { AddressHasPlace }
     ensures both { TwoRegistersHavePlaces }

@@ -1,5 +1,5 @@
-//! Laws of existence for what lines compute: each value has exactly one register, or one error, whatever
-//! memory contains.
+//! Laws of existence for what program lines compute: each value has exactly one register, or one error, whatever memory
+//! contains.
 #![tactic(auto)]
 
 pub mod laws;

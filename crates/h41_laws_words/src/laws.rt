@@ -1,4 +1,5 @@
-//! The laws. Each law is the contract of a function whose body only calls the laws that it depends on.
+//! Laws of existence for the processor. Each law is the contract of a function whose body only calls the laws that it
+//! depends on.
 
 ghost use Rattle.h41_laws_words.specs.FieldPlaces.{FieldHasPlace};
 ghost use Rattle.h41_laws_words.specs.WholeStates.{WordLeavesWhole};
@@ -9,13 +10,13 @@ use h41_laws_numbers::laws::{difference_has_one_result, sum_has_one_result};
 use h41_nut::laws::micro_is_determined;
 use h41_words::laws::word_table_round_trip;
 
-/// States that each field has a place, wherever the pointers are.
+/// States that each field of a register contains at least one of the digits 0 to 13, wherever the pointers P and Q are.
 pub fn field_has_place()
     ensures { FieldHasPlace }
 {}
 
-/// States that a step of the processor has exactly one result, from each state whose registers A, B and C are registers: the
-/// change that it makes, if it is not refused (`accepted`), or its refusal (`answered`).
+/// States that executing a microcode word has exactly one result, from each state of the processor whose registers A, B
+/// and C have 14 digits: the change that it makes, if it is not refused (`accepted`), or its refusal (`answered`).
 pub fn word_has_one_answer()
     ensures accepted { AcceptedWordHasOneChange }
     ensures answered { WordHasOneAnswer }
@@ -26,8 +27,8 @@ pub fn word_has_one_answer()
     micro_is_determined();
 }
 
-/// States that a word leaves registers of 14 digits, if everything that can be copied to C consists of registers, bytes,
-/// addresses and words. Therefore the next word has a result too.
+/// States that executing a microcode word leaves registers of 14 digits, if everything that can be copied to C consists
+/// of registers, bytes, addresses and words. Therefore the next word has a result too.
 pub fn word_leaves_whole()
     ensures { WordLeavesWhole }
 {

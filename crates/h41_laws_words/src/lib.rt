@@ -1,4 +1,4 @@
-//! Laws of existence for the processor: a word makes exactly one change, or is refused.
+//! Laws of existence for the processor: a microcode word makes exactly one change, or is refused.
 #![tactic(auto)]
 
 pub mod laws;

@@ -8,7 +8,7 @@ ghost use Rattle.h41_lines.specs.Characters as spec;
 
 use arrayvec::ArrayString;
 
-/// Returns the two decimal digits of a number from 0 to 99.
+/// Returns a number from 0 to 99 as two decimal digits, with a leading zero below 10.
 #[inline]
 pub fn two_digits(number: u8) -> ArrayString<2>
     requires { number < 100 }
@@ -20,7 +20,7 @@ pub fn two_digits(number: u8) -> ArrayString<2>
     digits
 }
 
-/// Returns the two hexadecimal digits of a byte, in upper case.
+/// Returns a byte as two hexadecimal digits, in upper case.
 #[inline]
 pub fn byte_digits(byte: u8) -> ArrayString<2>
     ensures { result.bytes ≡ hexadecimal_text 2 byte }
@@ -30,7 +30,7 @@ pub fn byte_digits(byte: u8) -> ArrayString<2>
     digits
 }
 
-/// Returns the four hexadecimal digits of an address, in upper case.
+/// Returns an address, 0000 to FFFF, as four hexadecimal digits, in upper case.
 #[inline]
 pub fn address_digits(address: u16) -> ArrayString<4>
     ensures { result.bytes ≡ hexadecimal_text 4 address }
@@ -41,7 +41,7 @@ pub fn address_digits(address: u16) -> ArrayString<4>
     digits
 }
 
-/// Appends the two hexadecimal digits of a byte, in upper case, to a text.
+/// Appends a byte to a text as two hexadecimal digits, in upper case. The text must have room for them.
 #[inline(always)]
 pub fn push_byte_digits<const N: usize>(text: &mut ArrayString<N>, byte: u8)
     requires { array_string_len text.old + 2 ≤ N }
@@ -77,8 +77,8 @@ pub fn glyph_text(digit: u8) -> &'static str
     }
 }
 
-/// Returns a character as the display shows it: the characters 20 to 7E as they are, except `\`; any other escaped, as `\` and two
-/// hexadecimal digits.
+/// Returns a character as text: characters 20 to 7E (hexadecimal) as they are, except `\`; any other one escaped, as
+/// `\` and two upper-case hexadecimal digits. For example, character 0D is `\0D`.
 #[inline]
 pub fn character_text(character: u8) -> ArrayString<3>
     ensures { result.bytes ≡ spec.character_text character }
@@ -92,7 +92,7 @@ pub fn character_text(character: u8) -> ArrayString<3>
     }
 }
 
-/// Returns a character in escaped form: `\` and its two hexadecimal digits.
+/// Returns a character in escaped form: `\` and its code as two upper-case hexadecimal digits.
 #[inline]
 pub fn escaped(character: u8) -> ArrayString<3>
     ensures { result.bytes ≡ spec.escape_of character }
@@ -103,7 +103,8 @@ pub fn escaped(character: u8) -> ArrayString<3>
     text
 }
 
-/// Appends characters to a text as the display shows them, in their order.
+/// Appends characters to a text, in their order: characters 20 to 7E (hexadecimal) as they are, except `\`; any other
+/// one escaped, as `\` and two upper-case hexadecimal digits. The text must have room for three bytes a character.
 #[inline]
 pub fn push_characters<const N: usize>(text: &mut ArrayString<N>, characters: &[u8])
     requires { array_string_len text.old + 3 * length characters.now ≤ N }
@@ -114,7 +115,8 @@ pub fn push_characters<const N: usize>(text: &mut ArrayString<N>, characters: &[
     }
 }
 
-/// Returns whether a character is shown as it is: 20 to 7E, except `\`.
+/// Returns whether a character appears in texts as it is, not escaped: whether it is 20 to 7E (hexadecimal), except
+/// `\`.
 #[inline(always)]
 fn is_plain(character: u8) -> bool
     ensures { result ≡ spec.is_plain character }

@@ -1,4 +1,4 @@
-//! Hashes, with which the code finds words in tables.
+//! Hashes of words. They index the tables in which the code finds words.
 
 ghost use Rattle.std.specs.Prelude.{◌≡◌};
 ghost use Rattle.h41_lines.specs.private.Hashes as spec;

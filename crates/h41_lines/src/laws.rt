@@ -1,8 +1,8 @@
-//! Laws of numbers. Each law is the contract of a function with an empty body.
+//! Laws of numbers that are written as text. Each law is the contract of a function with an empty body.
 
 ghost use Rattle.h41_lines.specs.Laws.{HexadecimalRoundTrip};
 
-/// States that the hexadecimal digits of a number are read as that number.
+/// States that a number which is written in hexadecimal digits and read again is the same number.
 pub fn hexadecimal_round_trip()
     ensures { HexadecimalRoundTrip }
 {}

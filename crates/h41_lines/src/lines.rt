@@ -9,12 +9,12 @@ ghost use Rattle.h41_lines.specs.Lines.{lines};
 /// An iterator over the lines of a text, each without its LF and without a CR directly before the LF. The last LF may be missing.
 #[derive(Debug, Drop)]
 pub struct Lines<'a> {
-    /// The bytes that are not read yet, from the next line on.
+    /// The bytes of the text that are not read yet, from the beginning of the next line on.
     pub rest: &'a [u8],
 }
 
 impl<'a> Lines<'a> {
-    /// Returns an iterator over all lines of a text.
+    /// Returns an iterator over all lines of a text, each without its LF and without a CR directly before the LF.
     pub fn new(text: &'a [u8]) -> Self
         ensures { result.rest.now ≡ text.now }
     {
@@ -48,7 +48,7 @@ impl<'a> Iterator for Lines<'a> {
     }
 }
 
-/// Returns the position of the first LF of a text, or `None` if it has none.
+/// Returns the position, from 0 in bytes, of the first LF of a text, or `None` if it has none.
 #[inline(always)]
 pub fn line_end(text: &[u8]) -> Option<usize>
     ensures { result ≡ position (λ byte. byte == 10) text.now }

@@ -26,8 +26,8 @@ pub fn number_up_to(most: u32, radix: u32, word: &[u8]) -> Option<u32>
     Some(value)
 }
 
-/// Returns the decimal number, at least 1, that a word's digits form. Returns `None` if the word is not a decimal number, or if the
-/// number is 0 or greater than `most`.
+/// Returns the number, 1 to `most`, that a word's decimal digits form. Leading zeros are allowed. Returns `None` if the
+/// word is not a decimal number, or if the number is 0 or greater than `most`.
 pub fn count_up_to(most: u32, word: &[u8]) -> Option<u32>
     requires { most ≤ 9999999 }
     ensures small { IfSome result (λ number. number ≤ most) }

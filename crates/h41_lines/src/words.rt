@@ -13,7 +13,7 @@ pub struct LineWords<'a> {
 }
 
 impl<'a> LineWords<'a> {
-    /// Returns an iterator over all words of a line.
+    /// Returns an iterator over all words of a line. Spaces and tabs separate the words.
     pub fn new(line: &'a [u8]) -> Self
         ensures { result.rest.now ≡ line.now }
     {
@@ -46,7 +46,8 @@ pub fn is_blank(byte: u8) -> bool
     matches!(byte, b' ' | b'\t')
 }
 
-/// Returns the position of the first byte of a line that is neither a space nor a tab, or `None` if there is none.
+/// Returns the position, from 0 in bytes, of the first byte of a line that is neither a space nor a tab, or `None` if
+/// there is none.
 #[inline(always)]
 pub fn word_start(line: &[u8]) -> Option<usize>
     ensures { result ≡ position (λ byte. not (is_blank byte)) line.now }
@@ -54,7 +55,7 @@ pub fn word_start(line: &[u8]) -> Option<usize>
     line.iter().position(|byte| !is_blank(*byte))
 }
 
-/// Returns the position of the first space or tab of a line, or `None` if there is none.
+/// Returns the position, from 0 in bytes, of the first space or tab of a line, or `None` if there is none.
 fn word_end(line: &[u8]) -> Option<usize>
     ensures { result ≡ position is_blank line.now }
 {

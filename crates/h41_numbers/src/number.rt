@@ -1,4 +1,4 @@
-//! The number of a number line.
+//! Computes the number of a number line from its characters: digits, the radix mark, minus signs and E.
 
 ghost use Rattle.std.specs.Prelude.{◌≡◌, ◌+◌, ◌-◌, ◌*◌, ◌^◌, ◌<◌, ◌≤◌, List, ◌∷◌, length, take};
 ghost use Rattle.std.specs.Prelude.{IfSome};
@@ -11,16 +11,16 @@ ghost use Rattle.h41_numbers.specs.private.NumberReading.{places_in};
 use h41_codes::{Character, exponent_place};
 use h41_decimal::{Exponent, Sign, Ten};
 
-/// The number of digits of a mantissa that are used.
+/// The number of digits of a mantissa that count, 10. Later digits are ignored.
 const MANTISSA_DIGITS: u8 = 10;
 
-/// The number of digits of an exponent that are used.
+/// The number of digits of an exponent that count, 2. Later digits are ignored.
 const EXPONENT_DIGITS: u8 = 2;
 
-/// The exponent 0, plus 99.
+/// The biased form of the exponent 0: an exponent is stored plus 99.
 const EXPONENT_BIAS: u32 = 99;
 
-/// Digits as one whole number, and how many they are.
+/// Decimal digits that were read, as one whole number, and how many they are (at most 10).
 #[derive(Clone, Copy)]
 struct ReadDigits {
     number: u64,
@@ -30,7 +30,7 @@ struct ReadDigits {
 }
 
 impl ReadDigits {
-    /// Returns the digits with one more digit.
+    /// Returns the digits that were read, with one more decimal digit at the right. There must be fewer than 10 before.
     fn push(self, digit: u8) -> Self
         requires room { self.count < 10 }
         requires digit { digit < 10 }
@@ -43,7 +43,8 @@ impl ReadDigits {
         }
     }
 
-    /// Returns the digits with the digit of a character, if it has one and there are fewer than `most`.
+    /// Returns the digits that were read, with the digit of `character` at the right, if it is a digit and there are
+    /// fewer than `most`; otherwise the digits unchanged.
     fn read(self, character: Character, most: u8) -> Self
         requires most { most ≤ 10 }
         requires within { self.count ≤ most }
@@ -64,8 +65,8 @@ impl ReadDigits {
     }
 }
 
-/// Returns the number of a number line from its characters. The rules are those of number entry in the Owner's Handbook; they are
-/// extended to characters that number entry does not allow (this project's choice).
+/// Returns the number that the characters of a number line mean. The rules are those of number entry in the Owner's
+/// Handbook; they are extended to characters that number entry does not allow (this project's choice).
 pub fn number_of(text: &[Character]) -> Ten
     ensures { lines.IsNumberOf text.now result }
 {
@@ -77,7 +78,8 @@ pub fn number_of(text: &[Character]) -> Ten
     Ten::typed(sign_of(mantissa), digits.number, places, exponent)
 }
 
-/// Returns the exponent from the characters after the E.
+/// Returns the exponent, -99 to 99, from the characters after the E of a number line: its first two digits, negative if
+/// there is an odd number of minus signs.
 fn exponent_of(text: &[Character]) -> Exponent
     ensures { result.biased ≡ biased_in text.now }
 {
@@ -92,7 +94,8 @@ fn exponent_of(text: &[Character]) -> Exponent
     }
 }
 
-/// Returns the characters after the E, whose index is given. If there is no E, the index is the length.
+/// Returns the characters of a number line after the E, whose index is `end`. If there is no E, `end` is the number of
+/// characters, and the result is empty.
 fn exponent_part(text: &[Character], end: usize) -> &[Character]
     requires { end ≡ position_or_len is_exponent text.now }
     ensures { result.now ≡ exponent_part text.now }
@@ -104,7 +107,8 @@ fn exponent_part(text: &[Character], end: usize) -> &[Character]
     }
 }
 
-/// Returns the digits of the mantissa that are used. The index of the E is given.
+/// Returns the digits of the mantissa that count: the first ten before the E of a number line, whose index is `end`. If
+/// there is an E but no digit before it, the mantissa is 1. If there is no E, `end` is the number of characters.
 fn mantissa_digits(text: &[Character], end: usize) -> ReadDigits
     requires { end ≡ position_or_len is_exponent text.now }
     ensures number { result.number ≡ lines.number_from 0 (lines.mantissa_digits text.now) }
@@ -121,7 +125,7 @@ fn mantissa_digits(text: &[Character], end: usize) -> ReadDigits
     }
 }
 
-/// Returns how many of the used digits are after the point.
+/// Returns how many of the `count` digits of the mantissa that count are after the first radix mark, 0 to 10.
 fn decimal_places(mantissa: &[Character], count: u8) -> u8
     requires { count ≤ 10 }
     ensures value { result ≡ places_in mantissa.now count }
@@ -135,7 +139,8 @@ fn decimal_places(mantissa: &[Character], count: u8) -> u8
     }
 }
 
-/// Returns the first digits of a text, at most `most`.
+/// Returns the first digits among the characters of a number line, at most `most` of them (0 to 10). Other characters
+/// are skipped.
 fn first_digits(text: &[Character], most: u8) -> ReadDigits
     requires { most ≤ 10 }
     ensures number { result.number ≡ lines.number_from 0 (take most (lines.digits_in text.now)) }
@@ -152,7 +157,8 @@ fn first_digits(text: &[Character], most: u8) -> ReadDigits
     digits
 }
 
-/// Returns the sign of a text: plus if it has an even number of minus signs, otherwise minus.
+/// Returns the sign of the characters of a mantissa or an exponent: plus if there is an even number of minus signs
+/// among them, otherwise minus.
 fn sign_of(text: &[Character]) -> Sign
     ensures { result ≡ lines.sign_in text.now }
 {
@@ -169,7 +175,8 @@ fn sign_of(text: &[Character]) -> Sign
     }
 }
 
-/// Returns the index of the first point, or the length if there is none.
+/// Returns the index of the first radix mark among the characters of a mantissa, or the number of characters if there
+/// is none.
 fn point_place(text: &[Character]) -> usize
     ensures place { result ≡ position_or_len is_point text.now }
     ensures bound { result ≤ length text.now }

@@ -1,4 +1,4 @@
-//! The signs of exact sums, differences and products of two numbers.
+//! The signs of exact sums, differences and products of two numbers of ten digits.
 
 ghost use Rattle.std.specs.Prelude.{◌≡◌, ◌+ℤ◌, ◌-ℤ◌, ◌*ℤ◌};
 ghost use Rattle.h41_decimal.specs.Signs.{sign_of};
@@ -7,14 +7,14 @@ ghost use Rattle.h41_decimal.specs.Units.{units};
 use h41_decimal::{Sign, Ten};
 use std::cmp::Ordering;
 
-/// Returns the sign of the exact sum. The sign of zero is plus.
+/// Returns the sign of `first` + `second`, computed exactly, without rounding. The sign of zero is plus.
 pub fn sign_of_sum(first: Ten, second: Ten) -> Sign
     ensures { result ≡ sign_of (units first +ℤ units second) }
 {
     sign_of_difference(first, second.negated())
 }
 
-/// Returns the sign of the exact difference. The sign of zero is plus.
+/// Returns the sign of `first` - `second`, computed exactly, without rounding. The sign of zero is plus.
 pub fn sign_of_difference(first: Ten, second: Ten) -> Sign
     ensures { result ≡ sign_of (units first -ℤ units second) }
 {
@@ -25,7 +25,7 @@ pub fn sign_of_difference(first: Ten, second: Ten) -> Sign
     }
 }
 
-/// Returns the sign of the exact product. The sign of zero is plus.
+/// Returns the sign of `first` times `second`, computed exactly, without rounding. The sign of zero is plus.
 pub fn sign_of_product(first: Ten, second: Ten) -> Sign
     ensures { result ≡ sign_of (units first *ℤ units second) }
 {

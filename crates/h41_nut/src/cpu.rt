@@ -1,4 +1,4 @@
-//! The registers of the processor, its states at the start, and the effects of its words on them, family by family.
+//! The registers of the Nut processor, their initial values, and what microcode words do to them.
 
 ghost use Rattle.std.specs.Prelude.{◌≡◌, ◌^◌, ◌<◌, false, true};
 ghost use Rattle.h41_nut.specs.Processor.{initial_state, at_function};
@@ -18,10 +18,10 @@ pub(crate) mod pointers;
 pub(crate) mod registers;
 mod status;
 
-/// The number of return addresses that the processor stores.
+/// The number of return addresses that the processor stores, 4.
 const RETURNS: usize = 4;
 
-/// The registers of the Nut processor.
+/// The registers of the Nut processor, and its carry, base of arithmetic, selected memory address and display state.
 #[derive(Debug, Drop)]
 pub struct Cpu {
     a: Reg,
@@ -74,7 +74,8 @@ impl Model for Cpu {
 }
 
 impl Cpu {
-    /// Returns the state before the first call: everything is zero, except the address, 00F0, and the display, which is on.
+    /// Returns the state before the first function is called: everything is zero, except the address of the next word,
+    /// 00F0, and the display, which is on. The base is 16 and the active pointer is P.
     pub fn new() -> Self
         ensures { result ≡ initial_state }
     {
@@ -99,8 +100,9 @@ impl Cpu {
         }
     }
 
-    /// Sets the state in which a function begins at an address: everything is zero as before the first call, the newest return
-    /// address is 00F0, and the display does not change (this project's choice).
+    /// Sets the state in which a function begins at an address: everything is as in `Cpu::new`, except that this is the
+    /// address of the next word, the newest return address is 00F0, and the display does not change (this project's
+    /// choice).
     pub fn enter(&mut self, address: u16)
         ensures { self.new ≡ at_function self.old address }
     {
@@ -127,35 +129,35 @@ impl Cpu {
         self.display = true;
     }
 
-    /// Returns the register A.
+    /// Returns the register A, which has 14 digits.
     pub fn a(&self) -> Reg
         ensures { result ≡ self.now.a }
     {
         self.a
     }
 
-    /// Returns the register B.
+    /// Returns the register B, which has 14 digits.
     pub fn b(&self) -> Reg
         ensures { result ≡ self.now.b }
     {
         self.b
     }
 
-    /// Returns the register C.
+    /// Returns the register C, which has 14 digits.
     pub fn c(&self) -> Reg
         ensures { result ≡ self.now.c }
     {
         self.c
     }
 
-    /// Returns the register M.
+    /// Returns the register M, which has 14 digits.
     pub fn m(&self) -> Reg
         ensures { result ≡ self.now.m }
     {
         self.m
     }
 
-    /// Returns the register N.
+    /// Returns the register N, which has 14 digits.
     pub fn n(&self) -> Reg
         ensures { result ≡ self.now.n }
     {
@@ -176,7 +178,7 @@ impl Cpu {
         self.t
     }
 
-    /// Returns the 14 status bits as a number, of which S0 is the lowest bit.
+    /// Returns the 14 status bits as a number. S0 is its lowest bit, S13 its highest.
     pub fn status(&self) -> u16
         ensures value { result ≡ self.now.status }
         ensures bound { result < 2 ^ 14 }
@@ -184,7 +186,7 @@ impl Cpu {
         self.status.bits()
     }
 
-    /// Returns the place, 0 to 13, that the pointer P names.
+    /// Returns the digit position, 0 (the rightmost) to 13, to which the pointer P is set.
     pub fn p(&self) -> usize
         ensures value { result ≡ self.now.p }
         ensures bound { result < 14 }
@@ -192,7 +194,7 @@ impl Cpu {
         self.p
     }
 
-    /// Returns the place, 0 to 13, that the pointer Q names.
+    /// Returns the digit position, 0 (the rightmost) to 13, to which the pointer Q is set.
     pub fn q(&self) -> usize
         ensures value { result ≡ self.now.q }
         ensures bound { result < 14 }
@@ -200,14 +202,14 @@ impl Cpu {
         self.q
     }
 
-    /// Returns the active pointer.
+    /// Returns which of the two pointers, P and Q, is active.
     pub fn active(&self) -> Pointer
         ensures { result ≡ self.now.active }
     {
         self.active
     }
 
-    /// Returns the address of the next word.
+    /// Returns the address of the next microcode word, 0000 to FFFF.
     pub fn pc(&self) -> u16
         ensures { result ≡ self.now.pc }
     {
@@ -221,21 +223,21 @@ impl Cpu {
         self.returns
     }
 
-    /// Returns the carry.
+    /// Returns the processor's carry flag.
     pub fn carry(&self) -> bool
         ensures { result ≡ self.now.carry }
     {
         self.carry
     }
 
-    /// Returns the base in which arithmetic words compute.
+    /// Returns the base in which arithmetic words compute, 16 or 10.
     pub fn base(&self) -> Base
         ensures { result ≡ self.now.base }
     {
         self.base
     }
 
-    /// Returns the selected address of the memory, which has ten bits.
+    /// Returns the address of the selected memory register, which has ten bits.
     pub fn selected(&self) -> u16
         ensures value { result ≡ self.now.selected }
         ensures bound { result < 2 ^ 10 }

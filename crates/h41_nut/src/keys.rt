@@ -2,12 +2,12 @@
 
 ghost use Rattle.std.specs.Prelude.{◌≡◌, false};
 
-/// The keyboard as the processor sees it.
+/// The keyboard as the processor sees it: the code of the last key, and whether a key was pressed.
 #[derive(Clone, Copy, Debug, PartialEq, Eq)]
 pub struct Keys {
-    /// The register KY: the code of the last pressed key.
+    /// The register KY: the code of the key that was pressed last.
     pub ky: u8,
-    /// The key flag: whether a key was pressed since the flag was cleared.
+    /// The key flag: whether a key was pressed since the flag was last cleared.
     pub flag: bool,
 }
 

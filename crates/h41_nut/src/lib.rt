@@ -1,4 +1,4 @@
-//! The HP-41's Nut processor: its registers, and one step.
+//! The HP-41's Nut processor: its registers, and the execution of one microcode word.
 #![tactic(auto)]
 
 mod addresses;

@@ -1,4 +1,4 @@
-//! One step: the word at the processor's address, and what it changes.
+//! Executes one microcode word: the word at the processor's address.
 
 ghost use Rattle.std.specs.Prelude.{◌≡◌, ◌<◌, ◌≤◌, ◌==◌, ◌&&◌, false, true, is_ok, IfOk, OnOk};
 ghost use Rattle.h41_words.specs.WordTable.{row_of};
@@ -30,11 +30,13 @@ mod memory;
 mod peripherals;
 mod rom;
 
-/// Executes the word at the processor's address. The first of these errors is returned, and then nothing changes: of the fetch of
-/// the word, SystemRom (08) or EmptyPage (09); of the word itself, UndefinedWord (06), WordNotInProfile (07), PeripheralNotHeld
-/// (10) or Asleep (11); of the fetch of a second word, SystemRom (08) or EmptyPage (09); of a read or write of a page, SystemRom
-/// (08) or ReadOnly (12); of the next address, SystemRom (08) if it is in pages 0 to 3 and not 00F0. The order is this project's
-/// choice. The address after FFFF is 0000.
+/// Executes the word at the processor's address. The first of the following errors is returned, and then nothing
+/// changes. The order is this project's choice. The address after FFFF is 0000.
+///
+/// The errors are: of the fetch of the word, SystemRom (08) or EmptyPage (09); of the word itself, UndefinedWord (06),
+/// WordNotInProfile (07), PeripheralNotHeld (10) or Asleep (11); of the fetch of a second word, SystemRom (08) or
+/// EmptyPage (09); of a read or write of a page, SystemRom (08) or ReadOnly (12); of the next address, SystemRom (08)
+/// if it is in pages 0 to 3 and not 00F0.
 #[inline(always)]
 pub fn step<const REGS: usize>(
     cpu: &mut Cpu,
@@ -52,8 +54,9 @@ pub fn step<const REGS: usize>(
     Ok(())
 }
 
-/// Executes the word at the processor's address, and returns whether the next address is 00F0, at which a function ends. Only words
-/// that jump or return check this. The errors are those of `step`.
+/// Executes the word at the processor's address, and returns whether the next address is 00F0, at which a function
+/// ends. Only words that jump or return test this, because no other word leads there. The errors are those of `step`,
+/// and nothing changes then.
 #[inline(always)]
 pub fn step_to_end<const REGS: usize>(
     cpu: &mut Cpu,
@@ -72,8 +75,9 @@ pub fn step_to_end<const REGS: usize>(
     execute_row(word, row(word), cpu, ram, pages, keys)
 }
 
-/// Executes a word, in a page that can be plugged, by its row of the table of words. Returns whether a function ends at the next
-/// address: a word that jumps or returns determines this as it jumps; after every other word, no function ends.
+/// Executes a word at an address in pages 4 to F. `row` is its row in the table of words. Returns whether the next
+/// address is 00F0, at which a function ends; only words that jump or return can lead there. The errors are those of
+/// `step`, except those of the fetch of the word.
 #[inline(always)]
 fn execute_row<const REGS: usize>(
     word: Word,
@@ -109,7 +113,8 @@ fn execute_row<const REGS: usize>(
     }
 }
 
-/// Executes a word that neither jumps nor returns. No function ends at its next address.
+/// Executes a word that neither jumps nor returns, at an address in pages 4 to F. `row` is its row in the table of
+/// words. No function ends at its next address. The errors are those of `step`, except those of the fetch of the word.
 #[inline(always)]
 fn execute_straight<const REGS: usize>(
     word: Word,
@@ -160,7 +165,8 @@ fn execute_straight<const REGS: usize>(
     }
 }
 
-/// Executes a word that only uses the processor and the keyboard, and continues with the word after it.
+/// Executes a word that only uses the processor and the keyboard, and continues with the word after it. The only error
+/// is SystemRom (08) if the next address is 0000.
 #[inline(always)]
 fn execute_within(row: Row, cpu: &mut Cpu, keys: Keys) -> Result<(), WordRefusal>
     requires held { first_address ≤ cpu.old.pc }
@@ -182,7 +188,8 @@ fn execute_within(row: Row, cpu: &mut Cpu, keys: Keys) -> Result<(), WordRefusal
     }
 }
 
-/// Changes the registers of the processor as a word says that only uses these, and that is not a test.
+/// Changes the registers of the processor as a word does that only uses the processor and the keyboard, and that is not
+/// a test. The address of the next word and the carry are set afterwards, by the caller.
 #[inline(always)]
 fn change(row: Row, cpu: &mut Cpu, keys: Keys)
     requires within { is_within row ≡ true }
@@ -216,8 +223,8 @@ fn change(row: Row, cpu: &mut Cpu, keys: Keys)
     }
 }
 
-/// `ENBANK1` to `ENBANK4`: activates the bank that the word names. It is a cold function of its own that determines the bank from
-/// the word, so that all these words have one path, and other words a shorter one.
+/// Executes `ENBANK1` to `ENBANK4`: activates the bank that the word names in page `page`. It is a cold function of its
+/// own that determines the bank from the word, so that all these words have one path, and other words a shorter one.
 #[cold]
 #[inline(never)]
 fn enable_bank(pages: &mut Pages, page: u8, word: Word)

@@ -1,4 +1,4 @@
-//! The reasons why words are refused.
+//! The reasons why the execution of a microcode word is refused.
 
 ghost use Rattle.std.specs.Prelude.{◌≡◌};
 ghost use Rattle.h41_nut.specs.PageWords.{of_fetch, of_write};
@@ -6,7 +6,7 @@ ghost use Rattle.h41_nut.specs.PageWords.{of_fetch, of_write};
 use h41_pages::{FetchRefusal, ReadOnly};
 use thiserror::Error;
 
-/// The reason why a step was refused. A refused step changes nothing.
+/// The reason why the execution of a microcode word was refused, with an address. A refused word changes nothing.
 #[derive(Clone, Copy, Debug, PartialEq, Eq, Error)]
 pub enum WordRefusal {
     /// UndefinedWord (06): the word at this address is neither an instruction nor a word of a peripheral.

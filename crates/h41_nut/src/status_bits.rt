@@ -1,11 +1,11 @@
-//! The status bits of the processor, by their names.
+//! The status bits of the processor, S0 to S13, as a set.
 
 ghost use Rattle.std.specs.Prelude.{⊤, ◌≡◌, ◌^◌, ◌<◌, [], ◌∷◌, codes};
 
 use bitflags::{Flag, Flags, bitflag_items};
 use h41_words::StatusBit;
 
-/// The status bits that are set, of S0 to S13.
+/// A set of status bits, S0 to S13: those of the processor that are set, or those that a word names.
 #[derive(Clone, Copy, PartialEq, Eq, Debug)]
 pub struct StatusBits(u16);
 
@@ -53,7 +53,7 @@ impl Flags for StatusBits {
     }
 }
 
-/// Returns the set of the one status bit that a word names.
+/// Returns the set that contains only the status bit, S0 to S13, that a word names.
 pub fn named(bit: StatusBit) -> StatusBits
     ensures weight { result.0 ≡ 2 ^ bit }
     ensures bound { result.0 < 2 ^ 14 }

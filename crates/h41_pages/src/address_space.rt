@@ -13,13 +13,14 @@ use h41_words::{Bank, Word};
 use std::alloc::{AllocError, Global};
 use std::marker::Model;
 
-/// The number of words in all banks.
+/// The number of words in all four banks of the address space, 262,144.
 const WORDS: usize = BANKS * BANK_WORDS;
 
-/// The number for an address without a word: the first number above all words.
+/// The number that is stored for an address without a word: 400 (hexadecimal), the first number above all ten-bit
+/// words.
 const NOTHING: u16 = 0x400;
 
-/// The word at each address of each bank, if there is one.
+/// The ten-bit word at each address of each of the four banks, if there is one.
 #[derive(Drop)]
 pub struct AddressSpace {
     numbers: Vec<u16>,
@@ -46,7 +47,7 @@ impl AddressSpace {
         Ok(AddressSpace { numbers })
     }
 
-    /// Returns the word at an address of a bank, or `None` if there is none.
+    /// Returns the word at an address, 0000 to FFFF, of a bank, or `None` if there is none.
     #[inline(always)]
     pub fn word(&self, bank: ChosenBank, address: u16) -> Option<Word>
         ensures fits { IsSome result
@@ -57,7 +58,7 @@ impl AddressSpace {
         Word::new(self.numbers[bank.word_place(address)])
     }
 
-    /// Writes a word at an address of a bank.
+    /// Writes a word at an address, 0000 to FFFF, of a bank.
     pub fn set(&mut self, bank: Bank, address: u16, word: Word)
         ensures { self.new ≡ slice_set self.old (spec.word_place bank address) word }
     {

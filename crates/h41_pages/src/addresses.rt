@@ -3,20 +3,20 @@
 ghost use Rattle.std.specs.Prelude.{◌≡◌, ◌<◌};
 ghost use Rattle.h41_pages.specs.Addresses as spec;
 
-/// The number of pages of the address space.
+/// The number of pages of the address space, 16.
 pub const PAGES: usize = 16;
 
-/// The number of words of a page.
+/// The number of words of a page, 4,096.
 pub const PAGE_WORDS: usize = 4096;
 
-/// The first address of the pages that can be plugged. Those below it belong to the system's ROM, which is not supported (this
-/// project's choice).
+/// The first address, 4000, of the pages that can be plugged. Those below it belong to the system's ROM, which is not
+/// supported (this project's choice).
 pub const FIRST_ADDRESS: u16 = 0x4000;
 
-/// The first page that can be plugged. Those below it belong to the system's ROM.
+/// The first page that can be plugged, 4. Pages 0 to 3 belong to the system's ROM.
 const FIRST_PAGE: u8 = 4;
 
-/// The last page that can be plugged.
+/// The last page that can be plugged, F.
 const LAST_PAGE: u8 = 15;
 
 /// Returns whether a page can be plugged: whether it is 4 to F (this project's choice).

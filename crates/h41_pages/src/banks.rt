@@ -8,10 +8,10 @@ use crate::addresses::{PAGE_WORDS, PAGES, is_pluggable};
 use h41_words::Bank;
 use std::marker::Model;
 
-/// The number of banks of a page.
+/// The number of banks of a page, 4.
 pub const BANKS: usize = 4;
 
-/// The number of words in one bank of all pages: one for each address.
+/// The number of words in one bank of all pages, 65,536: one for each address.
 pub const BANK_WORDS: usize = PAGES * PAGE_WORDS;
 
 /// Returns whether a page and a bank are supported: pages 4 to F, banks 1 to 4 (this project's choice).
@@ -21,7 +21,7 @@ pub fn is_held(page: u8, bank: u8) -> bool
     is_pluggable(page) && (1..=4).contains(&bank)
 }
 
-/// Returns the bank with a number from 1 to 4.
+/// Returns the bank with a number from 1 to 4. Any other number returns bank 4.
 pub fn bank_numbered(number: u8) -> Bank
     ensures { result ≡ spec.bank_numbered number }
 {
@@ -47,7 +47,8 @@ pub fn bank_place(bank: Bank) -> usize
     }
 }
 
-/// An active bank, stored as the position of its words in the list of the words of all banks: a fetch only has to add the address.
+/// A bank of all pages, 1 to 4, stored as the position of its first word in the list of the words of all banks, so that
+/// a fetch only has to add the address.
 #[derive(Clone, Copy)]
 pub struct ChosenBank {
     start: usize,
@@ -68,7 +69,7 @@ impl Model for ChosenBank {
 }
 
 impl ChosenBank {
-    /// Returns a bank as an active bank.
+    /// Returns the representation of a bank by the position of its first word in the list of the words of all banks.
     pub fn of(bank: Bank) -> Self
         ensures { result ≡ bank }
     {
@@ -81,7 +82,7 @@ impl ChosenBank {
         ChosenBank { start }
     }
 
-    /// Returns the bank.
+    /// Returns the bank, 1 to 4, that is represented by the position of its first word.
     pub fn bank(self) -> Bank
         ensures { result ≡ self }
     {
@@ -93,7 +94,8 @@ impl ChosenBank {
         }
     }
 
-    /// Returns the position, in the list of the words of all banks, of the word at an address of the bank.
+    /// Returns the position, in the list of the words of all banks, of the word at an address, 0000 to FFFF, of this
+    /// bank.
     #[inline(always)]
     pub fn word_place(self, address: u16) -> usize
         ensures place { result ≡ word_place self address }

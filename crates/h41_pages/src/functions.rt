@@ -16,25 +16,25 @@ use arrayvec::ArrayVec;
 use h41_words::{Bank, Word};
 use std::alloc::{AllocError, Global};
 
-/// The greatest XROM number.
+/// The greatest XROM number of a module, 31.
 const LAST_NUMBER: u16 = 31;
 
-/// The greatest number of table entries of a page.
+/// The greatest number of table entries of a page, 64.
 const MOST_ENTRIES: u16 = 64;
 
-/// The greatest number of characters of the name of a microcode function.
+/// The greatest number of characters of the name of a microcode function, 11.
 const MICROCODE_NAME_LENGTH: usize = 11;
 
-/// A table entry of a module.
+/// What a table entry of a module says about its function.
 #[derive(Clone, Copy, Debug, PartialEq, Eq)]
 pub struct Entry {
-    /// The address of the function.
+    /// The address of the function's first word: that of the page plus the offset in the entry.
     pub address: u16,
     /// Whether the function is a keystroke program; otherwise it is microcode.
     pub keystroke: bool,
 }
 
-/// A function of a module.
+/// A function of a plugged module, with its XROM number, its entry number and its name.
 #[derive(Debug, Drop)]
 pub struct ModuleFunction {
     /// The XROM number of its module, 1 to 31.
@@ -46,9 +46,9 @@ pub struct ModuleFunction {
 }
 
 impl Pages {
-    /// Returns the table entry with an XROM number and an entry number, in the lowest page with this XROM number. Returns `None` if
-    /// there is no such page, or if the entry number is not below the page's number of entries. That is taken as 0 if it is above
-    /// 64 or the XROM number is not 1 to 31 (this project's choice).
+    /// Returns the table entry with an XROM number and an entry number, in the lowest page with this XROM number.
+    /// Returns `None` if there is no such page, or if the entry number is not below the page's number of entries. The
+    /// number of entries is taken as 0 if it is above 64 or the XROM number is not 1 to 31 (this project's choice).
     pub fn entry(&self, number: u8, entry: u8) -> Option<Entry>
         ensures { result ≡ spec.entry_at self.now number entry }
     {
@@ -56,7 +56,8 @@ impl Pages {
         self.entry_of(page, entry)
     }
 
-    /// Returns a table entry of a page, or `None` if it has none with this number.
+    /// Returns the table entry with an entry number of a page, 0 to 15, or `None` if bank 1 of the page is not plugged
+    /// or the entry number is not below the page's number of entries.
     fn entry_of(&self, page: usize, entry: u8) -> Option<Entry>
         requires { page < 16 }
         ensures { result ≡ spec.entry_on self.now page entry }
@@ -67,7 +68,8 @@ impl Pages {
         }
     }
 
-    /// Returns the lowest page with an XROM number, or `None` if there is none.
+    /// Returns the lowest page, 0 to 15, that has an XROM number: word 0 of its bank 1 is this number. `None` if there
+    /// is no such page.
     fn page_numbered(&self, number: u8) -> Option<usize>
         ensures page { result ≡ spec.page_numbered self.now number }
         ensures bound { IfSome result (λ page. page < 16) }
@@ -80,7 +82,8 @@ impl Pages {
         None
     }
 
-    /// Returns whether a page has an XROM number.
+    /// Returns whether a page, 0 to 15, has an XROM number: whether its bank 1 is plugged and word 0 of it is this
+    /// number.
     fn is_numbered(&self, page: usize, number: u8) -> bool
         requires { page < 16 }
         ensures { result ≡ spec.is_numbered number (spec.first_image self.now page) }
@@ -91,8 +94,8 @@ impl Pages {
         }
     }
 
-    /// Returns the XROM number, 1 to 31, and the entry number, 0 to 63, of the function with a name, or `None` if there is none.
-    /// The first function with the name is found, in the order of the pages and then of their table entries.
+    /// Returns the XROM number, 1 to 31, and the entry number, 0 to 63, of the first function whose name is `name`, in
+    /// the order of the pages and then of their table entries. `None` if there is no such function.
     pub fn find(&self, name: &[u8]) -> Option<(u8, u8)>
         ensures found { result ≡ spec.function_of_name self.now name.now }
         ensures bound { IfSome result spec.AreNumbers }
@@ -105,7 +108,8 @@ impl Pages {
         None
     }
 
-    /// Returns the XROM number and the entry number of the first function of one page with a name.
+    /// Returns the XROM number, 1 to 31, and the entry number, 0 to 63, of the first function with a name in one page,
+    /// 0 to 15, in the order of its table entries. `None` if bank 1 is not plugged or no function has the name.
     fn find_at(&self, page: usize, name: &[u8]) -> Option<(u8, u8)>
         requires { page < 16 }
         ensures found { result ≡ spec.found_in name.now (spec.functions_at self.now page) }
@@ -117,8 +121,8 @@ impl Pages {
         }
     }
 
-    /// Returns all functions, in the order of the pages and then of their table entries. The only error is `AllocError`, if
-    /// allocation fails.
+    /// Returns all functions of the plugged modules, in the order of the pages and then of their table entries. The
+    /// only error is `AllocError`, if allocation fails.
     pub fn functions(&self, alloc: Global) -> Result<Vec<ModuleFunction>, AllocError>
         ensures { IfOk result (λ functions. functions.items ≡ spec.functions self.now) }
     {
@@ -129,9 +133,9 @@ impl Pages {
         Ok(functions)
     }
 
-    /// Returns the offsets of the keystroke functions of a page, in the order of their table entries, as its bank 1 lists them.
-    /// There are none if bank 1 is not plugged, or if the XROM number or the number of entries is out of range (this project's
-    /// choice).
+    /// Returns the offsets, 0 to 4,095, of the keystroke functions of a page, 0 to 15, in the order of the table
+    /// entries in its bank 1. There are none if bank 1 is not plugged, or if the XROM number or the number of entries
+    /// is out of range (this project's choice).
     pub fn keystroke_offsets(&self, page: usize) -> ArrayVec<u16, 64>
         requires { page < 16 }
         ensures offsets { result.items ≡ spec.keystroke_offsets self.now page }
@@ -143,7 +147,8 @@ impl Pages {
         }
     }
 
-    /// Appends the functions of a page to a list. The only error is `AllocError`, if allocation fails.
+    /// Appends the functions of a page, 0 to 15, to a list, in the order of their table entries. The only error is
+    /// `AllocError`, if allocation fails.
     fn add_functions_at(
         &self,
         page: usize,
@@ -160,14 +165,15 @@ impl Pages {
 }
 
 impl Image {
-    /// Returns word 0, which is the XROM number if there are functions.
+    /// Returns word 0 of the image, 000 to 3FF. It is the XROM number if the image has functions.
     fn number(&self) -> u16
         ensures { result ≡ spec.number_in self.now.words }
     {
         self.word(0).number()
     }
 
-    /// Returns the number of table entries: word 1, or 0 if the XROM number or the number of entries is out of range.
+    /// Returns the number of table entries, 0 to 64: word 1 of the image, or 0 if the XROM number is not 1 to 31 or
+    /// word 1 is above 64.
     fn entry_count(&self) -> usize
         ensures count { result ≡ spec.entry_count self.now.words }
         ensures bound { result ≤ 64 }
@@ -181,7 +187,8 @@ impl Image {
         }
     }
 
-    /// Returns whether a table entry is that of a keystroke function, which its bit 9 indicates.
+    /// Returns whether the table entry with a number from 0 to 63 is that of a keystroke function: whether bit 9 of the
+    /// entry's first word is set.
     fn is_keystroke(&self, entry: usize) -> bool
         requires { entry < 64 }
         ensures { result ≡ spec.is_keystroke self.now.words entry }
@@ -189,7 +196,7 @@ impl Image {
         self.word(2 + 2 * entry).number() / 512 % 2 == 1
     }
 
-    /// Returns the offset of the function of a table entry, 0 to 4,095.
+    /// Returns the offset in the page, 0 to 4,095, of the function whose table entry has a number from 0 to 63.
     fn entry_offset(&self, entry: usize) -> usize
         requires { entry < 64 }
         ensures offset { result ≡ spec.entry_offset self.now.words entry }
@@ -200,7 +207,8 @@ impl Image {
         usize::from(256 * high + low)
     }
 
-    /// Returns the offsets of the keystroke functions.
+    /// Returns the offsets in the page, 0 to 4,095, of the keystroke functions of the image, in the order of their
+    /// table entries.
     fn keystroke_offsets(&self) -> ArrayVec<u16, 64>
         ensures offsets { result.items ≡ spec.keystroke_offsets_in self.now.words }
         ensures bound { All (λ offset. offset < page_size) result.items }
@@ -215,7 +223,8 @@ impl Image {
         offsets
     }
 
-    /// Returns a table entry of a page that has this image, or `None` if there is none with this number.
+    /// Returns the table entry with a number, for a page (0 to 15) that has this image. `None` if the number is not
+    /// below the number of entries.
     fn entry(&self, page: usize, entry: usize) -> Option<Entry>
         requires { page < 16 }
         ensures { result ≡ spec.entry_of page entry self.now }
@@ -229,8 +238,9 @@ impl Image {
         })
     }
 
-    /// Returns the name that ends directly before an offset, or `None`. It is read backwards, up to the word that is marked as its
-    /// last character.
+    /// Returns the name of the microcode function at an offset, or `None` if there is none. The name ends directly
+    /// before the function and is read backwards, one character from each word, up to the word that is marked as the
+    /// last character. A name has at most 11 characters.
     fn name_before(&self, offset: usize) -> Option<Name>
         requires { offset < page_size }
         ensures { result ≡ spec.spelled_name (spec.words_before self.now.words offset) }
@@ -247,8 +257,9 @@ impl Image {
         None
     }
 
-    /// Returns the name of the function of a table entry, if it has one: for microcode the name before it, for a keystroke function
-    /// that of its label.
+    /// Returns the name of the function whose table entry has a number from 0 to 63, or `None` if it has none. The name
+    /// of a microcode function is in the words before it, that of a keystroke function is the name of the label with
+    /// which it begins.
     fn entry_name(&self, entry: usize) -> Option<Name>
         requires { entry < 64 }
         ensures { result ≡ spec.entry_name self.now.words entry }
@@ -261,7 +272,8 @@ impl Image {
         }
     }
 
-    /// Returns whether the function of a table entry has a name.
+    /// Returns whether the function whose table entry has a number from 0 to 63 has a name with exactly the bytes
+    /// `name`.
     fn is_named(&self, entry: usize, name: &[u8]) -> bool
         requires { entry < 64 }
         ensures { result ≡ spec.is_named name.now (spec.function_in self.now.words entry) }
@@ -272,7 +284,8 @@ impl Image {
         }
     }
 
-    /// Returns the function of a table entry.
+    /// Returns the XROM number, the entry number and the name, if any, of the function whose table entry has this
+    /// number. The number must be below that of the table entries.
     fn function(&self, entry: usize) -> ModuleFunction
         requires { entry < spec.entry_count self.now.words }
         ensures { result ≡ spec.function_in self.now.words entry }
@@ -285,7 +298,8 @@ impl Image {
         }
     }
 
-    /// Returns the XROM number and the entry number of the first function with a name.
+    /// Returns the XROM number, 1 to 31, and the entry number, 0 to 63, of the first function of the image with a name,
+    /// in the order of the table entries. `None` if there is none.
     fn find(&self, name: &[u8]) -> Option<(u8, u8)>
         ensures found { result ≡ spec.found_in name.now (spec.functions_of self.now.words) }
         ensures bound { IfSome result spec.AreNumbers }
@@ -299,7 +313,8 @@ impl Image {
         None
     }
 
-    /// Appends the functions of the image to a list. The only error is `AllocError`, if allocation fails.
+    /// Appends the functions of the image to a list, in the order of their table entries. The only error is
+    /// `AllocError`, if allocation fails.
     fn add_functions(&self, functions: &mut Vec<ModuleFunction>) -> Result<(), AllocError>
         ensures { OnOk result (AddsOf self.now.words functions.old.items functions.new.items) }
     {
@@ -311,7 +326,8 @@ impl Image {
     }
 }
 
-/// Returns the character of a word of a name: the low six bits of the word are the character's code, 20 to 5F, modulo 64.
+/// Returns the character, 20 to 5F, of a word of a microcode function's name. Its code modulo 64 is in the low six bits
+/// of the word.
 fn character(word: Word) -> u8
     ensures { result ≡ spec.character word }
 {
@@ -319,7 +335,8 @@ fn character(word: Word) -> u8
     if code < 0x20 { code + 0x40 } else { code }
 }
 
-/// Returns whether a word is the last character of a name, which its bit 7 indicates.
+/// Returns whether a word of a microcode function's name is marked as the last character: whether bit 7 of the word is
+/// set.
 fn is_last(word: Word) -> bool
     ensures { result ≡ spec.is_last word }
 {

@@ -1,4 +1,4 @@
-//! The image of a bank of a page: its words, and a copy of the keystroke code in them.
+//! The image of one bank of a page: its 4,096 words, and a copy of the keystroke code in them.
 
 ghost use Rattle.std.specs.Prelude.{◌≡◌, ◌<◌, IfOk, IsFalse, IsTrue, All, length, option_map};
 ghost use Rattle.std.specs.Prelude.{slice_index, slice_set};
@@ -14,11 +14,11 @@ use h41_words::Word;
 use std::alloc::{AllocError, Global};
 use std::marker::Model;
 
-/// The words of a bank of a page, and whether microcode can write them.
+/// The 4,096 ten-bit words of a bank of a page, and whether microcode can write them.
 #[derive(Drop)]
 pub struct Image {
     words: Vec<Word>,
-    /// The low byte of each word.
+    /// The keystroke code: the low byte of each word.
     code: Vec<u8>,
     writable: bool,
 }
@@ -38,7 +38,8 @@ impl Model for Image {
 }
 
 impl Image {
-    /// Returns the image of 4,096 words. The only error is `AllocError`, if allocation fails.
+    /// Returns the image with 4,096 words, none of which may be above 3FF; `writable` says whether microcode can write
+    /// them. The only error is `AllocError`, if allocation fails.
     pub fn new(alloc: Global, writable: bool, words: &[u16]) -> Result<Self, AllocError>
         requires size { length words.now ≡ page_size }
         requires each { All (λ word. word < word_count) words.now }
@@ -58,7 +59,7 @@ impl Image {
         })
     }
 
-    /// Returns the words of the image.
+    /// Returns the 4,096 words of the image, in the order of their offsets.
     pub fn words(&self) -> &[Word]
         ensures words { result.now ≡ self.now.words }
         ensures size { length result.now ≡ page_size }
@@ -66,7 +67,7 @@ impl Image {
         self.words.as_slice()
     }
 
-    /// Returns the keystroke code of the image: the low byte of each word.
+    /// Returns the keystroke code of the image: the low byte of each of its 4,096 words, in the order of their offsets.
     pub fn code(&self) -> &[u8]
         ensures code { result.now ≡ code_from self.now.words 0 }
         ensures size { length result.now ≡ page_size }
@@ -74,7 +75,7 @@ impl Image {
         self.code.as_slice()
     }
 
-    /// Returns the word at an offset.
+    /// Returns the word of the image at an offset from 0 to 4,095.
     pub fn word(&self, offset: usize) -> Word
         requires { offset < page_size }
         ensures { result ≡ slice_index self.now.words offset }
@@ -89,7 +90,7 @@ impl Image {
         self.writable
     }
 
-    /// Writes the word at an offset.
+    /// Writes the word of the image at an offset from 0 to 4,095, whether the image is writable or not.
     pub fn write(&mut self, offset: usize, word: Word)
         requires { offset < page_size }
         ensures one { self.new ≡ record self.old { words = slice_set self.old.words offset word } }
@@ -101,7 +102,8 @@ impl Image {
     }
 }
 
-/// Writes a word at an offset if an image is plugged there as writable, and returns whether it is.
+/// Writes a word at an offset from 0 to 4,095 of an image if there is one and it is writable, and returns whether the
+/// word was written.
 #[inline(always)]
 pub fn write_plugged(image: &mut Option<Image>, offset: usize, word: Word) -> bool
     requires { offset < page_size }
@@ -119,14 +121,14 @@ pub fn write_plugged(image: &mut Option<Image>, offset: usize, word: Word) -> bo
     }
 }
 
-/// Returns the byte of keystroke code in a word.
+/// Returns the byte of keystroke code in a word: its low eight bits.
 fn code_byte(word: Word) -> u8
     ensures { result ≡ code_byte word }
 {
     (word.number() % 256) as u8
 }
 
-/// Returns whether words are those of an image: 4,096 words up to 3FF.
+/// Returns whether words can be the image of a bank: 4,096 words, none above 3FF.
 pub fn is_image(words: &[u16]) -> bool
     ensures test { result ≡ is_image words.now }
     ensures size { IsTrue result → length words.now ≡ page_size }
@@ -135,7 +137,7 @@ pub fn is_image(words: &[u16]) -> bool
     words.len() == PAGE_WORDS && all_fit(words)
 }
 
-/// Returns whether no word is above 3FF.
+/// Returns whether none of the given words is above 3FF, so that each fits into ten bits.
 fn all_fit(words: &[u16]) -> bool
     ensures test { result ≡ list_all (λ word. nat_le word 0x3FF) words.now }
     ensures each { IsTrue result → All (λ word. word < word_count) words.now }

@@ -15,11 +15,12 @@ use byteorder::{BigEndian, ByteOrder};
 use h41_words::Word;
 use std::alloc::{AllocError, Global};
 
-/// The number of bytes of an image.
+/// The number of bytes of an image: 8,192, two for each of the 4,096 words.
 const IMAGE_BYTES: usize = 2 * PAGE_WORDS;
 
-/// Returns the words of an image that is given as bytes. The errors, in this order: BadImage (04) if there are not 8,192 bytes or a
-/// word is above 3FF, OutOfMemory (21) if allocation fails.
+/// Returns the 4,096 words of an image that is given as 8,192 bytes, two for each word, the high byte first. The
+/// errors, in this order: BadImage (04) if there are not 8,192 bytes or a word is above 3FF, OutOfMemory (21) if
+/// allocation fails.
 pub fn image_read(alloc: Global, bytes: &[u8]) -> Result<Vec<u16>, ReadRefusal>
     ensures accepted { OnOk result (spec.read_refusal bytes.now ≡ None) }
     ensures words { IfOk result (λ words. words.items ≡ spec.words_in bytes.now) }
@@ -31,7 +32,8 @@ pub fn image_read(alloc: Global, bytes: &[u8]) -> Result<Vec<u16>, ReadRefusal>
     Ok(words_in(alloc, bytes)?)
 }
 
-/// Returns the words of an image's bytes.
+/// Returns the 4,096 words that 8,192 bytes form, two bytes for each word, the high byte first. The only error is
+/// `AllocError`, if allocation fails.
 fn words_in(alloc: Global, bytes: &[u8]) -> Result<Vec<u16>, AllocError>
     requires { length bytes.now ≡ spec.image_size }
     ensures { IfOk result (λ words. words.items ≡ spec.words_in bytes.now) }
@@ -43,7 +45,8 @@ fn words_in(alloc: Global, bytes: &[u8]) -> Result<Vec<u16>, AllocError>
     Ok(words)
 }
 
-/// Returns whether bytes are those of an image: 8,192 bytes, with no word above 3FF.
+/// Returns whether bytes are those of an image: 8,192 bytes, two for each word with the high byte first, and no word
+/// above 3FF.
 pub fn is_image_bytes(bytes: &[u8]) -> bool
     ensures test { result ≡ spec.is_image_bytes bytes.now }
     ensures size { IsTrue result → length bytes.now ≡ spec.image_size }
@@ -51,7 +54,7 @@ pub fn is_image_bytes(bytes: &[u8]) -> bool
     bytes.len() == IMAGE_BYTES && all_fit(bytes)
 }
 
-/// Returns whether no word of an image is above 3FF.
+/// Returns whether none of the 4,096 words that 8,192 bytes form is above 3FF.
 fn all_fit(bytes: &[u8]) -> bool
     requires { length bytes.now ≡ spec.image_size }
     ensures { result ≡ spec.all_fit bytes.now }
@@ -64,7 +67,7 @@ fn all_fit(bytes: &[u8]) -> bool
     true
 }
 
-/// Returns the word that two bytes form, from a position on.
+/// Returns the number, 0000 to FFFF, that two bytes form, the high byte first. `place` is the index of the high byte.
 fn word_from(bytes: &[u8], place: usize) -> u16
     requires { place + 1 < length bytes.now }
     ensures { result ≡ spec.word_from bytes.now place }
@@ -73,9 +76,9 @@ fn word_from(bytes: &[u8], place: usize) -> u16
 }
 
 impl Pages {
-    /// Returns the bytes of the image of a bank of a page. The errors, in this order: NoSuchPage (01) if the page is not 4 to F or
-    /// the bank is not 1 to 4 (this project's choice), NotPlugged (03) if the bank is not plugged, OutOfMemory (21) if allocation
-    /// fails.
+    /// Returns the 8,192 bytes of the image of a bank of a page, two for each word, the high byte first. The errors, in
+    /// this order: NoSuchPage (01) if the page is not 4 to F or the bank is not 1 to 4 (this project's choice),
+    /// NotPlugged (03) if the bank is not plugged, OutOfMemory (21) if allocation fails.
     pub fn image_write(&self, alloc: Global, page: u8, bank: u8) -> Result<Vec<u8>, ImageRefusal>
         ensures accepted { OnOk result (spec.image_refusal self.now page bank ≡ None) }
         ensures bytes { IfOk result (λ bytes. spec.IsImageAt self.now page bank bytes.items) }
@@ -93,7 +96,8 @@ impl Pages {
 }
 
 impl Image {
-    /// Returns the bytes of the image's words.
+    /// Returns the 8,192 bytes of the image, two for each word, the high byte first. The only error is `AllocError`, if
+    /// allocation fails.
     fn bytes(&self, alloc: Global) -> Result<Vec<u8>, AllocError>
         ensures bytes { IfOk result (λ bytes. bytes.items ≡ spec.image_bytes self.now.words) }
         ensures size { IfOk result (λ bytes. vec_len bytes ≡ spec.image_size) }
@@ -102,7 +106,8 @@ impl Image {
     }
 }
 
-/// Returns the bytes of words.
+/// Returns the bytes of words, two for each word, the high byte first. The only error is `AllocError`, if allocation
+/// fails.
 fn bytes_of(alloc: Global, words: &[Word]) -> Result<Vec<u8>, AllocError>
     ensures bytes { IfOk result (λ bytes. bytes.items ≡ spec.image_bytes words.now) }
     ensures size { IfOk result (λ bytes. vec_len bytes ≡ 2 * length words.now) }

@@ -1,4 +1,4 @@
-//! The names of keystroke functions. The low eight bits of each word are a byte of a program.
+//! The names of keystroke functions. The low eight bits of each word of a page are a byte of keystroke code.
 
 ghost use Rattle.std.specs.Prelude.{◌≡◌, ◌<◌};
 ghost use Rattle.h41_pages.specs.Addresses.{page_size};
@@ -10,7 +10,8 @@ use crate::name::Name;
 use h41_codes::{Line, decode};
 
 impl Image {
-    /// Returns the name of the label with which the keystroke code at an offset begins, or `None` if it begins with anything else.
+    /// Returns the name of the global label with which the keystroke code at an offset, 0 to 4,095, begins, or `None`
+    /// if it begins with anything else.
     pub(crate) fn label_name(&self, offset: usize) -> Option<Name>
         requires { offset < page_size }
         ensures { result ≡ spec.label_name (spec.code_from self.now.words offset) }
@@ -22,7 +23,7 @@ impl Image {
     }
 }
 
-/// Returns the name of a line, if it is a label that has one.
+/// Returns the name of a program line, if it is a global label, otherwise `None`.
 fn name_of(line: &Line) -> Option<Name>
     ensures { result ≡ labels.name_of line.now }
 {

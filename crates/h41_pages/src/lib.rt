@@ -1,5 +1,5 @@
-//! The pages of the HP-41's address space: images of words that are plugged, read and written, their bytes as files contain them,
-//! and the functions of modules.
+//! The pages of the HP-41's address space: images of 4,096 words that are plugged, read and written, their bytes as
+//! files contain them, and the functions of modules.
 #![tactic(auto)]
 
 mod address_space;

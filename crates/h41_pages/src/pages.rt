@@ -1,4 +1,4 @@
-//! The pages of the address space.
+//! The pages of the address space, and which images are plugged at them.
 
 ghost use Rattle.std.specs.Prelude.{◌≡◌, ◌<◌, ◌≤◌, None, IfOk, IfErr, IfNone, OnOk, OnErr, All};
 ghost use Rattle.std.specs.Prelude.{length, is_some, option_copied};
@@ -25,7 +25,7 @@ use std::marker::Model;
 pub struct Pages {
     images: Vec<[Option<Image>; BANKS]>,
     chosen: [ChosenBank; PAGES],
-    /// The word that is fetched at each address of each bank.
+    /// The word that is fetched at each address of each bank, if there is one.
     space: AddressSpace,
 }
 
@@ -80,7 +80,9 @@ impl Pages {
         Ok(())
     }
 
-    /// Returns the reason why words cannot be plugged, except that allocation fails.
+    /// Returns the reason why words cannot be plugged at a bank of a page, or `None` if they can unless allocation
+    /// fails. The reasons, in this order: NoSuchPage (01) if the page is not 4 to F or the bank is not 1 to 4, Occupied
+    /// (02) if the bank is already plugged, BadImage (04) if there are not 4,096 words or one is above 3FF.
     fn plug_refusal(&self, page: u8, bank: u8, words: &[u16]) -> Option<PlugRefusal>
         ensures refusal { result ≡ spec.plug_refusal self.now page bank words.now }
         ensures page { IfNone result (page < 16) }
@@ -98,8 +100,8 @@ impl Pages {
         }
     }
 
-    /// Unplugs all banks of a page, which is afterwards as at the start. The errors: NoSuchPage (01) if the page is not 4 to F,
-    /// NotPlugged (03) if none of its banks is plugged. After an error nothing has changed.
+    /// Unplugs all banks of a page, after which bank 1 is active. The errors: NoSuchPage (01) if the page is not 4 to
+    /// F, NotPlugged (03) if none of its banks is plugged. After an error nothing has changed.
     pub fn unplug(&mut self, page: u8) -> Result<(), UnplugRefusal>
         ensures refusal { result_err result ≡ spec.unplug_refusal self.old page }
         ensures ok { OnOk result (self.new ≡ spec.without_images self.old page) }
@@ -118,8 +120,8 @@ impl Pages {
         Ok(())
     }
 
-    /// Activates a bank of a page, 0 to F, if it is plugged; otherwise nothing changes (this project's choice). It is a cold
-    /// function of its own, so that words that activate no bank are faster.
+    /// Activates a bank of a page, 0 to F, if it is plugged; otherwise nothing changes (this project's choice). It is a
+    /// cold function of its own, so that microcode words that activate no bank are faster.
     #[cold]
     #[inline(never)]
     pub fn choose(&mut self, page: u8, bank: Bank)
@@ -132,7 +134,7 @@ impl Pages {
         }
     }
 
-    /// Activates bank 1 of each page.
+    /// Activates bank 1 of each of the 16 pages.
     pub fn choose_first_banks(&mut self)
         ensures { self.new ≡ spec.with_first_banks self.old }
     {
@@ -168,8 +170,8 @@ impl Pages {
         }
     }
 
-    /// Returns the keystroke code of a page: the low byte of each word of its bank 1, in the order of their offsets. It is empty if
-    /// bank 1 is not plugged.
+    /// Returns the keystroke code of a page, 0 to 15: the low byte of each word of its bank 1, in the order of their
+    /// offsets. It is empty if bank 1 is not plugged.
     pub fn code(&self, page: usize) -> &[u8]
         requires { page < 16 }
         ensures code { result.now ≡ code_of self.now page }
@@ -202,8 +204,8 @@ impl Pages {
         Ok(())
     }
 
-    /// Returns ReadOnly (12) if the word at an address cannot be written, because the active bank of its page is not plugged as
-    /// writable.
+    /// Returns an error if the word at an address cannot be written: ReadOnly (12) if the active bank of its page is
+    /// not plugged as writable.
     pub fn check_writable(&self, address: u16) -> Result<(), ReadOnly>
         ensures { result_err result ≡ spec.write_refusal self.now address }
     {
@@ -213,7 +215,8 @@ impl Pages {
         }
     }
 
-    /// States what is true of all pages at any time.
+    /// States what is true of all pages at any time: each plugged image has 4,096 words, none above 3FF, and its page
+    /// and bank are supported.
     pub(crate) fn known(&self)
         ensures { spec.IsPageMap self.now }
     {
@@ -238,7 +241,8 @@ impl Pages {
     }
 }
 
-/// Returns images with nothing plugged at any bank. The only error is `AllocError`, if allocation fails.
+/// Returns, for each of the 16 pages, four banks with nothing plugged. The only error is `AllocError`, if allocation
+/// fails.
 fn no_images(alloc: Global) -> Result<Vec<[Option<Image>; BANKS]>, AllocError>
     ensures { IfOk result (λ images. images.items ≡ spec.no_pages.images) }
 {
@@ -249,7 +253,7 @@ fn no_images(alloc: Global) -> Result<Vec<[Option<Image>; BANKS]>, AllocError>
     Ok(images)
 }
 
-/// Returns whether any of a page's banks is plugged.
+/// Returns whether any bank is plugged, among the images of a page's banks.
 fn is_any_plugged(images: &[Option<Image>]) -> bool
     ensures { result ≡ list_any (λ image. is_some image) images.now }
 {

@@ -9,7 +9,7 @@ ghost use Rattle.h41_pages.specs.declared.refusal.ImageRefusal.TheVariants as im
 use std::alloc::AllocError;
 use thiserror::Error;
 
-/// The reason why words were not plugged.
+/// The reasons why `Pages::plug` did not plug words: NoSuchPage (01), Occupied (02), BadImage (04) or OutOfMemory (21).
 #[derive(Clone, Copy, Debug, PartialEq, Eq, Error)]
 pub enum PlugRefusal {
     /// NoSuchPage (01): the page is not 4 to F, or the bank is not 1 to 4.
@@ -26,7 +26,7 @@ pub enum PlugRefusal {
     OutOfMemory,
 }
 
-/// The reason why a page was not unplugged.
+/// The reasons why `Pages::unplug` did not unplug a page: NoSuchPage (01) or NotPlugged (03).
 #[derive(Clone, Copy, Debug, PartialEq, Eq, Error)]
 pub enum UnplugRefusal {
     /// NoSuchPage (01): the page is not 4 to F.
@@ -37,7 +37,7 @@ pub enum UnplugRefusal {
     NotPlugged,
 }
 
-/// The reason why no word was fetched.
+/// The reasons why no word was fetched from an address: SystemRom (08) or EmptyPage (09).
 #[derive(Clone, Copy, Debug, PartialEq, Eq, Error)]
 pub enum FetchRefusal {
     /// SystemRom (08): this address is in pages 0 to 3, which belong to the system's ROM.
@@ -56,7 +56,7 @@ pub struct ReadOnly {
     pub address: u16,
 }
 
-/// The reason why bytes were not read as an image.
+/// The reasons why `image_read` did not read bytes as an image: BadImage (04) or OutOfMemory (21).
 #[derive(Clone, Copy, Debug, PartialEq, Eq, Error)]
 pub enum ReadRefusal {
     /// BadImage (04): there are not 8,192 bytes, or a word is above 3FF.
@@ -67,7 +67,8 @@ pub enum ReadRefusal {
     OutOfMemory,
 }
 
-/// The reason why an image was not written as bytes.
+/// The reasons why `Pages::image_write` did not return the bytes of an image: NoSuchPage (01), NotPlugged (03) or
+/// OutOfMemory (21).
 #[derive(Clone, Copy, Debug, PartialEq, Eq, Error)]
 pub enum ImageRefusal {
     /// NoSuchPage (01): the page is not 4 to F, or the bank is not 1 to 4.

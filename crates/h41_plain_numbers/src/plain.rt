@@ -14,33 +14,34 @@ use h41_numbers::laws::plain_texts_are_typed;
 use h41_program::{ByteReader, final_position, position_by};
 use h41_ram::Ram;
 
-/// The greatest number of digits that are used.
+/// The greatest number of digits of a number line that this module reads: 10, as many as a mantissa has.
 const MANTISSA_DIGITS: u8 = 10;
 
-/// The byte of the radix mark. The bytes of the digits are less than it.
+/// The byte of the radix mark in a number line: 1A (hexadecimal). The bytes of the digits are 10 to 19.
 const RADIX_MARK: u8 = 0x1A;
 
-/// The greatest number of bytes of a number, plus one for the byte after it.
+/// The greatest number of bytes that are read for a number line: 16 for the line, and 1 for the byte after it.
 const NUMBER_AND_NEXT: u16 = 17;
 
-/// The exponent 0, plus 99.
+/// The exponent 0 as `Exponent` stores it: increased by 99.
 const EXPONENT_BIAS: u32 = 99;
 
-/// The digits of a number line that are read so far.
+/// The digits that are read so far of a number line of program memory.
 #[derive(Clone, Copy)]
 struct PlainDigits {
-    /// The digits as one whole number.
+    /// The digits that are read so far as one whole number, without the radix mark.
     number: u64,
-    /// The number of digits.
+    /// How many digits are read so far.
     count: u8,
-    /// The number of digits after the radix mark.
+    /// How many of the digits that are read so far are after the radix mark.
     places: u8,
-    /// Whether the radix mark was read.
+    /// Whether a radix mark was read.
     marked: bool,
 }
 
 impl PlainDigits {
-    /// Returns the digits after one more code was read, which is that of a digit or of the radix mark.
+    /// Returns these digits with one more byte of the number line read: that of a digit, 10 to 19 (hexadecimal), or
+    /// that of a radix mark, 1A. Before a digit, fewer than 10 digits must be read.
     #[inline(always)]
     fn read(self, code: u8) -> Self
         requires code { IsIn 0x10 0x1B code }
@@ -75,7 +76,8 @@ impl PlainDigits {
         }
     }
 
-    /// Returns the number that the digits form.
+    /// Returns the number that the digits form, with the sign plus and the exponent 0. `places` of the digits are after
+    /// the radix mark.
     #[inline(always)]
     fn ten(self) -> Ten
         requires { self.places ≤ 10 }
@@ -88,10 +90,11 @@ impl PlainDigits {
     }
 }
 
-/// Returns the number of the number line at a position, and the position of the next line, or that of the byte after the number if
-/// no line follows. The number line must be digits and radix marks alone, with one to ten digits, and must be followed by a byte
-/// that is before the last ones of program memory and does not continue a number. Returns `None` exactly if there is no such line
-/// at the position.
+/// Returns the number of the number line at a position in program memory, and the position of the next line, or that of
+/// the byte after the number if no line follows. `None` if there is no such number line at the position.
+///
+/// The number line must consist of digits and radix marks only, with one to ten digits, and must be followed by a byte
+/// that is before the last bytes of program memory (`final_position`) and does not continue a number.
 #[inline(never)]
 pub fn plain_number<const REGS: usize>(ram: &Ram<REGS>, at: u16) -> Option<(Ten, u16)>
     requires { IsTrue (is_sound ram.now.registers) }
@@ -114,8 +117,9 @@ pub fn plain_number<const REGS: usize>(ram: &Ram<REGS>, at: u16) -> Option<(Ten,
     }
 }
 
-/// Returns the digits of such a number line at a position, the position after it and the byte there, or `None`. `last` is the
-/// position of the last bytes.
+/// Returns the digits of the number line at position `at` of program memory, the position after the line, and the byte
+/// there. `None` if the line has another byte than those of digits and radix marks, no digit or more than 10, or if the
+/// byte after it is not found within 17 bytes and before `last`, the position of the last bytes of program memory.
 #[inline(always)]
 fn plain_digits<const REGS: usize>(
     ram: &Ram<REGS>,

@@ -1,4 +1,5 @@
-//! The state of keystroke programs besides memory.
+//! The state of keystroke programs that is not in memory: the position, the return addresses, stack lift, and the label
+//! cache.
 ghost use Rattle.std.specs.Prelude.{◌≡◌, [], IsTrue, Some};
 ghost use Rattle.h41_positions.specs.LabelledMachine.{local_search};
 ghost use Rattle.h41_positions.specs.FocalState.{at_line_00, at_position, halted_at, start};
@@ -16,17 +17,18 @@ use h41_pages::Pages;
 use h41_ram::Ram;
 use std::marker::Model;
 
-/// The most return addresses that are kept, as on a calculator.
+/// The most return addresses of subroutines that are kept, as on a calculator.
 pub const RETURNS: usize = 6;
 
-/// The state of keystroke programs besides memory: the position, the return addresses, stack lift, and the label cache.
+/// The state of keystroke programs that is not in memory: the position of the next line, the return addresses, the
+/// label cache, and stack lift.
 #[derive(Drop)]
 pub struct Focal {
     /// The position of the next line.
     pub position: Position,
     /// Whether the calculator is at line 00, the place before the program's first line. `position` is then the start of the program.
     pub is_at_line_00: bool,
-    /// The return addresses, at most 6. The newest is the last.
+    /// The return addresses of subroutines, at most 6. The newest is the last.
     pub returns: ArrayVec<Position, RETURNS>,
     /// Whether stack lift is on, so that the next number that is entered lifts the stack.
     pub lift: bool,
@@ -65,7 +67,7 @@ impl Focal {
         }
     }
 
-    /// Returns the label cache.
+    /// Returns the label cache: recent searches for labels, with their answers.
     pub fn cache(&self) -> &LabelCache
         ensures { result.now ≡ self.now.labels }
     {
@@ -98,7 +100,8 @@ impl Focal {
         self.is_at_line_00 = true;
     }
 
-    /// Moves to line 00 of the program that begins at a position, and clears all return addresses.
+    /// Moves to line 00 of the program that begins at a position, and clears all return addresses. Stack lift and the
+    /// label cache are unchanged.
     pub fn halt_at(&mut self, start: Position)
         ensures state { self.new.state ≡ halted_at start self.old.state }
         ensures labels { self.new.labels ≡ self.old.labels }
@@ -107,9 +110,10 @@ impl Focal {
         self.returns.clear();
     }
 
-    /// Returns the position of the `LBL n` that a search from this position finds, or `None` if there is none. In memory the answer is the
-    /// cached one if there is one; otherwise the search is made and its answer is stored in the label cache. In a page the search is always
-    /// made. Memory must be sound, and the cache must be right for it.
+    /// Returns the position of the `LBL n` that a search from this position finds, or `None` if there is none. In
+    /// memory the answer is the cached one if there is one; otherwise the search is made and its answer is stored in
+    /// the label cache. In a page the search is always made. Memory must be sound (`Ram::is_sound`), and the answers in
+    /// the cache must be those of searches in this memory.
     pub fn local<const REGS: usize>(
         &mut self,
         ram: &Ram<REGS>,
@@ -130,9 +134,10 @@ impl Focal {
         }
     }
 
-    /// Returns the byte of memory at which the last `LBL` with this name is, or `None` if there is none. The answer is the cached one if
-    /// there is one; otherwise the search is made and its answer is stored in the label cache. Memory must be sound, and the cache must be
-    /// right for it.
+    /// Returns the index of the byte of program memory at which the last `LBL` with this name begins, or `None` if
+    /// there is none. The answer is the cached one if there is one; otherwise the search is made and its answer is
+    /// stored in the label cache. Memory must be sound (`Ram::is_sound`), and the answers in the cache must be those of
+    /// searches in this memory.
     pub fn global<const REGS: usize>(&mut self, ram: &Ram<REGS>, name: Text<15>) -> Option<u16>
         requires sound { IsTrue (is_sound ram.now.registers) }
         requires right { IsRight self.old.labels ram.now.registers }

@@ -6,9 +6,9 @@ ghost use Rattle.h41_positions.specs.Positions.{EndOf, LineBefore, LocalFrom, Nu
 
 use h41_program::laws::{each_is_listed, lists_are_determined, searches_are_determined};
 
-/// Each position has a line or a refusal, over any memory and pages, and what is found from it is determined: its line and the next
-/// position, which each line has, the start and the end of its program, the positions of labels and of the line before, and the number of
-/// its line.
+/// States that each position has a line or a refusal, over any memory and pages, and that what is found from it is
+/// determined: its line and the next position, which each line has, the start and the end of its program, the positions
+/// of labels and of the line before, and the number of its line.
 pub fn positions_are_read()
     ensures each { EachIsRead }
     ensures read { IsReadOnce }

@@ -1,5 +1,5 @@
-//! Positions of keystroke programs, in memory and in plugged pages: the line at a position, and what is found from there; and the state of
-//! programs besides memory, with the current position and the return addresses.
+//! The positions of program lines, in memory and in plugged pages: the line at a position, and what is found from
+//! there. Also the state of programs that is not in memory, with the current position and the return addresses.
 #![tactic(auto)]
 
 mod focal;

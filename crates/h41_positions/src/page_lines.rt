@@ -1,4 +1,5 @@
-//! The lines of a page's keystroke code. Each word of the page contains one byte of it.
+//! The program lines in the words of a page. Each word of the page contains one byte of keystroke code; an offset is
+//! the index of a word in the page, 0 to 4095.
 
 ghost use Rattle.std.specs.Prelude.{◌≡◌, ◌<◌, ◌≤◌, length, is_some, IfSome, IfNone};
 ghost use Rattle.h41_positions.specs.PageLines as spec;
@@ -13,14 +14,15 @@ use h41_program::{
     Found, ListedLine, ProgramRefusal, Taken, is_end, is_final_end, is_label, line_in,
 };
 
-/// Returns whether a line ends a program of a page: END and `.END.` both do.
+/// Returns whether a line ends a program in a page: END and `.END.` both do.
 fn is_page_end(line: &Line) -> bool
     ensures { result ≡ spec.is_page_end line.now }
 {
     is_end(line) || is_final_end(*line)
 }
 
-/// Returns the first line from an offset on, after any nulls, and the offset after it. `None` if no line follows.
+/// Returns the first line at or after an offset of a page, after any nulls, and the offset just after it. `None` if no
+/// line follows.
 pub fn first_from(code: &[u8], at: u16) -> Option<Found>
     requires { length code.now ≤ 4096 }
     ensures first { IfSome result (λ found. CodeHasFirst code.now at found) }
@@ -47,7 +49,8 @@ pub fn first_from(code: &[u8], at: u16) -> Option<Found>
     }
 }
 
-/// Returns the first line from an offset on, with its offset. BrokenProgram (14) if there is none.
+/// Returns the first line at or after an offset of a page, after any nulls, with the offset of its first byte.
+/// BrokenProgram (14) if there is none.
 pub fn line_at(code: &[u8], at: u16) -> Result<ListedLine, ProgramRefusal>
     requires { length code.now ≤ 4096 }
     ensures { AnswersLine code.now at result }
@@ -58,8 +61,9 @@ pub fn line_at(code: &[u8], at: u16) -> Result<ListedLine, ProgramRefusal>
     }
 }
 
-/// Returns the offset of the line after the first line from an offset on. If no line follows, or the first line ends its program, it is the
-/// offset just after the first line. BrokenProgram (14) if there is no first line.
+/// Returns the offset of the line after the first line at or after the offset `at` of a page. If no line follows, or
+/// that first line ends its program, it is the offset just after the first line. BrokenProgram (14) if there is no
+/// first line.
 #[inline(never)]
 pub fn next(code: &[u8], at: u16) -> Result<u16, ProgramRefusal>
     requires { length code.now ≤ 4096 }
@@ -71,7 +75,8 @@ pub fn next(code: &[u8], at: u16) -> Result<u16, ProgramRefusal>
     }
 }
 
-/// Returns the first line from an offset on, and the offset that `next` returns, in one pass. BrokenProgram (14) if there is no first line.
+/// Returns the first line at or after the offset `at` of a page, and the offset that `next` returns for `at`, in one
+/// pass. BrokenProgram (14) if there is no line.
 pub fn line_and_next(code: &[u8], at: u16) -> Result<(Line, u16), ProgramRefusal>
     requires { length code.now ≤ 4096 }
     ensures { AnswersBoth code.now at result }
@@ -87,7 +92,8 @@ pub fn line_and_next(code: &[u8], at: u16) -> Result<(Line, u16), ProgramRefusal
     }
 }
 
-/// Returns the offset of the line after a line, or the offset just after that line if no line follows or if it ends its program.
+/// Returns the offset of the line after a line that was found in a page. If no line follows, or if the line ends its
+/// program, it is the offset just after the line.
 fn offset_behind(code: &[u8], found: Found) -> u16
     requires { length code.now ≤ 4096 }
     ensures { FoundBehind code.now found result }
@@ -102,7 +108,8 @@ fn offset_behind(code: &[u8], found: Found) -> u16
     }
 }
 
-/// Returns the offset of the END or `.END.` that ends the list of lines from an offset on, or `None` if the list has none.
+/// Returns the offset of the first END or `.END.` among the lines of a page that are read in turn from the offset
+/// `from` on, or `None` if no line follows before one is found.
 pub fn end_from(code: &[u8], from: u16) -> Option<u16>
     requires { length code.now ≤ 4096 }
     ensures { AnswersAll end_in code.now from result }
@@ -118,7 +125,8 @@ pub fn end_from(code: &[u8], from: u16) -> Option<u16>
     None
 }
 
-/// Returns the offset of the first `LBL n` in the list of lines from an offset on, or `None` if there is none.
+/// Returns the offset of the first `LBL n` with this label among the lines of a page that are read in turn from the
+/// offset `from` to the end of the program, or `None` if there is none.
 pub fn label_from(code: &[u8], from: u16, label: Parameter) -> Option<u16>
     requires { length code.now ≤ 4096 }
     ensures { AnswersAll (λ lines. position_of (label_in label lines)) code.now from result }
@@ -137,8 +145,8 @@ pub fn label_from(code: &[u8], from: u16, label: Parameter) -> Option<u16>
     None
 }
 
-/// Returns the number of the line at `position`, counted from the offset `from` with 1 as the first, or `None` if the list has no line
-/// there.
+/// Returns the number of the line whose first byte is at the offset `position`. The lines of a page are counted from
+/// the offset `from` to the end of the program; the first has number 1. `None` if no line begins at `position`.
 pub fn number_from(code: &[u8], from: u16, position: u16) -> Option<u16>
     requires { length code.now ≤ 4096 }
     ensures is { AnswersAll (number_in position) code.now from result }
@@ -160,7 +168,8 @@ pub fn number_from(code: &[u8], from: u16, position: u16) -> Option<u16>
     None
 }
 
-/// Returns the offset of the line with this number, counted from the offset `from` with 1 as the first, or `None` if there is none.
+/// Returns the offset of the line with this number. The lines of a page are counted from the offset `from` to the end
+/// of the program; the first has number 1. `None` if there is no such line.
 pub fn numbered_from(code: &[u8], from: u16, number: u16) -> Option<u16>
     requires { length code.now ≤ 4096 }
     ensures { AnswersAll (numbered_in number) code.now from result }
@@ -181,7 +190,8 @@ pub fn numbered_from(code: &[u8], from: u16, number: u16) -> Option<u16>
     None
 }
 
-/// Returns whether the list of lines from the offset `from` on has a line at the offset `position`.
+/// Returns whether a line begins at the offset `position`, if the lines of a page are read in turn from the offset
+/// `from` to the end of the program.
 pub fn has_line(code: &[u8], from: u16, position: u16) -> bool
     requires { length code.now ≤ 4096 }
     ensures { AnswersAll (λ lines. is_some (number_in position lines)) code.now from result }

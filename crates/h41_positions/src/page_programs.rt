@@ -1,4 +1,5 @@
-//! The start of a page's programs, and what is found in them.
+//! The start of a program in a page, and the labels, the end and the line numbers that are found in it. An offset is
+//! the index of a word in the page, 0 to 4095.
 
 ghost use Rattle.std.specs.Prelude.{◌<◌, ◌≤◌, length};
 ghost use Rattle.h41_positions.specs.PageLines.{AnswersLabel, AnswersOwn, StartsAt};
@@ -11,9 +12,9 @@ use h41_codes::Parameter;
 use h41_program::Found;
 use h41_program::laws::each_is_listed;
 
-/// Returns the offset at which the program of the offset `at` begins. It is the lowest of the offsets `begins`, at which functions begin,
-/// that is at most `at` and from which the list of lines has the line at `at`. The offsets can be in any order. If none qualifies, it is
-/// `at` itself.
+/// Returns the offset at which the program that contains the offset `at` begins. It is the lowest of the offsets
+/// `begins`, at which functions begin, that is at most `at` and from which the lines that are read in turn include the
+/// first line at or after `at`. The offsets can be in any order. If none qualifies, it is `at` itself.
 pub fn start_of(code: &[u8], begins: &[u16], at: u16) -> u16
     requires size { length code.now ≤ 4096 }
     requires inside { at < 4096 }
@@ -25,7 +26,9 @@ pub fn start_of(code: &[u8], begins: &[u16], at: u16) -> u16
     }
 }
 
-/// Returns the start of the program of the offset `at`, if the line at `at` is `first`.
+/// Returns the offset at which the program that contains the offset `at` begins, if the first line at or after `at` is
+/// `first`. It is the lowest of the offsets `begins`, at most `at`, from which the lines that are read in turn include
+/// `first`, or `at` if there is none.
 fn start_reaching(code: &[u8], begins: &[u16], at: u16, first: Found) -> u16
     requires size { length code.now ≤ 4096 }
     requires inside { at < 4096 }
@@ -43,8 +46,8 @@ fn start_reaching(code: &[u8], begins: &[u16], at: u16, first: Found) -> u16
     if least <= at { least } else { at }
 }
 
-/// Returns the offset of the first `LBL n` from the offset `at` on, otherwise that of the first one in the program, or `None` if there is
-/// none.
+/// Returns the offset of the first `LBL n` with this label from the offset `at` to the end of its program, otherwise
+/// that of the first one in the program, or `None` if there is none. `begins` are the offsets at which functions begin.
 pub fn local(code: &[u8], begins: &[u16], at: u16, label: Parameter) -> Option<u16>
     requires size { length code.now ≤ 4096 }
     requires inside { at < 4096 }
@@ -58,7 +61,8 @@ pub fn local(code: &[u8], begins: &[u16], at: u16, label: Parameter) -> Option<u
     }
 }
 
-/// Returns the offset of the END or `.END.` of the program of the offset `at`, or `None` if the program has none.
+/// Returns the offset of the END or `.END.` of the program that contains the offset `at`, or `None` if the program has
+/// none. `begins` are the offsets at which functions begin.
 pub fn end_of(code: &[u8], begins: &[u16], at: u16) -> Option<u16>
     requires size { length code.now ≤ 4096 }
     requires inside { at < 4096 }
@@ -68,8 +72,8 @@ pub fn end_of(code: &[u8], begins: &[u16], at: u16) -> Option<u16>
     end_from(code, start_of(code, begins, at))
 }
 
-/// Returns the number of the line at exactly the offset `at` in its program. The first line has number 1. `None` if its program has
-/// no line there.
+/// Returns the number of the line whose first byte is at the offset `at`, in its program. The first line has number 1.
+/// `None` if no line of the program begins there. `begins` are the offsets at which functions begin.
 pub fn line_number(code: &[u8], begins: &[u16], at: u16) -> Option<u16>
     requires size { length code.now ≤ 4096 }
     requires inside { at < 4096 }
@@ -79,7 +83,8 @@ pub fn line_number(code: &[u8], begins: &[u16], at: u16) -> Option<u16>
     number_from(code, start_of(code, begins, at), at)
 }
 
-/// Returns the offset of the line before the line at `at` in its program. `None` if its program has no line there, or if it is the first.
+/// Returns the offset of the line before the line whose first byte is at the offset `at`, in its program. `None` if no
+/// line of the program begins there, or if it is the first. `begins` are the offsets at which functions begin.
 pub fn line_before(code: &[u8], begins: &[u16], at: u16) -> Option<u16>
     requires size { length code.now ≤ 4096 }
     requires inside { at < 4096 }

@@ -24,11 +24,11 @@ impl Default for Position {
     }
 }
 
-/// A program line with its position.
+/// A program line with the position of its first byte.
 #[derive(Clone, Copy, Debug, PartialEq, Eq)]
 pub struct PlacedLine {
     /// The position of the line's first byte.
     pub position: Position,
-    /// The line.
+    /// The program line at the position.
     pub line: Line,
 }

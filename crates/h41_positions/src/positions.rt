@@ -1,4 +1,4 @@
-//! The line at a position and what is found from there, for each kind of position.
+//! The line at a position, and the program, labels and lines that are found from there, in program memory and in pages.
 
 ghost use Rattle.std.specs.Prelude.{◌≡◌, ◌<◌, IsTrue};
 ghost use Rattle.std.specs.Option.{option_map};
@@ -17,13 +17,13 @@ use h41_pages::{PAGE_WORDS, Pages};
 use h41_program::ProgramRefusal;
 use h41_ram::Ram;
 
-/// The number of words of a page.
+/// The number of words in a page, 4096.
 const WORDS: u16 = PAGE_WORDS as u16;
 
-/// The number of addresses.
+/// The number of 16-bit addresses, 65,536.
 const ADDRESSES: usize = 0x10000;
 
-/// Returns the page of an address, and the offset of its word in the page.
+/// Returns the page of an address, 0 to 15, and the offset of its word in the page, 0 to 4095.
 fn place_of(address: u16) -> (usize, u16)
     ensures page { result.0 ≡ addresses.page_of address }
     ensures offset { result.1 ≡ addresses.offset_of address }
@@ -33,7 +33,8 @@ fn place_of(address: u16) -> (usize, u16)
     (usize::from(address / WORDS), address % WORDS)
 }
 
-/// Returns the position of an offset of a page. The offset 4096 is the start of the next page; after page F this is page 0.
+/// Returns the position of the word at an offset of a page. The offset 4096 is the start of the next page; after page F
+/// this is page 0.
 fn in_page(page: usize, offset: u16) -> Position
     requires { page < 16 }
     ensures { result ≡ spec.in_page page offset }
@@ -41,7 +42,7 @@ fn in_page(page: usize, offset: u16) -> Position
     Position::Page(((page * PAGE_WORDS + usize::from(offset)) % ADDRESSES) as u16)
 }
 
-/// Returns the position of a byte of memory, or `None` for `None`.
+/// Returns the position of the byte of program memory that a search found, or `None` if it found none.
 #[inline(always)]
 pub fn byte_found(found: Option<u16>) -> Option<Position>
     ensures { result ≡ option_map Memory found }
@@ -52,7 +53,7 @@ pub fn byte_found(found: Option<u16>) -> Option<Position>
     }
 }
 
-/// Returns the position of an offset of a page, or `None` for `None`.
+/// Returns the position of the word at the offset of a page that a search found, or `None` if it found none.
 #[inline(always)]
 fn offset_found(page: usize, found: Option<u16>) -> Option<Position>
     requires { page < 16 }
@@ -64,8 +65,8 @@ fn offset_found(page: usize, found: Option<u16>) -> Option<Position>
     }
 }
 
-/// Returns the line at a position, which is the first line from there on after any nulls, with the position of its first byte.
-/// BrokenProgram (14) if there is none. Memory must be sound.
+/// Returns the line at a position, which is the first line from there on after any nulls, with the position of its
+/// first byte. BrokenProgram (14) if there is none. Memory must be sound (`Ram::is_sound`).
 pub fn line_at<const REGS: usize>(
     ram: &Ram<REGS>,
     pages: &Pages,
@@ -101,9 +102,10 @@ pub fn line_in_page(pages: &Pages, address: u16) -> Result<PlacedLine, ProgramRe
     }
 }
 
-/// Returns the position of the line after the line at a position. If no line follows, it is the position of the byte or word just after
-/// that line. The position after the `.END.` of memory is its own; after the END or `.END.` of a page's program it is the next word. 0000
-/// follows FFFF. BrokenProgram (14) if there is no line at the position.
+/// Returns the position of the line after the line at a position. If no line follows, it is the position of the byte or
+/// word just after that line. The position after the `.END.` of memory is its own; after the END or `.END.` of a page's
+/// program it is the next word. 0000 follows FFFF. BrokenProgram (14) if there is no line at the position. Memory must
+/// be sound (`Ram::is_sound`).
 pub fn next<const REGS: usize>(
     ram: &Ram<REGS>,
     pages: &Pages,
@@ -127,8 +129,8 @@ pub fn next<const REGS: usize>(
     }
 }
 
-/// Returns the line at a position, as `line_at` does, and the next position, as `next` does, in one pass. BrokenProgram (14) if there is no
-/// line. Memory must be sound.
+/// Returns the line at a position, as `line_at` does, and the next position, as `next` does, in one pass. BrokenProgram
+/// (14) if there is no line. Memory must be sound (`Ram::is_sound`).
 #[inline(always)]
 pub fn line_and_next<const REGS: usize>(
     ram: &Ram<REGS>,
@@ -147,7 +149,8 @@ pub fn line_and_next<const REGS: usize>(
     }
 }
 
-/// Returns the line at an address of a page, and the next position.
+/// Returns the first line at or after an address of a page, and the position of the line after it, as `next` returns
+/// it. BrokenProgram (14) if there is no line.
 #[inline(never)]
 fn in_page_and_next(pages: &Pages, address: u16) -> Result<(Line, Position), ProgramRefusal>
     ensures { InPageAndNext pages.now address result }
@@ -159,8 +162,9 @@ fn in_page_and_next(pages: &Pages, address: u16) -> Result<(Line, Position), Pro
     }
 }
 
-/// Returns the short line whose first byte is at this position of memory, and the next position, as `next` returns it. `None` for other
-/// lines, nulls and bytes that are no line, and always in pages. Memory must be sound.
+/// Returns the line whose first byte is at this position of memory, if it is one of the lines that `ShortLine` can
+/// represent, such as `SIN`, and the next position, as `next` returns it. `None` for other lines, nulls and bytes that
+/// are no line, and always in pages. Memory must be sound (`Ram::is_sound`).
 #[inline(always)]
 pub fn short_line<const REGS: usize>(
     ram: &Ram<REGS>,
@@ -179,9 +183,10 @@ pub fn short_line<const REGS: usize>(
     }
 }
 
-/// Returns the start of the program of a position. In memory this is the byte after the last END whose first byte is before the position,
-/// or 0 if there is none; `.END.` does not count. In a page it is the lowest start of a keystroke function, at or before the position, from
-/// which the list of lines reaches the line at the position, or the position itself if there is none.
+/// Returns the position at which the program that contains a position begins. In memory this is the byte after the last
+/// END that begins before the position, or 0 if there is none; `.END.` does not count. In a page it is the lowest start
+/// of a keystroke function, at or before the position, from which the lines read in turn include the line at the
+/// position; without one, it is the position itself. Memory must be sound.
 #[inline(never)]
 pub fn start_of<const REGS: usize>(ram: &Ram<REGS>, pages: &Pages, at: Position) -> Position
     requires { IsTrue (is_sound ram.now.registers) }
@@ -200,8 +205,8 @@ pub fn start_of<const REGS: usize>(ram: &Ram<REGS>, pages: &Pages, at: Position)
     }
 }
 
-/// Returns the position of the first `LBL n` from a position to the end of its program, otherwise that of the first one in the program.
-/// `None` if there is none. Memory must be sound.
+/// Returns the position of the first `LBL n` with this label from a position to the end of its program, otherwise that
+/// of the first one in the program. `None` if there is none. Memory must be sound (`Ram::is_sound`).
 #[inline(never)]
 pub fn local<const REGS: usize>(
     ram: &Ram<REGS>,
@@ -223,8 +228,9 @@ pub fn local<const REGS: usize>(
     }
 }
 
-/// Returns the position of the end of a position's program: its END, or `.END.` if that is before any END. `None` if the program has
-/// neither, because bytes that are no line or the end of the page precede it.
+/// Returns the position of the end of the program that contains a position: its END, or `.END.` if that is before any
+/// END. `None` if the program has neither, because bytes that are no line or the end of the page precede it. Memory
+/// must be sound (`Ram::is_sound`).
 pub fn end_of<const REGS: usize>(ram: &Ram<REGS>, pages: &Pages, at: Position) -> Option<Position>
     requires { IsTrue (is_sound ram.now.registers) }
     ensures { EndOf pages.now ram.now.registers at result }
@@ -240,8 +246,8 @@ pub fn end_of<const REGS: usize>(ram: &Ram<REGS>, pages: &Pages, at: Position) -
     }
 }
 
-/// Returns the number of the line at exactly this position in its program. The first line has number 1. `None` if the list of lines
-/// from the program's start to its end has no line at the position.
+/// Returns the number of the line whose first byte is at exactly this position, in its program. The first line has
+/// number 1. `None` if no line of the program begins at the position. Memory must be sound (`Ram::is_sound`).
 pub fn line_number<const REGS: usize>(
     ram: &Ram<REGS>,
     pages: &Pages,
@@ -260,8 +266,9 @@ pub fn line_number<const REGS: usize>(
     }
 }
 
-/// Returns the position of the line before the line at exactly this position in its program. `None` if the list of lines has no line at the
-/// position, or if it is the first.
+/// Returns the position of the line before the line whose first byte is at exactly this position, in its program.
+/// `None` if no line of the program begins at the position, or if it is the first. Memory must be sound
+/// (`Ram::is_sound`).
 pub fn line_before<const REGS: usize>(
     ram: &Ram<REGS>,
     pages: &Pages,

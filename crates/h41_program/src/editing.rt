@@ -1,4 +1,5 @@
-//! Inserting, replacing and deleting lines.
+//! Inserting, replacing and deleting program lines. A position is the number of a byte of program memory, counted from
+//! 0.
 ghost use Rattle.std.specs.Prelude.{◌≡◌, slice_get, is_ok, IsTrue, IfOk, IfSome, OnOk, OnErr};
 ghost use Rattle.h41_codes.specs.ByteGrammar.{IsLine};
 ghost use Rattle.h41_ram.specs.RegisterMap.{is_sound};
@@ -26,38 +27,40 @@ use h41_codes::Line;
 use h41_codes::laws::byte_round_trip;
 use h41_ram::Ram;
 
-/// A change of the list of lines at one line.
+/// A change of the lines in program memory at one of them.
 #[derive(Clone, Copy)]
 enum Change {
-    /// A line is written there.
+    /// A line is written before the existing line or instead of it.
     Put(Line, Placement),
-    /// The line there is deleted.
+    /// The existing line is deleted.
     Delete,
 }
 
-/// The place of a new line, relative to an existing one.
+/// Whether a new line is inserted before an existing line or replaces it.
 #[derive(Clone, Copy)]
 enum Placement {
-    /// Before the existing line.
+    /// The new line is inserted before the existing line.
     Before,
-    /// Instead of the existing line.
+    /// The new line replaces the existing line.
     Instead,
 }
 
-/// What precedes the place of a deleted line.
+/// What precedes a line that was deleted: the line before it in the same program, or the start of the program.
 #[derive(Clone, Copy, Debug, PartialEq, Eq)]
 pub enum InFront {
-    /// The line before it in its program is at this position.
+    /// The line before the deleted one in its program is at this position (a byte of program memory, counted from 0).
     Line(u16),
-    /// It was the first line of its program, which now begins at this byte.
+    /// The deleted line was the first of its program, which now begins at this position (a byte of program memory,
+    /// counted from 0).
     Start(u16),
 }
 
-/// Inserts a line before the line at a position, or as the last line if `.END.` is there, and returns the position of the new line, which
-/// may differ from `before` because the programs are packed. The line must not be a null or `.END.`. Memory must be sound.
+/// Inserts a line before the line at a position (a byte of program memory, counted from 0), or as the last line if
+/// `.END.` is there. Returns the position of the new line, which may differ from `before` because the programs are
+/// packed. The line must not be a null or `.END.`. Memory must be sound.
 ///
-/// BrokenProgram (14) if the list has no such line or does not reach `.END.`; NoRoom (16) if the programs do not fit into main memory. A
-/// refusal changes nothing.
+/// The errors: BrokenProgram (14) if there is no line at the position or the list of lines does not reach `.END.`,
+/// NoRoom (16) if the programs do not fit into main memory. After an error nothing has changed.
 pub fn insert<const REGS: usize>(
     ram: &mut Ram<REGS>,
     before: u16,
@@ -79,11 +82,12 @@ pub fn insert<const REGS: usize>(
     place_line(ram, before, line, Placement::Before)
 }
 
-/// Deletes the line at a position; `.END.` remains. Returns the position of the line before it or, if the deleted line was the first of its
-/// program, the start of that program. Memory must be sound.
+/// Deletes the line at a position (a byte of program memory, counted from 0); `.END.` remains. Returns the position of
+/// the line before it or, if the deleted line was the first of its program, the start of that program. Memory must be
+/// sound.
 ///
-/// BrokenProgram (14) if the list has no such line or does not reach `.END.`; NoRoom (16) if the programs do not fit into main memory. A
-/// refusal changes nothing.
+/// The errors: BrokenProgram (14) if there is no line at the position or the list of lines does not reach `.END.`,
+/// NoRoom (16) if the programs do not fit into main memory. After an error nothing has changed.
 pub fn delete<const REGS: usize>(ram: &mut Ram<REGS>, at: u16) -> Result<InFront, ProgramRefusal>
     requires { IsTrue (is_sound ram.old.registers) }
     ensures lines { Edits ram.old.registers ram.new.registers without_deleted at
@@ -101,11 +105,12 @@ pub fn delete<const REGS: usize>(ram: &mut Ram<REGS>, at: u16) -> Result<InFront
     Ok(in_front(ram, count))
 }
 
-/// Replaces the line at a position, or inserts the last line if `.END.` is there, and returns the position of the new line. The line must
-/// not be a null or `.END.`. Because this is one change, only the new lines have to fit. Memory must be sound.
+/// Replaces the line at a position (a byte of program memory, counted from 0), or inserts the new line as the last one
+/// if `.END.` is there. Returns the position of the new line. The line must not be a null or `.END.`. Because this is
+/// one change, only the new lines have to fit. Memory must be sound.
 ///
-/// BrokenProgram (14) if the list has no such line or does not reach `.END.`; NoRoom (16) if the programs do not fit into main memory. A
-/// refusal changes nothing.
+/// The errors: BrokenProgram (14) if there is no line at the position or the list of lines does not reach `.END.`,
+/// NoRoom (16) if the programs do not fit into main memory. After an error nothing has changed.
 pub fn replace<const REGS: usize>(
     ram: &mut Ram<REGS>,
     at: u16,
@@ -127,7 +132,9 @@ pub fn replace<const REGS: usize>(
     place_line(ram, at, line, Placement::Instead)
 }
 
-/// Inserts a line before the line at a position, or replaces that line, and returns the position of the new line.
+/// Inserts a line before the line at position `at` of program memory, or replaces that line, and returns the position
+/// of the new line. The errors: BrokenProgram (14) if there is no line at the position or the list of lines does not
+/// reach `.END.`, NoRoom (16) if the programs do not fit into main memory. After an error nothing has changed.
 fn place_line<const REGS: usize>(
     ram: &mut Ram<REGS>,
     at: u16,
@@ -156,7 +163,9 @@ fn place_line<const REGS: usize>(
     Ok(new.position)
 }
 
-/// Changes the list at the line at a position, and returns how many lines precede it.
+/// Inserts, replaces or deletes a line at position `at` of program memory, and returns how many lines of memory precede
+/// the line that is there. The errors: BrokenProgram (14) if there is no line at the position or the list of lines does
+/// not reach `.END.`, NoRoom (16) if the programs do not fit into main memory. After an error nothing has changed.
 fn change_at<const REGS: usize>(
     ram: &mut Ram<REGS>,
     at: u16,
@@ -178,7 +187,7 @@ fn change_at<const REGS: usize>(
     Ok(count)
 }
 
-/// Returns how many lines of the list from 0 precede a position.
+/// Returns how many lines, counted from the start of program memory, have their first byte before the position `place`.
 fn lines_before<const REGS: usize>(ram: &Ram<REGS>, place: u16) -> u16
     requires { IsTrue (is_sound ram.now.registers) }
     ensures { AnswersFrom (count_before place) ram.now.registers 0 result }
@@ -199,7 +208,8 @@ fn lines_before<const REGS: usize>(ram: &Ram<REGS>, place: u16) -> u16
     count
 }
 
-/// Returns the line of the list from 0 that has `count` lines before it, and the position of the byte after it.
+/// Returns the line that has `count` lines before it, counted from the start of program memory, and the position of the
+/// byte after it. `None` if there is no such line.
 fn line_behind<const REGS: usize>(ram: &Ram<REGS>, count: u16) -> Option<Found>
     requires { IsTrue (is_sound ram.now.registers) }
     ensures line { AnswersFrom (λ lines. slice_get lines count) ram.now.registers 0
@@ -222,7 +232,8 @@ fn line_behind<const REGS: usize>(ram: &Ram<REGS>, count: u16) -> Option<Found>
     None
 }
 
-/// Returns what precedes the line that has `count` lines before it.
+/// Returns what precedes the line that has `count` lines before it, counted from the start of program memory: the line
+/// before it if both are in the same program, otherwise the start of its program.
 fn in_front<const REGS: usize>(ram: &Ram<REGS>, count: u16) -> InFront
     requires { IsTrue (is_sound ram.now.registers) }
     ensures { AnswersFrom (position_in_front count) ram.now.registers 0 result }
@@ -237,8 +248,8 @@ fn in_front<const REGS: usize>(ram: &Ram<REGS>, count: u16) -> InFront
     }
 }
 
-/// Returns the lines of memory before `.END.`, changed at the line whose own position is `place`. BrokenProgram (14) if there is no such
-/// line or if the list does not reach `.END.`.
+/// Returns the lines of memory before `.END.`, packed, with a change at the line whose first byte is at position
+/// `place`. BrokenProgram (14) if no line begins there or if the list of lines does not reach `.END.`.
 fn packed_changed<const REGS: usize>(
     ram: &Ram<REGS>,
     place: u16,
@@ -269,7 +280,7 @@ fn packed_changed<const REGS: usize>(
     Err(ProgramRefusal::BrokenProgram)
 }
 
-/// Appends a line if it is wanted.
+/// Appends a line to the packed lines if `wanted` is true.
 fn put_if(packer: &mut Packer, line: &Line, wanted: bool)
     requires { IsLine line.now }
     ensures { Puts packer.old packer.new (line_if wanted line.now) }
@@ -279,7 +290,8 @@ fn put_if(packer: &mut Packer, line: &Line, wanted: bool)
     }
 }
 
-/// Appends the new line of a change at the line that is changed.
+/// Appends the new line of an insertion or a replacement to the packed lines if `here` is true, that is, if they have
+/// reached the line that is changed. A deletion has no new line.
 fn put_new(packer: &mut Packer, change: &Change, here: bool)
     requires { IsChange change.now }
     ensures { Puts packer.old packer.new (new_part here change.now) }
@@ -290,7 +302,8 @@ fn put_new(packer: &mut Packer, change: &Change, here: bool)
     }
 }
 
-/// Returns whether a line remains. The line that is changed only remains if another one is inserted before it.
+/// Returns whether an existing line remains after a change. `here` says whether it is the line that is changed; that
+/// line only remains if another one is inserted before it.
 fn is_kept(change: &Change, here: bool) -> bool
     ensures { result ≡ spec.is_kept here change.now }
 {

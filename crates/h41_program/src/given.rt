@@ -1,4 +1,4 @@
-//! The lines of given bytes.
+//! The program lines in bytes that a caller gives, for example those of a file.
 ghost use Rattle.std.specs.Prelude.{◌≡◌, ◌≢◌, ℕ, ◌<◌, ◌≤◌, length, slice_index, IfSome, IfNone};
 ghost use Rattle.std.specs.Prelude.{◌==◌};
 ghost use Rattle.std.specs.List.{list_all};
@@ -7,18 +7,18 @@ ghost use Rattle.h41_program.specs.GivenLines.{BytesHaveFirst, BytesHaveNone};
 use h41_codes::laws::byte_round_trip;
 use h41_codes::{Line, decode};
 
-/// A line that was read from given bytes.
+/// A program line that was read from bytes outside program memory, and where it is in them.
 #[derive(Clone, Copy, Debug, PartialEq, Eq)]
 pub struct Taken {
-    /// The position of the line's first byte.
+    /// The index of the line's first byte in the given bytes.
     pub position: usize,
-    /// The line.
+    /// The decoded line, which is not a null.
     pub line: Line,
-    /// The position of the byte after the line.
+    /// The index in the given bytes of the byte after the line.
     pub behind: usize,
 }
 
-/// Returns the first position, from `at` on, of a byte that is not null, or the end of the bytes.
+/// Returns the index of the first byte, from index `at` on, that is not null, or the number of bytes if there is none.
 fn nulls_end(bytes: &[u8], at: usize) -> usize
     requires { at ≤ length bytes.now }
     ensures from { at ≤ result }
@@ -34,7 +34,8 @@ fn nulls_end(bytes: &[u8], at: usize) -> usize
     bytes.len()
 }
 
-/// Returns the first line of bytes from a position on, after any nulls. `None` if no line begins there.
+/// Returns the first program line in bytes from index `at` on, after any nulls. `None` if the bytes after the nulls are
+/// no line, or if only nulls follow.
 pub fn line_in(bytes: &[u8], at: usize) -> Option<Taken>
     ensures first { IfSome result (λ taken. BytesHaveFirst bytes.now at taken) }
     ensures none { IfNone result (BytesHaveNone bytes.now at) }
@@ -54,7 +55,7 @@ pub fn line_in(bytes: &[u8], at: usize) -> Option<Taken>
     }
 }
 
-/// Returns whether all bytes are nulls.
+/// Returns whether all given bytes are nulls (00), which is also true if there are none.
 pub fn are_nulls(bytes: &[u8]) -> bool
     ensures { result ≡ list_all (λ byte. byte == 0) bytes.now }
 {

@@ -1,4 +1,4 @@
-//! The kinds of lines that program memory treats differently.
+//! Tests for the kinds of lines that program memory treats differently.
 ghost use Rattle.std.specs.Prelude.{◌≡◌};
 ghost use Rattle.h41_codes.specs.declared.line.Line.TheVariants.{WithOperand};
 ghost use Rattle.h41_program.specs.Lines as spec;
@@ -12,7 +12,7 @@ pub fn is_final_end(line: Line) -> bool
     matches!(line, Line::FinalEnd(_, _))
 }
 
-/// Returns whether a line is an inner line, which programs can contain: neither a null nor `.END.`.
+/// Returns whether a line is one that a program can contain: neither a null nor `.END.`.
 pub fn is_inner(line: Line) -> bool
     ensures { result ≡ spec.is_inner line }
 {
@@ -26,14 +26,14 @@ pub fn is_end(line: &Line) -> bool
     matches!(line, Line::End(_, _))
 }
 
-/// Returns whether a line is a number.
+/// Returns whether a line is a number line, that is, one whose bytes are the characters of a number.
 pub fn is_number(line: Line) -> bool
     ensures { result ≡ spec.is_number line }
 {
     matches!(line, Line::Number(_))
 }
 
-/// Returns whether a line is `LBL n`, in one byte or in two.
+/// Returns whether a line is the local label `LBL n` whose number n is that of `label`, in one byte or in two.
 pub fn is_label(line: Line, label: Parameter) -> bool
     ensures { result ≡ spec.is_label label line }
 {
@@ -44,7 +44,8 @@ pub fn is_label(line: Line, label: Parameter) -> bool
     }
 }
 
-/// Returns whether a function and its operand are `LBL n`.
+/// Returns whether a function and its operand are `LBL n` with the number n of `label`, as a two-byte line. `LBL IND`
+/// is not.
 fn is_long_label(function: ParameterFunction, operand: Operand, label: Parameter) -> bool
     ensures { result ≡ spec.is_label label (WithOperand function operand) }
 {
@@ -56,7 +57,7 @@ fn is_long_label(function: ParameterFunction, operand: Operand, label: Parameter
     }
 }
 
-/// Returns whether a line is the `LBL` with this name.
+/// Returns whether a line is the global label (`LBL` with a name) that has exactly the characters `name`.
 pub fn is_named(line: Line, name: &[u8]) -> bool
     ensures { result ≡ spec.is_named name.now line }
 {

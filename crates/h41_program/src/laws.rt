@@ -1,4 +1,5 @@
-//! Laws of program memory. Each law is the contract of a function that does nothing else.
+//! Laws of program memory. Each law is the contract of a function that does nothing else. The list of lines from a
+//! position is what program memory contains from that byte on, up to `.END.`.
 ghost use Rattle.std.specs.Prelude.{ℕ, Bool, Option, Result};
 ghost use Rattle.h41_program.specs.Dependence.{AnswersDepend, FirstsDepend, LineDepends};
 ghost use Rattle.h41_program.specs.Dependence.{ListsDepend, LocalDepends, NextDepends, NonesDepend};
@@ -20,8 +21,8 @@ ghost use Rattle.h41_program.specs.declared.refusal.ProgramRefusal.{ProgramRefus
 
 use h41_codes::laws::{byte_round_trip, line_or_none};
 
-/// The packing round trip: the bytes of packed lines, none of which is a null or `.END.`, are read as these lines and `.END.`. They fill
-/// whole registers, with at most six nulls before `.END.`.
+/// States the packing round trip: the bytes of packed lines, none of which is a null or `.END.`, are read as these
+/// lines and `.END.`. They fill whole registers, with at most six nulls before `.END.`.
 pub fn packing_round_trip()
     ensures read { PackingRoundTrip }
     ensures registers { PackingFills }
@@ -30,10 +31,14 @@ pub fn packing_round_trip()
     byte_round_trip();
 }
 
-/// The memory after a change is read as the changed lines. After lines are written, the list from 0 is these lines and `.END.`. After bytes
-/// are loaded, it is the lines of memory, closed, the lines of the bytes, and `.END.`; from the returned position on it is the lines of the
-/// bytes and `.END.`. After the last program is closed, the lines before `.END.` are those that memory had, with an END if there are lines
-/// and the last is none; closed lines are not open. With another number of data registers the lists are the same.
+/// States that memory after a change is read as the changed lines.
+///
+/// After lines are written, the list of lines from position 0 is these lines and `.END.`. After bytes are loaded, it is
+/// the lines of memory, with an END after the last program, the lines of the bytes, and `.END.`; from the returned
+/// position on it is the lines of the bytes and `.END.`.
+///
+/// After `close_last`, the lines before `.END.` are those that memory had, followed by an END if there are lines and
+/// the last is no END. With another number of data registers the lists are the same.
 pub fn changes_are_read()
     ensures written { WrittenIsRead }
     ensures loaded { LoadIsRead }
@@ -44,7 +49,8 @@ pub fn changes_are_read()
     byte_round_trip();
 }
 
-/// Any memory has exactly one list of lines from each position on.
+/// States that any memory has exactly one list of lines from each position (a byte of program memory, counted from 0)
+/// on.
 pub fn one_list()
     ensures { OneList }
 {
@@ -52,7 +58,8 @@ pub fn one_list()
     line_or_none();
 }
 
-/// Bytes have a first line from each position on, or none, and a list of lines, whichever lines end the list.
+/// States that bytes have, from each index on, a first program line or none, and that they have a list of program
+/// lines, whichever lines end the list.
 pub fn each_is_listed()
     ensures first { EachHasFirst }
     ensures lines { EachIsListed }
@@ -61,8 +68,8 @@ pub fn each_is_listed()
     line_or_none();
 }
 
-/// No memory has two lists of lines from a position on, whether it is a `Ram` or not. No bytes are read as two lists, because no bytes have
-/// two first lines.
+/// States that no memory has two lists of lines from a position on, whether it is a `Ram` or not. No bytes are read as
+/// two lists of lines, because no bytes have two first lines.
 pub fn lists_are_determined()
     ensures lines { ListsAreDetermined }
     ensures read { ReadIsDetermined }
@@ -71,8 +78,8 @@ pub fn lists_are_determined()
     byte_round_trip();
 }
 
-/// Each search has one answer, over any memory. The same is true of `line_at`, `next`, `is_last_open`, `end_of` and the functions that
-/// number the lines of a program.
+/// States that each search in program memory has one answer: searches for labels, starts and ends of programs, and also
+/// `line_at`, `next`, `is_last_open`, `end_of` and the functions that number the lines of a program.
 pub fn searches_are_determined()
     ensures line { LineIsDetermined }
     ensures next { NextIsDetermined }
@@ -85,8 +92,9 @@ pub fn searches_are_determined()
     byte_round_trip();
 }
 
-/// The line at a position is the first of the list from there on, and the next position is that of the second. The list from a line's own
-/// position on begins with that line, and the list from the next position on is the rest.
+/// States how single lines and the list of lines agree. The line at a position of program memory is the first of the
+/// list from there on, and the next position is that of the second line. The list from a line's own position on begins
+/// with that line, and the list from the next position on is the rest.
 pub fn lines_are_of_lists()
     ensures line { LineIsOfList }
     ensures next { NextIsOfList }
@@ -96,8 +104,8 @@ pub fn lines_are_of_lists()
     byte_round_trip();
 }
 
-/// Lists and searches depend only on register c and the registers from that of `.END.` to below the curtain: two memories of the same size
-/// that agree there have the same lists and the same answers.
+/// States that lists of lines and searches depend only on register c and the registers from that of `.END.` to just
+/// below the curtain: two memories of the same size that agree there have the same lists and the same answers.
 pub fn programs_depend_on_their_registers()
     ensures sound { SoundnessDepends }
     ensures lists { ListsDepend }
@@ -112,8 +120,9 @@ pub fn programs_depend_on_their_registers()
     ensures program { ProgramDepends (Option ℕ) }
 {}
 
-/// Loading bytes into a memory has one outcome, and so has a change of the list at any position; the position that is returned is
-/// determined, too. This is proved for the relations in the contracts of `load`, `insert`, `replace` and `delete`.
+/// States that loading bytes into a memory has one outcome, and so has inserting, replacing or deleting a line at any
+/// position; the position that is returned is determined, too. This is proved for the relations in the contracts of
+/// `load`, `insert`, `replace` and `delete`.
 pub fn edits_are_determined()
     ensures load { LoadsAreDetermined }
     ensures outcome { EditsAreDetermined }

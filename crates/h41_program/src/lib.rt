@@ -1,5 +1,5 @@
-//! The program memory of the HP-41: the lines of the programs in memory, which can be searched, inserted, deleted and loaded, and the
-//! number of data registers above them.
+//! The program memory of the HP-41: the lines of the programs in memory, which can be searched, inserted, deleted and
+//! loaded, and the number of data registers, which are above the programs.
 #![tactic(auto)]
 
 mod editing;

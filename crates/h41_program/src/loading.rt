@@ -20,12 +20,13 @@ use crate::refusal::ProgramRefusal;
 use h41_codes::Line;
 use h41_ram::Ram;
 
-/// Loads the lines of bytes after the programs in memory, and returns the position of the first of them, at most 2237. If the last program
-/// in memory has lines but no END, an END is appended to it first. A final END or `.END.` of the bytes is dropped, and nulls are skipped
-/// (this project's choice). Memory must be sound.
+/// Loads the program lines in bytes after the programs in memory, and returns the position of the first loaded line (a
+/// byte of program memory, counted from 0), at most 2237. If the last program in memory has lines but no END, an END is
+/// appended to it first. A final END or `.END.` of the bytes is dropped, and nulls are skipped (this project's choice).
+/// Memory must be sound.
 ///
-/// BrokenProgram (14) if bytes of memory or given bytes are no line, or if an `.END.` is not at the end of the given bytes; NoRoom (16) if
-/// the programs do not fit into main memory. A refusal changes nothing.
+/// The errors: BrokenProgram (14) if bytes of memory or given bytes are no line, or if an `.END.` is not at the end of
+/// the given bytes; NoRoom (16) if the programs do not fit into main memory. After an error nothing has changed.
 pub fn load<const REGS: usize>(ram: &mut Ram<REGS>, bytes: &[u8]) -> Result<u16, ProgramRefusal>
     requires { IsTrue (is_sound ram.old.registers) }
     ensures lines { Loads ram.old.registers ram.new.registers bytes.now result }
@@ -55,9 +56,11 @@ pub fn is_last_open<const REGS: usize>(ram: &Ram<REGS>) -> Result<bool, ProgramR
     }
 }
 
-/// Appends an END to the last program in memory if it has lines but no END. Otherwise nothing changes, and the programs are not packed.
-/// BrokenProgram (14) if the list of lines does not reach `.END.`; NoRoom (16) if the programs do not fit into main memory. A refusal
-/// changes nothing.
+/// Appends an END to the last program in memory if it has lines but no END. Otherwise nothing changes, and the programs
+/// are not packed. Memory must be sound.
+///
+/// The errors: BrokenProgram (14) if the list of lines does not reach `.END.`, NoRoom (16) if the programs do not fit
+/// into main memory. After an error nothing has changed.
 pub fn close_last<const REGS: usize>(ram: &mut Ram<REGS>) -> Result<(), ProgramRefusal>
     requires { IsTrue (is_sound ram.old.registers) }
     ensures lines { Closes ram.old.registers ram.new.registers result }
@@ -76,7 +79,8 @@ pub fn close_last<const REGS: usize>(ram: &mut Ram<REGS>) -> Result<(), ProgramR
     packer.write(ram)
 }
 
-/// Returns the lines of memory before `.END.`, packed. BrokenProgram (14) if the list of lines does not reach `.END.`.
+/// Returns the lines of memory before `.END.`, packed one after another. BrokenProgram (14) if the list of lines does
+/// not reach `.END.`.
 pub fn packed_program<const REGS: usize>(ram: &Ram<REGS>) -> Result<Packer, ProgramRefusal>
     requires { IsTrue (is_sound ram.now.registers) }
     ensures { PacksProgram ram.now.registers result }
@@ -94,7 +98,8 @@ pub fn packed_program<const REGS: usize>(ram: &Ram<REGS>) -> Result<Packer, Prog
     Err(ProgramRefusal::BrokenProgram)
 }
 
-/// Appends the lines of bytes, without a final END or `.END.`. BrokenProgram (14) if bytes are no line, or if an `.END.` is not at the end.
+/// Appends the program lines in bytes to the packed lines, without a final END or `.END.` and without nulls.
+/// BrokenProgram (14) if bytes are no line, or if an `.END.` is not at the end.
 fn put_loaded(packer: &mut Packer, bytes: &[u8]) -> Result<(), ProgramRefusal>
     ensures { PutsLoaded packer.old packer.new bytes.now result }
 {
@@ -119,7 +124,8 @@ fn put_loaded(packer: &mut Packer, bytes: &[u8]) -> Result<(), ProgramRefusal>
     Ok(())
 }
 
-/// Appends the pending line, if there is one.
+/// Appends a line to the packed lines, if there is one. The line is pending because it was read from bytes, and another
+/// line or `.END.` follows it.
 fn put_pending(packer: &mut Packer, pending: Option<Line>)
     requires { ForSome pending IsLine }
     ensures { Puts packer.old packer.new (listed_option pending) }
@@ -129,7 +135,7 @@ fn put_pending(packer: &mut Packer, pending: Option<Line>)
     }
 }
 
-/// Appends the pending line as the last one, unless it is an END.
+/// Appends the last line that was read from bytes, if there is one, to the packed lines, unless it is an END.
 fn put_last(packer: &mut Packer, pending: Option<Line>)
     requires { ForSome pending IsLine }
     ensures { Puts packer.old packer.new (kept_option pending) }

@@ -1,4 +1,4 @@
-//! The numbers of a program's lines.
+//! The line numbers of a program: its first line has number 1.
 ghost use Rattle.std.specs.Prelude.{IsTrue, IfSome, ◌≤◌};
 ghost use Rattle.h41_ram.specs.RegisterMap.{is_sound};
 ghost use Rattle.h41_program.specs.Numbering.{before_in, number_in, numbered_in};
@@ -12,8 +12,9 @@ use crate::searches::start_of;
 use h41_codes::laws::byte_round_trip;
 use h41_ram::Ram;
 
-/// Returns the position of the line before the line at exactly this position in its program. `None` if the list has no line at the
-/// position, or if it is the first.
+/// Returns the position of the line before the one that begins exactly at `position`, within its program. Positions are
+/// bytes of program memory, counted from 0. `None` if no line begins there, or if it is the first of its program.
+/// Memory must be sound.
 pub fn line_before<const REGS: usize>(ram: &Ram<REGS>, position: u16) -> Option<u16>
     requires { IsTrue (is_sound ram.now.registers) }
     ensures { AnswersProgram (before_in position) ram.now.registers position result }
@@ -27,8 +28,8 @@ pub fn line_before<const REGS: usize>(ram: &Ram<REGS>, position: u16) -> Option<
     }
 }
 
-/// Returns the number of the line at exactly this position, counted from the position `from` up to the END; the first line has number 1.
-/// `None` if there is none.
+/// Returns the number of the line that begins exactly at `position`. The first line from the position `from` on has
+/// number 1, and lines are counted up to the END or `.END.`. `None` if none of them begins at `position`.
 pub fn number_from<const REGS: usize>(ram: &Ram<REGS>, from: u16, position: u16) -> Option<u16>
     requires { IsTrue (is_sound ram.now.registers) }
     ensures is { AnswersFrom (λ lines. number_in position (up_to_end lines)) ram.now.registers from
@@ -54,7 +55,8 @@ pub fn number_from<const REGS: usize>(ram: &Ram<REGS>, from: u16, position: u16)
     None
 }
 
-/// Returns the position of the line with this number, counted from the position `from` up to the END. `None` if there is none.
+/// Returns the position of the line with a number. The first line from the position `from` on has number 1, and lines
+/// are counted up to the END or `.END.`. `None` if there are fewer lines.
 fn numbered_from<const REGS: usize>(ram: &Ram<REGS>, from: u16, number: u16) -> Option<u16>
     requires { IsTrue (is_sound ram.now.registers) }
     ensures { AnswersFrom (λ lines. numbered_in number (up_to_end lines)) ram.now.registers from

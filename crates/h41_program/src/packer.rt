@@ -1,4 +1,4 @@
-//! Packing lines one after another.
+//! Packing program lines one after another, without nulls between them, except to separate two numbers.
 ghost use Rattle.std.specs.Prelude.{◌≡◌, ◌+◌, ◌∷◌, [], ◌≤◌, List, length, IsTrue, not, false};
 ghost use Rattle.std.specs.Prelude.{is_ok, OnErr};
 ghost use Rattle.std.specs.Option.{option_map_or};
@@ -19,25 +19,26 @@ use arrayvec::ArrayVec;
 use h41_codes::{EndMarks, Line, Link, encode};
 use h41_ram::{MAIN_START, Ram};
 
-/// The most bytes of lines. Together with the three bytes of `.END.` they fill the largest memory, which has 320 registers.
+/// The most bytes of lines, 2237. Together with the three bytes of `.END.` they fill the largest memory, which has 320
+/// registers.
 const MOST: usize = 2237;
 
-/// The bytes of lines that fit into memory, and of `.END.`.
+/// The bytes of the lines that fit into memory, and of `.END.`: at most 2240.
 pub type Bytes = ArrayVec<u8, 2240>;
 
-/// Lines one after another, as program memory stores them.
+/// Program lines one after another, as program memory stores them: without nulls, except between two numbers.
 #[derive(Drop)]
 pub struct Packer {
-    /// The bytes of the lines, if they are not too many.
+    /// The bytes of the lines, if `full` is false. Otherwise those of the last lines are missing.
     pub bytes: Bytes,
-    /// Whether the lines have too many bytes.
+    /// Whether the lines have more than 2237 bytes.
     pub full: bool,
-    /// The last line, or `None` if there are none.
+    /// The last line that was appended, or `None` if there are none.
     pub last: Option<Line>,
 }
 
 impl Packer {
-    /// Returns a packer without lines.
+    /// Returns a packer to which no line has been appended yet.
     pub fn new() -> Self
         ensures { Packs result [] }
     {
@@ -48,7 +49,7 @@ impl Packer {
         }
     }
 
-    /// Appends a line. If it is a number after a number, a null separates them.
+    /// Appends a line to the packed lines. If it is a number after a number, a null separates them.
     pub fn put(&mut self, line: Line)
         requires { IsLine line }
         ensures { Puts self.old self.new (line ∷ []) }
@@ -58,7 +59,8 @@ impl Packer {
         self.last = Some(line);
     }
 
-    /// Appends a null if the last line is a number and another number follows.
+    /// Appends a null if the last packed line is a number and the line that follows is one, too. `number` says whether
+    /// the line that follows is a number.
     fn part(&mut self, number: bool)
         ensures { Pushes self.old self.new (null_between number self.old.last) }
     {
@@ -67,7 +69,7 @@ impl Packer {
         }
     }
 
-    /// Appends an END if there are lines and the last is none.
+    /// Appends an END to the packed lines if there are any and the last is no END.
     pub fn close(&mut self)
         ensures { (lines : List Spoken) → Packs self.old lines
             → Packs self.new (with_last_end lines) }
@@ -77,7 +79,9 @@ impl Packer {
         }
     }
 
-    /// Writes the lines into program memory. NoRoom (16) if they do not fit into main memory; nothing changes then.
+    /// Writes the packed lines into program memory in place of the programs there, followed by nulls that fill the
+    /// register and by `.END.`. NoRoom (16) if they do not fit into main memory; nothing changes then. Memory must be
+    /// sound.
     pub fn write<const REGS: usize>(self, ram: &mut Ram<REGS>) -> Result<(), ProgramRefusal>
         requires { IsTrue (is_sound ram.old.registers) }
         ensures lines { Writes self ram.old.registers ram.new.registers result }
@@ -98,7 +102,7 @@ impl Packer {
         Ok(())
     }
 
-    /// Returns whether there are lines and the last is a number.
+    /// Returns whether there are packed lines and the last is a number.
     fn ends_with_number(&self) -> bool
         ensures { result ≡ option_map_or is_number self.now.last false }
     {
@@ -108,7 +112,7 @@ impl Packer {
         }
     }
 
-    /// Returns whether there are lines and the last is no END.
+    /// Returns whether there are packed lines and the last is no END.
     pub fn is_open(&self) -> bool
         ensures { result ≡ option_map_or (λ line. not (is_end line)) self.now.last false }
     {
@@ -118,7 +122,7 @@ impl Packer {
         }
     }
 
-    /// Appends the bytes of a line.
+    /// Appends the encoded bytes of a line to those of the packed lines.
     fn push_line(&mut self, line: &Line)
         requires { IsLine line.now }
         ensures { Pushes self.old self.new (spelling line.now) }
@@ -128,7 +132,8 @@ impl Packer {
         self.push(&out[..count]);
     }
 
-    /// Appends bytes, or records that there are too many.
+    /// Appends bytes to those of the packed lines if there are then at most 2237. Otherwise sets `full` and appends
+    /// nothing.
     fn push(&mut self, more: &[u8])
         ensures { Pushes self.old self.new more.now }
     {
@@ -142,7 +147,8 @@ impl Packer {
     }
 }
 
-/// Returns the bytes of lines, followed by the nulls that fill the registers and by `.END.`.
+/// Returns the bytes of lines, at most 2237, followed by at most six nulls and by `.END.` (C0 00 20). Together they
+/// fill whole registers of seven bytes.
 fn filled(lines: Bytes) -> Bytes
     requires { length lines.items ≤ 2237 }
     ensures { result.items ≡ filled_up lines.items }

@@ -1,10 +1,11 @@
-//! The ranges of the parts of lines.
+//! The ranges of the parts of a program line, for example of a register number.
 ghost use Rattle.h41_codes.specs.ByteGrammar.{IsLine};
 
 use h41_codes::{Line, Operand};
 
-/// Makes it known to the prover that the parts of a line are in their ranges, and does nothing else. The calls are necessary because the
-/// ranges of a type with a model are known only after one of its methods is called.
+/// Makes it known to the prover that the parts of a line are in their ranges, for example that a register number is in
+/// its own range, and does nothing else. The calls are necessary because the ranges of a type with a model are known
+/// only after one of its methods is called.
 pub fn know_ranges(line: &Line)
     ensures { IsLine line.now }
 {

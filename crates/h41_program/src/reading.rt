@@ -1,4 +1,5 @@
-//! Reading the line at a position.
+//! Reading the line at a position of program memory. A position is the number of a byte, counted from 0; byte 0 is the
+//! first one below the curtain.
 ghost use Rattle.std.specs.Prelude.{◌≡◌, ◌≢◌, ℕ, ◌+◌, ◌-◌, ◌/◌, ◌%◌, ◌<◌, ◌≤◌, map, slice_index};
 ghost use Rattle.std.specs.Prelude.{min, IsSome};
 ghost use Rattle.std.specs.Prelude.{IsTrue, IfSome, IfNone};
@@ -28,48 +29,49 @@ use h41_codes::{
 use h41_digits::{Reg, eight_bytes, number_byte};
 use h41_ram::{MAIN_START, Ram};
 
-/// The number of bytes in a register.
+/// The number of bytes in a register, 7.
 pub const REGISTER_BYTES: u16 = 7;
 
-/// The number of bytes of `.END.`, which is in the last ones of program memory.
+/// The number of bytes of `.END.`, which is in the last three bytes of program memory.
 const END_BYTES: u16 = 3;
 
-/// The most bytes of a number.
+/// The most bytes, 16, of a line that is a number.
 const NUMBER_MOST: u16 = 16;
 
-/// The most bytes of a line. A label with a name of 14 characters has as many.
+/// The most bytes of a program line. A label with a name of 14 characters has 18 bytes.
 const LINE_MOST: u16 = 18;
 
-/// The bytes of program memory from which a line is read.
+/// The bytes of program memory from which one line is read, at most 18.
 type Window = ArrayVec<u8, 18>;
 
-/// A line that was found, and the position of the byte after it. A walk along the list of lines continues there, so that each line is
-/// decoded only once.
+/// A line of program memory that was found, and the position of the byte after it. Reading the list of lines continues
+/// there, so that each line is decoded only once.
 #[derive(Clone, Copy, Debug, PartialEq, Eq)]
 pub struct Found {
-    /// The line, with its own position.
+    /// The line and the position of its first byte.
     pub listed: ListedLine,
-    /// The position of the byte after the line, at most the number of bytes of program memory.
+    /// The position of the byte after the line, at most the number of bytes of program memory (2240 or fewer).
     pub behind: u16,
 }
 
-/// The position of a line, and whether it ends a program or memory. A walk that does not use the line itself needs no more.
+/// The positions of the first byte of a program line and of the byte after it, and whether the line is END or `.END.`.
+/// It is enough for a search that does not need to decode the line.
 #[derive(Clone, Copy)]
 pub struct LinePlace {
-    /// The line's own position.
+    /// The position of the line's first byte, counted from 0.
     pub position: u16,
-    /// The position of the byte after the line.
+    /// The position of the byte after the line, counted from 0.
     pub behind: u16,
-    /// Whether the line is `END`. `.END.` is not.
+    /// Whether the line is `END`. It is false for `.END.`.
     pub ends_program: bool,
     /// Whether the line is `.END.`.
     pub ends_memory: bool,
 }
 
-/// A reader of successive bytes of program memory, which reads each register only once.
+/// A reader of successive bytes of program memory, which reads each register of seven bytes only once.
 #[derive(Clone, Copy, Debug, PartialEq, Eq)]
 pub struct ByteReader {
-    /// The register that contains the next byte, unless `left` is 0.
+    /// The register that contains the next byte to be read, unless `left` is 0.
     pub register: Reg,
     /// How many bytes of `register` are still to be read, 0 to 7.
     pub left: u16,
@@ -87,8 +89,8 @@ pub fn final_position<const REGS: usize>(ram: &Ram<REGS>) -> u16
     (ram.curtain() - ram.end_register()) * REGISTER_BYTES - END_BYTES
 }
 
-/// Returns how many registers of program memory end before a position, which is a seventh of it. A multiplication takes fewer steps than a
-/// division.
+/// Returns the number of whole registers of program memory before the byte at a position: the position divided by
+/// seven, rounded down. It multiplies, because that is faster than a division.
 #[inline(always)]
 fn registers_before(position: u16) -> u16
     ensures { result ≡ position / 7 }
@@ -96,7 +98,7 @@ fn registers_before(position: u16) -> u16
     (u64::from(position) * 74_899 / 0x8_0000) as u16
 }
 
-/// Returns how many bytes of the position's register precede it.
+/// Returns how many bytes of the register that contains the byte at a position precede that byte, 0 to 6.
 #[inline(always)]
 fn bytes_before(position: u16) -> u16
     ensures { result ≡ position % 7 }
@@ -104,8 +106,8 @@ fn bytes_before(position: u16) -> u16
     position - REGISTER_BYTES * registers_before(position)
 }
 
-/// Returns the register that contains the byte at a position of program memory. At the end of program memory this is the register below the
-/// last one.
+/// Returns the register that contains the byte at a position of program memory, which is at most the number of its
+/// bytes. At the end of program memory, the result is the register below the last one.
 #[inline(always)]
 fn register_holding<const REGS: usize>(ram: &Ram<REGS>, position: u16) -> Reg
     requires count { position ≤ byte_count ram.now.registers }
@@ -116,7 +118,8 @@ fn register_holding<const REGS: usize>(ram: &Ram<REGS>, position: u16) -> Reg
 }
 
 impl ByteReader {
-    /// Returns a reader whose next byte is the one at a position, which is at most the end of program memory. Memory must be sound.
+    /// Returns a reader whose next byte is the one at a position, which is at most the number of bytes of program
+    /// memory. Memory must be sound.
     #[inline(always)]
     pub fn at<const REGS: usize>(ram: &Ram<REGS>, position: u16) -> Self
         requires count { position ≤ byte_count ram.now.registers }
@@ -148,7 +151,8 @@ impl ByteReader {
     }
 }
 
-/// Returns the byte at a position of program memory, which must be before its end.
+/// Returns the byte at a position of program memory, counted from 0. The position must be before the end of program
+/// memory.
 #[inline(always)]
 pub fn byte_at<const REGS: usize>(ram: &Ram<REGS>, position: u16) -> u8
     requires { position < byte_count ram.now.registers }
@@ -158,8 +162,8 @@ pub fn byte_at<const REGS: usize>(ram: &Ram<REGS>, position: u16) -> u8
     register.byte(usize::from(6 - bytes_before(position)))
 }
 
-/// Returns the eight bytes from a position on, with the first one as the highest byte. Bytes after the end of program memory can have any
-/// value.
+/// Returns the eight bytes of program memory from a position on as one number, with the first one as the highest byte.
+/// Bytes after the end of program memory can have any value.
 #[inline(always)]
 fn bytes_from<const REGS: usize>(ram: &Ram<REGS>, at: u16) -> u64
     requires inside { at < byte_count ram.now.registers }
@@ -172,7 +176,8 @@ fn bytes_from<const REGS: usize>(ram: &Ram<REGS>, at: u16) -> u64
     eight_bytes(ram.read_main(address), ram.read_main(below), skipped)
 }
 
-/// Returns how many of the eight bytes of a number are nulls, from the highest byte to the first one that is none.
+/// Returns how many of the eight bytes of a number, which is not 0, are nulls before the first byte that is none,
+/// counted from the highest byte.
 #[inline(always)]
 fn leading_nulls(bytes: u64) -> u16
     requires { 0 < bytes }
@@ -183,8 +188,8 @@ fn leading_nulls(bytes: u64) -> u16
     (bytes.leading_zeros() / 8) as u16
 }
 
-/// Returns the first position, from `at` on, of a byte that is not null, and this byte. The position is at most that of the last three
-/// bytes.
+/// Returns the first position, from `at` on, of a byte of program memory that is not null, and this byte. The position
+/// is at most `last`, that of `.END.` in the last three bytes.
 #[inline(always)]
 fn past_nulls<const REGS: usize>(ram: &Ram<REGS>, at: u16, last: u16) -> (u16, u8)
     requires from { at ≤ last }
@@ -208,7 +213,8 @@ fn past_nulls<const REGS: usize>(ram: &Ram<REGS>, at: u16, last: u16) -> (u16, u
     }
 }
 
-/// Returns the bytes from one position to another, at most the first 18 of them.
+/// Returns the bytes of program memory from the position `at` up to, but not including, `limit`, at most the first 18
+/// of them.
 #[inline(always)]
 fn window<const REGS: usize>(ram: &Ram<REGS>, at: u16, limit: u16) -> Window
     requires from { at ≤ limit }
@@ -225,8 +231,8 @@ fn window<const REGS: usize>(ram: &Ram<REGS>, at: u16, limit: u16) -> Window
     window
 }
 
-/// Returns the place of a line of `size` bytes that ends neither a program nor memory, or `None` if there are not as many bytes before
-/// `limit`.
+/// Returns where a line of `size` bytes at the position `at` begins and ends, as a line that is neither END nor
+/// `.END.`. `None` if it would not end at or before the position `limit`.
 #[inline(always)]
 fn fitting<const REGS: usize>(ram: &Ram<REGS>, at: u16, limit: u16, size: u16) -> Option<LinePlace>
     requires from { at < limit }
@@ -251,8 +257,9 @@ fn fitting<const REGS: usize>(ram: &Ram<REGS>, at: u16, limit: u16, size: u16) -
     })
 }
 
-/// Returns the place of the line at a position, whose first byte is `byte` and whose bytes are before `limit`. The first bytes determine
-/// how many the line has. `None` if the bytes are no line.
+/// Returns where the line at the position `at` begins and ends, and whether it is END or `.END.`. Its first byte is
+/// `byte`, and it must end before the position `limit`. The first bytes determine how many it has. `None` if the bytes
+/// are no line.
 #[inline(always)]
 fn place_at<const REGS: usize>(ram: &Ram<REGS>, at: u16, byte: u8, limit: u16) -> Option<LinePlace>
     requires from { at < limit }
@@ -282,7 +289,8 @@ fn place_at<const REGS: usize>(ram: &Ram<REGS>, at: u16, byte: u8, limit: u16) -
     }
 }
 
-/// Returns the place of `.END.`, which sound memory has in its last three bytes.
+/// Returns where `.END.` begins and ends, given its position `last`. Sound memory has it in the last three bytes of
+/// program memory.
 #[inline(always)]
 fn final_place<const REGS: usize>(ram: &Ram<REGS>, last: u16) -> LinePlace
     requires last { last ≡ spec.final_position ram.now.registers }
@@ -290,7 +298,7 @@ fn final_place<const REGS: usize>(ram: &Ram<REGS>, last: u16) -> LinePlace
     requires sound { IsTrue (is_sound ram.now.registers) }
     ensures { BeginsAt ram.now.registers last (last + 3) result }
 {
-    // This read is only for the proof, as in `fitting`: the digits of the register are below 16.
+    // This read is only for the proof, which needs the fact that the digits of the register are below 16.
     let _digits = ram.read(ram.end_register()).to_u64();
     LinePlace {
         position: last,
@@ -300,7 +308,8 @@ fn final_place<const REGS: usize>(ram: &Ram<REGS>, last: u16) -> LinePlace
     }
 }
 
-/// Returns the number of bytes of the number at a position: all that can belong to it, at most 16.
+/// Returns how many bytes, at most 16, the number line at the position `at` has. It ends before the first byte after
+/// `at` that is not a character of a number entry (10 to 1C), or at the position `limit`.
 fn number_size<const REGS: usize>(ram: &Ram<REGS>, at: u16, limit: u16) -> u16
     requires from { at < limit }
     requires limit { limit ≤ byte_count ram.now.registers }
@@ -319,7 +328,8 @@ fn number_size<const REGS: usize>(ram: &Ram<REGS>, at: u16, limit: u16) -> u16
     most - at
 }
 
-/// Returns the place of the `GTO`, `XEQ` or `W` with a name at a position, or `None` if no complete text follows the first byte.
+/// Returns where the `GTO`, `XEQ` or `W` with a name at the position `at` begins and ends. `None` if the first byte is
+/// not followed by a complete text before the position `limit`.
 fn named_at<const REGS: usize>(ram: &Ram<REGS>, at: u16, limit: u16) -> Option<LinePlace>
     requires from { at < limit }
     requires limit { limit ≤ byte_count ram.now.registers }
@@ -338,8 +348,8 @@ fn named_at<const REGS: usize>(ram: &Ram<REGS>, at: u16, limit: u16) -> Option<L
     fitting(ram, at, limit, u16::from(text - 0xF0) + 2)
 }
 
-/// Returns the place of the global label, `END` or `.END.` at a position, which the third byte distinguishes. `None` if it is not
-/// complete, or if the third byte is F0, which begins no line.
+/// Returns where the global label, `END` or `.END.` at the position `at` begins and ends; its third byte distinguishes
+/// them. `None` if it is not complete before the position `limit`, or if the third byte is F0, which begins no line.
 fn linked_at<const REGS: usize>(ram: &Ram<REGS>, at: u16, limit: u16) -> Option<LinePlace>
     requires from { at < limit }
     requires limit { limit ≤ byte_count ram.now.registers }
@@ -351,7 +361,7 @@ fn linked_at<const REGS: usize>(ram: &Ram<REGS>, at: u16, limit: u16) -> Option<
     if limit - at < END_BYTES {
         return None;
     }
-    // These reads are only for the proof, as in `fitting`: both bytes are below 256.
+    // These reads are only for the proof, which needs the fact that both bytes are below 256.
     let _first = byte_at(ram, at);
     let _second = byte_at(ram, at + 1);
     let third = byte_at(ram, at + 2);
@@ -377,8 +387,9 @@ fn linked_at<const REGS: usize>(ram: &Ram<REGS>, at: u16, limit: u16) -> Option<
     })
 }
 
-/// Returns the place of the first line from a position on, after any nulls, without decoding the line. `None` if there is none. `.END.` is
-/// only found from its first byte or before. Memory must be sound.
+/// Returns where the first line from a position on, after any nulls, begins and ends, and whether it is END or `.END.`,
+/// without decoding it. `None` if there is no line. `.END.` is only found from its first byte or before. Memory must be
+/// sound.
 #[inline(always)]
 pub fn place_from<const REGS: usize>(ram: &Ram<REGS>, at: u16) -> Option<LinePlace>
     requires { IsTrue (is_sound ram.now.registers) }
@@ -399,9 +410,9 @@ pub fn place_from<const REGS: usize>(ram: &Ram<REGS>, at: u16) -> Option<LinePla
     place_at(ram, position, byte, last)
 }
 
-/// Returns the first line from a position on, after any nulls, and the position of the byte after it. `None` if no line follows. The list
-/// continues at that byte, except after `.END.`, its last line. A line of one or two bytes at the position itself is decoded without a copy
-/// of its bytes. Memory must be sound.
+/// Returns the first line from a position on, after any nulls, and the position of the byte after it. `None` if no line
+/// follows. The list of lines continues at that byte, except after `.END.`, its last line. A line of one or two bytes
+/// at the position itself is decoded without a copy of its bytes. Memory must be sound.
 #[inline(always)]
 pub fn first_from<const REGS: usize>(ram: &Ram<REGS>, at: u16) -> Option<Found>
     requires { IsTrue (is_sound ram.now.registers) }
@@ -435,7 +446,8 @@ pub fn first_from<const REGS: usize>(ram: &Ram<REGS>, at: u16) -> Option<Found>
     first_decoded(ram, at)
 }
 
-/// Returns the first line from a position on, after any nulls, decoded from a copy of its bytes.
+/// Returns the first line from a position on, after any nulls, and the position of the byte after it. The line is
+/// decoded from a copy of its bytes. `None` if no line follows.
 #[inline(never)]
 fn first_decoded<const REGS: usize>(ram: &Ram<REGS>, at: u16) -> Option<Found>
     requires { IsTrue (is_sound ram.now.registers) }
@@ -463,8 +475,8 @@ fn first_decoded<const REGS: usize>(ram: &Ram<REGS>, at: u16) -> Option<Found>
     }
 }
 
-/// Returns the line at a position, which is the first line from there on after any nulls, with its own position. BrokenProgram (14) if
-/// there is none. Memory must be sound.
+/// Returns the line at a position of program memory: the first line from there on, after any nulls, with the position
+/// of its first byte. BrokenProgram (14) if there is none. Memory must be sound.
 pub fn line_at<const REGS: usize>(ram: &Ram<REGS>, at: u16) -> Result<ListedLine, ProgramRefusal>
     requires { IsTrue (is_sound ram.now.registers) }
     ensures { AnswersFirst ram.now.registers at result }
@@ -475,8 +487,8 @@ pub fn line_at<const REGS: usize>(ram: &Ram<REGS>, at: u16) -> Result<ListedLine
     }
 }
 
-/// Returns the position of the line after a line. If no line follows, it is the position of the byte just after the line; for `.END.` it is
-/// its own position.
+/// Returns the position of the line after a line that was found. If no line follows, it is the position of the byte
+/// just after the line; for `.END.` it is its own position.
 pub fn position_behind<const REGS: usize>(ram: &Ram<REGS>, first: Found) -> u16
     requires { IsTrue (is_sound ram.now.registers) }
     ensures { FoundBehind ram.now.registers first result }
@@ -488,7 +500,7 @@ pub fn position_behind<const REGS: usize>(ram: &Ram<REGS>, first: Found) -> u16
     position_from(ram, behind)
 }
 
-/// Returns the position of the first line from a position on, or that position if no line follows.
+/// Returns the position of the first line from the position `at` on, or `at` if no line follows.
 #[inline(always)]
 fn position_from<const REGS: usize>(ram: &Ram<REGS>, at: u16) -> u16
     requires { IsTrue (is_sound ram.now.registers) }
@@ -502,8 +514,8 @@ fn position_from<const REGS: usize>(ram: &Ram<REGS>, at: u16) -> u16
     position_by(ram, at, byte_at(ram, at))
 }
 
-/// Returns the position of the first line from a position on, or that position if no line follows. `byte` is the byte there. If it is not
-/// null, the result is the position itself, because only nulls can precede the first line. Memory must be sound.
+/// Returns the position of the first line from the position `at` on, or `at` if no line follows. `byte` is the byte at
+/// `at`. If it is not null, the result is `at`, because only nulls can precede the first line. Memory must be sound.
 #[inline(always)]
 pub fn position_by<const REGS: usize>(ram: &Ram<REGS>, at: u16, byte: u8) -> u16
     requires sound { IsTrue (is_sound ram.now.registers) }
@@ -519,7 +531,8 @@ pub fn position_by<const REGS: usize>(ram: &Ram<REGS>, at: u16, byte: u8) -> u16
     position_past_nulls(ram, at)
 }
 
-/// Returns the same for a position with a null, after the nulls are skipped.
+/// Returns the position of the first line from the position `at` on, or `at` if no line follows, after the nulls from
+/// `at` on are skipped.
 #[inline(never)]
 fn position_past_nulls<const REGS: usize>(ram: &Ram<REGS>, at: u16) -> u16
     requires { IsTrue (is_sound ram.now.registers) }
@@ -545,8 +558,9 @@ fn position_past_nulls<const REGS: usize>(ram: &Ram<REGS>, at: u16) -> u16
     }
 }
 
-/// Returns the short line whose first byte is at this position, before `.END.`, and the position of the line after it, or of the byte just
-/// after it if no line follows. `None` for other lines, nulls and bytes that are no line. Memory must be sound.
+/// Returns the short line (a line of at most three bytes, without a text) whose first byte is at this position, before
+/// `.END.`, and the position of the line after it, or of the byte just after it if no line follows. `None` for other
+/// lines, nulls and bytes that are no line. Memory must be sound.
 #[inline(always)]
 pub fn short_line<const REGS: usize>(ram: &Ram<REGS>, at: u16) -> Option<(ShortLine, u16)>
     requires { IsTrue (is_sound ram.now.registers) }
@@ -574,8 +588,9 @@ pub fn short_line<const REGS: usize>(ram: &Ram<REGS>, at: u16) -> Option<(ShortL
     }
 }
 
-/// Returns the position of the line after a short line of `size` bytes, or of the byte just after it if no line follows. `None` if the
-/// last three bytes begin inside the line. The machine code for each size treats it as a constant.
+/// Returns the position of the line after a short line of `size` bytes, at most three, at the position `at`, or of the
+/// byte just after it if no line follows. `None` if `.END.`, at the position `last`, begins inside the line. `bytes`
+/// are the eight bytes from `at` on. The machine code for each size treats it as a constant.
 #[inline(always)]
 fn behind_short<const REGS: usize>(
     ram: &Ram<REGS>,
@@ -601,7 +616,9 @@ fn behind_short<const REGS: usize>(
     }
 }
 
-/// Returns the same for a line of `size` bytes.
+/// Returns the position of the line after a line of `size` bytes, at most three, at the position `at`, or of the byte
+/// just after it if no line follows. `None` if `.END.`, at the position `last`, begins inside the line. `bytes` are the
+/// eight bytes from `at` on.
 #[inline(always)]
 fn behind_bytes<const REGS: usize>(
     ram: &Ram<REGS>,

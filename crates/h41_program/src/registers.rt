@@ -1,4 +1,4 @@
-//! Registers and the addresses in them.
+//! Registers of program memory, and the addresses in register c.
 ghost use Rattle.std.specs.Prelude.{◌≡◌, ◌+◌, ◌*◌, ◌<◌, ◌≤◌, length};
 ghost use Rattle.h41_ram.specs.RegisterMap as spec;
 ghost use Rattle.h41_program.specs.Rewriting.{program_register};
@@ -6,22 +6,23 @@ ghost use Rattle.h41_program.specs.Rewriting.{program_register};
 use h41_digits::Reg;
 use h41_ram::StatusRegister;
 
-/// The address of register c, which contains the curtain and the end of program memory.
+/// The address of register c, 00D, which contains the curtain and the address of the register with `.END.`.
 pub const C: u16 = StatusRegister::C as u16;
 
-/// The lowest digit, in register c, of the address of the register with `.END.`.
+/// The place (digit, 0 rightmost) in register c of the lowest digit of the address of the register with `.END.`.
 pub const END_PLACE: usize = 0;
 
-/// The lowest digit, in register c, of the curtain.
+/// The place (digit, 0 rightmost) in register c of the lowest digit of the curtain, the address of data register R00.
 pub const CURTAIN_PLACE: usize = 3;
 
-/// The lowest digit, in register c, of the address of the first statistics register.
+/// The place (digit, 0 rightmost) in register c of the lowest digit of the address of the first statistics register.
 pub const STATISTICS_PLACE: usize = 11;
 
-/// The number of addresses with three digits.
+/// The number of addresses that three hexadecimal digits can have, 000 to FFF.
 pub const ADDRESSES: u16 = 4096;
 
-/// Returns the address in three digits of a register, from the digit `place` up.
+/// Returns the address, 000 to FFF, in three digits of a register: `place` (the lowest, at most 11), `place` + 1 and
+/// `place` + 2.
 pub fn address_at(register: Reg, place: usize) -> u16
     requires { place < 12 }
     ensures value { result ≡ spec.three_digits register place }
@@ -30,7 +31,8 @@ pub fn address_at(register: Reg, place: usize) -> u16
     register.number(place, place + 2) as u16
 }
 
-/// Returns the register with an address written to three of its digits, from the digit `place` up.
+/// Returns a copy of a register with an address, 000 to FFF, in three of its digits: `place` (the lowest, at most 11),
+/// `place` + 1 and `place` + 2.
 pub fn with_address(register: Reg, place: usize, address: u16) -> Reg
     requires place { place < 12 }
     requires address { address < 4096 }
@@ -39,7 +41,8 @@ pub fn with_address(register: Reg, place: usize, address: u16) -> Reg
     register.with_number(place, place + 2, u64::from(address))
 }
 
-/// Returns the register with seven of these bytes, the first one leftmost, after `below` registers of bytes are skipped.
+/// Returns the register with seven of the bytes of program memory, the first one leftmost, after 7 times `below` bytes
+/// are skipped.
 pub fn register_of(bytes: &[u8], below: usize) -> Reg
     requires { 7 * below + 7 ≤ length bytes.now }
     ensures { result ≡ program_register bytes.now below }

@@ -1,4 +1,4 @@
-//! Writing all of program memory.
+//! Writing all of the programs in memory at once.
 ghost use Rattle.std.specs.Prelude.{◌≡◌, ◌<◌, length, true};
 ghost use Rattle.h41_ram.specs.RegisterMap.{IsMemory, top_of};
 ghost use Rattle.h41_program.specs.private.ProgramPlaces.{IsPlace};
@@ -11,8 +11,9 @@ use h41_digits::Reg;
 use h41_ram::laws::mark_is_kept;
 use h41_ram::{MAIN_START, Ram};
 
-/// Makes these bytes, which fill whole registers, the programs, and writes the address of their end to register c. Registers that no longer
-/// belong to programs become zero (this project's choice).
+/// Writes the given bytes, which fill whole registers, as the programs in memory, and writes `end`, the address of the
+/// register with `.END.`, to register c. Registers that no longer belong to programs become zero (this project's
+/// choice).
 pub fn rewrite<const REGS: usize>(ram: &mut Ram<REGS>, bytes: &[u8], end: u16)
     requires place { IsPlace ram.old.registers (length bytes.now) end }
     requires memory { IsMemory REGS ram.old.registers }
@@ -30,7 +31,8 @@ pub fn rewrite<const REGS: usize>(ram: &mut Ram<REGS>, bytes: &[u8], end: u16)
     ram.set_main_memory(main);
 }
 
-/// Returns the register at an address after these bytes are written.
+/// Returns what the register of memory at an address contains after the given bytes are written as the programs in
+/// memory. `end` is the address of the register with `.END.`.
 fn new_register<const REGS: usize>(ram: &Ram<REGS>, bytes: &[u8], end: u16, address: u16) -> Reg
     requires place { IsPlace ram.now.registers (length bytes.now) end }
     requires address { address < top_of ram.now.registers }
@@ -46,7 +48,8 @@ fn new_register<const REGS: usize>(ram: &Ram<REGS>, bytes: &[u8], end: u16, addr
     }
 }
 
-/// Returns the register at an address below the new end: unchanged if it was below the old end, otherwise zero.
+/// Returns what a register below the new register of `.END.` contains after the programs are moved: unchanged if it was
+/// below the old register of `.END.`, otherwise zero.
 pub fn free_register<const REGS: usize>(ram: &Ram<REGS>, address: u16) -> Reg
     ensures { result ≡ spec.free_register ram.now.registers address }
 {

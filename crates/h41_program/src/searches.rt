@@ -14,8 +14,8 @@ use h41_codes::Parameter;
 use h41_codes::laws::byte_round_trip;
 use h41_ram::Ram;
 
-/// Returns the start of the program of a position: the byte after the last END whose first byte is before the position, or 0 if there is
-/// none. `.END.` does not count. Memory must be sound.
+/// Returns the position where the program that contains a position of program memory starts: the byte after the last
+/// END whose first byte is before the position, or 0 if there is none. `.END.` does not count. Memory must be sound.
 pub fn start_of<const REGS: usize>(ram: &Ram<REGS>, at: u16) -> u16
     requires { IsTrue (is_sound ram.now.registers) }
     ensures { AnswersOf (start_in at) ram.now.registers 0 result }
@@ -39,7 +39,8 @@ pub fn start_of<const REGS: usize>(ram: &Ram<REGS>, at: u16) -> u16
     start
 }
 
-/// Returns the position of the first END or `.END.` from a position on, or `None` if there is none.
+/// Returns the position of the first END or `.END.` in the list of lines from a position on, or `None` if there is
+/// none.
 fn end_from<const REGS: usize>(ram: &Ram<REGS>, from: u16) -> Option<u16>
     requires { IsTrue (is_sound ram.now.registers) }
     ensures { AnswersFrom (λ lines. end_in (up_to_end lines)) ram.now.registers from result }
@@ -57,8 +58,8 @@ fn end_from<const REGS: usize>(ram: &Ram<REGS>, from: u16) -> Option<u16>
     None
 }
 
-/// Returns the position of the end of a position's program: its END, or `.END.` if that is before any END. `None` if bytes that are no line
-/// precede both. Memory must be sound.
+/// Returns the position of the END of the program that contains a position of program memory, or of `.END.` if that is
+/// before any END. `None` if bytes that are no line precede both. Memory must be sound.
 pub fn end_of<const REGS: usize>(ram: &Ram<REGS>, at: u16) -> Option<u16>
     requires { IsTrue (is_sound ram.now.registers) }
     ensures { AnswersProgram end_in ram.now.registers at result }
@@ -68,8 +69,8 @@ pub fn end_of<const REGS: usize>(ram: &Ram<REGS>, at: u16) -> Option<u16>
     end_from(ram, start_of(ram, at))
 }
 
-/// Returns the position of the first `LBL n` from a position to the END, otherwise that of the first one in the program. `None` if there is
-/// none. Memory must be sound.
+/// Returns the position of the first local label `LBL n`, with the number n of `label`, from a position of program
+/// memory to the END, otherwise that of the first one in the program. `None` if there is none. Memory must be sound.
 pub fn local<const REGS: usize>(ram: &Ram<REGS>, at: u16, label: Parameter) -> Option<u16>
     requires { IsTrue (is_sound ram.now.registers) }
     ensures { AnswersLocal ram.now.registers at label result }
@@ -82,7 +83,8 @@ pub fn local<const REGS: usize>(ram: &Ram<REGS>, at: u16, label: Parameter) -> O
     }
 }
 
-/// Returns the position of the first `LBL n` from a position to the END, or `None` if there is none.
+/// Returns the position of the first local label `LBL n`, with the number n of `label`, from a position of program
+/// memory to the next END or `.END.`. `None` if there is none.
 fn label_from<const REGS: usize>(ram: &Ram<REGS>, at: u16, label: Parameter) -> Option<u16>
     requires { IsTrue (is_sound ram.now.registers) }
     ensures { AnswersFrom (λ lines. position_of (label_in label lines))
@@ -104,8 +106,8 @@ fn label_from<const REGS: usize>(ram: &Ram<REGS>, at: u16, label: Parameter) -> 
     None
 }
 
-/// Returns whether the line of a place, the first from a position on, is `LBL n`. The line is only decoded if its first byte is that of a
-/// local label.
+/// Returns whether the line that begins at `place`, which is the first line from the position `at` on, is the local
+/// label `LBL n` with the number n of `label`. The line is only decoded if its first byte is that of a local label.
 #[inline(always)]
 fn is_label_at<const REGS: usize>(
     ram: &Ram<REGS>,
@@ -127,7 +129,8 @@ fn is_label_at<const REGS: usize>(
     }
 }
 
-/// Returns the position of the last `LBL` with this name in memory, or `None` if there is none. Memory must be sound.
+/// Returns the position of the last global label in memory whose name is exactly `name`, or `None` if there is none.
+/// Memory must be sound.
 pub fn global<const REGS: usize>(ram: &Ram<REGS>, name: &[u8]) -> Option<u16>
     requires { IsTrue (is_sound ram.now.registers) }
     ensures { AnswersOf (λ lines. position_of (named_in name.now lines))
@@ -147,8 +150,9 @@ pub fn global<const REGS: usize>(ram: &Ram<REGS>, name: &[u8]) -> Option<u16>
     last
 }
 
-/// Returns whether the line of a place, the first from a position on, is the `LBL` with this name. The line is only decoded if it has as
-/// many bytes as that label and if its last byte is that of the name.
+/// Returns whether the line that begins at `place`, which is the first line from the position `at` on, is the global
+/// label with this name. The line is only decoded if it has as many bytes as that label and if its last byte is the
+/// last character of the name.
 #[inline(always)]
 fn is_named_at<const REGS: usize>(ram: &Ram<REGS>, at: u16, place: &LinePlace, name: &[u8]) -> bool
     requires sound { IsTrue (is_sound ram.now.registers) }

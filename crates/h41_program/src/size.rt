@@ -1,4 +1,4 @@
-//! The number of data registers.
+//! Changing the number of data registers.
 ghost use Rattle.std.specs.Prelude.{◌≡◌, ◌-◌, ◌<◌, true, is_ok, IsTrue, OnErr};
 ghost use Rattle.h41_ram.specs.RegisterMap.{IsMemory, is_sound, top_of};
 ghost use Rattle.h41_program.specs.private.ProgramPlaces.{IsMove};
@@ -15,9 +15,12 @@ use h41_digits::Reg;
 use h41_ram::laws::mark_is_kept;
 use h41_ram::{MAIN_START, Ram};
 
-/// Sets the number of data registers. The programs and the statistics registers move with the curtain. Data registers that remain keep
-/// their values; new ones become zero, and so do registers that no longer belong to programs (this project's choice). SizeTooLarge (17) if
-/// main memory has no more registers than `size`; NoRoom (16) if the programs do not fit into main memory. A refusal changes nothing.
+/// Sets the number of data registers. The programs and the statistics registers move with the curtain, the address of
+/// data register R00. Data registers that remain keep their values; new ones become zero, and so do registers that no
+/// longer belong to programs (this project's choice). Memory must be sound.
+///
+/// The errors: SizeTooLarge (17) if main memory has no more registers than `size`, NoRoom (16) if the programs do not
+/// fit into main memory. After an error nothing has changed.
 pub fn set_size<const REGS: usize>(ram: &mut Ram<REGS>, size: u16) -> Result<(), ProgramRefusal>
     requires { IsTrue (is_sound ram.old.registers) }
     ensures size { HasOutcome ram.old.registers ram.new.registers result
@@ -40,7 +43,8 @@ pub fn set_size<const REGS: usize>(ram: &mut Ram<REGS>, size: u16) -> Result<(),
     Ok(())
 }
 
-/// Moves the curtain and the end of program memory.
+/// Moves the curtain (the address of data register R00) to `curtain` and the register with `.END.` to the address
+/// `end`. The programs, the statistics registers and the data registers move with them.
 fn resize<const REGS: usize>(ram: &mut Ram<REGS>, curtain: u16, end: u16)
     requires place { IsMove ram.old.registers curtain end }
     requires memory { IsMemory REGS ram.old.registers }
@@ -59,7 +63,8 @@ fn resize<const REGS: usize>(ram: &mut Ram<REGS>, curtain: u16, end: u16)
     ram.set_main_memory(main);
 }
 
-/// Returns register c with the addresses for a curtain and an end. The statistics registers move with the curtain.
+/// Returns register c with `curtain` as the address of data register R00 and `end` as the address of the register with
+/// `.END.`. The address of the statistics registers moves with the curtain.
 fn moved_addresses<const REGS: usize>(ram: &Ram<REGS>, curtain: u16, end: u16) -> Reg
     requires { IsMove ram.now.registers curtain end }
     ensures { result ≡ resized_c ram.now.registers (top_of ram.now.registers - curtain) }
@@ -72,7 +77,8 @@ fn moved_addresses<const REGS: usize>(ram: &Ram<REGS>, curtain: u16, end: u16) -
     with_address(c, STATISTICS_PLACE, statistics)
 }
 
-/// Returns the register at an address after the curtain and the end are moved.
+/// Returns what the register of memory at an address contains after the curtain (the address of data register R00) and
+/// the register with `.END.` are moved to `curtain` and `end`. New data registers are zero.
 fn moved_register<const REGS: usize>(ram: &Ram<REGS>, curtain: u16, end: u16, address: u16) -> Reg
     requires place { IsMove ram.now.registers curtain end }
     requires address { address < top_of ram.now.registers }

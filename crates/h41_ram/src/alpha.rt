@@ -1,14 +1,15 @@
-//! The 24 bytes of ALPHA, which are stored in the status registers P, O, N and M.
+//! The 24 bytes of the ALPHA register, which are stored in the status registers P, O, N and M.
 
 ghost use Rattle.std.specs.Prelude.{◌≡◌, ◌+◌, ◌<◌, ◌≤◌, ◌++◌, drop, [], ◌∷◌};
 ghost use Rattle.h41_ram.specs.RegisterMap.{bytes_of, digits_from, seven_from};
 
 use h41_digits::Reg;
 
-/// The number of bytes of ALPHA.
+/// The number of bytes, 24, of the ALPHA register.
 pub const ALPHA_LENGTH: usize = 24;
 
-/// Returns the bytes of ALPHA, the leftmost first: the right three bytes of P, and all bytes of O, N and M.
+/// Returns the 24 bytes of the ALPHA register, the leftmost first, from the status registers P, O, N and M: the right
+/// three bytes of P, and all seven bytes of O, N and M.
 pub fn text(p: Reg, o: Reg, n: Reg, m: Reg) -> [u8; ALPHA_LENGTH]
     ensures { result ≡ drop 4 (bytes_of p) ++ bytes_of o ++ bytes_of n ++ bytes_of m }
 {
@@ -37,7 +38,8 @@ fn bytes(register: Reg) -> [u8; 7]
     ]
 }
 
-/// Returns P with the first three bytes of the text in its right three bytes. Its left four bytes do not change.
+/// Returns status register `p` with the first three bytes of ALPHA's `text` in its right three bytes. Its left four
+/// bytes do not change.
 pub fn first_bytes(p: Reg, text: [u8; ALPHA_LENGTH]) -> Reg
     ensures { result ≡ digits_from text (0 ∷ 1 ∷ 2 ∷ []) ++ drop 6 p }
 {
@@ -46,7 +48,8 @@ pub fn first_bytes(p: Reg, text: [u8; ALPHA_LENGTH]) -> Reg
         .with_byte(0, text[2])
 }
 
-/// Returns a register that contains seven bytes of the text, from byte `first`, 0 to 17, on. The first of them is leftmost.
+/// Returns a register that contains seven consecutive bytes of ALPHA's `text`, from index `first`, 0 to 17, on. Byte
+/// `first` becomes the leftmost byte of the register.
 pub fn seven_bytes(text: [u8; ALPHA_LENGTH], first: usize) -> Reg
     requires { first ≤ 17 }
     ensures { result ≡ digits_from text (seven_from first) }

@@ -11,7 +11,7 @@ pub const ALPHA_ENTRY: usize = 23;
 /// an error.
 pub const RANGE_IGNORE: usize = 24;
 
-/// Flag 25, error ignore: if it is set, the next error clears it, and the program continues.
+/// Flag 25, error ignore: if it is set, the next error clears it, and the program continues without an error message.
 pub const ERROR_IGNORE: usize = 25;
 
 /// Flag 26, audio enable: while it is set, the calculator sounds its tones.
@@ -23,29 +23,29 @@ pub const DECIMAL_POINT: usize = 28;
 /// Flag 29, digit grouping: while it is set, the digits before the radix mark are separated into groups of three.
 pub const DIGIT_GROUPING: usize = 29;
 
-/// Flag 36: the bit of weight 8 of the display digit, which is the operand of the last FIX, SCI or ENG.
+/// Flag 36: the bit of weight 8 of the number of display digits, which is the operand of the last FIX, SCI or ENG.
 pub const DIGITS_8: usize = 36;
 
-/// Flag 37: the bit of weight 4 of the display digit.
+/// Flag 37: the bit of weight 4 of the number of display digits, the operand of the last FIX, SCI or ENG.
 pub const DIGITS_4: usize = 37;
 
-/// Flag 38: the bit of weight 2 of the display digit.
+/// Flag 38: the bit of weight 2 of the number of display digits, the operand of the last FIX, SCI or ENG.
 pub const DIGITS_2: usize = 38;
 
-/// Flag 39: the bit of weight 1 of the display digit.
+/// Flag 39: the bit of weight 1 of the number of display digits, the operand of the last FIX, SCI or ENG.
 pub const DIGITS_1: usize = 39;
 
-/// Flag 40: numbers are shown in FIX. If neither this flag nor `ENGINEERING` is set, they are shown in SCI.
+/// Flag 40: if it is set, numbers are shown in FIX. If neither this flag nor flag 41 is set, they are shown in SCI.
 pub const FIXED: usize = 40;
 
-/// Flag 41: numbers are shown in ENG.
+/// Flag 41: if it is set, numbers are shown in ENG.
 pub const ENGINEERING: usize = 41;
 
-/// Flag 42: angles are in grads. If neither this flag nor `RADIANS` is set, they are in degrees.
+/// Flag 42: if it is set, angles are in grads. If neither this flag nor flag 43 is set, they are in degrees.
 pub const GRADS: usize = 42;
 
-/// Flag 43: angles are in radians.
+/// Flag 43: if it is set, angles are in radians.
 pub const RADIANS: usize = 43;
 
-/// Flag 48, ALPHA mode: ALPHA is shown, and keys type letters.
+/// Flag 48, ALPHA mode: while it is set, ALPHA is shown, and keys type letters.
 pub const ALPHA_MODE: usize = 48;

@@ -1,4 +1,4 @@
-//! Laws of memory. Each law is the contract of a function with an empty body.
+//! Laws of the memory of the HP-41. Each law is the contract of a function with an empty body.
 
 ghost use Rattle.std.specs.Prelude.{◌≡◌};
 ghost use Rattle.h41_ram.specs.MarkLaws.{MarkIsKeptInTurn, MarkStays};
@@ -15,27 +15,28 @@ use crate::flags::{
     RANGE_IGNORE,
 };
 
-/// States that a register is read as it was written if its address exists.
+/// States that reading a register of memory returns what was last written to its address, if the address exists.
 pub fn read_after_write()
     ensures { ReadsWhatWasWritten }
 {}
 
-/// States that a write changes no other address.
+/// States that writing a register of memory changes no register at another address.
 pub fn write_keeps_other_addresses()
     ensures { KeepsOtherAddresses }
 {}
 
-/// States that a flag is read as it was last set or cleared.
+/// States that a flag, 0 to 55, is read as it was last set or cleared.
 pub fn flag_is_read()
     ensures { FlagIsRead }
 {}
 
-/// States that writing a flag changes no other flag.
+/// States that setting or clearing a flag, 0 to 55, changes no other flag.
 pub fn other_flags_stay()
     ensures { OtherFlagsStay }
 {}
 
-/// States that each constant of the module `flags` has the number of the flag with this name in the definitions.
+/// States that each constant of the module `flags` has the number that the specification of memory gives the flag with
+/// this name.
 pub fn names_of_flags_agree()
     ensures number_entry { NUMBER_ENTRY ≡ named.number_entry }
     ensures alpha_entry { ALPHA_ENTRY ≡ named.alpha_entry }
@@ -55,37 +56,41 @@ pub fn names_of_flags_agree()
     ensures alpha_mode { ALPHA_MODE ≡ named.alpha_mode }
 {}
 
-/// States that ALPHA is read as it was written.
+/// States that the 24 bytes of ALPHA are read as they were last written.
 pub fn alpha_is_read()
     ensures { AlphaIsRead }
 {}
 
-/// States that writing ALPHA changes no register other than M, N, O and P, and not the left four bytes of P.
+/// States that writing the 24 bytes of ALPHA changes no register other than M, N, O and P, and not the left four bytes
+/// of P.
 pub fn all_but_alpha_stays()
     ensures others { AlphaKeepsOthers }
     ensures left { AlphaKeepsLeftOfP }
 {}
 
-/// States that a status register is read by its name as it was written, and that the write changes no other status register.
+/// States that a status register is read by its name (X or LAST X, for example) as it was written by its name, and that
+/// the write changes no other status register.
 pub fn status_is_read()
     ensures read { StatusIsRead }
     ensures others { OtherStatusStays }
 {}
 
-/// States that in sound memory a data register is read by its number as it was written, that the write changes no other data
-/// register, and that memory remains sound.
+/// States that in sound memory (`Ram::is_sound`) a data register is read by its number as it was written by its number,
+/// that the write changes no other data register, and that memory remains sound.
 pub fn data_are_read()
     ensures read { DataIsRead }
     ensures others { OtherDataStay }
     ensures sound { DataKeepSound }
 {}
 
-/// States that the start state is sound for every size of memory, 64 to 320 registers.
+/// States that the initial state of memory (`Ram::new`) is sound for every size of main memory, 64 to 320 registers.
 pub fn start_is_sound()
     ensures { StartIsSound }
 {}
 
-/// States that the promise about the dirty flag holds if nothing is written, and for two calls in turn if it holds for each.
+/// States that an operation which writes nothing keeps the promise about the dirty flag (`Ram::program_touched`): it is
+/// set if a register of the program changes, and only `clear_touched` clears it. Two calls in turn keep the promise if
+/// each does.
 pub fn mark_is_kept()
     ensures stays { MarkStays }
     ensures turn { MarkIsKeptInTurn }

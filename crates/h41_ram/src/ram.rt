@@ -1,4 +1,5 @@
-//! The registers, and what the calculator stores in its status registers: flags, ALPHA and the parts of memory.
+//! The registers of memory, and what the calculator stores in its status registers: flags, ALPHA and the parts of
+//! memory.
 
 ghost use Rattle.std.specs.Prelude.{◌≡◌, ◌<◌, ◌≤◌, ◌&&◌, ◌||◌, false, true, length, nat_le, nat_lt};
 ghost use Rattle.std.specs.Prelude.{slice_set};
@@ -24,19 +25,19 @@ pub const MAIN_START: usize = 0x0C0;
 /// The address of status register M, which contains the last seven bytes of ALPHA.
 const M: usize = StatusRegister::M as usize;
 
-/// The address of status register N, which contains bytes of ALPHA.
+/// The address of status register N, which contains the seven bytes of ALPHA before those of M.
 const N: usize = StatusRegister::N as usize;
 
-/// The address of status register O, which contains bytes of ALPHA.
+/// The address of status register O, which contains the seven bytes of ALPHA before those of N.
 const O: usize = StatusRegister::O as usize;
 
-/// The address of status register P, whose right three bytes are the first of ALPHA.
+/// The address of status register P, whose right three bytes are the first three bytes of ALPHA.
 const P: usize = StatusRegister::P as usize;
 
-/// The address of status register c, which contains the addresses of the parts of memory.
+/// The address of status register c, which contains the addresses of data register R00 (the curtain) and of .END.
 const C: usize = StatusRegister::C as usize;
 
-/// The address of status register d, which contains the flags.
+/// The address of status register d, which contains the 56 flags.
 const D: usize = StatusRegister::D as usize;
 
 /// The number of the flag that is the lowest bit of register d.
@@ -47,7 +48,8 @@ const LAST_FLAG: usize = 55;
 pub struct Ram<const REGS: usize> {
     status: [Reg; STATUS_REGISTERS],
     main: [Reg; REGS],
-    /// What register c and the register of .END. determine, updated with each write to them, and the dirty flag of the program.
+    /// The curtain, the address of .END. and whether memory is sound, updated with each write to register c and to the
+    /// register of .END., and the dirty flag of the program.
     parts: Parts,
 }
 
@@ -68,9 +70,9 @@ impl<const REGS: usize> Model for Ram<REGS> {
 }
 
 impl<const REGS: usize> Ram<REGS> {
-    /// Returns the memory at the start (this project's choice): all registers are zero except c, d and that of .END., which is the
-    /// whole program. There are 100 data registers, or 17 if main memory has at most 100 registers. Flags 26, 28 and 29 are set,
-    /// and the display is in FIX 4.
+    /// Returns the memory in its initial state (this project's choice): all registers are zero except c, d and the
+    /// register of .END., which is the whole program. There are 100 data registers, or 17 if main memory has at most
+    /// 100 registers. Flags 26, 28 and 29 are set, and the display is in FIX 4.
     pub fn new() -> Self
         requires at_least { 64 ≤ REGS }
         requires at_most { REGS ≤ 320 }
@@ -87,7 +89,8 @@ impl<const REGS: usize> Ram<REGS> {
         Ram::holding(&status, &main)
     }
 
-    /// Returns the memory with these registers. Its dirty flag is set.
+    /// Returns the memory with these 16 status registers and this main memory of 64 to 320 registers. The dirty flag of
+    /// the program is set.
     fn holding(status: &[Reg; STATUS_REGISTERS], main: &[Reg; REGS]) -> Self
         requires at_least { 64 ≤ REGS }
         requires at_most { REGS ≤ 320 }
@@ -103,7 +106,7 @@ impl<const REGS: usize> Ram<REGS> {
         }
     }
 
-    /// Returns the memory, and leaves the memory at the start in its place.
+    /// Returns the memory, and replaces it by memory in its initial state (`Ram::new`).
     pub fn take(&mut self) -> Self
         ensures taken { result ≡ self.old }
         ensures left { self.new ≡ state.start_state REGS }
@@ -118,7 +121,8 @@ impl<const REGS: usize> Ram<REGS> {
         taken
     }
 
-    /// Returns the register at an address. An address that does not exist reads as zero (this project's choice).
+    /// Returns the register at an address of memory, 0000 to FFFF. An address that does not exist reads as zero (this
+    /// project's choice).
     #[inline(always)]
     pub fn read(&self, address: u16) -> Reg
         ensures { result ≡ spec.register_at self.now.registers address }
@@ -131,7 +135,7 @@ impl<const REGS: usize> Ram<REGS> {
         }
     }
 
-    /// Returns the register at an address of main memory, which must exist.
+    /// Returns the register at an address of main memory, which must exist: from 0C0 to below the top of memory.
     #[inline(always)]
     pub fn read_main(&self, address: u16) -> Reg
         requires from { spec.main_start ≤ address }
@@ -141,7 +145,8 @@ impl<const REGS: usize> Ram<REGS> {
         self.main[usize::from(address) - MAIN_START]
     }
 
-    /// Writes the register at an address. A write to an address that does not exist is ignored (this project's choice).
+    /// Writes the register at an address of memory, 0000 to FFFF, and sets the dirty flag if it is a register of the
+    /// program. A write to an address that does not exist is ignored (this project's choice).
     #[inline(always)]
     pub fn write(&mut self, address: u16, register: Reg)
         ensures written { self.new ≡ state.with_written self.old address register }
@@ -158,7 +163,8 @@ impl<const REGS: usize> Ram<REGS> {
         }
     }
 
-    /// Writes register c, and updates the parts of memory.
+    /// Writes register c, updates the curtain, the address of .END. and whether memory is sound, and sets the dirty
+    /// flag.
     #[inline(never)]
     fn write_c(&mut self, c: Reg)
         ensures { self.new ≡ state.with_written self.old spec.c_address c }
@@ -168,8 +174,8 @@ impl<const REGS: usize> Ram<REGS> {
         self.status[C] = c;
     }
 
-    /// Writes the register of main memory at an address, if there is one. If it is the register at the end, it determines whether
-    /// memory is sound.
+    /// Writes the register of main memory at an address from 0C0 on, if the address exists, and sets the dirty flag if
+    /// it is a register of the program. A write to the register of .END. also determines whether memory is sound.
     #[inline(always)]
     fn write_main(&mut self, address: u16, register: Reg)
         requires { spec.main_start ≤ address }
@@ -182,8 +188,8 @@ impl<const REGS: usize> Ram<REGS> {
         self.put_main(index, register);
     }
 
-    /// Writes the register of main memory with an index, if there is one. If it is the register at the end, it determines whether
-    /// memory is sound.
+    /// Writes the register of main memory with an index (0 is the register at 0C0), if there is one. A write to the
+    /// register of .END. also determines whether memory is sound. The dirty flag does not change.
     #[inline(always)]
     fn put_main(&mut self, index: usize, register: Reg)
         requires { index < 65536 }
@@ -201,8 +207,9 @@ impl<const REGS: usize> Ram<REGS> {
         }
     }
 
-    /// Returns the dirty flag: whether a register of the program may have changed since `clear_touched`. These registers are c, and
-    /// those from that of .END. up to, but not including, the curtain. The flag is this project's own.
+    /// Returns the dirty flag: whether a register of the program may have changed since `clear_touched`. These
+    /// registers are c, and those from the register of .END. up to, but not including, the curtain. The flag is this
+    /// project's own.
     #[inline(always)]
     pub fn program_touched(&self) -> bool
         ensures { result ≡ self.now.touched }
@@ -211,14 +218,14 @@ impl<const REGS: usize> Ram<REGS> {
         parts.touched
     }
 
-    /// Clears the dirty flag of `program_touched`.
+    /// Clears the dirty flag, so that `program_touched` returns false until a register of the program is written.
     pub fn clear_touched(&mut self)
         ensures { self.new ≡ record self.old { touched = false } }
     {
         self.parts.clear_mark();
     }
 
-    /// Returns the status register at an address from 0 to 15.
+    /// Returns the status register at an address from 0 to 15. The order is T Z Y X L M N O P Q append a b c d e.
     pub fn status(&self, n: usize) -> Reg
         requires { n < 16 }
         ensures { result ≡ spec.register_at self.now.registers n }
@@ -226,14 +233,15 @@ impl<const REGS: usize> Ram<REGS> {
         self.status[n]
     }
 
-    /// Returns a status register by its name.
+    /// Returns the content of the status register with a name, for example that of `StatusRegister::X`.
     pub fn status_register(&self, name: StatusRegister) -> Reg
         ensures { result ≡ named.status_of self.now.registers name }
     {
         self.read(name.address())
     }
 
-    /// Writes a status register by its name.
+    /// Writes the status register with a name, for example `StatusRegister::X`, and sets the dirty flag if it is a
+    /// register of the program (c always is).
     pub fn set_status_register(&mut self, name: StatusRegister, register: Reg)
         ensures written { self.new ≡ state.with_written self.old (spec.address_of name) register }
         ensures mark { KeepsMark self.old self.new }
@@ -241,7 +249,8 @@ impl<const REGS: usize> Ram<REGS> {
         self.write(name.address(), register);
     }
 
-    /// Returns the number of data registers, 0 to 512: those from the curtain up to the top of memory.
+    /// Returns the number of data registers, 0 to 512: those from the curtain up to the top of memory, as the
+    /// calculator's SIZE.
     pub fn size(&self) -> u16
         ensures value { result ≡ named.size_of self.now.registers }
         ensures bound { result ≤ 512 }
@@ -249,7 +258,8 @@ impl<const REGS: usize> Ram<REGS> {
         (MAIN_START + REGS).saturating_sub(usize::from(self.curtain())) as u16
     }
 
-    /// Returns the data register with a number, or `None` if there is none. R00 is at the curtain.
+    /// Returns the content of the data register with a number from 0 on, or `None` if the number is not below the
+    /// number of data registers. R00 is at the curtain, R01 at the address above it.
     pub fn data(&self, n: u16) -> Option<Reg>
         ensures { result ≡ named.data_of self.now.registers n }
     {
@@ -260,7 +270,8 @@ impl<const REGS: usize> Ram<REGS> {
         }
     }
 
-    /// Returns whether a flag, 0 to 55, is set. It is bit 55 - `flag` of register d.
+    /// Returns whether a flag, 0 to 55, is set. The flag with number n is bit 55 - n of register d; bit 0 is the
+    /// rightmost.
     pub fn flag(&self, flag: usize) -> bool
         requires { flag < 56 }
         ensures { result ≡ spec.flag_of self.now.registers flag }
@@ -268,7 +279,7 @@ impl<const REGS: usize> Ram<REGS> {
         bit(self.status[D], LAST_FLAG - flag)
     }
 
-    /// Sets or clears a flag, 0 to 55. No other flag changes.
+    /// Sets the flag with a number from 0 to 55 if `on` is true, otherwise clears it. No other flag changes.
     pub fn set_flag(&mut self, flag: usize, on: bool)
         requires { flag < 56 }
         ensures written { self.new ≡ state.with_flag_written self.old flag on }
@@ -278,7 +289,7 @@ impl<const REGS: usize> Ram<REGS> {
         self.status[D] = with_bit(self.status[D], LAST_FLAG - flag, on);
     }
 
-    /// Returns the 24 bytes of ALPHA, the leftmost first. Leading bytes that are 0 are not shown by the calculator.
+    /// Returns the 24 bytes of ALPHA, the leftmost first. The calculator does not show leading bytes that are 0.
     pub fn alpha(&self) -> [u8; ALPHA_LENGTH]
         ensures { result ≡ spec.alpha_of self.now.registers }
     {
@@ -290,7 +301,8 @@ impl<const REGS: usize> Ram<REGS> {
         )
     }
 
-    /// Writes the 24 bytes of ALPHA, the leftmost first. The left four bytes of P do not change.
+    /// Writes the 24 bytes of ALPHA, the leftmost first, to the status registers M, N, O and P. The left four bytes of
+    /// P do not change.
     pub fn set_alpha(&mut self, text: [u8; ALPHA_LENGTH])
         ensures written { self.new ≡ state.with_alpha_written self.old text }
         ensures mark { KeepsMark self.old self.new }
@@ -306,14 +318,15 @@ impl<const REGS: usize> Ram<REGS> {
         self.status[P] = alpha::first_bytes(p, text);
     }
 
-    /// Returns the registers of main memory in the order of their addresses.
+    /// Returns the registers of main memory in the order of their addresses. The first is at 0C0.
     pub fn main_memory(&self) -> [Reg; REGS]
         ensures { result ≡ self.now.registers.main }
     {
         self.main
     }
 
-    /// Writes all registers of main memory, in the order of their addresses.
+    /// Writes all registers of main memory, in the order of their addresses. The first is at 0C0. Sets the dirty flag
+    /// if one of them is a register of the program.
     pub fn set_main_memory(&mut self, main: [Reg; REGS])
         ensures main { self.new ≡ state.with_main_written self.old main.entry }
         ensures mark { KeepsMark self.old self.new }
@@ -344,8 +357,9 @@ impl<const REGS: usize> Ram<REGS> {
         parts.end
     }
 
-    /// Returns whether memory is sound (this project's choice): c contains the constant 169, 0C0 ≤ end < curtain ≤ top, and the
-    /// last three bytes of the register at the end are .END.
+    /// Returns whether memory is sound (this project's choice): register c contains the constant 169 (hexadecimal), 0C0
+    /// ≤ end < curtain ≤ top, and the last three bytes of the register at address end are .END. Here end is the address
+    /// of .END. in register c, and top is the first address after main memory.
     pub fn is_sound(&self) -> bool
         ensures { result ≡ spec.is_sound self.now.registers }
     {
@@ -354,7 +368,8 @@ impl<const REGS: usize> Ram<REGS> {
     }
 }
 
-/// Returns the register of main memory at an address, or zero if it has none there.
+/// Returns the register of main memory at an address, or zero if main memory has no register there. The first register
+/// is at 0C0.
 #[inline(always)]
 fn main_register<const REGS: usize>(main: &[Reg; REGS], address: u16) -> Reg
     ensures { result ≡ kept.main_register main.now address }

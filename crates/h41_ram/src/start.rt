@@ -1,15 +1,16 @@
-//! The registers that are not zero at the start.
+//! The registers that are not zero in the initial state: c, d and that of .END.
 
 ghost use Rattle.std.specs.Prelude.{◌≡◌, ◌<◌, ◌≤◌};
 ghost use Rattle.h41_ram.specs.RegisterMap as spec;
 
 use h41_digits::Reg;
 
-/// The distance from the curtain to the first statistics register.
+/// The number of data registers from R00, at the curtain, to the first statistics register, R11.
 const STATISTICS: u16 = 11;
 
-/// Returns register c at the start for a curtain at this address: the address of the statistics registers, the constant 169, the
-/// curtain, and the end directly below it.
+/// Returns register c of the initial state for a curtain at an address from 1 to 3FF. It contains the address of the
+/// statistics registers (R11 on), the constant 169 (hexadecimal), the curtain, and the address of .END., directly below
+/// the curtain.
 pub fn start_c(curtain: u16) -> Reg
     requires above { 0 < curtain }
     requires below { curtain < 1024 }
@@ -21,7 +22,8 @@ pub fn start_c(curtain: u16) -> Reg
     with_three_digits(c, 11, curtain + STATISTICS)
 }
 
-/// Returns a copy of a register with the three digits of a number, from a place upwards.
+/// Returns a copy of a register in which three digits, from `place` (at most 11) upwards, are those of `number`, 000 to
+/// FFF.
 fn with_three_digits(register: Reg, place: usize, number: u16) -> Reg
     requires place { place < 12 }
     requires number { number < 4096 }
@@ -30,7 +32,7 @@ fn with_three_digits(register: Reg, place: usize, number: u16) -> Reg
     register.with_number(place, place + 2, u64::from(number))
 }
 
-/// Returns register d at the start: flags 26, 28, 29, 37 and 40 are set.
+/// Returns register d of the initial state: flags 26, 28, 29, 37 and 40 are set.
 pub fn start_d() -> Reg
     ensures { result ≡ spec.start_d }
 {
@@ -40,7 +42,8 @@ pub fn start_d() -> Reg
         .with_byte(1, 0x80)
 }
 
-/// Returns the register of an empty program, which is .END. alone: C0 00 20 in the last three bytes.
+/// Returns the register of a program that consists of .END. alone: C0 00 20 in its last three bytes, 0 in the other
+/// four.
 pub fn empty_program() -> Reg
     ensures { result ≡ spec.empty_program }
 {

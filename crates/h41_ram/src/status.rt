@@ -1,9 +1,9 @@
-//! The names of the status registers.
+//! The status registers by name, and their addresses.
 
 ghost use Rattle.std.specs.Prelude.{◌≡◌, ◌<◌};
 ghost use Rattle.h41_ram.specs.RegisterMap as spec;
 
-/// A status register. T, Z, Y and X are the stack, and L is LAST X.
+/// One of the sixteen status registers, at the addresses 000 to 00F. T, Z, Y and X are the stack, and L is LAST X.
 #[derive(Clone, Copy, Debug, PartialEq, Eq)]
 pub enum StatusRegister {
     /// At 000: stack register T.
@@ -16,27 +16,27 @@ pub enum StatusRegister {
     X,
     /// At 004: LAST X.
     L,
-    /// At 005: the last seven bytes of ALPHA.
+    /// At 005: register M, the last seven bytes of ALPHA.
     M,
-    /// At 006: the seven bytes of ALPHA before those of M.
+    /// At 006: register N, the seven bytes of ALPHA before those of M.
     N,
-    /// At 007: the seven bytes of ALPHA before those of N.
+    /// At 007: register O, the seven bytes of ALPHA before those of N.
     O,
-    /// At 008: its right three bytes are the first three of ALPHA.
+    /// At 008: register P, whose right three bytes are the first three of ALPHA.
     P,
     /// At 009: register Q.
     Q,
     /// At 00A: the register whose name in HP's documents is the append sign.
     Append,
-    /// At 00B: register a.
+    /// At 00B: register a, with a lower-case letter in HP's documents.
     A,
-    /// At 00C: register b.
+    /// At 00C: register b, with a lower-case letter in HP's documents.
     B,
-    /// At 00D: register c, which contains the addresses of the parts of memory.
+    /// At 00D: register c, which contains the addresses of data register R00 (the curtain) and of .END.
     C,
-    /// At 00E: register d, which contains the flags.
+    /// At 00E: register d, which contains the 56 flags.
     D,
-    /// At 00F: register e.
+    /// At 00F: register e, with a lower-case letter in HP's documents.
     E,
 }
 

@@ -12,7 +12,7 @@ use std::alloc::AllocError;
 use std::error::Error;
 use std::fmt;
 
-/// Why a command was not answered completely.
+/// Why a command of a deck was not answered completely: allocation failed, or its reply could not be written.
 #[derive(Clone, Copy, Debug, PartialEq, Eq)]
 pub enum CommandFault {
     /// OutOfMemory (21): allocation failed. Nothing was changed and nothing was written.
@@ -21,7 +21,7 @@ pub enum CommandFault {
     WriteFault,
 }
 
-/// The errors that end a deck.
+/// The I/O errors and failed allocations that end a deck before its last command.
 #[derive(Clone, Copy, Debug, PartialEq, Eq)]
 pub enum Fault {
     /// OutOfMemory (21): allocation failed.
@@ -33,7 +33,8 @@ pub enum Fault {
 }
 
 impl Fault {
-    /// Returns the refusal that reports this error.
+    /// Returns the refusal with the same number and name, whose line is printed for this error, for example
+    /// `! 22 ReadFault`.
     pub fn refusal(self) -> Refusal
         ensures { result ≡ of_fault self }
     {

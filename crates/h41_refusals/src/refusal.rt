@@ -23,11 +23,11 @@ pub enum Refusal {
     Occupied,
     /// NotPlugged (03): the bank of the page is not plugged, or, if the page is to be unplugged, none of its banks is.
     NotPlugged,
-    /// 06 to 18, and 24: the calculator refuses it. SystemRom (08) and EmptyPage (09) are also reported for an address whose
-    /// word cannot be read.
+    /// The calculator refuses the command: 06 to 18, and 24, for example NotInProfile (13) and Busy (24). SystemRom
+    /// (08) and EmptyPage (09) are also reported for an address whose word cannot be read.
     Calculator(CalculatorRefusal),
-    /// 04, 30 to 35, 41 and 50 to 53: its lines are refused. BadImage (04) is also reported for words that extend beyond
-    /// their page.
+    /// The lines of the command are refused: 04, 30 to 35, 41 and 50 to 53, for example BadCommand (50). BadImage (04)
+    /// is also reported for words that extend beyond their page.
     Line(LineRefusal),
     /// BreakFull (19): 16 other breakpoints are set.
     BreakFull,

@@ -1,4 +1,4 @@
-//! Changes of ALPHA.
+//! Changes the ALPHA register, which has 24 characters, and copies characters from it.
 
 ghost use Rattle.h41_rows.specs.Computing.{ChangesAlpha};
 ghost use Rattle.std.specs.Prelude.{◌≡◌, ℕ, ◌-◌, ◌++◌, [], ◌∷◌, length, replicate, take};
@@ -14,7 +14,7 @@ use h41_ram::{ALPHA_LENGTH, Ram};
 use h41_show::characters::{ALPHA_DATA, KIND_PLACE, REGISTER_CHARACTERS, after_nulls, alpha_data};
 use h41_show::{Format, register_text};
 
-/// Replaces ALPHA by a text. If the text is longer than 24 characters, its last 24 remain.
+/// Replaces the content of ALPHA by a text. If the text is longer than 24 characters, its last 24 remain.
 pub fn replace_text<const REGS: usize>(ram: &mut Ram<REGS>, text: &[u8])
     ensures change { ChangesAlpha ram.old.registers ram.new.registers (Becomes text.now) }
     ensures mark { KeepsMark ram.old ram.new }
@@ -32,8 +32,9 @@ pub fn append_text<const REGS: usize>(ram: &mut Ram<REGS>, text: &[u8])
     ram.set_alpha(put_behind(ram.alpha(), text));
 }
 
-/// Appends the register at an address to ALPHA: a number as the display shows it, ALPHA data as its characters, and a register that is
-/// neither as its hexadecimal digits (this project's choice). The last 24 characters of ALPHA remain.
+/// Appends the content of the register at an address to ALPHA: a number as the display shows it, ALPHA data as its
+/// characters, and a register that is neither as its hexadecimal digits (this project's choice). The last 24 characters
+/// of ALPHA remain.
 pub fn append_register<const REGS: usize>(ram: &mut Ram<REGS>, address: u16)
     ensures change { ram.new.registers ≡ with_alpha_change ram.old.registers address
         (Some AppendsNamed) ram.old.registers }
@@ -49,7 +50,7 @@ pub fn append_register<const REGS: usize>(ram: &mut Ram<REGS>, address: u16)
     }
 }
 
-/// Removes the first six characters of ALPHA.
+/// Removes the first six characters of ALPHA, as ASHF does. Leading nulls do not count as characters.
 pub fn shift_six<const REGS: usize>(ram: &mut Ram<REGS>)
     ensures change { ChangesAlpha ram.old.registers ram.new.registers LosesSix }
     ensures mark { KeepsMark ram.old ram.new }
@@ -60,7 +61,8 @@ pub fn shift_six<const REGS: usize>(ram: &mut Ram<REGS>)
     replace_text(ram, &shown[shown.len().min(REGISTER_CHARACTERS)..]);
 }
 
-/// Returns the first six characters of ALPHA as a register of ALPHA data.
+/// Returns the first six characters of ALPHA as the content of a register with ALPHA data, as ASTO stores them. Leading
+/// nulls of ALPHA do not count as characters.
 pub fn first_six<const REGS: usize>(ram: &Ram<REGS>) -> Reg
     ensures { result ≡ text_register (six_characters ram.now.registers) }
 {
@@ -68,7 +70,7 @@ pub fn first_six<const REGS: usize>(ram: &Ram<REGS>) -> Reg
     holding_bytes(first_at_right(after_nulls(&alpha)))
 }
 
-/// Returns the last 24 bytes of the old text with the new text appended.
+/// Returns the last 24 bytes of `old` followed by `text`.
 fn put_behind(old: [u8; ALPHA_LENGTH], text: &[u8]) -> [u8; ALPHA_LENGTH]
     ensures { result ≡ last_24 (old ++ text.now) }
 {
@@ -80,7 +82,7 @@ fn put_behind(old: [u8; ALPHA_LENGTH], text: &[u8]) -> [u8; ALPHA_LENGTH]
     bytes
 }
 
-/// Returns the first six characters of a text. If there are fewer, nulls precede them.
+/// Returns the first six characters of a text. If the text has fewer, null characters precede them.
 fn first_at_right(text: &[u8]) -> [u8; REGISTER_CHARACTERS]
     ensures { result ≡ replicate (6 - length (take 6 text.now)) 0 ++ take 6 text.now }
 {
@@ -90,7 +92,7 @@ fn first_at_right(text: &[u8]) -> [u8; REGISTER_CHARACTERS]
     bytes
 }
 
-/// Returns the register that contains six bytes as ALPHA data.
+/// Returns the content of a register that contains these six bytes as ALPHA data.
 fn holding_bytes(bytes: [u8; REGISTER_CHARACTERS]) -> Reg
     ensures { result ≡ digits_from bytes (0 ∷ 1 ∷ 2 ∷ 3 ∷ 4 ∷ 5 ∷ []) ++ 0 ∷ 1 ∷ [] }
 {

@@ -1,4 +1,4 @@
-//! The results of computations with the numbers in registers.
+//! The results of computations with the numbers in registers, and their conversion to register contents.
 
 ghost use Rattle.std.specs.Prelude.{◌≡◌, Ok, pos, neg_ℤ, unsigned_abs, ℤ};
 ghost use Rattle.h41_decimal.specs.NearestDecimal.{Nearest};
@@ -31,7 +31,7 @@ pub fn number_in(register: Reg) -> Result<Ten, LineFault>
     }
 }
 
-/// Returns the register that contains a number.
+/// Returns the register content that encodes a number.
 #[inline(always)]
 pub fn register(number: Ten) -> Reg
     ensures { IsRegisterOf (units number) result }
@@ -39,8 +39,9 @@ pub fn register(number: Ten) -> Reg
     number.to_reg()
 }
 
-/// Returns the register of a result, or its error: DATA ERROR, or OUT OF RANGE if the exponent is above 99. If flag 24 is set
-/// (`ignores_range`), a result that is out of range becomes the greatest number with this sign.
+/// Returns the register content for the result of a computation, or its error: DATA ERROR, or OUT OF RANGE if its
+/// exponent is above 99. If flag 24 is set (`ignores_range`), a result that is out of range becomes 9.999999999E99 with
+/// the sign `sign`.
 #[inline(always)]
 pub fn kept(
     answer: Result<Ten, DecimalFault>,
@@ -56,7 +57,8 @@ pub fn kept(
     }
 }
 
-/// Returns the register for a result that is out of range: the greatest number with this sign if flag 24 is set, otherwise OUT OF RANGE.
+/// Returns the register content for a result that is out of range: 9.999999999E99 with the sign `sign` if flag 24 is
+/// set (`ignores_range`), otherwise the error OUT OF RANGE.
 pub fn kept_by_flag(ignores_range: bool, sign: Sign) -> Result<Reg, LineFault>
     ensures { KeptByFlag ignores_range sign result }
 {
@@ -67,7 +69,9 @@ pub fn kept_by_flag(ignores_range: bool, sign: Sign) -> Result<Reg, LineFault>
     }
 }
 
-/// Returns the value of one number. `places` is the rounding of the display format; only `ValueOfOne::Displayed` uses it.
+/// Returns the value of one number that `value` names, for example its square root. `places` is the rounding of the
+/// display format; only `ValueOfOne::Displayed` uses it. The errors are `Data` for the square root of a negative number
+/// and the inverse of zero, and `Range`.
 #[inline(always)]
 pub fn answer_of_one(value: ValueOfOne, number: Ten, places: Places) -> Result<Ten, DecimalFault>
     ensures { AnswersOne value places number result }
@@ -86,7 +90,8 @@ pub fn answer_of_one(value: ValueOfOne, number: Ten, places: Places) -> Result<T
     }
 }
 
-/// Returns the sign of a value of one number if it can be out of range, otherwise plus.
+/// Returns the sign of the value of one number that `value` names, for the values that can be out of range; for all
+/// others, plus. Only the value that is rounded to the display format has another sign than plus.
 pub fn sign_of_one(value: ValueOfOne, number: Ten) -> Sign
     ensures { result ≡ sign_of_one value (units number) }
 {
@@ -96,7 +101,8 @@ pub fn sign_of_one(value: ValueOfOne, number: Ten) -> Sign
     }
 }
 
-/// Returns the value of two numbers.
+/// Returns the value of two numbers that `value` names, for example their sum. The errors are `Data` for a quotient
+/// whose divisor is zero, and `Range`.
 #[inline(always)]
 pub fn answer_of_two(value: ValueOfTwo, first: Ten, second: Ten) -> Result<Ten, DecimalFault>
     ensures { AnswersTwo value first second result }
@@ -114,7 +120,8 @@ pub fn answer_of_two(value: ValueOfTwo, first: Ten, second: Ten) -> Result<Ten, 
     }
 }
 
-/// Returns the sign of a value of two numbers if it can be out of range, otherwise plus.
+/// Returns the sign of the value of two numbers that `value` names, for example of their product. For a remainder,
+/// which cannot be out of range, it is plus.
 pub fn sign_of_two(value: ValueOfTwo, first: Ten, second: Ten) -> Sign
     ensures { result ≡ sign_of_two value (units first) (units second) }
 {
@@ -137,49 +144,50 @@ pub fn exact(number: Ten) -> Result<Ten, DecimalFault>
     Ok(number)
 }
 
-/// Returns 1 divided by a number.
+/// Returns 1 divided by a number, rounded to ten digits. The error is `Data` for zero.
 fn inverse(number: Ten) -> Result<Ten, DecimalFault>
     ensures { NearestQuotient (pos one) (units number) result }
 {
     Ten::Zero.signum().div(number)
 }
 
-/// Returns a number with its sign changed.
+/// Returns a number with its sign changed. There is no error.
 fn negative(number: Ten) -> Result<Ten, DecimalFault>
     ensures { Nearest (neg_ℤ (units number)) 1 result }
 {
     exact(number.negated())
 }
 
-/// Returns a number without its sign.
+/// Returns the absolute value of a number. There is no error.
 fn absolute_value(number: Ten) -> Result<Ten, DecimalFault>
     ensures { Nearest (pos (unsigned_abs (units number))) 1 result }
 {
     exact(number.abs())
 }
 
-/// Returns the digits before the radix mark of a number, with its sign.
+/// Returns the digits before the radix mark of a number, with its sign. There is no error.
 fn integer_part(number: Ten) -> Result<Ten, DecimalFault>
     ensures { (part : ℤ) × IsIntegerPart (units number) part × Nearest part 1 result }
 {
     exact(number.integer_part())
 }
 
-/// Returns the digits after the radix mark of a number, with its sign.
+/// Returns the digits after the radix mark of a number, with its sign. There is no error.
 fn fraction(number: Ten) -> Result<Ten, DecimalFault>
     ensures { (rest : ℤ) × IsFraction (units number) rest × Nearest rest 1 result }
 {
     exact(number.fraction())
 }
 
-/// Returns 1 with the sign of a number.
+/// Returns 1 with the sign of a number: -1 if it is negative, otherwise 1. There is no error.
 fn unit(number: Ten) -> Result<Ten, DecimalFault>
     ensures { Nearest (unit_of (units number)) 1 result }
 {
     exact(number.signum())
 }
 
-/// Returns the decimals or digits to which a value is rounded: those of the display format for the displayed value.
+/// Returns the decimals or digits to which `value` is rounded: those of the display format for `ValueOfOne::Displayed`;
+/// for any other value, which is not rounded in this way, 0 decimals.
 pub fn places_of<const REGS: usize>(ram: &Ram<REGS>, value: ValueOfOne) -> Places
     ensures { RoundsAt value ram.now.registers result }
 {
@@ -189,7 +197,8 @@ pub fn places_of<const REGS: usize>(ram: &Ram<REGS>, value: ValueOfOne) -> Place
     }
 }
 
-/// Returns the decimals or digits to which the display format rounds.
+/// Returns the decimals or digits to which RND rounds: in FIX as many decimals as its operand says, in SCI and ENG one
+/// digit more than the operand.
 #[tactic(auto, unfolding(h41_show::specs::DisplayFormat::format_of))]
 fn display_places<const REGS: usize>(ram: &Ram<REGS>) -> Places
     ensures { result ≡ places_of (format_of ram.now.registers) }

@@ -1,4 +1,4 @@
-//! CLRG.
+//! Clears the data registers, as CLRG does.
 
 ghost use Rattle.std.specs.Prelude.{◌≡◌};
 ghost use Rattle.h41_rows.specs.RowEffects.{with_cleared_data};

@@ -1,4 +1,4 @@
-//! The tests of X.
+//! The tests that compare X with Y or with zero.
 
 ghost use Rattle.std.specs.Prelude.{◌≡◌, int_le, int_lt};
 ghost use Rattle.std.specs.Option.{option_map};
@@ -17,9 +17,9 @@ use h41_ram::{Ram, StatusRegister};
 /// A test that compares X with Y or with 0.
 #[derive(Clone, Copy, Debug, PartialEq, Eq)]
 pub enum Test {
-    /// `X=Y?`: the registers are the same, digit for digit.
+    /// `X=Y?`: the registers X and Y are the same, digit for digit.
     XEqualsY,
-    /// `X#Y?`: the registers differ.
+    /// `X#Y?`: the registers X and Y differ in at least one digit.
     XDiffersFromY,
     /// `X<Y?`: the number in X is less than the number in Y.
     XLessThanY,
@@ -39,8 +39,8 @@ pub enum Test {
     XAtMostZero,
 }
 
-/// Returns whether a test is true. ALPHA DATA if the test compares numbers and a register contains none; only `X=Y?`, `X#Y?`, `X=0?` and
-/// `X#0?` need no numbers.
+/// Returns whether a test of X is true. The error is ALPHA DATA if the test compares numbers and one of its registers
+/// contains none; `X=Y?`, `X#Y?`, `X=0?` and `X#0?` need no numbers.
 pub fn asks<const REGS: usize>(ram: &Ram<REGS>, test: Test) -> Result<bool, LineFault>
     ensures { Tells ram.now.registers (condition_of test) result }
 {
@@ -58,7 +58,7 @@ pub fn asks<const REGS: usize>(ram: &Ram<REGS>, test: Test) -> Result<bool, Line
     }
 }
 
-/// Returns the register X.
+/// Returns the content of the register X.
 #[inline(always)]
 fn x<const REGS: usize>(ram: &Ram<REGS>) -> Reg
     ensures { result ≡ status_of ram.now.registers names.X }
@@ -66,7 +66,7 @@ fn x<const REGS: usize>(ram: &Ram<REGS>) -> Reg
     ram.status_register(StatusRegister::X)
 }
 
-/// Returns the register Y.
+/// Returns the content of the register Y.
 #[inline(always)]
 fn y<const REGS: usize>(ram: &Ram<REGS>) -> Reg
     ensures { result ≡ status_of ram.now.registers names.Y }
@@ -74,8 +74,8 @@ fn y<const REGS: usize>(ram: &Ram<REGS>) -> Reg
     ram.status_register(StatusRegister::Y)
 }
 
-/// Returns whether the number in a register is less than that in another. ALPHA DATA if one of them contains no number. All sizes of memory
-/// share this code.
+/// Returns whether the number in the register content `x` is less than that in `y`. ALPHA DATA if one of them contains
+/// no number. All sizes of memory share this machine code.
 #[inline(never)]
 fn below(x: Reg, y: Reg) -> Result<bool, LineFault>
     ensures { result ≡ answer_of_comparison int_lt (worth (holding_of x)) (worth (holding_of y)) }
@@ -83,8 +83,8 @@ fn below(x: Reg, y: Reg) -> Result<bool, LineFault>
     numbers_below(Ten::from_reg(x), Ten::from_reg(y))
 }
 
-/// Returns whether the number in a register is at most that in another. ALPHA DATA if one of them contains no number. All sizes of memory
-/// share this code.
+/// Returns whether the number in the register content `x` is at most that in `y`. ALPHA DATA if one of them contains no
+/// number. All sizes of memory share this machine code.
 #[inline(never)]
 fn at_most(x: Reg, y: Reg) -> Result<bool, LineFault>
     ensures { result ≡ answer_of_comparison int_le (worth (holding_of x)) (worth (holding_of y)) }
@@ -92,7 +92,7 @@ fn at_most(x: Reg, y: Reg) -> Result<bool, LineFault>
     numbers_at_most(Ten::from_reg(x), Ten::from_reg(y))
 }
 
-/// Returns whether a number is less than another. ALPHA DATA if one of them is missing.
+/// Returns whether the number `x` is less than the number `y`. ALPHA DATA if one of them is `None`.
 #[inline(always)]
 fn numbers_below(x: Option<Ten>, y: Option<Ten>) -> Result<bool, LineFault>
     ensures { result ≡ answer_of_comparison int_lt (option_map units x) (option_map units y) }
@@ -103,7 +103,7 @@ fn numbers_below(x: Option<Ten>, y: Option<Ten>) -> Result<bool, LineFault>
     }
 }
 
-/// Returns whether a number is at most another. ALPHA DATA if one of them is missing.
+/// Returns whether the number `x` is at most the number `y`. ALPHA DATA if one of them is `None`.
 #[inline(always)]
 fn numbers_at_most(x: Option<Ten>, y: Option<Ten>) -> Result<bool, LineFault>
     ensures { result ≡ answer_of_comparison int_le (option_map units x) (option_map units y) }

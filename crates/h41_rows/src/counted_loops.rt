@@ -1,4 +1,4 @@
-//! Loops: counting the counter of a loop, and deciding whether the loop continues.
+//! Executes ISG and DSE: counts the counter of a loop, and decides whether the loop continues.
 
 ghost use Rattle.std.specs.Prelude.{◌≡◌, IfOk};
 ghost use Rattle.h41_rows.specs.Computing.{WorksOnOne, amount_at};
@@ -15,16 +15,17 @@ use h41_digits::Reg;
 use h41_ram::Ram;
 use h41_ram::flags::RANGE_IGNORE;
 
-/// The result of ISG or DSE: the register with the new counter, and whether the loop continues.
+/// The result of ISG or DSE: the new content of the register with the counter, and whether the loop continues.
 #[derive(Clone, Copy, Debug, PartialEq, Eq)]
 pub struct CountedLoop {
-    /// The register with the new counter.
+    /// The new content of the register with the counter.
     pub register: Reg,
-    /// Whether the loop continues.
+    /// Whether the loop continues: for ISG if the new counter is at most the final value, for DSE if it is above it.
     pub goes_on: bool,
 }
 
-/// Returns the counter in the register at an address, counted up as ISG does. ALPHA DATA if the register contains no number.
+/// Returns the result of ISG for the register at an address: the counter increased, and whether the loop continues.
+/// ALPHA DATA if the register contains no number; OUT OF RANGE if the result is out of range and flag 24 is clear.
 pub fn loop_up<const REGS: usize>(ram: &Ram<REGS>, address: u16) -> Result<CountedLoop, LineFault>
     ensures register { WorksOnOne CountedUp ram.now.registers address
         (result_map (λ counted. counted.register) result) }
@@ -34,7 +35,8 @@ pub fn loop_up<const REGS: usize>(ram: &Ram<REGS>, address: u16) -> Result<Count
     loop_along(ram, address, Sign::Plus)
 }
 
-/// Returns the counter in the register at an address, counted down as DSE does. ALPHA DATA if the register contains no number.
+/// Returns the result of DSE for the register at an address: the counter decreased, and whether the loop continues.
+/// ALPHA DATA if the register contains no number; OUT OF RANGE if the result is out of range and flag 24 is clear.
 pub fn loop_down<const REGS: usize>(ram: &Ram<REGS>, address: u16) -> Result<CountedLoop, LineFault>
     ensures register { WorksOnOne CountedDown ram.now.registers address
         (result_map (λ counted. counted.register) result) }
@@ -44,8 +46,9 @@ pub fn loop_down<const REGS: usize>(ram: &Ram<REGS>, address: u16) -> Result<Cou
     loop_along(ram, address, Sign::Minus)
 }
 
-/// Returns the counter in the register at an address, counted up for plus and down for minus. The decimals of the counter are computed
-/// once, because both results need them.
+/// Returns the result of ISG (plus) or DSE (minus) for the register at an address: its new content, and whether the
+/// loop continues. ALPHA DATA if the register contains no number; OUT OF RANGE if the result is out of range and flag
+/// 24 is clear. The decimals of the counter are computed once, because both results need them.
 fn loop_along<const REGS: usize>(
     ram: &Ram<REGS>,
     address: u16,

@@ -1,4 +1,5 @@
-//! The counters of loops: their new values, and whether their loops continue.
+//! The counters of the loops of ISG and DSE: their new values, and whether their loops continue. A counter is a number
+//! iii.fffcc: iii is counted, fff is the final value, and cc is the increment, or 1 if cc is 00.
 
 ghost use Rattle.std.specs.Prelude.{◌≡◌, ℕ, ◌+◌, ◌*◌, ◌<◌, ◌≤◌, ◌/◌, ◌%◌, ◌^◌, ◌==◌, ◌+ℤ◌, ◌-ℤ◌};
 ghost use Rattle.std.specs.Prelude.{if◌then◌else◌, int_le, int_lt, pos, unsigned_abs, IfSome};
@@ -13,25 +14,29 @@ ghost use Rattle.h41_rows.specs.private.Wholes.{told_ones};
 use crate::answers::exact;
 use h41_decimal::{DecimalFault, Exponent, Magnitude, Mantissa, Sign, Ten};
 
-/// The highest exponent, counted from -99, for which the digits before the radix mark are still at most ten after the radix mark is moved
-/// five places to the right.
+/// The highest exponent, plus 99, of a number that has at most ten digits before the radix mark after it is multiplied
+/// by 10^5.
 const HIGHEST_SHIFTED: u32 = 103;
 
-/// Returns the counter of a loop, counted up as ISG does.
+/// Returns the number that ISG makes of a counter iii.fffcc: iii is increased by cc, or by 1 if cc is 00. The only
+/// error is `Range`.
 pub fn counted_up(number: Ten) -> Result<Ten, DecimalFault>
     ensures { Nearest (number_after Up (units number)) 1 result }
 {
     counted(number, Sign::Plus, five_decimals(number))
 }
 
-/// Returns the counter of a loop, counted down as DSE does.
+/// Returns the number that DSE makes of a counter iii.fffcc: iii is decreased by cc, or by 1 if cc is 00. The only
+/// error is `Range`.
 pub fn counted_down(number: Ten) -> Result<Ten, DecimalFault>
     ensures { Nearest (number_after Down (units number)) 1 result }
 {
     counted(number, Sign::Minus, five_decimals(number))
 }
 
-/// Returns whether a loop continues, from its counter and the first five decimals of it. It is counted up for plus and down for minus.
+/// Returns whether the loop of a counter iii.fffcc continues. For ISG (plus) it does if iii + cc is at most fff, for
+/// DSE (minus) if iii - cc is above fff; cc counts as 1 if it is 00. `decimals` is fffcc, the first five decimals of
+/// the counter.
 pub fn goes_on(counter: Ten, direction: Sign, decimals: u64) -> bool
     requires { decimals ≡ decimals_of (units counter) }
     ensures { result ≡ goes_on (way_of direction) (units counter) }
@@ -45,7 +50,7 @@ pub fn goes_on(counter: Ten, direction: Sign, decimals: u64) -> bool
     }
 }
 
-/// Returns the integer part of a number's size, or 10^10 if it is 10^10 or more.
+/// Returns the integer part of a number's absolute value, or 10^10 if it is 10^10 or more.
 fn ones(number: Ten) -> u64
     ensures { result ≡ told_ones (unsigned_abs (units number) / one) }
 {
@@ -55,7 +60,7 @@ fn ones(number: Ten) -> u64
     }
 }
 
-/// Returns the first five decimals of a number's size as a whole number, below 100,000.
+/// Returns the first five decimals of a number, without its sign, as a whole number, below 100,000.
 pub fn five_decimals(number: Ten) -> u64
     ensures value { result ≡ decimals_of (units number) }
     ensures bound { result < 100000 }
@@ -66,7 +71,7 @@ pub fn five_decimals(number: Ten) -> u64
     }
 }
 
-/// Returns the first five decimals of a size as a whole number, below 100,000.
+/// Returns the first five decimals of a magnitude as a whole number, below 100,000.
 fn five_digits(x: Magnitude) -> u64
     ensures value { result ≡ size x % one / 10 ^ 103 }
     ensures bound { result < 100000 }
@@ -80,7 +85,7 @@ fn five_digits(x: Magnitude) -> u64
     }
 }
 
-/// Returns how many times 10^-5 is contained in a size, which is its integer part after the radix mark is moved five places to the right.
+/// Returns the integer part of a magnitude that is multiplied by 10^5. Its exponent must be at most 4.
 fn five_places_up(x: Magnitude) -> u64
     requires { x.exponent.biased ≤ 103 }
     ensures { result ≡ size x / 10 ^ 103 }
@@ -98,7 +103,8 @@ fn five_places_up(x: Magnitude) -> u64
     }
 }
 
-/// Returns the increment of a loop, 1 to 99: the last two of five decimals, or 1 if they are 00.
+/// Returns the increment of a loop, 1 to 99: the last two of the first five decimals of its counter, or 1 if they are
+/// 00. `decimals` is these five decimals as a whole number.
 fn increment(decimals: u64) -> u64
     ensures value { result ≡ if decimals % 100 == 0 then 1 else decimals % 100 }
     ensures some { 0 < result }
@@ -108,7 +114,8 @@ fn increment(decimals: u64) -> u64
     if count == 0 { 1 } else { count }
 }
 
-/// Returns whether a counter that is counted up is at most the final value.
+/// Returns whether the whole number `ones` with the sign `sign`, increased by `count`, is at most `last`. ISG continues
+/// its loop then.
 fn is_at_most(sign: Sign, ones: u64, count: u64, last: u64) -> bool
     requires ones { ones ≤ 10 ^ 10 }
     requires count { count < 100 }
@@ -121,7 +128,8 @@ fn is_at_most(sign: Sign, ones: u64, count: u64, last: u64) -> bool
     }
 }
 
-/// Returns whether a counter that is counted down is above the final value.
+/// Returns whether the whole number `ones` with the sign `sign`, decreased by `count`, is above `last`. DSE continues
+/// its loop then.
 fn is_above(sign: Sign, ones: u64, count: u64, last: u64) -> bool
     requires ones { ones ≤ 10 ^ 10 }
     requires count { count < 100 }
@@ -134,8 +142,9 @@ fn is_above(sign: Sign, ones: u64, count: u64, last: u64) -> bool
     }
 }
 
-/// Returns the counter of a loop with these decimals, counted up for plus and down for minus. If the integer part keeps its sign, the
-/// increment can be added to the whole number.
+/// Returns the number that ISG (plus) or DSE (minus) makes of a counter iii.fffcc: iii is increased or decreased by cc,
+/// or by 1 if cc is 00. `decimals` is fffcc, the first five decimals of the counter. If the integer part keeps its
+/// sign, the increment can be added to the number as a whole. The only error is `Range`.
 pub fn counted(number: Ten, direction: Sign, decimals: u64) -> Result<Ten, DecimalFault>
     requires { decimals ≡ decimals_of (units number) }
     ensures { Nearest (number_along direction (units number)) 1 result }
@@ -148,8 +157,8 @@ pub fn counted(number: Ten, direction: Sign, decimals: u64) -> Result<Ten, Decim
     }
 }
 
-/// Returns a number plus or minus a whole number from 1 to 99. In most loops the result has ten digits and the same exponent, so that
-/// nothing has to be rounded.
+/// Returns a number plus (`direction` plus) or minus a whole number from 1 to 99, rounded to ten digits. In most loops
+/// the result has ten digits and the same exponent, so that nothing has to be rounded. The only error is `Range`.
 fn moved(number: Ten, direction: Sign, count: u64) -> Result<Ten, DecimalFault>
     requires some { 0 < count }
     requires few { count < 100 }
@@ -163,7 +172,8 @@ fn moved(number: Ten, direction: Sign, count: u64) -> Result<Ten, DecimalFault>
     number.add(below_hundred(direction, count))
 }
 
-/// Returns a size plus or minus `count` if only its digits change, otherwise `None`.
+/// Returns a magnitude plus (`grows`) or minus the whole number `count`, below 100, if only its mantissa changes and
+/// one to five digits are before the radix mark; otherwise `None`.
 fn moved_size(x: Magnitude, grows: bool, count: u64) -> Option<Magnitude>
     requires { count < 100 }
     ensures { IfSome result (λ y. IsMovedSize grows (size x) (count * one) (size y)) }
@@ -184,7 +194,8 @@ fn moved_size(x: Magnitude, grows: bool, count: u64) -> Option<Magnitude>
     })
 }
 
-/// Returns how many units of the mantissa's last digit make 1, if one to five digits are before the radix mark; otherwise `None`.
+/// Returns how many units of the mantissa's tenth digit make 1, if the exponent is 0 to 4, so that one to five digits
+/// are before the radix mark; otherwise `None`.
 fn digits_of_one(exponent: Exponent) -> Option<u64>
     ensures one { IfSome result (λ steps. steps * 10 ^ exponent.biased ≡ one) }
     ensures bound { IfSome result (λ steps. steps ≤ 10 ^ 9) }
@@ -199,8 +210,8 @@ fn digits_of_one(exponent: Exponent) -> Option<u64>
     }
 }
 
-/// Returns the counter of a loop, counted up for plus and down for minus, from its integer part and its fraction. A number without a
-/// fraction counts by 1.
+/// Returns the number that ISG (plus) or DSE (minus) makes of a counter iii.fffcc, computed from its integer part and
+/// its fraction. A number without a fraction counts by 1. The only error is `Range`.
 fn counted_by_parts(number: Ten, direction: Sign) -> Result<Ten, DecimalFault>
     ensures { Nearest (number_along direction (units number)) 1 result }
 {
@@ -216,7 +227,7 @@ fn counted_by_parts(number: Ten, direction: Sign) -> Result<Ten, DecimalFault>
     }
 }
 
-/// Returns a number from 1 to 99 with a sign.
+/// Returns the decimal for a whole number from 1 to 99 with a sign.
 fn below_hundred(sign: Sign, number: u64) -> Ten
     requires some { 0 < number }
     requires few { number < 100 }
@@ -232,7 +243,8 @@ fn below_hundred(sign: Sign, number: u64) -> Ten
     Ten::Nonzero(sign, Magnitude { mantissa, exponent })
 }
 
-/// Returns an integer part with a sign, counted in a direction, with the same fraction.
+/// Returns a number after its integer part, `ones` with the sign `sign`, was increased (`direction` plus) or decreased
+/// by `count`, 1 to 99. Its absolute value keeps the fraction. It is rounded to ten digits; the only error is `Range`.
 fn stepped(
     sign: Sign,
     ones: u64,
@@ -256,7 +268,8 @@ fn stepped(
     }
 }
 
-/// Returns the number with this integer part, fraction and sign.
+/// Returns the number whose absolute value is the whole number `ones` plus a fraction, with the sign `sign`, rounded to
+/// ten digits. The only error is `Range`.
 fn joined(sign: Sign, ones: u64, fraction: Magnitude) -> Result<Ten, DecimalFault>
     requires { ones < 10 ^ 10 }
     ensures { Nearest (with_sign sign (ones * one + size fraction)) 1 result }
@@ -264,7 +277,7 @@ fn joined(sign: Sign, ones: u64, fraction: Magnitude) -> Result<Ten, DecimalFaul
     whole_number(sign, ones).add(Ten::Nonzero(sign, fraction))
 }
 
-/// Returns a whole number of at most ten digits with a sign.
+/// Returns the decimal for a whole number below 10^10 with a sign.
 fn whole_number(sign: Sign, ones: u64) -> Ten
     requires { ones < 10 ^ 10 }
     ensures { units result ≡ with_sign sign (ones * one) }

@@ -1,4 +1,4 @@
-//! The flags of display formats and angle units.
+//! Sets the flags of the display format and of the angle unit.
 
 ghost use Rattle.std.specs.Prelude.{◌≡◌, ◌<◌, [], ◌∷◌};
 ghost use Rattle.h41_ram.specs.NamedFlags as named;
@@ -9,7 +9,8 @@ ghost use Rattle.h41_rows.specs.RowMarks.{LeavesMark};
 
 use h41_ram::{Ram, flags};
 
-/// Sets the display format: the number of digits in flags 36 to 39, and the notation in flags 40 (FIX) and 41 (ENG). Both clear is SCI.
+/// Sets the display format: the operand of FIX, SCI or ENG, 0 to 9, in flags 36 to 39 as four bits, of which flag 36 is
+/// the highest, and the notation in flags 40 (set for FIX) and 41 (set for ENG). Both are clear for SCI.
 pub fn set_format<const REGS: usize>(
     ram: &mut Ram<REGS>,
     digits: u8,
@@ -30,7 +31,8 @@ pub fn set_format<const REGS: usize>(
     ram.set_flag(flags::ENGINEERING, engineering);
 }
 
-/// Sets the unit of angles: flag 42 is set for GRAD, flag 43 for RAD, and neither for DEG.
+/// Sets the unit of angles: flag 42, which means GRAD, becomes `grads`, and flag 43, which means RAD, becomes
+/// `radians`. If both are clear, the unit is DEG.
 pub fn set_angles<const REGS: usize>(ram: &mut Ram<REGS>, grads: bool, radians: bool)
     ensures change { ram.new.registers
         ≡ with_flags (change named.grads grads ∷ change named.radians radians ∷ [])

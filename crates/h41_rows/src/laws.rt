@@ -1,4 +1,5 @@
-//! Laws of rows. Each law is the contract of a function that only calls the laws on which it rests.
+//! Laws of the effects of program lines. Each law is the contract of a function that only calls the laws on which it
+//! rests.
 
 ghost use Rattle.h41_rows.specs.RowLaws.{AlphaIsDetermined, AlwaysIsDetermined};
 ghost use Rattle.h41_rows.specs.RowLaws.{BringingIsDetermined, ExchangeIsDetermined};
@@ -12,7 +13,7 @@ use h41_decimal::laws::{
 };
 use h41_numbers::laws::numbers_are_determined;
 
-/// The value that a line computes is determined: it has one register or one error.
+/// States that the value that a program line computes is determined: it is one register content or one error.
 pub fn values_are_determined()
     ensures { ValuesAreDetermined }
 {
@@ -26,7 +27,8 @@ pub fn values_are_determined()
     register_is_determined();
 }
 
-/// The results of this crate's functions are determined, whatever registers they work on.
+/// States that the results of this crate's functions that compute or test a value are determined, whatever registers
+/// they read.
 pub fn results_are_determined()
     ensures one { OneIsDetermined }
     ensures two { TwoIsDetermined }
@@ -43,7 +45,7 @@ pub fn results_are_determined()
     register_is_determined();
 }
 
-/// The changes of memory by this crate's functions are determined, whatever registers they work on.
+/// States that the changes of memory by this crate's functions are determined, whatever registers they read and write.
 pub fn changes_are_determined()
     ensures taking { TakingIsDetermined }
     ensures moving { MovingIsDetermined }

@@ -1,4 +1,4 @@
-//! The meaning of the operands of lines.
+//! The meaning of the operands of program lines: registers, numbers of digits, flags and labels.
 
 ghost use Rattle.std.specs.Prelude.{◌≡◌, ◌<◌, ◌+◌, false, IfOk};
 ghost use Rattle.h41_rows.specs.Results.{result_map};
@@ -13,24 +13,25 @@ use crate::{readings, targets};
 use h41_codes::{Branch, Operand, Parameter, Text};
 use h41_ram::Ram;
 
-/// The target of a GTO IND or XEQ IND.
+/// The target of a GTO IND or XEQ IND: a local label or a name.
 #[derive(Clone, Copy, Debug, PartialEq, Eq)]
 pub enum BranchTarget {
     /// A local label, 0 to 99.
     Label(Parameter),
-    /// A name.
+    /// The name of a global label, from the ALPHA data in a register.
     Name(Text<15>),
 }
 
-/// Returns the address of data register `n`. NONEXISTENT if `n` is not below SIZE.
+/// Returns the memory address of data register `n`. NONEXISTENT if `n` is not below SIZE, the number of data registers.
 pub fn data_address<const REGS: usize>(ram: &Ram<REGS>, n: u16) -> Result<u16, LineFault>
     ensures { result ≡ data_register ram.now.registers n }
 {
     readings::numbered_register(ram, n)
 }
 
-/// Returns the address of the register of an operand. NONEXISTENT if there is no such data register; ALPHA DATA if an indirect operand
-/// names a register without a number. The operand must be supported.
+/// Returns the memory address of the register that an operand names. NONEXISTENT if there is no such data register;
+/// ALPHA DATA if an indirect operand names a register that contains no number. The operand must be supported: a data
+/// register from 00 to 99 or one of T, Z, Y, X and L, also for IND.
 #[inline(always)]
 pub fn register_of<const REGS: usize>(ram: &Ram<REGS>, operand: &Operand) -> Result<u16, LineFault>
     requires { is_operand_left_out operand.now ≡ false }
@@ -39,8 +40,9 @@ pub fn register_of<const REGS: usize>(ram: &Ram<REGS>, operand: &Operand) -> Res
     readings::operand_register(ram, operand)
 }
 
-/// Returns the number of digits of an operand, 0 to 9. DATA ERROR if it is above 9; NONEXISTENT or ALPHA DATA as for other indirect
-/// operands. The operand must be supported.
+/// Returns the number of digits that an operand of FIX, SCI or ENG means, 0 to 9. DATA ERROR if it is above 9.
+/// NONEXISTENT if the register of an indirect operand does not exist, ALPHA DATA if it contains no number. The operand
+/// must be supported: its register is 00 to 99 or one of T, Z, Y, X and L.
 pub fn digit_of<const REGS: usize>(ram: &Ram<REGS>, operand: &Operand) -> Result<u8, LineFault>
     requires { is_operand_left_out operand.now ≡ false }
     ensures meant { result_map Count result ≡ meant_as DigitKind ram.now.registers operand.now }
@@ -54,8 +56,9 @@ pub fn digit_of<const REGS: usize>(ram: &Ram<REGS>, operand: &Operand) -> Result
     }
 }
 
-/// Returns the flag of an operand, 0 to `highest`. NONEXISTENT if it is above; NONEXISTENT or ALPHA DATA as for other indirect operands.
-/// The operand must be supported.
+/// Returns the flag that an operand means, 0 to `highest`. NONEXISTENT if it is above, or if the register of an
+/// indirect operand does not exist; ALPHA DATA if that register contains no number. The operand must be supported: its
+/// register is 00 to 99 or one of T, Z, Y, X and L.
 pub fn flag_of<const REGS: usize>(
     ram: &Ram<REGS>,
     operand: &Operand,
@@ -74,8 +77,9 @@ pub fn flag_of<const REGS: usize>(
     }
 }
 
-/// Returns the target of GTO IND or XEQ IND with this register: a label from 0 to 99, or a name. NONEXISTENT if there is no such register
-/// or if its number is above 99; ALPHA DATA if it contains neither a number nor ALPHA data. The parameter must be supported.
+/// Returns the target of GTO IND or XEQ IND with this register: a label from 0 to 99, or a name. NONEXISTENT if there
+/// is no such register, or if it contains a number of 100 or more; ALPHA DATA if it contains neither a number nor ALPHA
+/// data. The register must be supported: 00 to 99 or one of T, Z, Y, X and L.
 pub fn branch_target<const REGS: usize>(
     ram: &Ram<REGS>,
     branch: Branch,

@@ -1,4 +1,4 @@
-//! The whole numbers in the registers that operands name.
+//! Reads operands of program lines: the registers they name, and the whole numbers in them.
 
 ghost use Rattle.std.specs.Prelude.{◌≡◌, ◌<◌, ◌≤◌, ◌/◌, false, unsigned_abs};
 ghost use Rattle.h41_decimal.specs.Holding as holding;
@@ -15,13 +15,15 @@ use h41_decimal::Ten;
 use h41_digits::Reg;
 use h41_ram::Ram;
 
-/// Whole numbers from here on are treated alike, because no operand can be as large.
+/// The number that is used for all whole numbers from 1000 on, because no operand can be as large.
 const MOST_TOLD: u16 = 1000;
 
-/// The parameter of register T. The parameters from there on are status registers, in the order of their addresses.
+/// The parameter that means register T, 112. The parameters from there on are status registers, in the order of their
+/// addresses.
 const STACK_START: u16 = 112;
 
-/// Returns the address of data register `n`. NONEXISTENT if `n` is not below SIZE, which is at most 512.
+/// Returns the memory address of data register `n`. NONEXISTENT if `n` is not below SIZE, the number of data registers,
+/// which is at most 512.
 pub(crate) fn numbered_register<const REGS: usize>(
     ram: &Ram<REGS>,
     n: u16,
@@ -36,7 +38,8 @@ pub(crate) fn numbered_register<const REGS: usize>(
     }
 }
 
-/// Returns the address of the register of a parameter.
+/// Returns the memory address of the register that a parameter means: data register 00 to 99, or from parameter 112 on
+/// a status register, beginning with T. NONEXISTENT if there is no such data register.
 #[inline(always)]
 pub(crate) fn parameter_register<const REGS: usize>(
     ram: &Ram<REGS>,
@@ -53,7 +56,9 @@ pub(crate) fn parameter_register<const REGS: usize>(
     }
 }
 
-/// Returns the number of a direct operand, or the whole number in the register of an indirect one.
+/// Returns the number that an operand means: of a direct operand the number itself, of an indirect one the whole number
+/// in the register it names, or 1000 if that is 1000 or more. NONEXISTENT if there is no such register, ALPHA DATA if
+/// it contains no number.
 pub(crate) fn operand_number<const REGS: usize>(
     ram: &Ram<REGS>,
     operand: &Operand,
@@ -67,7 +72,8 @@ pub(crate) fn operand_number<const REGS: usize>(
     }
 }
 
-/// Returns the whole number in the register of a parameter.
+/// Returns the whole number in the register that a parameter names: the integer part of its absolute value, or 1000 if
+/// it is 1000 or more. NONEXISTENT if there is no such register, ALPHA DATA if it contains no number.
 fn parameter_number<const REGS: usize>(
     ram: &Ram<REGS>,
     parameter: Parameter,
@@ -79,7 +85,9 @@ fn parameter_number<const REGS: usize>(
     whole_in(ram.read(address))
 }
 
-/// Returns the address of the register of a direct operand, or of the data register whose number is in the register of an indirect one.
+/// Returns the memory address of the register that an operand means: of a direct operand the register itself, of an
+/// indirect one the data register whose number is in the register it names. NONEXISTENT if there is no such register,
+/// ALPHA DATA if the register of an indirect operand contains no number.
 #[inline(always)]
 pub(crate) fn operand_register<const REGS: usize>(
     ram: &Ram<REGS>,
@@ -94,7 +102,8 @@ pub(crate) fn operand_register<const REGS: usize>(
     }
 }
 
-/// Returns the address of the data register whose number is in the register of a parameter.
+/// Returns the memory address of the data register whose number is in the register that a parameter names. NONEXISTENT
+/// if one of the two registers does not exist, ALPHA DATA if the named one contains no number.
 #[inline(never)]
 fn indirect_register<const REGS: usize>(
     ram: &Ram<REGS>,
@@ -107,7 +116,8 @@ fn indirect_register<const REGS: usize>(
     numbered_register(ram, number)
 }
 
-/// Returns the whole number in a register. ALPHA DATA if it contains no number.
+/// Returns the integer part of the absolute value of the number in a register, or 1000 if it is 1000 or more. ALPHA
+/// DATA if the register contains no number.
 fn whole_in(register: Reg) -> Result<u16, LineFault>
     ensures { IsTold (spec.whole_of (holding.worth (holding.holding_of register))) result }
 {
@@ -117,7 +127,7 @@ fn whole_in(register: Reg) -> Result<u16, LineFault>
     }
 }
 
-/// Returns the integer part of a number's size, or 1000 if it is 1000 or more.
+/// Returns the integer part of a number's absolute value, or 1000 if it is 1000 or more.
 pub(crate) fn told_whole(number: Ten) -> u16
     ensures { result ≡ told_number (unsigned_abs (units number) / one) }
 {
@@ -127,7 +137,7 @@ pub(crate) fn told_whole(number: Ten) -> u16
     }
 }
 
-/// Returns a whole number, or 1000 if it is 1000 or more.
+/// Returns a whole number as 16 bits, or 1000 if it is 1000 or more, because no operand can be as large.
 fn told_number(ones: u64) -> u16
     ensures { result ≡ told_number ones }
 {

@@ -1,4 +1,4 @@
-//! Changes of the stack, LAST X and registers.
+//! Changes the stack, LAST X, and registers together with X.
 
 ghost use Rattle.std.specs.Prelude.{ℕ, [], ◌∷◌};
 ghost use Rattle.h41_rows.specs.Computing.{BringsIn, Exchanges, Moved, Stores, Took, drop_takes};
@@ -12,7 +12,7 @@ ghost use Rattle.h41_rows.specs.RowMarks.{IsApart, LeavesMark};
 use h41_digits::Reg;
 use h41_ram::{Ram, StatusRegister};
 
-/// Writes a register to X. If stack lift is on, the stack is lifted first.
+/// Writes `register`, the content of a register, to X. If stack lift is on (`lift`), the stack is lifted first.
 #[inline(always)]
 pub fn bring_in<const REGS: usize>(ram: &mut Ram<REGS>, register: Reg, lift: bool)
     ensures change { Took ram.old.registers ram.new.registers register
@@ -26,7 +26,8 @@ pub fn bring_in<const REGS: usize>(ram: &mut Ram<REGS>, register: Reg, lift: boo
     ram.set_status_register(StatusRegister::X, register);
 }
 
-/// Writes the register at an address to X. If stack lift is on, the stack is lifted first; the register is read before that.
+/// Copies the register at an address to X, as RCL does. If stack lift is on (`lift`), the stack is lifted first; the
+/// register is read before that.
 #[inline(always)]
 pub fn bring_in_from<const REGS: usize>(ram: &mut Ram<REGS>, address: u16, lift: bool)
     ensures change { BringsIn ram.old.registers ram.new.registers address lift }
@@ -37,7 +38,7 @@ pub fn bring_in_from<const REGS: usize>(ram: &mut Ram<REGS>, address: u16, lift:
     bring_in(ram, register, lift);
 }
 
-/// Writes a register to X, and the old X to LAST X.
+/// Writes `register`, the content of a register, to X, and the old X to LAST X.
 #[inline(always)]
 pub fn keep_last<const REGS: usize>(ram: &mut Ram<REGS>, register: Reg)
     ensures change { Took ram.old.registers ram.new.registers register
@@ -50,7 +51,8 @@ pub fn keep_last<const REGS: usize>(ram: &mut Ram<REGS>, register: Reg)
     ram.set_status_register(StatusRegister::L, x);
 }
 
-/// Writes a register to X and the old X to LAST X, and drops the stack: Y receives Z, Z receives T, and T is unchanged.
+/// Writes `register`, the content of a register, to X and the old X to LAST X, and drops the stack: Y receives Z, Z
+/// receives T, and T is unchanged.
 #[inline(always)]
 pub fn drop_into<const REGS: usize>(ram: &mut Ram<REGS>, register: Reg)
     ensures change { Took ram.old.registers ram.new.registers register drop_takes }
@@ -66,7 +68,7 @@ pub fn drop_into<const REGS: usize>(ram: &mut Ram<REGS>, register: Reg)
     ram.set_status_register(StatusRegister::L, x);
 }
 
-/// Exchanges X and the register at an address.
+/// Exchanges the contents of X and of the register at an address, as X<> does.
 #[inline(always)]
 pub fn exchange<const REGS: usize>(ram: &mut Ram<REGS>, address: u16)
     ensures change { Exchanges ram.old.registers ram.new.registers address }
@@ -79,7 +81,7 @@ pub fn exchange<const REGS: usize>(ram: &mut Ram<REGS>, address: u16)
     ram.write(address, x);
 }
 
-/// Writes X to the register at an address.
+/// Copies X to the register at an address, as STO does.
 #[inline(always)]
 pub fn store_x<const REGS: usize>(ram: &mut Ram<REGS>, address: u16)
     ensures change { Stores ram.old.registers ram.new.registers address }
@@ -142,7 +144,7 @@ pub fn enter<const REGS: usize>(ram: &mut Ram<REGS>)
     ram.set_status_register(StatusRegister::Y, x);
 }
 
-/// Writes a register to X, Y, Z and T.
+/// Writes `register`, the content of a register, to each of X, Y, Z and T.
 pub fn clear_stack<const REGS: usize>(ram: &mut Ram<REGS>, register: Reg)
     ensures change { Took ram.old.registers ram.new.registers register whole_stack }
     ensures mark { KeepsMark ram.old ram.new }

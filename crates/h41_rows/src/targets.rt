@@ -1,4 +1,4 @@
-//! The targets of indirect branches.
+//! The targets of GTO IND and XEQ IND.
 
 ghost use Rattle.std.specs.Prelude.{◌≡◌, ◌≤◌, length, None, Ok};
 ghost use Rattle.std.specs.Result.{result_map_both};
@@ -15,7 +15,9 @@ use h41_decimal::Ten;
 use h41_digits::Reg;
 use h41_show::characters::{ALPHA_DATA, KIND_PLACE, after_nulls, alpha_data};
 
-/// Returns the target of a branch for the content of a register: a label for a number, a name for ALPHA data. ALPHA DATA if it is neither.
+/// Returns the target of GTO IND or XEQ IND for the content of a register: for a number the local label with its
+/// integer part, for ALPHA data the name. The sign of the number is ignored. NONEXISTENT if its absolute value is 100
+/// or more; ALPHA DATA if the content is neither a number nor ALPHA data.
 pub(crate) fn target_in(register: Reg) -> Result<BranchTarget, LineFault>
     ensures { LeadsTo (spec.target_of (holding_of register)) result }
 {
@@ -25,7 +27,7 @@ pub(crate) fn target_in(register: Reg) -> Result<BranchTarget, LineFault>
     }
 }
 
-/// Returns the local label with this number. NONEXISTENT if it is above 99.
+/// Returns the local label with this number, 0 to 99, as a branch target. NONEXISTENT if the number is above 99.
 fn label(number: u16) -> Result<BranchTarget, LineFault>
     ensures { LeadsTo (spec.label_of number) result }
 {
@@ -36,7 +38,8 @@ fn label(number: u16) -> Result<BranchTarget, LineFault>
     }
 }
 
-/// Returns the name in a register that contains no number. ALPHA DATA if it contains no ALPHA data.
+/// Returns the ALPHA data in a register, which contains no number, as a name to branch to. ALPHA DATA if the register
+/// contains no ALPHA data.
 fn name_in(register: Reg) -> Result<BranchTarget, LineFault>
     requires { worth (holding_of register) ≡ None }
     ensures { LeadsTo (spec.target_of (holding_of register)) result }
@@ -48,7 +51,7 @@ fn name_in(register: Reg) -> Result<BranchTarget, LineFault>
     }
 }
 
-/// Returns the name of these characters, at most six.
+/// Returns the name with these characters, at most six, as a branch target.
 fn name(characters: &[u8]) -> Result<BranchTarget, LineFault>
     requires { length characters.now ≤ 6 }
     ensures { result_map_both meant_by (λ fault. fault) result ≡ Ok (spec.Name characters.now) }

@@ -1,4 +1,4 @@
-//! The values that lines compute.
+//! The values that program lines compute from the numbers in registers.
 
 ghost use Rattle.std.specs.Prelude.{List, pos};
 ghost use Rattle.h41_codes.specs.declared.characters.Character.{Character};
@@ -23,10 +23,10 @@ use h41_numbers::number_of;
 use h41_ram::Ram;
 use h41_ram::flags::RANGE_IGNORE;
 
-/// A value that is computed from one number.
+/// A value that a program line computes from one number, for example its square root.
 #[derive(Clone, Copy, Debug, PartialEq, Eq)]
 pub enum ValueOfOne {
-    /// The square root.
+    /// The square root of the number.
     Root,
     /// 1 divided by the number.
     Inverse,
@@ -34,40 +34,40 @@ pub enum ValueOfOne {
     Negative,
     /// The number without its sign.
     AbsoluteValue,
-    /// The digits before the radix mark, with the sign.
+    /// The digits before the radix mark of the number, with its sign.
     IntegerPart,
-    /// The digits after the radix mark, with the sign.
+    /// The digits after the radix mark of the number, with its sign.
     Fraction,
     /// The number rounded to the display format.
     Displayed,
-    /// 1 with the sign of the number, or 0 if the register contains no number.
+    /// 1 with the sign of the number, or 0 if the register contains no number, as SIGN returns it.
     Unit,
-    /// The counter of a loop, counted up.
+    /// The counter of a loop after ISG has counted it up by its increment.
     CountedUp,
-    /// The counter of a loop, counted down.
+    /// The counter of a loop after DSE has counted it down by its increment.
     CountedDown,
 }
 
-/// A value that is computed from two numbers.
+/// A value that a program line computes from two numbers, for example their sum.
 #[derive(Clone, Copy, Debug, PartialEq, Eq)]
 pub enum ValueOfTwo {
-    /// The sum.
+    /// The sum of the two numbers.
     Sum,
     /// The first number minus the second.
     Difference,
-    /// The product.
+    /// The product of the two numbers.
     Product,
     /// The first number divided by the second.
     Quotient,
-    /// The first number modulo the second.
+    /// The first number modulo the second: the first if the second is zero.
     Remainder,
-    /// A hundredth of the product.
+    /// A hundredth of the product of the two numbers, as % computes it.
     Percentage,
 }
 
-/// Returns the register with a value of the number at an address. ALPHA DATA if the register there contains no number, except for `Unit`.
-/// DATA ERROR for the inverse of zero and the root of a negative number. OUT OF RANGE if the exponent is above 99; if flag 24 is set, the
-/// result is the greatest number with the sign instead.
+/// Returns the register content with a value of the number at an address. ALPHA DATA if the register there contains no
+/// number, except for `Unit`. DATA ERROR for the inverse of zero and the root of a negative number. OUT OF RANGE if the
+/// exponent of the value is above 99; if flag 24 is set, the value is instead 9.999999999E99 with its sign.
 pub fn compute_of_one<const REGS: usize>(
     ram: &Ram<REGS>,
     value: ValueOfOne,
@@ -83,8 +83,9 @@ pub fn compute_of_one<const REGS: usize>(
     )
 }
 
-/// Returns the register with a value of the number in a register, rounded to these places if it is the displayed value. All sizes of memory
-/// share this code.
+/// Returns the register content with a value of the number in `register`, rounded to `places` if it is
+/// `ValueOfOne::Displayed`. ALPHA DATA, DATA ERROR or OUT OF RANGE as for `compute_of_one`; `ignores_range` is flag 24.
+/// All sizes of memory share this machine code.
 #[inline(never)]
 fn of_register(
     value: ValueOfOne,
@@ -100,9 +101,9 @@ fn of_register(
     }
 }
 
-/// Returns the register with a value of the numbers at two addresses. ALPHA DATA if one of the registers contains no number. DATA ERROR for
-/// a quotient with the divisor zero. OUT OF RANGE if the exponent is above 99; if flag 24 is set, the result is the greatest number with
-/// the sign instead.
+/// Returns the register content with a value of the numbers at two addresses. ALPHA DATA if one of the registers
+/// contains no number. DATA ERROR for a quotient with the divisor zero. OUT OF RANGE if the exponent of the value is
+/// above 99; if flag 24 is set, the value is instead 9.999999999E99 with its sign.
 #[inline(always)]
 pub fn compute_of_two<const REGS: usize>(
     ram: &Ram<REGS>,
@@ -120,7 +121,8 @@ pub fn compute_of_two<const REGS: usize>(
     )
 }
 
-/// Returns the register with a value of the numbers in two registers. All sizes of memory share this code.
+/// Returns the register content with a value of the numbers in two register contents. ALPHA DATA, DATA ERROR or OUT OF
+/// RANGE as for `compute_of_two`; `ignores_range` is flag 24. All sizes of memory share this machine code.
 #[inline(never)]
 fn of_registers(
     value: ValueOfTwo,
@@ -135,7 +137,7 @@ fn of_registers(
     kept_of_two(value, x, y, ignores_range)
 }
 
-/// Returns the register with 3.141592654.
+/// Returns the register content that encodes 3.141592654.
 pub fn pi() -> Reg
     ensures { IsAlways (Given (pos functions.pi)) result }
 {
@@ -146,28 +148,29 @@ pub fn pi() -> Reg
     always(Ten::Nonzero(Sign::Plus, Magnitude { mantissa, exponent }))
 }
 
-/// Returns the register with zero.
+/// Returns the register content that encodes zero.
 pub fn zero() -> Reg
     ensures { IsAlways (Given (pos 0)) result }
 {
     always(Ten::Zero)
 }
 
-/// Returns the register with the number of a number line.
+/// Returns the register content that encodes the number of a number line.
 pub fn written(number: &Number) -> Reg
     ensures { IsAlways (Written number.now) result }
 {
     register(number_of(number.characters()))
 }
 
-/// Returns the register with a number that was read from a number line.
+/// Returns the register content that encodes a number, for example one that was read from a number line.
 pub fn number_register(number: Ten) -> Reg
     ensures { (text : List Character) → IsNumberOf text number → IsAlways (Written text) result }
 {
     register(number)
 }
 
-/// Returns the register with a value of one number, or its error.
+/// Returns the register content with a value of one number, rounded to `places` if it is `ValueOfOne::Displayed`, or
+/// its error: DATA ERROR, or OUT OF RANGE unless flag 24 is set (`ignores_range`).
 #[inline(always)]
 fn kept_of_one(
     value: ValueOfOne,
@@ -184,7 +187,8 @@ fn kept_of_one(
     )
 }
 
-/// Returns the result for a register without a number: the error, except for `Unit`, which is zero.
+/// Returns the result of a computation with one register that contains no number: zero for `Unit`, otherwise the error
+/// `fault`.
 fn without_number(value: ValueOfOne, fault: LineFault) -> Result<Reg, LineFault>
     ensures { WithoutNumber value fault result }
 {
@@ -194,7 +198,8 @@ fn without_number(value: ValueOfOne, fault: LineFault) -> Result<Reg, LineFault>
     }
 }
 
-/// Returns the register with a value of two numbers, or its error.
+/// Returns the register content with a value of two numbers, or its error: DATA ERROR, or OUT OF RANGE unless flag 24
+/// is set (`ignores_range`).
 #[inline(always)]
 fn kept_of_two(
     value: ValueOfTwo,
@@ -213,7 +218,7 @@ fn kept_of_two(
     }
 }
 
-/// Returns the register with a constant.
+/// Returns the register content that encodes a constant number.
 fn always(number: Ten) -> Reg
     ensures { IsAlways (Given (units number)) result }
 {

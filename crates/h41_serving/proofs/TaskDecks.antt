@@ -41,6 +41,10 @@ module _ {R W : Type 0} (registers : ℕ) (source : sources.Ghosts R) (sink : si
       → WritesOfRead (decks.EndedText registers) source sink before after old new
   leaves_unread left = record { bytes = left.bytes; read = left.read; written = (left.leaves.0, left.leaves.2, left.leaves.3) }
 
+  leaves_memory : decks.FaultLeaves registers OutOfMemory source sink before after old new
+      → WritesOfRead (decks.MemoryText registers) source sink before after old new
+  leaves_memory left = record { bytes = left.bytes; read = left.read; written = left.leaves }
+
   leaves_front : decks.FaultLeaves registers WriteFault source sink before after old new
       → WritesFrontOfRead registers source sink before after old new
   leaves_front left = record { bytes = left.bytes; read = left.read; written = left.leaves }
@@ -78,6 +82,7 @@ module _ {R W : Type 0} (size : MemorySize) (source : sources.Ghosts R) (sink : 
             why_deck registers source sink before after old new (rw same at left) (rw same at passed (λ other. cc));
         begun = leaves_begun registers source sink before after old new fault left;
         unread = λ is. leaves_unread registers source sink before after old new (let same = same_fault _ refl is in rw same at left);
+        memory = λ is. leaves_memory registers source sink before after old new (let same = same_fault _ refl is in rw same at left);
         cut = λ is. leaves_front registers source sink before after old new (let same = same_fault _ refl is in rw same at left);
         passed = passed;
         write_fault = λ is. mark (same_fault _ refl is);
@@ -97,6 +102,7 @@ module _ {R W : Type 0} (size : MemorySize) (source : sources.Ghosts R) (sink : 
     read = λ is. cc;
     begun = tt;
     unread = λ is. cc;
+    memory = λ is. cc;
     cut = λ is. cc;
     passed = tt;
     write_fault = λ is. cc;

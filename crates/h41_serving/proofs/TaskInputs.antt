@@ -8,7 +8,7 @@ use Rattle.h41_ends.specs.declared.sink.Sink as sinks
 use Rattle.h41_ends.specs.declared.source.Source as sources
 use Rattle.h41_ends.specs.Ends.{most_bytes}
 use Rattle.h41_refusals.specs.declared.fault.Fault.{Fault}
-use Rattle.h41_refusals.specs.declared.fault.Fault.TheVariants.{ReadFault, WriteFault}
+use Rattle.h41_refusals.specs.declared.fault.Fault.TheVariants.{OutOfMemory, ReadFault, WriteFault}
 use Rattle.h41_jobs.specs.declared.ended.Ended.{Ended}
 use Rattle.h41_jobs.specs.Inputs.{IsWhole}
 use Rattle.h41_jobs.specs.Texts.{AssemblyEnds, AssemblyText, HasNoWrongWord, IsNotRefused}
@@ -59,10 +59,19 @@ passed_none (Err fault) = λ other. tt
 module _ {R W : Type 0} (result : Result Ended Fault) (source : sources.Ghosts R) (sink : sinks.Ghosts W) (before after : R)
     (old new : W) where
   -- Unless writing failed, nothing is written.
-  kept : result ≡ Err ReadFault → IfErr result (λ fault. fault ≢ WriteFault → Keeps (sink.contents old) (sink.contents new))
+  kept : (fault : Fault) → fault ≢ WriteFault → result ≡ Err fault
+      → IfErr result (λ fault. fault ≢ WriteFault → Keeps (sink.contents old) (sink.contents new))
       → Keeps (sink.contents old) (sink.contents new)
-  kept is nothing = subst (λ (of : Result Ended Fault). IfErr of
-      (λ fault. fault ≢ WriteFault → Keeps (sink.contents old) (sink.contents new))) is nothing (λ other. cc)
+  kept fault other is nothing = subst (λ (of : Result Ended Fault). IfErr of
+      (λ fault. fault ≢ WriteFault → Keeps (sink.contents old) (sink.contents new))) is nothing other
+
+  kept_unread : result ≡ Err ReadFault → IfErr result (λ fault. fault ≢ WriteFault → Keeps (sink.contents old) (sink.contents new))
+      → Keeps (sink.contents old) (sink.contents new)
+  kept_unread = kept ReadFault (λ same. cc)
+
+  kept_memory : result ≡ Err OutOfMemory → IfErr result (λ fault. fault ≢ WriteFault → Keeps (sink.contents old) (sink.contents new))
+      → Keeps (sink.contents old) (sink.contents new)
+  kept_memory = kept OutOfMemory (λ same. cc)
 
   -- What is promised for a source, or for a list of words, is what a task promises.
   pub assembled : (origin : ℕ)
@@ -73,9 +82,10 @@ module _ {R W : Type 0} (result : Result Ended Fault) (source : sources.Ghosts R
     ends = whole.ends;
     kind = whole.kind;
     flushed = whole.flushed;
-    read = λ is. why_unread _ _ _ (kept is whole.nothing) (whole.unread is);
+    read = λ is. why_unread _ _ _ (kept_unread is whole.nothing) (whole.unread is);
     begun = whole.nothing;
-    unread = λ is. kept is whole.nothing;
+    unread = λ is. kept_unread is whole.nothing;
+    memory = λ is. kept_memory is whole.nothing;
     cut = whole.cut;
     passed = passed_none result;
     write_fault = whole.write_fault;
@@ -90,9 +100,10 @@ module _ {R W : Type 0} (result : Result Ended Fault) (source : sources.Ghosts R
     ends = whole.ends;
     kind = whole.kind;
     flushed = whole.flushed;
-    read = λ is. why_unread _ _ _ (kept is whole.nothing) (whole.unread is);
+    read = λ is. why_unread _ _ _ (kept_unread is whole.nothing) (whole.unread is);
     begun = whole.nothing;
-    unread = λ is. kept is whole.nothing;
+    unread = λ is. kept_unread is whole.nothing;
+    memory = λ is. kept_memory is whole.nothing;
     cut = whole.cut;
     passed = passed_none result;
     write_fault = whole.write_fault;

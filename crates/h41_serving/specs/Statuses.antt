@@ -3,14 +3,14 @@ use Rattle.std.specs.Prelude.{◌≡◌, ◌≢◌, ◌⊎◌, ℕ, Bool, true, 
 use Rattle.h41_ends.specs.declared.sink.Sink as sinks
 use Rattle.h41_ends.specs.declared.source.Source as sources
 use Rattle.h41_refusals.specs.declared.fault.Fault.{Fault}
-use Rattle.h41_refusals.specs.declared.fault.Fault.TheVariants.{ReadFault, WriteFault}
+use Rattle.h41_refusals.specs.declared.fault.Fault.TheVariants.{OutOfMemory, ReadFault, WriteFault}
 use Rattle.h41_refusals.specs.Refusals.{of_fault, refusal_line}
 use Rattle.h41_arguments.specs.declared.arguments.Job.{Job}
 use Rattle.h41_arguments.specs.declared.arguments.Task.{Task}
 use Rattle.h41_arguments.specs.declared.arguments.Task.TheVariants as tasks
 use Rattle.h41_jobs.specs.declared.ended.Ended.{Ended}
 use Rattle.h41_jobs.specs.declared.ended.Ended.TheVariants.{Accepted, Refused, WrongWord}
-use Rattle.h41_serving.specs.Tasks.{FailedOrTooLong, TaskEnds, Tells}
+use Rattle.h41_serving.specs.Tasks.{FailedOrTooLong, LeavesMemory, TaskEnds, Tells}
 
 -- The status of a deck or a source that was begun: 0, 1 or 3.
 abbrev pub IsStatus : ℕ → Type 0
@@ -50,11 +50,13 @@ abbrev pub TellsMark : ℕ → Bool → Type 0
 TellsMark status mark = mark ≡ true → status ≡ 3
 
 -- What an error says of the streams. ReadFault (22): a read failed or the input was too long.
--- WriteFault (23): a write failed. Any other error: neither a read nor a write failed.
+-- WriteFault (23): a write failed. OutOfMemory (21): neither failed, and allocation can fail after
+-- what was written.
 pub record IsCause {R W : Type 0} (fault : Fault) (task : Task) (source : sources.Ghosts R)
     (sink : sinks.Ghosts W) (before after : R) (old new : W) : Type 0 where
   pub read : fault ≡ ReadFault → FailedOrTooLong task source sink before after old new
   pub write : fault ≡ WriteFault → sink.failed new ≡ true
+  pub memory : fault ≡ OutOfMemory → LeavesMemory task source sink before after old new
   pub not_read : fault ≢ ReadFault → source.failed after ≡ false
   pub not_write : fault ≢ WriteFault → sink.failed new ≡ false
 

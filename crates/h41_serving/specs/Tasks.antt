@@ -8,7 +8,7 @@ use Rattle.h41_ends.specs.declared.source.Source as sources
 use Rattle.h41_deck.specs.declared.replies.Outcome.{Outcome}
 use Rattle.h41_deck.specs.declared.replies.Outcome.TheVariants as outcomes
 use Rattle.h41_deck.specs.Deck as decks
-use Rattle.h41_ends.specs.Ends.{Appended, most_bytes}
+use Rattle.h41_ends.specs.Ends.{Appended, GivesTooMany, most_bytes}
 use Rattle.h41_ends.specs.InputLines.{bytes_within}
 use Rattle.h41_arguments.specs.declared.arguments.Job.{Job}
 use Rattle.h41_arguments.specs.declared.arguments.Task.{Task}
@@ -89,7 +89,7 @@ pub record LeavesTooLong {R W : Type 0} (registers : ℕ) (source : sources.Ghos
   pub bytes : List ℕ
   pub read : Consumes (source.remaining before) (source.remaining after) bytes
   pub too_long : most_bytes < length bytes
-  pub given : most_bytes < source.given after
+  pub given : GivesTooMany (source.given before) (source.given after)
   pub written :
       WritesTextOf (decks.EndedText registers) (sink.contents old) (sink.contents new)
       (bytes_within bytes)
@@ -99,7 +99,7 @@ pub record LeavesTooLong {R W : Type 0} (registers : ℕ) (source : sources.Ghos
 abbrev pub LeavesNothing : {R W : Type 0} → sources.Ghosts R → sinks.Ghosts W → R → R → W → W
     → Type 0
 LeavesNothing source sink before after old new =
-    (most_bytes < source.given after)
+    GivesTooMany (source.given before) (source.given after)
     × IfSome (source.remaining before)
     (WritesTextOf IsTooLong (sink.contents old) (sink.contents new))
 
@@ -139,6 +139,17 @@ LeavesUnread (tasks.Run size) source sink before after old new =
 LeavesUnread (tasks.Assemble origin) source sink before after old new =
     Keeps (sink.contents old) (sink.contents new)
 LeavesUnread (tasks.List origin) source sink before after old new =
+    Keeps (sink.contents old) (sink.contents new)
+
+-- What a task leaves written if allocation failed: of a deck the replies to some first commands,
+-- after which allocation can fail; of a source or a list of words nothing.
+abbrev pub LeavesMemory : {R W : Type 0} → Task → sources.Ghosts R → sinks.Ghosts W → R → R → W → W
+    → Type 0
+LeavesMemory (tasks.Run size) source sink before after old new =
+    WritesOfRead (decks.MemoryText (registers_of size)) source sink before after old new
+LeavesMemory (tasks.Assemble origin) source sink before after old new =
+    Keeps (sink.contents old) (sink.contents new)
+LeavesMemory (tasks.List origin) source sink before after old new =
     Keeps (sink.contents old) (sink.contents new)
 
 -- A prefix of the replies to the first commands of a deck that were read is written.

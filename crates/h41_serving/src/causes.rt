@@ -1,4 +1,4 @@
-//! Reports why a file cannot be read.
+//! Reports why the operating system cannot open or read a file.
 
 ghost use Rattle.std.specs.Prelude.{◌≡◌};
 ghost use Rattle.h41_serving.specs.Causes.{SaysCause, TellsOn};
@@ -16,8 +16,8 @@ pub(crate) const NAME: &str = "bench";
 /// number up to 11.
 const CAUSE: usize = 288;
 
-/// Writes the operating system's message about a file to `faults`, after the line of the error. Nothing
-/// is written if `faults` has failed before.
+/// Writes a line to `faults` with the program's name, the name of the file and the operating system's message, for
+/// example `bench: none: there is none`. Nothing is written if `faults` has failed before.
 pub(crate) fn tell_cause<E: Sink>(file: &str, error: &io::Error, faults: &mut E)
     ensures { SaysCause E.Sink faults.old faults.new file.now }
 {
@@ -31,7 +31,7 @@ pub(crate) fn tell_cause<E: Sink>(file: &str, error: &io::Error, faults: &mut E)
     tell_on("\n", faults);
 }
 
-/// Writes a text after others. Nothing is written if `faults` has failed before.
+/// Writes a text to `faults` and flushes it. Nothing is written if `faults` has failed before.
 fn tell_on<E: Sink>(text: &str, faults: &mut E)
     ensures { TellsOn E.Sink faults.old faults.new text.now }
 {

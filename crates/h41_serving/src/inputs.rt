@@ -1,4 +1,4 @@
-//! Performs the tasks whose input is read completely before anything is written.
+//! Assembles a source or lists words: the input is read completely before anything is written.
 
 ghost use Rattle.std.specs.Prelude.{◌≡◌, false};
 ghost use Rattle.h41_jobs.specs.Texts.{AssemblyEnds, AssemblyText, HasNoWrongWord};
@@ -10,7 +10,8 @@ use h41_jobs::{Ended, assembly, listing, read_input, write_answer};
 use h41_refusals::Fault;
 use std::alloc::Global;
 
-/// Assembles a source from an origin on, and writes its words or its refusal.
+/// Assembles the source that `reader` delivers, with its first word at the address `origin`, and writes its words or
+/// its first error to `writer`. Returns whether an error was written.
 ///
 /// # Errors
 ///
@@ -31,8 +32,8 @@ pub(crate) fn assemble_source<R: Source, W: Sink>(
     Ok(write_answer(writer, &answer)?)
 }
 
-/// Lists words from an origin on, and writes the listing. If a word is wrong, nothing is written
-/// and the result has its number.
+/// Lists the words that `reader` delivers, the first of which is at the address `origin`, and writes the listing to
+/// `writer`. If a word is not a hexadecimal number up to 3FF, nothing is written and the result has its number.
 ///
 /// # Errors
 ///

@@ -1,5 +1,4 @@
-//! Does the jobs of the bench: runs a deck, assembles a source or lists words, and returns a status that says
-//! how it ended.
+//! Executes a deck, assembles a source or lists words, as the command line asks, and returns the exit status.
 #![tactic(auto)]
 
 mod causes;

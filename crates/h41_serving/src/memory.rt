@@ -1,4 +1,4 @@
-//! Runs a deck with a given size of memory.
+//! Executes a deck with a given size of memory.
 
 ghost use Rattle.std.specs.Prelude.{◌≡◌, ◌≢◌, true, false, Err, IfOk, OnOk};
 ghost use Rattle.h41_deck.specs.Deck.{EndsKnown, LeavesDeck, PassedOn, WritesDeck};
@@ -6,16 +6,17 @@ ghost use Rattle.h41_arguments.specs.MemorySizes.{registers_of};
 
 use h41_arguments::MemorySize;
 use h41_deck::{Outcome, run_deck};
-use h41_ends::{Sink, Source};
+use h41_ends::{Sink, Talk};
 use h41_refusals::Fault;
 use std::alloc::Global;
 
-/// Runs a deck on a bench whose memory has this size, as `run_deck` does. Its contract is proved there once for all sizes.
+/// Executes the deck that `reader` delivers on a bench with this size of memory, and writes its replies to `writer`.
+/// Returns whether a refusal was printed.
 ///
 /// # Errors
 ///
 /// `ReadFault` (22), `WriteFault` (23) and `OutOfMemory` (21).
-pub(crate) fn run_with<R: Source, W: Sink>(
+pub(crate) fn run_with<R: Talk<W>, W: Sink>(
     alloc: Global,
     size: MemorySize,
     reader: &mut R,

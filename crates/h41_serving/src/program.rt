@@ -20,11 +20,13 @@ use std::io::{self, ErrorKind, Read};
 /// The message if a word of the command line is not UTF-8.
 const NO_TEXT: &str = "error: a word of the command line is not UTF-8\n";
 
-/// Does what the words of the command line ask for, of which the first is the program's name, and returns the exit status. A job
-/// reads the file that it names, which `open_file` opens, or standard input if the name is `-`. What the job prints goes to
-/// `output`, and so do help and the version. Messages about wrong words, and I/O errors, go to `faults`. The error flags of the
-/// three streams must be clear. The status is that of the job, 0 for help and the version, 2 for wrong words, and 3 if allocation
-/// or a stream failed.
+/// Does what the words of the command line ask for, of which the first is the program's name, and returns the exit
+/// status: that of the deck, source or list; 0 for help and the version; 2 for wrong words; 3 if allocation or a stream
+/// failed.
+///
+/// The program reads the file that the words name, which `open_file` opens, or standard input if the name is `-`. Its
+/// text, help and the version go to `output`. Messages about wrong words, and I/O errors, go to `faults`. The error
+/// flags of the three streams must be clear.
 pub fn run_program<O: FnMut(&str) -> io::Result<R>, R: Read + Drop, W: Sink, E: Sink>(
     alloc: Global,
     words: io::Result<Vec<String>>,
@@ -62,7 +64,8 @@ pub fn run_program<O: FnMut(&str) -> io::Result<R>, R: Read + Drop, W: Sink, E: 
     }
 }
 
-/// Does what the words ask for, each of which is UTF-8, and returns the status.
+/// Does what the words of the command line ask for, each of which is UTF-8, and returns the exit status, 0 to 3. The
+/// first word is the program's name.
 fn run_words<O: FnMut(&str) -> io::Result<R>, R: Read + Drop, W: Sink, E: Sink>(
     alloc: Global,
     words: &[String],
@@ -90,7 +93,8 @@ fn run_words<O: FnMut(&str) -> io::Result<R>, R: Read + Drop, W: Sink, E: Sink>(
     }
 }
 
-/// Returns the words with `bench` as the first, whatever name the program was started under.
+/// Returns the words of the command line with `bench` as the first, whatever name the program was started under.
+/// OutOfMemory (21) if allocation failed.
 fn named(alloc: Global, words: &[String]) -> Result<Vec<&str>, AllocError>
     ensures { IfOk result (λ all. map (λ w. w.now) all.items
         ≡ behind_name (map string_bytes words.now)) }
@@ -105,7 +109,8 @@ fn named(alloc: Global, words: &[String]) -> Result<Vec<&str>, AllocError>
     Ok(named)
 }
 
-/// Prints help or the version, or reports wrong words or failed allocation, and returns the status.
+/// Ends the program without a task: prints help or the version, or reports wrong words or failed allocation. Returns
+/// the exit status, 0, 2 or 3.
 fn end<W: Sink, E: Sink>(ending: &Ending, output: &mut W, faults: &mut E) -> u8
     requires output_clear { W.failed output.old ≡ false }
     requires faults_clear { E.failed faults.old ≡ false }
@@ -119,7 +124,8 @@ fn end<W: Sink, E: Sink>(ending: &Ending, output: &mut W, faults: &mut E) -> u8
     }
 }
 
-/// Prints a text that was asked for. Returns the status 0, or 3 if the output fails; the failure is reported.
+/// Prints help or the version. Returns the exit status 0, or 3 if the output fails; the failure is reported to
+/// `faults`.
 fn print<W: Sink, E: Sink>(text: &str, output: &mut W, faults: &mut E) -> u8
     requires output_clear { W.failed output.old ≡ false }
     requires faults_clear { E.failed faults.old ≡ false }
@@ -133,7 +139,8 @@ fn print<W: Sink, E: Sink>(text: &str, output: &mut W, faults: &mut E) -> u8
     }
 }
 
-/// Reports what is wrong with the words. Returns the status 2, or 3 if the message cannot be written.
+/// Reports what is wrong with the words of the command line. Returns the exit status 2, or 3 if the message cannot be
+/// written.
 fn tell_wrong<E: Sink>(text: &str, faults: &mut E) -> u8
     requires { E.failed faults.old ≡ false }
     ensures status { result ≡ mistake_status (E.failed faults.new) }
@@ -143,7 +150,8 @@ fn tell_wrong<E: Sink>(text: &str, faults: &mut E) -> u8
     if faults.failed() { FAILED } else { MISTAKEN }
 }
 
-/// Does the job with its file, or with standard input if the name of the file is `-`. Returns the status.
+/// Does the task of `job` with the file that it names, or with standard input if the name of the file is `-`. Returns
+/// the exit status, 0 to 3.
 fn run_job<O: FnMut(&str) -> io::Result<R>, R: Read + Drop, W: Sink, E: Sink>(
     alloc: Global,
     job: Job<'_>,
@@ -169,7 +177,8 @@ fn run_job<O: FnMut(&str) -> io::Result<R>, R: Read + Drop, W: Sink, E: Sink>(
     }
 }
 
-/// Reports that a file cannot be opened, with the operating system's message. Returns the status 3.
+/// Reports that a file cannot be opened, ReadFault (22), with the operating system's message. Returns the exit status
+/// 3.
 fn tell_unopened<E: Sink>(file: &str, error: &io::Error, faults: &mut E) -> u8
     requires { E.failed faults.old ≡ false }
     ensures status { result ≡ 3 }
@@ -180,8 +189,8 @@ fn tell_unopened<E: Sink>(file: &str, error: &io::Error, faults: &mut E) -> u8
     status
 }
 
-/// Does the job with the bytes of a reader, and reports the operating system's message about the file if a read failed. Returns
-/// the status.
+/// Does the task of `job` with the bytes of `reader`, and reports the operating system's message about the file that
+/// `job` names if a read failed. Returns the exit status.
 fn serve_named<R: Read, W: Sink, E: Sink>(
     alloc: Global,
     job: Job<'_>,

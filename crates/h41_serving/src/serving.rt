@@ -1,4 +1,4 @@
-//! Does a job from its input to its output, and returns a status that says how it ended.
+//! Executes a deck, assembles a source or lists words from one stream to another, and returns the exit status.
 
 ghost use Rattle.std.specs.Prelude.{◌≡◌, ◌≢◌, ◌≤◌, true, false, IfSome};
 ghost use Rattle.h41_jobs.specs.Texts.{mistake_line};
@@ -12,27 +12,27 @@ use crate::inputs::{assemble_source, list_words};
 use crate::memory::run_with;
 use h41_arguments::{Job, Task};
 use h41_deck::Outcome;
-use h41_ends::{Sink, Source};
+use h41_ends::{Sink, Talk};
 use h41_jobs::{Ended, mistake_line, write_text};
 use h41_refusals::Fault;
 use std::alloc::Global;
 
-/// The status of a job that printed no refusal: 0.
+/// The exit status if nothing was refused and nothing failed: 0.
 pub const ACCEPTED: u8 = 0;
 
-/// The status of a job that printed a refusal: 1.
+/// The exit status if a refusal was printed: 1.
 pub const REFUSED: u8 = 1;
 
-/// The status if reading, writing or allocation failed: 3.
+/// The exit status if reading, writing or allocation failed: 3.
 pub const FAILED: u8 = 3;
 
-/// The status of a job whose input has a wrong word: 2.
+/// The exit status if the command line or a word of a list is wrong: 2.
 pub const MISTAKEN: u8 = 2;
 
-/// Does the job with the bytes of `reader`, writes what it prints to `writer`, and returns the exit status. If a word of a list
-/// is wrong, or if reading, writing or allocation fails, a line that says so goes to `faults`. The error flags of the three
-/// streams must be clear. The status is 0, 1 if a refusal was printed, 2 if a word of a list is wrong, or 3 if something failed.
-pub fn serve<R: Source, W: Sink, E: Sink>(
+/// Does the task of `job` with the bytes of `reader`, writes what it prints to `writer`, and returns the exit status:
+/// 0, 1 if a refusal was printed, 2 if a word of a list is wrong, or 3 if reading, writing or allocation failed. For 2
+/// and 3 a line that says what is wrong goes to `faults`. The error flags of the three streams must be clear.
+pub fn serve<R: Talk<W>, W: Sink, E: Sink>(
     alloc: Global,
     job: Job<'_>,
     reader: &mut R,
@@ -44,7 +44,8 @@ pub fn serve<R: Source, W: Sink, E: Sink>(
     requires faults_clear { E.failed faults.old ≡ false }
     ensures status { IsTaskStatus job.entry.task result }
 
-    // If nothing failed, the text of the task was written, and the status says how it ended.
+    // If nothing failed, the complete text is written and flushed, and the status says how the deck, source or list
+    // ended.
     ensures text { JobWritesText result job.entry R.Source W.Sink reader.old writer.old writer.new }
     ensures flushed { result ≢ 3 → W.flushed writer.new ≡ true }
     ensures outcome { result ≢ 3 → IfSome (R.remaining reader.old) (EndsJob job.entry result) }
@@ -53,13 +54,14 @@ pub fn serve<R: Source, W: Sink, E: Sink>(
     ensures silent { result ≤ 1 → faults.new ≡ faults.old }
     ensures mistake { TellsWord result job.entry R.Source E.Sink reader.old faults.old faults.new }
 
-    // A read or a write that failed has status 3.
+    // If a read or a write failed, the status is 3.
     ensures reader { TellsMark result (R.failed reader.new) }
     ensures writer { TellsMark result (W.failed writer.new) }
 
-    // If something failed, the replies to the first commands of a deck are written, and nothing of a source or of a list. If
-    // writing failed, it is a prefix of these replies, or of the text of the source or list. What is written is flushed before
-    // the error is reported. The error says correctly what failed, and its line is reported if `faults` accepts it.
+    // If something failed, the replies to the first commands of a deck are written, and nothing of a source or of a
+    // list. If writing failed, a prefix of these replies, or of the text of the source or list, is written. What is
+    // written is flushed before the error is reported. The error says correctly what failed, and its line is reported
+    // if `faults` accepts it.
     ensures begun { JobBegun result job.entry R.Source W.Sink
         reader.old reader.new writer.old writer.new }
     ensures unread { JobLeavesUnread job.entry R.Source W.Sink
@@ -78,12 +80,13 @@ pub fn serve<R: Source, W: Sink, E: Sink>(
     }
 }
 
-/// Performs a task.
+/// Executes the deck, assembles the source or lists the words that `reader` delivers, and writes the text to `writer`.
+/// Returns whether a refusal was printed, or the number of a wrong word.
 ///
 /// # Errors
 ///
 /// `ReadFault` (22), `WriteFault` (23) and `OutOfMemory` (21).
-fn carry_out<R: Source, W: Sink>(
+fn carry_out<R: Talk<W>, W: Sink>(
     alloc: Global,
     task: Task,
     reader: &mut R,
@@ -100,7 +103,7 @@ fn carry_out<R: Source, W: Sink>(
     }
 }
 
-/// Returns how a job ends, by the outcome of its deck.
+/// Returns the outcome of a deck as an `Ended`: whether a refusal was printed.
 fn ended(outcome: Outcome) -> Ended
     ensures { result ≡ ended_of_deck outcome }
 {
@@ -110,7 +113,8 @@ fn ended(outcome: Outcome) -> Ended
     }
 }
 
-/// Reports a wrong word by its number, as far as `faults` accepts the line. Returns the status 2.
+/// Reports a wrong word of a list by its number, counted from 1, as far as `faults` accepts the line. Returns the exit
+/// status 2.
 fn tell_mistake<E: Sink>(number: usize, faults: &mut E) -> u8
     requires { E.failed faults.old ≡ false }
     ensures status { result ≡ 2 }
@@ -120,7 +124,8 @@ fn tell_mistake<E: Sink>(number: usize, faults: &mut E) -> u8
     MISTAKEN
 }
 
-/// Reports an error that ended a job, as far as `faults` accepts its line. Returns the status 3.
+/// Reports an error by its line, for example `! 22 ReadFault`, as far as `faults` accepts it. Returns the exit status
+/// 3.
 pub fn tell<E: Sink>(fault: Fault, faults: &mut E) -> u8
     requires { E.failed faults.old ≡ false }
     ensures status { result ≡ 3 }
@@ -130,7 +135,7 @@ pub fn tell<E: Sink>(fault: Fault, faults: &mut E) -> u8
     FAILED
 }
 
-/// Writes a text to `faults` and flushes it. If that fails, nothing more is written to it.
+/// Writes a text to `faults` and flushes it. If a write or the flush fails, nothing more is written to it.
 pub(crate) fn tell_text<E: Sink>(text: &str, faults: &mut E)
     requires { E.failed faults.old ≡ false }
     ensures { Tells E.Sink faults.old faults.new text.now }

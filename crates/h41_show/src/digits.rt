@@ -7,10 +7,11 @@ ghost use Rattle.h41_show.specs.Digits.{digits_text, grouped_digits};
 
 use arrayvec::ArrayString;
 
-/// The capacity of a text in bytes: the 24 bytes of ALPHA need 72 if each is shown in hexadecimal.
+/// The capacity, in bytes, of the text of a number, a register or ALPHA: the 24 bytes of ALPHA need 72 if each is shown
+/// as `\` and two hexadecimal digits.
 pub const TEXT_CAPACITY: usize = 80;
 
-/// A text that is being written.
+/// The text of a number, a register or ALPHA while it is written.
 pub(crate) type DisplayText = ArrayString<TEXT_CAPACITY>;
 
 /// Appends an ASCII character to a text.
@@ -22,7 +23,8 @@ pub(crate) fn push_byte(text: &mut DisplayText, byte: u8)
     text.push(char::from(byte));
 }
 
-/// Appends the lowest decimal digits of a number, `count` of them, the lowest last.
+/// Appends the `count` lowest decimal digits of a number, the lowest last. For example, 7 with a `count` of 3 is
+/// written as `007`.
 pub(crate) fn push_digits(text: &mut DisplayText, number: u64, count: usize)
     requires { array_string_len text.old + count ≤ 80 }
     ensures bytes { text.new.bytes ≡ text.old.bytes ++ digits_text count number }
@@ -34,7 +36,7 @@ pub(crate) fn push_digits(text: &mut DisplayText, number: u64, count: usize)
     }
 }
 
-/// Appends a number with all its decimal digits.
+/// Appends a number with all its decimal digits and no leading zeros; 0 is written as `0`.
 pub(crate) fn push_decimal(text: &mut DisplayText, number: u64)
     requires { array_string_len text.old + length (decimal number) ≤ 80 }
     ensures { text.new.bytes ≡ text.old.bytes ++ decimal number }
@@ -45,7 +47,8 @@ pub(crate) fn push_decimal(text: &mut DisplayText, number: u64)
     push_byte(text, b'0' + (number % 10) as u8);
 }
 
-/// Appends a number in groups of three digits, separated by the character `mark`.
+/// Appends a number with all its decimal digits in groups of three, separated by the ASCII character `mark`, for
+/// example `1,234,567`.
 pub(crate) fn push_grouped(text: &mut DisplayText, number: u64, mark: u8)
     requires room { array_string_len text.old + 2 * length (decimal number) ≤ 80 }
     requires mark { mark < 128 }

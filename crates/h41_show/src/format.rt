@@ -1,11 +1,11 @@
-//! The display format.
+//! The display format of numbers.
 
 ghost use Rattle.std.specs.Prelude.{◌≡◌};
 
 use crate::flags::{display_digit, notation, radix};
 use h41_ram::{Ram, flags};
 
-/// The notation of numbers.
+/// The notation in which the display shows numbers.
 #[derive(Clone, Copy, Debug, PartialEq, Eq)]
 pub enum Notation {
     /// FIX: a fixed number of decimals.
@@ -16,23 +16,25 @@ pub enum Notation {
     Engineering,
 }
 
-/// The radix mark, which precedes the decimals. The other of the two characters separates groups of three digits.
+/// The radix mark, which separates the digits before the decimals from the decimals. The other one of the point and the
+/// comma separates groups of three digits.
 #[derive(Clone, Copy, Debug, PartialEq, Eq)]
 pub enum RadixMark {
-    /// `.`, with `,` between groups.
+    /// A point, `.`; a comma separates groups of digits.
     Point,
-    /// `,`, with `.` between groups.
+    /// A comma, `,`; a point separates groups of digits.
     Comma,
 }
 
 /// The display format, as FIX, SCI and ENG and flags 28 and 29 determine it.
 #[derive(Clone, Copy, Debug, PartialEq, Eq)]
 pub struct Format {
-    /// FIX, SCI or ENG.
+    /// The notation: FIX, SCI or ENG.
     pub notation: Notation,
-    /// The display digit, 0 to 9: the number of digits that are shown. A greater one has the effect of 9.
+    /// The operand of FIX, SCI or ENG, 0 to 9: how many digits FIX shows after the radix mark, and SCI and ENG after
+    /// the first digit, if there is room for them. A greater one has the effect of 9.
     pub digits: u8,
-    /// The radix mark.
+    /// The radix mark that precedes the decimals.
     pub radix: RadixMark,
     /// Whether FIX separates the digits before the radix mark into groups of three.
     pub grouping: bool,

@@ -12,22 +12,26 @@ use h41_decimal::Ten;
 use h41_digits::Reg;
 use h41_ram::Ram;
 
-/// States that sizes are rounded to the nearest number of steps.
+/// States that the display's rounding is to the nearest: an absolute value becomes the multiple of a step, for example
+/// of 0.01, that is nearest to it, and halves are rounded up. The value and the step, which is greater than zero, are
+/// given in units of 10^-108.
 pub fn nearest_is_nearest()
     ensures { NearestIsNearest }
 {}
 
-/// States that the nearest number of steps is determined.
+/// States that an absolute value has only one multiple of a step, for example of 0.01, that is nearest to it if halves
+/// are rounded up. The value and the step, which is greater than zero, are given in units of 10^-108.
 pub fn nearest_is_determined()
     ensures { NearestIsDetermined }
 {}
 
-/// States that the exponent of a size is determined by the two powers of ten between which the size is.
+/// States that only one exponent is right for an absolute value: that of the power of ten that is at most the value
+/// while the next power is above it.
 pub fn exponent_is_determined()
     ensures { ExponentIsDetermined }
 {}
 
-/// Returns the number of bytes of the text of a number, at most 80.
+/// Returns how many bytes the text of a number in a display format has, at most 80.
 pub fn number_text_fits(number: Ten, format: Format) -> usize
     ensures size { result ≡ length (numbers.number_text format (units number)) }
     ensures fits { result ≤ 80 }
@@ -35,7 +39,7 @@ pub fn number_text_fits(number: Ten, format: Format) -> usize
     number_text(number, format).len()
 }
 
-/// Returns the number of bytes of the text of a register, at most 80.
+/// Returns how many bytes the text of a register's content in a display format has, at most 80.
 pub fn register_text_fits(register: Reg, format: Format) -> usize
     ensures size { result ≡ length (registers.register_text format register) }
     ensures fits { result ≤ 80 }
@@ -43,7 +47,7 @@ pub fn register_text_fits(register: Reg, format: Format) -> usize
     register_text(register, format).len()
 }
 
-/// Returns the number of bytes of the text of ALPHA, at most 80.
+/// Returns how many bytes the text of the ALPHA register has, at most 80.
 pub fn alpha_text_fits<const REGS: usize>(ram: &Ram<REGS>) -> usize
     ensures size { result ≡ length (registers.alpha_text ram.now.registers) }
     ensures fits { result ≤ 80 }

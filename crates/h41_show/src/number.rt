@@ -1,4 +1,4 @@
-//! The text of a number.
+//! Writes a number as the display shows it.
 
 ghost use Rattle.std.specs.Prelude.{◌≡◌, ◌+◌, ◌-◌, ◌*◌, ◌^◌, ◌<◌, ◌≤◌, ◌++◌, [], ◌∷◌, min, is_some};
 ghost use Rattle.std.specs.Prelude.{IfSome};
@@ -14,21 +14,23 @@ use crate::rounding::{Rounded, power_of_ten, round, without_last};
 use arrayvec::ArrayString;
 use h41_decimal::{Magnitude, Sign, Ten};
 
-/// The greatest number of digits that FIX shows.
+/// The most digits that FIX shows, before and after the radix mark together.
 const DIGITS: u32 = 10;
 
-/// The distance of exponent 0 from the least exponent, -99.
+/// The number that is added to an exponent, -99 to 99, so that the sum is not negative.
 const EXPONENT_ZERO: u32 = 99;
 
 /// Returns the text of a number in a display format.
 ///
-/// FIX rounds to as many decimals as the display digit says and ten digits allow, and groups the digits before the radix mark if
-/// the format says so. A number of 10^10 or more, and a number other than zero that would be shown as zero, is shown as in SCI. SCI
-/// and ENG show up to eight digits, and an exponent of two digits; the exponent of ENG is a multiple of 3. Halves are rounded away
-/// from zero. If rounding would result in exponent 100, SCI and ENG cut instead.
+/// FIX rounds to as many decimals as the format's `digits` and ten digits allow, and groups the digits before the
+/// decimals if the format says so. A number of 10^10 or more, and a number other than zero that would be shown as zero,
+/// is shown as in SCI. SCI and ENG show up to eight digits, and an exponent of two digits; the exponent of ENG is a
+/// multiple of 3.
 ///
-/// This follows the Owner's Handbook, except the eight digits, the cut, the zeros that replace missing digits in ENG, and the
-/// exponent of zero (this project's choice).
+/// Halves are rounded away from zero. If rounding would result in exponent 100, SCI and ENG cut instead.
+///
+/// This follows the Owner's Handbook, except the eight digits, the cut, the zeros that replace missing digits in ENG,
+/// and the exponent of zero (this project's choice).
 pub fn number_text(number: Ten, format: Format) -> ArrayString<TEXT_CAPACITY>
     ensures { result.bytes ≡ spec.number_text format (units number) }
 {
@@ -43,7 +45,7 @@ pub fn number_text(number: Ten, format: Format) -> ArrayString<TEXT_CAPACITY>
     text
 }
 
-/// Appends a minus sign for a negative number, and nothing for another.
+/// Appends `-` for a negative number, and nothing for a positive one.
 fn push_sign(text: &mut DisplayText, sign: Sign)
     requires { array_string_len text.old ≡ 0 }
     ensures bytes { text.new.bytes ≡ text.old.bytes ++ spec.sign_text sign }
@@ -55,7 +57,7 @@ fn push_sign(text: &mut DisplayText, sign: Sign)
     }
 }
 
-/// Appends zero in a display format.
+/// Appends the number zero in a display format.
 fn push_zero(text: &mut DisplayText, format: Format)
     requires { array_string_len text.old ≤ 1 }
     ensures { text.new.bytes ≡ text.old.bytes ++ spec.size_text format 0 }
@@ -72,7 +74,7 @@ fn push_zero(text: &mut DisplayText, format: Format)
     }
 }
 
-/// Appends a size greater than zero in a display format.
+/// Appends an absolute value greater than zero in a display format.
 fn push_size(text: &mut DisplayText, x: Magnitude, format: Format)
     requires { array_string_len text.old ≤ 1 }
     ensures { text.new.bytes ≡ text.old.bytes ++ spec.size_text format (size x) }
@@ -86,17 +88,19 @@ fn push_size(text: &mut DisplayText, x: Magnitude, format: Format)
     }
 }
 
-/// A size as FIX shows it: a number of steps of its last decimal.
+/// An absolute value as FIX shows it: a whole number of units of its last decimal. For example, 1.25 with two decimals
+/// is 125.
 #[derive(Clone, Copy)]
 struct DecimalSteps {
-    /// The number of decimals, 0 to 9.
+    /// The number of decimals that are shown, 0 to 9.
     decimals: u32,
-    /// The number of steps.
+    /// The absolute value in units of the last decimal.
     count: u64,
     ghost few: { decimals ≤ 9 },
 }
 
-/// Returns a size as FIX shows it, or `None` if FIX shows it as SCI does.
+/// Returns an absolute value as FIX shows it if the display digit is `digits`, or `None` if FIX shows it as SCI does:
+/// if it is 10^10 or more, or would be shown as zero.
 fn fixed(x: Magnitude, digits: u8) -> Option<DecimalSteps>
     ensures fixed { is_some result ≡ spec.is_fixed digits (size x) }
     ensures decimals { IfSome result (λ s. s.decimals ≡ spec.fixed_decimals digits (size x)) }
@@ -118,7 +122,8 @@ fn fixed(x: Magnitude, digits: u8) -> Option<DecimalSteps>
     }
 }
 
-/// Returns the number of decimals that FIX shows if the size has `whole` + 1 digits before the radix mark, 1 to 10.
+/// Returns how many decimals FIX shows if the display digit is `digits` and `whole` + 1 digits, 1 to 10, are before the
+/// radix mark: `digits`, but at most as many as ten digits allow.
 fn fixed_decimals(whole: u32, digits: u8) -> u32
     requires { whole ≤ 9 }
     ensures { result ≡ min digits (9 - whole) }
@@ -126,7 +131,8 @@ fn fixed_decimals(whole: u32, digits: u8) -> u32
     u32::from(digits).min(9 - whole)
 }
 
-/// Returns the number of digits that SCI and ENG show after the first one, 0 to 7.
+/// Returns how many digits SCI and ENG show after the first one if the display digit is `digits`: `digits`, but at most
+/// 7.
 fn mantissa_decimals(digits: u8) -> u32
     ensures value { result ≡ spec.mantissa_decimals digits }
     ensures most { result ≤ 7 }
@@ -134,7 +140,7 @@ fn mantissa_decimals(digits: u8) -> u32
     u32::from(digits).min(7)
 }
 
-/// Appends a number of steps of the last decimal, as FIX shows it.
+/// Appends an absolute value as FIX shows it, given in units of its last decimal.
 fn push_steps(text: &mut DisplayText, format: Format, steps: DecimalSteps)
     requires { array_string_len text.old ≤ 1 }
     ensures { text.new.bytes ≡ text.old.bytes ++ spec.steps_text format steps.decimals steps.count }
@@ -145,7 +151,7 @@ fn push_steps(text: &mut DisplayText, format: Format, steps: DecimalSteps)
     push_digits(text, steps.count, steps.decimals as usize);
 }
 
-/// Appends the digits before the radix mark in FIX.
+/// Appends the digits before the radix mark as FIX shows them: in groups of three if the display format says so.
 fn push_integer(text: &mut DisplayText, format: Format, whole: u64)
     requires { array_string_len text.old ≤ 1 }
     ensures bytes { text.new.bytes ≡ text.old.bytes ++ spec.integer_text format whole }
@@ -158,7 +164,7 @@ fn push_integer(text: &mut DisplayText, format: Format, whole: u64)
     }
 }
 
-/// Appends the radix mark in FIX, if it is shown.
+/// Appends the radix mark as FIX shows it: if the display digit is above 0 or digits are grouped; otherwise nothing.
 fn push_fixed_mark(text: &mut DisplayText, format: Format)
     requires { array_string_len text.old ≤ 41 }
     ensures bytes { text.new.bytes ≡ text.old.bytes ++ spec.fixed_mark format }
@@ -169,7 +175,7 @@ fn push_fixed_mark(text: &mut DisplayText, format: Format)
     }
 }
 
-/// Appends a size greater than zero, as SCI and ENG show it.
+/// Appends an absolute value greater than zero, as SCI and ENG show it.
 fn push_scientific(text: &mut DisplayText, x: Magnitude, format: Format)
     requires { array_string_len text.old ≤ 1 }
     ensures { text.new.bytes ≡ text.old.bytes ++ spec.scientific_text format (size x) }
@@ -185,7 +191,8 @@ fn push_scientific(text: &mut DisplayText, x: Magnitude, format: Format)
     push_exponent(text, above_least - extra);
 }
 
-/// Returns the number of digits before the radix mark after the first one, 0 to 2. The exponent of ENG is a multiple of 3.
+/// Returns how many digits the notation shows before the radix mark in addition to the first one, 0 to 2. In ENG it
+/// makes the exponent a multiple of 3. `above_least` is the exponent of the first digit plus 99.
 fn extra_digits(notation: Notation, above_least: u32) -> u32
     ensures value { result ≡ spec.extra_digits notation (above_least + 9) }
     ensures most { result ≤ 2 }
@@ -197,7 +204,8 @@ fn extra_digits(notation: Notation, above_least: u32) -> u32
     }
 }
 
-/// Appends a mantissa, given as a number of steps of its last decimal.
+/// Appends a mantissa with this number of decimals, at most 7. `count` is the mantissa in units of its last decimal:
+/// for example, 125 with two decimals is written as `1.25`.
 fn push_mantissa(text: &mut DisplayText, radix: RadixMark, count: u64, decimals: u32)
     requires room { array_string_len text.old ≤ 1 }
     requires decimals { decimals ≤ 7 }
@@ -209,7 +217,7 @@ fn push_mantissa(text: &mut DisplayText, radix: RadixMark, count: u64, decimals:
     push_digits(text, count, decimals as usize);
 }
 
-/// Appends an exponent, given plus 99.
+/// Appends an exponent, -99 to 99, as a space or `-` and two digits. `above_least` is the exponent plus 99.
 fn push_exponent(text: &mut DisplayText, above_least: u32)
     requires room { array_string_len text.old ≤ 29 }
     requires range { above_least ≤ 198 }
@@ -224,7 +232,7 @@ fn push_exponent(text: &mut DisplayText, above_least: u32)
     }
 }
 
-/// Returns the character of the radix mark.
+/// Returns the ASCII character of the radix mark: `.` or `,`.
 fn radix_byte(radix: RadixMark) -> u8
     ensures value { result ≡ spec.radix_byte radix }
     ensures ascii { result < 128 }
@@ -235,7 +243,8 @@ fn radix_byte(radix: RadixMark) -> u8
     }
 }
 
-/// Returns the character that separates groups of digits.
+/// Returns the ASCII character that separates groups of three digits: a comma if the radix mark is a point, otherwise a
+/// point.
 fn group_byte(radix: RadixMark) -> u8
     ensures value { result ≡ spec.group_byte radix }
     ensures ascii { result < 128 }

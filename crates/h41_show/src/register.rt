@@ -1,4 +1,4 @@
-//! The texts of registers and of ALPHA.
+//! Writes the contents of registers and of ALPHA as the display shows them.
 
 ghost use Rattle.std.specs.Prelude.{◌≡◌, ◌++◌};
 ghost use Rattle.arrayvec.specs.ArrayString.{array_string_len};
@@ -15,9 +15,10 @@ use h41_digits::{PLACES, Reg, glyph};
 use h41_lines::characters::push_characters;
 use h41_ram::Ram;
 
-/// Returns the text of a register: a number in the display format, ALPHA data as characters, and any other content as the 14 digits
-/// in upper-case hexadecimal. Leading nulls of ALPHA data are not shown. Its bytes 20 to 7E except `\` are shown as ASCII
-/// characters; any other byte is shown as `\` and two hexadecimal digits (this project's choice).
+/// Returns the text of a register's content: a number in the display format, ALPHA data as characters, and any other
+/// content as the 14 digits in upper-case hexadecimal. Leading nulls of ALPHA data are not shown. Its bytes 20 to 7E
+/// (hexadecimal) except `\` are shown as ASCII characters; any other byte is shown as `\` and two hexadecimal digits
+/// (this project's choice).
 pub fn register_text(register: Reg, format: Format) -> ArrayString<TEXT_CAPACITY>
     ensures { result.bytes ≡ spec.register_text format register }
 {
@@ -33,7 +34,8 @@ pub fn register_text(register: Reg, format: Format) -> ArrayString<TEXT_CAPACITY
     text
 }
 
-/// Returns the text of ALPHA: its bytes without leading nulls, shown as those of ALPHA data in a register.
+/// Returns the text of the ALPHA register: its bytes without leading nulls. Bytes 20 to 7E (hexadecimal) except `\` are
+/// shown as ASCII characters; any other byte is shown as `\` and two hexadecimal digits (this project's choice).
 pub fn alpha_text<const REGS: usize>(ram: &Ram<REGS>) -> ArrayString<TEXT_CAPACITY>
     ensures { result.bytes ≡ spec.alpha_text ram.now.registers }
 {
@@ -42,7 +44,7 @@ pub fn alpha_text<const REGS: usize>(ram: &Ram<REGS>) -> ArrayString<TEXT_CAPACI
     text
 }
 
-/// Appends the digits of a register in hexadecimal, place 13 first.
+/// Appends the 14 digits of a register in upper-case hexadecimal, the leftmost, digit 13, first.
 fn push_register(text: &mut DisplayText, register: Reg)
     requires { array_string_len text.old ≡ 0 }
     ensures { text.new.bytes ≡ text.old.bytes ++ digits.text register }

@@ -1,4 +1,4 @@
-//! Rounds the sizes of numbers as the display shows them.
+//! Rounds the absolute values of numbers as the display shows them.
 
 ghost use Rattle.std.specs.Prelude.{◌≡◌, ◌+◌, ◌-◌, ◌*◌, ◌^◌, ◌<◌, ◌≤◌};
 ghost use Rattle.h41_decimal.specs.Units.{size};
@@ -6,7 +6,7 @@ ghost use Rattle.h41_show.specs.Rounding.{nearest, rounded_size, worth_at};
 
 use h41_decimal::Magnitude;
 
-/// The exponent of the greatest numbers, plus 99.
+/// The exponent of the greatest numbers, 99, plus 99.
 const GREATEST_EXPONENT: u32 = 198;
 
 /// Returns ten to a power from 0 to 10.
@@ -17,7 +17,8 @@ pub(crate) fn power_of_ten(power: u32) -> u64
     10u64.pow(power)
 }
 
-/// Returns ten digits without their last ones, rounded to the nearest number, halves up.
+/// Returns a number of up to ten digits without its last `dropped` digits, 0 to 10, rounded to the nearest whole
+/// number, halves up.
 pub(crate) fn without_last(digits: u64, dropped: u32) -> u64
     requires digits { digits < 10 ^ 10 }
     requires dropped { dropped ≤ 10 }
@@ -27,18 +28,18 @@ pub(crate) fn without_last(digits: u64, dropped: u32) -> u64
     (digits + step / 2) / step
 }
 
-/// A size rounded to a number of digits: these digits as a whole number, the first of which is not zero, and the exponent of the
-/// first digit.
+/// An absolute value rounded to a number of digits: these digits as a whole number, the first of which is not zero, and
+/// the exponent of the first digit.
 #[derive(Clone, Copy)]
 pub(crate) struct Rounded {
-    /// The digits as a whole number.
+    /// The digits that rounding keeps, as a whole number.
     pub(crate) digits: u64,
-    /// The exponent plus 99, 0 to 198.
+    /// The exponent of the first digit plus 99, 0 to 198.
     pub(crate) above_least: u32,
 }
 
-/// Returns a size rounded to its first digit and `decimals` more. If that would result in exponent 100, the other digits are cut
-/// off instead.
+/// Returns an absolute value rounded to its first digit and `decimals` more, at most 7, halves up. If that would result
+/// in exponent 100, the other digits are cut off instead.
 pub(crate) fn round(x: Magnitude, decimals: u32) -> Rounded
     requires { decimals ≤ 7 }
     ensures value { worth_at result.digits result.above_least decimals

@@ -1,4 +1,4 @@
-//! Tests of command lines.
+//! Tests of the words of the command line: what they ask for, and which of them are refused.
 
 use crate::judge::wants;
 use h41_jobs::{MemorySize, Task, read_words, text_of};
@@ -86,7 +86,7 @@ fn takes_an_origin(rt: HostRuntime) {
     takes(&rt, rt.alloc(), &words, Task::List { origin: 0xC000 }, "-");
 }
 
-/// Requires that the words give this job.
+/// Requires that the words of the command line ask for this task with this file.
 fn takes<'a>(rt: &impl Abort, alloc: Global, words: &'a [&'a str], task: Task, file: &str) {
     let holds = match read_words(alloc, words) {
         Ok(job) => job.task == task && job.file == file,
@@ -103,7 +103,7 @@ fn refuses_an_origin(rt: HostRuntime) {
     is_mistake(&rt, rt.alloc(), &["bench", "asm", "--origin"]);
 }
 
-/// Requires that the words end the program with status 2.
+/// Requires that the program ends with exit status 2 for these words of the command line, because they are wrong.
 fn is_mistake<'a>(rt: &impl Abort, alloc: Global, words: &'a [&'a str]) {
     let holds = match read_words(alloc, words) {
         Ok(_) => false,
@@ -112,13 +112,14 @@ fn is_mistake<'a>(rt: &impl Abort, alloc: Global, words: &'a [&'a str]) {
     assert!(rt; holds, "at {words:?}");
 }
 
-/// Requires that the words end the program with the status, and that the text shows the usage of
-/// `bench`.
+/// Requires that the program ends with this exit status for these words of the command line, without a task, and prints
+/// the usage of `bench`.
 fn ends<'a>(rt: &impl Abort, alloc: Global, words: &'a [&'a str], status: u8) {
     tells(rt, alloc, words, status, "Usage: bench");
 }
 
-/// Requires that the words end the program with the status, and that the text contains this part.
+/// Requires that the program ends with this exit status for these words of the command line, without a task, and prints
+/// a text that contains `part`.
 fn tells<'a>(rt: &impl Abort, alloc: Global, words: &'a [&'a str], status: u8, part: &str) {
     let holds = match read_words(alloc, words) {
         Ok(_) => false,

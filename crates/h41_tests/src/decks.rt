@@ -1,4 +1,5 @@
-//! Tests of decks over streams that deliver pieces and fail, and at the limit of a deck's length.
+//! Tests of decks over streams that deliver and accept a few bytes per call and can fail, and of decks at the limit of
+//! a deck's length.
 
 use crate::ends::{Long, reader, writer};
 use crate::judge::wants;
@@ -8,11 +9,11 @@ use std::io::{BufWriter, Cursor};
 use std::process::Abort;
 use std::test::Fail;
 
-/// A deck with two refusals.
+/// A deck for tests with two refused commands: `call 9000` and `fly`.
 pub const DECK: &str =
     "words 8\n130 123\n226 3E0\nend\ncall 8000\ncall 9000\ntrace 2\nrun 0\nshow cpu\nfly\n";
 
-/// What `DECK` prints.
+/// The replies to the commands of the test deck `DECK`.
 pub const TEXT: &str = "! 24 Busy\nMicro 8000 LDI 123\nMicro 8002 C=C+1 S&X\nran 0 Limit\n\
     A=00000000000000 B=00000000000000 C=00000000000124\n\
     M=00000000000000 N=00000000000000\nG=00 T=00 ST=0000 P=0 Q=0 PT=P\n\
@@ -32,8 +33,8 @@ fn runs_in_pieces(rt: HostRuntime) -> Result<(), Fail> {
     Ok(())
 }
 
-/// The number of bytes of `DECK` up to the end of a command, and the number of bytes of `TEXT` up to
-/// the end of its reply.
+/// The number of bytes of `DECK` up to the end of a command with a reply, and the number of bytes of `TEXT` up to the
+/// end of this reply.
 const ENDS: [(usize, usize); 5] = [
     (48, 10),
     (56, 50),
@@ -42,8 +43,8 @@ const ENDS: [(usize, usize); 5] = [
     (75, TEXT.len()),
 ];
 
-/// Returns how many bytes of `TEXT` belong to the commands whose last line end is in the first `read`
-/// bytes of `DECK`.
+/// Returns how many bytes of `TEXT` are replies to the commands whose last line end is in the first `read` bytes of
+/// `DECK`.
 fn text_within(read: usize) -> usize {
     let mut count = 0;
     for (end, text) in &ENDS {
@@ -72,7 +73,7 @@ fn stops_at_a_failed_read(rt: HostRuntime) {
 
 #[test]
 fn stops_at_a_failed_write(rt: HostRuntime) {
-    // The last of these calls is the flush.
+    // After `TEXT.len()` writes of one byte each, the flush fails.
     for calls in [0, 1, 9, 10, 100, TEXT.len() - 1, TEXT.len()] {
         let mut reader = reader(DECK, 100, 1000);
         let mut writer = writer(rt.alloc(), 1, calls);
@@ -97,7 +98,7 @@ fn stops_where_a_write_takes_nothing(rt: HostRuntime) {
         is_told && none.taken.is_empty(),
     );
 
-    // Room for the first refusal and the start of the trace.
+    // The 20 bytes are the first refusal and the start of the text of `trace`.
     let mut room = [0u8; 20];
     let mut full = ToWrite::new(Cursor::new(room.as_mut_slice()));
     let result = run_deck::<_, _, 320>(rt.alloc(), &mut reader(DECK, 100, 1000), &mut full);
@@ -107,8 +108,8 @@ fn stops_where_a_write_takes_nothing(rt: HostRuntime) {
     wants(&rt, "a sink that is full", is_told && is_full && is_front);
 }
 
-/// Requires that a deck of the bytes `before`, spaces up to `count` bytes, and the bytes `after`, ends
-/// as expected and prints the text.
+/// Requires that a deck ends as expected and prints `text`. The deck consists of the bytes `before`, spaces up to
+/// `count` bytes in all, and then the bytes `after`.
 fn ends_at_the_bound(
     rt: &impl Abort,
     alloc: Global,

@@ -1,26 +1,27 @@
-//! Readers and writers for tests, which deliver and accept a few bytes at a time, and fail at a given
-//! call.
+//! Input and output streams for tests, which deliver and accept a few bytes per call, and fail at a given call.
 
 ghost use Rattle.std.specs.Prelude.{◌≡◌, ◌+◌, ◌-◌, ◌≤◌, ◌<◌, ℕ, false, min, None, Some, take, drop};
 ghost use Rattle.std.specs.Prelude.{length};
 
-use h41_deck::{Sink, Source};
+use h41_deck::{Sink, Source, Talk};
 use std::alloc::Global;
 use std::io;
 use std::io::ErrorKind;
 
-/// A source over a slice, which delivers at most `most` bytes per call and fails after `calls` calls.
+/// An input stream over a slice, which delivers at most `most` bytes per call and fails after `calls` calls.
 #[derive(Drop)]
 pub struct SourceInPieces<'a> {
-    /// The bytes that remain.
+    /// The bytes that are not delivered yet.
     pub rest: &'a [u8],
-    /// The most bytes of one call.
+    /// The most bytes that one call of `read` delivers, at least 1.
     pub most: usize,
-    /// The number of calls before one fails.
+    /// How many calls of `read` still succeed before one fails.
     pub calls: usize,
-    /// The error flag.
+    /// The error flag: whether a read has failed.
     pub has_failed: bool,
-    /// The number of bytes delivered, counted up to one more than the limit of an input.
+    /// The error of the failed read, if one has failed.
+    pub failure: Option<io::Error>,
+    /// The number of bytes delivered, at most 2^64 - 1.
     pub given: usize,
     ghost some: { 0 < most },
 }
@@ -30,12 +31,16 @@ impl Source for SourceInPieces<'_> {
 
     ghost failed = { λ s. s.has_failed };
 
+    ghost failure = { λ s. s.failure };
+
     ghost given = { λ s. s.given };
 
     fn read(&mut self, buffer: &mut [u8]) -> io::Result<usize> {
         if self.calls == 0 {
+            let error = io::Error::from(ErrorKind::Other);
             self.has_failed = true;
-            return Err(io::Error::from(ErrorKind::Other));
+            self.failure = Some(error);
+            return Err(error);
         }
         self.calls -= 1;
         let count = self.rest.len().min(self.most).min(buffer.len());
@@ -50,26 +55,33 @@ impl Source for SourceInPieces<'_> {
     }
 }
 
-/// Returns the number of bytes delivered after `count` more, counted up to one more than the limit of an
-/// input.
-pub fn given_with(given: usize, count: usize) -> usize
-    ensures { result ≡ min 67108865 (given + count) }
-{
-    given.saturating_add(count).min(67_108_865)
+impl<W: Sink> Talk<W> for SourceInPieces<'_> {
+    ghost reads = { λ _. None };
+
+    fn read_after(&mut self, _writer: &W, buffer: &mut [u8]) -> io::Result<usize> {
+        self.read(buffer)
+    }
 }
 
-/// A sink that accepts at most `most` bytes per call, and fails after `calls` calls.
+/// Returns `given` + `count`, the number of bytes delivered, or 2^64 - 1 if the sum is greater.
+pub fn given_with(given: usize, count: usize) -> usize
+    ensures { result ≡ given + min count (18446744073709551615 - given) }
+{
+    given.saturating_add(count)
+}
+
+/// An output stream that accepts at most `most` bytes per write. After `calls` writes, each write and flush fails.
 #[derive(Drop)]
 pub struct Slow {
-    /// The bytes that were accepted.
+    /// The bytes that were accepted, in order.
     pub taken: Vec<u8>,
-    /// The most bytes of one call.
+    /// The most bytes that one write accepts.
     pub most: usize,
-    /// The number of calls before one fails.
+    /// How many writes still succeed before each write and flush fails.
     pub calls: usize,
-    /// The error flag.
+    /// The error flag: whether a call has failed, or a write has accepted nothing.
     pub has_failed: bool,
-    /// Whether it was flushed after its last write.
+    /// Whether the stream was flushed after its last write.
     pub is_flushed: bool,
 }
 
@@ -112,7 +124,8 @@ impl Sink for Slow {
     }
 }
 
-/// Returns a source that delivers a text, at most `most` bytes per call, and fails after `calls` calls.
+/// Returns an input stream that delivers a text, at most `most` bytes per call (at least 1), and fails after `calls`
+/// calls.
 pub fn reader<'a>(text: &'a str, most: usize, calls: usize) -> SourceInPieces<'a>
     requires { 0 < most }
     ensures { result.has_failed ≡ false }
@@ -122,11 +135,13 @@ pub fn reader<'a>(text: &'a str, most: usize, calls: usize) -> SourceInPieces<'a
         most,
         calls,
         has_failed: false,
+        failure: None,
         given: 0,
     }
 }
 
-/// Returns a sink that accepts at most `most` bytes per call, and fails after `calls` calls.
+/// Returns an output stream that accepts at most `most` bytes per write. After `calls` writes, each write and flush
+/// fails.
 pub fn writer(alloc: Global, most: usize, calls: usize) -> Slow
     ensures { result.has_failed ≡ false }
 {
@@ -139,17 +154,17 @@ pub fn writer(alloc: Global, most: usize, calls: usize) -> Slow
     }
 }
 
-/// A source of some bytes, a number of spaces, and other bytes. Its bytes are not known to contracts, and
-/// no call fails.
+/// An input stream for long inputs: the bytes `before`, then `blanks` spaces, then the bytes `after`. Contracts do not
+/// know its bytes, and no call fails.
 #[derive(Drop)]
 pub struct Long<'a> {
-    /// The bytes before the spaces that remain.
+    /// The bytes before the spaces that are not delivered yet.
     pub before: &'a [u8],
-    /// The number of spaces that remain.
+    /// The number of spaces that are not delivered yet.
     pub blanks: usize,
-    /// The bytes after the spaces that remain.
+    /// The bytes after the spaces that are not delivered yet.
     pub after: &'a [u8],
-    /// The number of bytes delivered, counted up to one more than the limit of an input.
+    /// The number of bytes delivered, at most 2^64 - 1.
     pub given: usize,
 }
 
@@ -157,6 +172,8 @@ impl Source for Long<'_> {
     ghost remaining = { λ _. None };
 
     ghost failed = { λ _. false };
+
+    ghost failure = { λ _. None };
 
     ghost given = { λ s. s.given };
 
@@ -183,5 +200,13 @@ impl Source for Long<'_> {
 
     fn failed(&self) -> bool {
         false
+    }
+}
+
+impl<W: Sink> Talk<W> for Long<'_> {
+    ghost reads = { λ _. None };
+
+    fn read_after(&mut self, _writer: &W, buffer: &mut [u8]) -> io::Result<usize> {
+        self.read(buffer)
     }
 }

@@ -1,6 +1,6 @@
-//! Tests of the bench, of what no contract states: the label cache, a deck at each size of memory, and jobs
-//! over streams that deliver pieces and fail. Tests that the program itself can run are in the repository's
-//! folder `rows`.
+//! Tests of the bench, of what no contract states: the label cache, a deck at each size of memory, and tasks of the
+//! program over streams that deliver a few bytes per call and fail. Tests that the program itself can run are in the
+//! repository's folder `rows`.
 #![tactic(auto)]
 
 #[cfg(test)]

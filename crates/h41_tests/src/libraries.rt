@@ -1,4 +1,4 @@
-//! Known values of the calculator, to check its definitions with: what decks do not print.
+//! Tests with known values of the calculator's label cache, to check definitions with values that no deck prints.
 
 mod calculator_labels;
 mod kept_labels;

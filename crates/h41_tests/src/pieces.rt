@@ -1,5 +1,5 @@
-//! Tests of decks in pieces: over readers that cut their bytes anywhere, decks that end early, streams that fail once, and
-//! what is flushed before a reader is asked for more.
+//! Tests of decks that a stream delivers in pieces: cut at any byte, ended early, over streams that fail once, and of
+//! what is flushed before more is read.
 
 use crate::ends::Long;
 use crate::judge::wants;
@@ -12,10 +12,10 @@ use std::cell::Cell;
 use std::process::Abort;
 use std::test::Fail;
 
-/// A deck: its commands in turn, each with its reply.
+/// A deck for tests as the list of its commands, each with the lines of the command and its expected reply.
 pub type Commands = &'static [(&'static str, &'static str)];
 
-/// Microcode that is stepped.
+/// A deck that plugs microcode and executes it step by step.
 const STEPPED: [(&str, &str); 4] = [
     ("words 8\n130 123 226 3E0\nend\n", ""),
     ("call 8000\n", ""),
@@ -23,12 +23,12 @@ const STEPPED: [(&str, &str); 4] = [
     ("show cpu\n", CPU),
 ];
 
-/// What `show cpu` prints after these steps.
+/// The expected reply of `show cpu` in the deck `STEPPED`.
 const CPU: &str = "A=00000000000000 B=00000000000000 C=00000000000124\n\
     M=00000000000000 N=00000000000000\nG=00 T=00 ST=0000 P=0 Q=0 PT=P\n\
     PC=8003 CY=0 MODE=HEX RAM=000 KY=00 KF=0\nRTN=00F0 0000 0000 0000\n";
 
-/// A program that runs, its bytes, and sizes of the data registers.
+/// A deck that enters a program as text, executes it, shows its bytes, and sets the number of data registers.
 const PROGRAM: [(&str, &str); 12] = [
     ("program\nLBL \"T\"\n1\nENTER^\n3\n/\nend\n", ""),
     ("key XEQ ALPHA 9 ALPHA\n", ""),
@@ -44,7 +44,7 @@ const PROGRAM: [(&str, &str); 12] = [
     ("show pos\n", "Idle 0000\n"),
 ];
 
-/// A program that calls a module's function, which rewrites the program.
+/// A deck with a program that calls a module's function, which rewrites the program.
 const REWRITTEN: [(&str, &str); 6] = [
     (
         "asm 8\nCON 005\nCON 002\nENTRY :H\nENTRY :K\nCON 000\nCON 000\nNAME \"KIT\"\nH: RTN\nNAME \"KILL\"\n\
@@ -58,20 +58,20 @@ const REWRITTEN: [(&str, &str); 6] = [
     ("show ram 19A\n", "19A=B2000000C00020\n"),
 ];
 
-/// Commands that are refused. The last of them has no end.
+/// A deck of commands that are refused. The last of them is a block without its `end`.
 const REFUSED: [(&str, &str); 3] = [
     ("fly\n", "! 50 BadCommand\n"),
     ("run x\n", "! 51 BadNumber\n"),
     ("words 8\n", "! 52 NoEnd\n"),
 ];
 
-/// All decks of this file.
+/// The decks that the tests of this module run.
 const DECKS: [Commands; 4] = [&STEPPED, &PROGRAM, &REWRITTEN, &REFUSED];
 
-/// The decks whose commands all have their end.
+/// Those decks of `DECKS` in which each command is complete.
 const ENDED: [Commands; 3] = [&STEPPED, &PROGRAM, &REWRITTEN];
 
-/// Returns the lines of a deck.
+/// Returns the bytes of a deck: the lines of its commands in turn. `AllocError` if allocation failed.
 fn lines_of(alloc: Global, deck: Commands) -> Result<Vec<u8>, AllocError> {
     let mut all = Vec::new(alloc);
     for (lines, _) in deck {
@@ -80,7 +80,8 @@ fn lines_of(alloc: Global, deck: Commands) -> Result<Vec<u8>, AllocError> {
     Ok(all)
 }
 
-/// Returns the replies to the commands whose last line end is in the first `read` bytes of a deck.
+/// Returns the expected replies to the commands whose last line end is in the first `read` bytes of a deck.
+/// `AllocError` if allocation failed.
 fn text_within(alloc: Global, deck: Commands, read: usize) -> Result<Vec<u8>, AllocError> {
     let mut text = Vec::new(alloc);
     let mut end = 0usize;
@@ -93,7 +94,8 @@ fn text_within(alloc: Global, deck: Commands, read: usize) -> Result<Vec<u8>, Al
     Ok(text)
 }
 
-/// Runs a deck that is delivered in pieces of at most `most` bytes, and returns how it ends and whether it writes this text.
+/// Runs a deck that is delivered in pieces of at most `most` bytes, and returns its outcome and whether it writes
+/// exactly `text`.
 fn writes(alloc: Global, lines: &[u8], most: usize, text: &[u8]) -> Result<(Outcome, bool), Fault> {
     let mut reader = Reader::new(lines, most, None);
     let mut writer = Writer::new(alloc, 4096, None);
@@ -114,7 +116,8 @@ fn writes_the_same_in_any_pieces(rt: HostRuntime) -> Result<(), Fail> {
     Ok(())
 }
 
-/// The text of `STEPPED` if it ends after so many bytes, or fewer, but more than in the row before.
+/// What the deck `STEPPED` prints if it is cut off: a number of bytes and the text for at most so many bytes, but more
+/// than in the row before.
 const CUTS: [(usize, &str); 11] = [
     (0, ""),
     (4, "! 50 BadCommand\n"),
@@ -129,7 +132,7 @@ const CUTS: [(usize, &str); 11] = [
     (54, CPU),
 ];
 
-/// Returns the text of `STEPPED` if it ends after so many bytes.
+/// Returns what the deck `STEPPED` prints if it is cut off after `cut` bytes.
 fn text_after(cut: usize) -> &'static str {
     for (last, text) in CUTS {
         if cut <= last {
@@ -139,7 +142,7 @@ fn text_after(cut: usize) -> &'static str {
     ""
 }
 
-/// Returns the first `count` bytes, or all if there are fewer.
+/// Returns the first `count` bytes of a slice, or all if it has fewer.
 fn front(bytes: &[u8], count: usize) -> &[u8] {
     if count < bytes.len() {
         &bytes[..count]
@@ -161,7 +164,7 @@ fn a_deck_that_is_cut_has_its_own_text(rt: HostRuntime) -> Result<(), Fail> {
     Ok(())
 }
 
-/// A run of a deck from standard input, with 320 registers of memory.
+/// The job of executing a deck from standard input with 320 registers of memory.
 const RUN: Job<'static> = Job {
     task: Task::Run {
         memory: MemorySize::Cv,
@@ -169,24 +172,26 @@ const RUN: Job<'static> = Job {
     file: "-",
 };
 
-/// How a run ends if a read or a write may fail.
+/// How executing a deck over streams, one call of which may fail, ended.
 #[derive(Clone, Copy, Debug, PartialEq, Eq)]
 struct Ended {
-    /// Whether the line of the error is reported, with status 3.
+    /// Whether the line of the I/O error is reported and the exit status is 3.
     is_told: bool,
-    /// Whether the expected text is written completely.
+    /// Whether exactly the expected replies are written.
     is_whole: bool,
-    /// Whether a prefix of the expected text is written.
+    /// Whether what is written is a prefix of the expected replies.
     is_front: bool,
-    /// Whether what is written is flushed.
+    /// Whether everything that is written is flushed.
     is_passed_on: bool,
-    /// The number of reads.
+    /// The number of calls of the input stream.
     reads: usize,
-    /// The number of writes and flushes.
+    /// The number of writes and flushes of the output stream.
     writes: usize,
 }
 
-/// Runs a deck over streams with so many bytes per call, of which a call may fail, and returns how the run ends.
+/// Executes the deck `lines` over two streams, and returns how that ended. `reads` and `writes` are the most bytes per
+/// call of each stream and the call that fails, if any; `line` is the expected line of the I/O error, and `text` the
+/// expected replies.
 fn served(
     alloc: Global,
     lines: &[u8],
@@ -209,7 +214,7 @@ fn served(
     }
 }
 
-/// More calls than a run of the program makes.
+/// A number of calls of a stream that executing a deck in these tests never reaches.
 const CALLS: usize = 1000;
 
 #[test]

@@ -1,4 +1,5 @@
-//! Tests of the program's command lines, over files and streams for tests: what is read, printed and reported, and the status.
+//! Tests of the program with files and streams made for tests: for each command line what is read, printed and
+//! reported, and the exit status.
 
 use crate::decks::{DECK, TEXT};
 use crate::ends::writer;
@@ -10,7 +11,7 @@ use std::io::{self, ErrorKind, Read};
 use std::process::Abort;
 use std::test::Fail;
 
-/// A file, or standard input. Reads fail after `calls` calls.
+/// The text of a file or of standard input. Reads fail after `calls` calls.
 #[derive(Drop)]
 struct Text {
     rest: &'static [u8],
@@ -30,7 +31,7 @@ impl Read for Text {
     }
 }
 
-/// Returns a text whose reads do not fail.
+/// Returns a file or standard input with the text `of`, whose reads do not fail.
 fn sound_text(of: &'static str) -> Text {
     Text {
         rest: of.as_bytes(),
@@ -38,7 +39,7 @@ fn sound_text(of: &'static str) -> Text {
     }
 }
 
-/// Returns the file with this name.
+/// Opens the test file with this name, or returns the error that there is none.
 fn open(name: &str) -> io::Result<Text> {
     match name {
         "deck" => Ok(sound_text(DECK)),
@@ -53,8 +54,9 @@ fn open(name: &str) -> io::Result<Text> {
     }
 }
 
-/// The words after the program's name; how many calls the output and the stream for errors accept; the status, what is printed,
-/// and what is reported. A text that ends in `..` is a part of the expected one.
+/// A row of a test table: the words after the program's name; how many calls the output and the stream for errors
+/// accept; the expected exit status, and what is expected on the output and on the stream for errors. An expected text
+/// that ends in `..` needs only to be contained in what is written.
 type ProgramRow = (
     &'static [&'static str],
     usize,
@@ -64,25 +66,25 @@ type ProgramRow = (
     &'static str,
 );
 
-/// Standard input: a deck with one wrong command.
+/// Standard input in these tests: a deck with one command, which is refused.
 const INPUT: &str = "fly\n";
 
 /// What the deck in `INPUT` prints.
 const REPLY: &str = "! 50 BadCommand\n";
 
-/// What is reported of a file that does not exist.
+/// What the program reports for a file that does not exist.
 const MISSING: &str = "! 22 ReadFault\nbench: none: there is none\n";
 
-/// What is reported of a wrong size of memory.
+/// What the program reports for a wrong value of `--memory`.
 const MEMORY: &str = "error: wrong value of --memory: expected 64, 128, 192, 256 or 320\n";
 
-/// What is reported of a wrong origin.
+/// What the program reports for a wrong value of `--origin`.
 const ORIGIN: &str = "error: wrong value of --origin: expected four hexadecimal digits\n";
 
-/// A part of the usage in help and in messages.
+/// A part of the usage that help and messages about wrong words contain.
 const USAGE: &str = "Usage: bench..";
 
-/// Requires that the program ends as each row says.
+/// Requires for each row that the program ends with its exit status, and that both output streams have its texts.
 fn end(rt: &impl Abort, alloc: Global, rows: &[ProgramRow]) -> Result<(), Fail> {
     for (words, writes, tells, status, printed, told) in rows {
         let mut open_file = |name: &str| open(name);
@@ -105,7 +107,8 @@ fn end(rt: &impl Abort, alloc: Global, rows: &[ProgramRow]) -> Result<(), Fail> 
     Ok(())
 }
 
-/// Returns the program's own name and these words.
+/// Returns the words of a command line: `/bin/bench`, the program's name, and `words`. `AllocError` if allocation
+/// failed.
 fn strings(alloc: Global, words: &[&str]) -> Result<Vec<String>, AllocError> {
     let mut all = Vec::new(alloc);
     all.push(String::from_str(alloc, "/bin/bench")?)?;
@@ -115,7 +118,7 @@ fn strings(alloc: Global, words: &[&str]) -> Result<Vec<String>, AllocError> {
     Ok(all)
 }
 
-/// Returns whether the bytes are this text, or contain it if it ends in `..`.
+/// Returns whether the bytes are this text, or, if the text ends in `..`, whether they contain what is before the `..`.
 fn is_text(bytes: &[u8], text: &str) -> bool {
     match text.strip_suffix("..") {
         Some(part) => match std::str::from_utf8(bytes) {

@@ -1,4 +1,5 @@
-//! Tests of jobs over streams that deliver pieces and fail: the status, what is on the output, and what is reported.
+//! Tests of executing decks, assembling and listing over streams that accept a few bytes per call and fail: the exit
+//! status, what is on the output, and what is reported.
 
 use crate::decks::{DECK, TEXT};
 use crate::ends::{reader, writer};
@@ -8,31 +9,32 @@ use h41_serving::serve;
 use std::alloc::Global;
 use std::process::Abort;
 
-/// The task of a run with 320 registers of memory.
+/// The task of executing a deck with 320 registers of memory.
 const RUN: Task = Task::Run {
     memory: MemorySize::Cv,
 };
 
-/// The task of assembling a source at 8000.
+/// The task of assembling a source whose first word is at address 8000.
 const ASSEMBLE: Task = Task::Assemble { origin: 0x8000 };
 
-/// The task of listing words from 8000 on.
+/// The task of listing words, the first of which is at address 8000.
 const LIST: Task = Task::List { origin: 0x8000 };
 
-/// A job with its input.
+/// A job for a test: the task, its input, and the output that it is expected to have.
 #[derive(Clone, Copy)]
 struct GivenInput {
     task: Task,
     text: &'static str,
-    /// What the job prints.
+    /// What the job is expected to print if no stream fails.
     output: &'static str,
 }
 
-/// How many calls the input, the output and the stream for errors accept; each write accepts one byte. Then the status, how many
-/// bytes are on the output, and what is reported.
+/// A row of a test table: how many calls the input, the output and the stream for errors accept; the expected exit
+/// status, number of bytes on the output, and text on the stream for errors. Each write accepts one byte.
 type ServedRow = (usize, usize, usize, u8, usize, &'static str);
 
-/// Requires that the job ends as each row says.
+/// Requires for each row that `serve` returns its exit status, that so many bytes of the expected output are written,
+/// and that its text is reported.
 fn end(rt: &impl Abort, alloc: Global, input: &GivenInput, rows: &[ServedRow]) {
     let job = Job {
         task: input.task,

@@ -1,5 +1,5 @@
-//! Tests of a deck at each size of memory: where its registers end, how many there are in the initial state, and how much room
-//! there is for programs.
+//! Tests of a deck with memories of several sizes: where the registers end, how many there are in the initial state,
+//! and how much room there is for programs.
 
 ghost use Rattle.std.specs.Prelude.{◌≤◌};
 
@@ -10,28 +10,28 @@ use std::alloc::{AllocError, Global};
 use std::process::Abort;
 use std::test::Fail;
 
-/// A size of memory, with the results of the deck.
+/// The expected results of the test deck with one size of memory.
 struct Size {
     registers: u16,
-    /// Register c in the initial state.
+    /// The expected digits of register c in the initial state.
     start: &'static str,
-    /// How many registers are free in the initial state.
+    /// The number of registers that are free for programs in the initial state.
     free: u16,
-    /// The last address of memory.
+    /// The address of the last register of memory.
     last: u16,
-    /// The address after the last.
+    /// The address after the last register of memory.
     above: u16,
-    /// How many data registers there are for a program that counts through them.
+    /// The number of data registers for a program that counts through all of them.
     counted: u16,
-    /// The number that the program begins with.
+    /// The number with which the program that counts through the data registers begins.
     limit: &'static str,
-    /// What the program leaves in the last data register.
+    /// The expected digits of the last data register after the program has counted through all of them.
     register: &'static str,
-    /// How many steps the program makes.
+    /// The number of steps that the program needs to count through the data registers.
     steps: u16,
 }
 
-/// The results of the deck at each size that is tested.
+/// The expected results of the test deck with each size of memory that is tested.
 static SIZES: [Size; 9] = [
     Size {
         registers: 64,
@@ -134,7 +134,8 @@ static SIZES: [Size; 9] = [
     },
 ];
 
-/// Returns `count` bytes of RCL 05, as the lines of a block.
+/// Returns the byte of the program line `RCL 05`, 25 (hexadecimal), `count` times, as lines for the command `load`.
+/// `AllocError` if allocation failed.
 fn recalls(alloc: Global, count: u16) -> Result<String, AllocError> {
     let mut lines = String::new(alloc);
     for byte in 0..count {
@@ -143,8 +144,8 @@ fn recalls(alloc: Global, count: u16) -> Result<String, AllocError> {
     Ok(lines)
 }
 
-/// Returns the deck of a size: commands about the initial state, the limits of memory, its data registers, and its room for
-/// programs.
+/// Returns the test deck for a size of memory: commands about the initial state, the limits of memory, its data
+/// registers, and its room for programs. `AllocError` if allocation failed.
 fn deck_of(alloc: Global, size: &Size) -> Result<String, AllocError> {
     let Size {
         registers,
@@ -169,7 +170,7 @@ fn deck_of(alloc: Global, size: &Size) -> Result<String, AllocError> {
     )
 }
 
-/// Returns what the deck of a size prints.
+/// Returns what the test deck for a size of memory is expected to print. `AllocError` if allocation failed.
 fn text_of(alloc: Global, size: &Size) -> Result<String, AllocError> {
     let Size {
         start,
@@ -188,7 +189,7 @@ fn text_of(alloc: Global, size: &Size) -> Result<String, AllocError> {
     )
 }
 
-/// Requires that the deck prints its text at the size.
+/// Requires that the test deck prints what is expected with `REGS` registers of memory.
 fn answers<const REGS: usize>(rt: &impl Abort, alloc: Global, size: &Size) -> Result<(), Fail>
     requires at_least { 64 ≤ REGS }
     requires at_most { REGS ≤ 320 }

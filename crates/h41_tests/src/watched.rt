@@ -1,16 +1,17 @@
-//! Streams that fail once, and a reader that watches what was flushed.
+//! Streams for tests that fail once, and an input stream that checks whether the replies to earlier commands are
+//! flushed before each read.
 
 ghost use Rattle.std.specs.Prelude.{◌≡◌, ◌<◌, ◌≤◌, false, None, Some, length};
 
 use crate::ends::given_with;
 use crate::pieces::Commands;
-use h41_deck::{Sink, Source};
+use h41_deck::{Sink, Source, Talk};
 use std::alloc::Global;
 use std::cell::Cell;
 use std::io;
 use std::io::ErrorKind;
 
-/// A source over bytes, which delivers at most `most` of them per call. One of its calls fails, if that is wanted.
+/// An input stream over bytes, which delivers at most `most` of them per call. One call can be made to fail.
 #[derive(Drop)]
 pub struct Reader<'a> {
     rest: &'a [u8],
@@ -18,6 +19,7 @@ pub struct Reader<'a> {
     fails: Option<usize>,
     calls: usize,
     has_failed: bool,
+    failure: Option<io::Error>,
     given: usize,
     watched: Option<(Commands, &'a Cell<usize>)>,
     was_late: bool,
@@ -25,8 +27,8 @@ pub struct Reader<'a> {
 }
 
 impl<'a> Reader<'a> {
-    /// Returns a source of these bytes. Each call delivers at least one, as long as there are some. Call number
-    /// `fails`, counted from 0, fails.
+    /// Returns an input stream over `bytes`, which delivers at most `most` bytes per call, and at least one as long as
+    /// there are some. The call with the number `fails`, counted from 0, fails; `None` for no failure.
     pub fn new(bytes: &'a [u8], most: usize, fails: Option<usize>) -> Self
         ensures { result.has_failed ≡ false }
     {
@@ -37,31 +39,33 @@ impl<'a> Reader<'a> {
             fails,
             calls: 0,
             has_failed: false,
+            failure: None,
             given: 0,
             watched: None,
             was_late: false,
         }
     }
 
-    /// Makes the source watch that, at each read, the replies to all commands whose end was delivered are flushed.
+    /// Makes the stream check at each read that the replies to all commands of `deck` whose end was delivered are
+    /// flushed: that `passed`, the number of flushed bytes, is the length of these replies.
     pub fn watch(&mut self, deck: Commands, passed: &'a Cell<usize>)
         ensures { self.new.has_failed ≡ self.old.has_failed }
     {
         self.watched = Some((deck, passed));
     }
 
-    /// Returns whether they always were.
+    /// Returns whether, at each read since `watch`, the replies to all commands whose end was delivered were flushed.
     pub fn was_in_time(&self) -> bool {
         !self.was_late
     }
 
-    /// Returns how many calls there were.
+    /// Returns the number of reads so far, including a failed one.
     pub fn calls(&self) -> usize {
         self.calls
     }
 }
 
-/// Returns how many bytes the replies have to the commands whose end is in the first `given` bytes of a deck.
+/// Returns the number of bytes of the replies to those commands of a deck whose end is in its first `given` bytes.
 fn count_within(deck: Commands, given: usize) -> usize {
     let mut end = 0usize;
     let mut count = 0usize;
@@ -79,6 +83,8 @@ impl Source for Reader<'_> {
 
     ghost failed = { λ s. s.has_failed };
 
+    ghost failure = { λ s. s.failure };
+
     ghost given = { λ s. s.given };
 
     fn read(&mut self, buffer: &mut [u8]) -> io::Result<usize> {
@@ -90,8 +96,10 @@ impl Source for Reader<'_> {
             }
         }
         if self.fails == Some(call) {
+            let error = io::Error::from(ErrorKind::Other);
             self.has_failed = true;
-            return Err(io::Error::from(ErrorKind::Other));
+            self.failure = Some(error);
+            return Err(error);
         }
         let count = self.rest.len().min(self.most).min(buffer.len());
         buffer[..count].copy_from_slice(&self.rest[..count]);
@@ -105,20 +113,28 @@ impl Source for Reader<'_> {
     }
 }
 
-/// What one call of a sink does.
+impl<W: Sink> Talk<W> for Reader<'_> {
+    ghost reads = { λ _. None };
+
+    fn read_after(&mut self, _writer: &W, buffer: &mut [u8]) -> io::Result<usize> {
+        self.read(buffer)
+    }
+}
+
+/// How one call of an output stream fails.
 #[derive(Clone, Copy, Debug, PartialEq, Eq)]
 pub enum Once {
-    /// The call fails.
+    /// The call returns an error.
     Fails,
-    /// A write accepts no byte; a flush fails.
+    /// A write accepts no byte; a flush returns an error.
     TakesNothing,
 }
 
-/// A sink that accepts at most `most` bytes per call. One of its calls, writes and flushes counted together, fails or
-/// accepts nothing, if that is wanted.
+/// An output stream that accepts at most `most` bytes per call. One of its calls, writes and flushes counted together,
+/// can be made to fail or to accept nothing.
 #[derive(Drop)]
 pub struct Writer<'a> {
-    /// The bytes that were accepted.
+    /// The bytes that were accepted, in order.
     pub taken: Vec<u8>,
     most: usize,
     fails: Option<(usize, Once)>,
@@ -130,7 +146,9 @@ pub struct Writer<'a> {
 }
 
 impl<'a> Writer<'a> {
-    /// Returns a sink that has accepted nothing.
+    /// Returns an output stream that has accepted nothing, and accepts at most `most` bytes per write. If `fails` is a
+    /// number, counted from 0 over writes and flushes, and a `Once`, the call with this number fails as the `Once`
+    /// says.
     pub fn new(alloc: Global, most: usize, fails: Option<(usize, Once)>) -> Self
         ensures { result.has_failed ≡ false }
     {
@@ -146,19 +164,19 @@ impl<'a> Writer<'a> {
         }
     }
 
-    /// Makes the sink store the number of flushed bytes in a cell.
+    /// Makes each successful flush store in `passed` how many bytes were accepted until then.
     pub fn tell(&mut self, passed: &'a Cell<usize>)
         ensures { self.new.has_failed ≡ self.old.has_failed }
     {
         self.told = Some(passed);
     }
 
-    /// Returns how many calls there were.
+    /// Returns the number of writes and flushes so far.
     pub fn calls(&self) -> usize {
         self.calls
     }
 
-    /// Returns how many of the calls were flushes.
+    /// Returns the number of calls of `flush` so far.
     pub fn flushes(&self) -> usize {
         self.flushes
     }
@@ -168,7 +186,7 @@ impl<'a> Writer<'a> {
         self.is_flushed
     }
 
-    /// Counts a call, and returns what it does instead of its work, if anything.
+    /// Counts a write or a flush, and returns how it must fail, or `None` if it must succeed.
     fn next_call(&mut self) -> Option<Once>
         ensures taken { self.new.taken ≡ self.old.taken }
         ensures mark { self.new.has_failed ≡ self.old.has_failed }

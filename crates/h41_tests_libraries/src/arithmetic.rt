@@ -1,4 +1,4 @@
-//! h41_arith: each function once, the digits A to F in base 10, and every sum and difference of one digit.
+//! Tests of h41_arith: each function once, the digits A to F in base 10, and every sum and difference of two digits.
 
 ghost use Rattle.std.specs.Prelude.{◌<◌};
 
@@ -96,7 +96,8 @@ fn every_digit(rt: HostRuntime) {
     every_digit_at(&rt, 13);
 }
 
-/// Tests the sums and differences of all digits at a place, with and without a carry in, in both bases.
+/// Tests the sums and differences of every two digits, 0 to F, at digit `place` of a register (0 to 13, from the
+/// right), with and without a carry or borrow in, in base 10 and 16.
 fn every_digit_at(rt: &impl Abort, place: usize)
     requires { place < 14 }
 {
@@ -112,8 +113,9 @@ fn every_digit_at(rt: &impl Abort, place: usize)
     }
 }
 
-/// Tests the sum of two digits at a place against the rule for one digit: if it reaches the base, there is a carry, and the digit
-/// is the rest.
+/// Tests that the sum of `x`, `y` and the carry in at digit `place` of a register (0 to 13, from the right) follows the
+/// rule for one digit: if it reaches the base, there is a carry out, and the digit is the sum less the base, modulo 16.
+/// Base 10 if `DEC`, else 16.
 fn sum_of_digits<const DEC: bool>(rt: &impl Abort, place: usize, x: u8, y: u8, carry: bool)
     requires place { place < 14 }
     requires first { x < 16 }
@@ -138,8 +140,8 @@ fn sum_of_digits<const DEC: bool>(rt: &impl Abort, place: usize, x: u8, y: u8, c
     assert!(rt; holds, "{x} + {y} in base {base} at {place}");
 }
 
-/// Tests the difference of two digits at a place against the rule for one digit: if it is below 0, there is a borrow, and the base
-/// is added.
+/// Tests that `x` less `y` and the borrow in at digit `place` of a register (0 to 13, from the right) follows the rule
+/// for one digit: if it is below 0, there is a borrow out, and the base is added, modulo 16. Base 10 if `DEC`, else 16.
 fn difference_of_digits<const DEC: bool>(rt: &impl Abort, place: usize, x: u8, y: u8, borrow: bool)
     requires place { place < 14 }
     requires first { x < 16 }

@@ -1,6 +1,7 @@
-//! h41_decimal: rows whose expected values were computed with exact fractions, written as registers: the digit of the sign, ten
-//! digits of the mantissa, three of the exponent. They contain halves, cancellations, sums of sizes far apart, products and
-//! quotients at both limits of the range, remainders of each pair of signs, and random operands.
+//! Tests of h41_decimal: rows whose expected values were computed with exact fractions, written as registers: the digit
+//! of the sign, ten digits of the mantissa, three of the exponent. They contain halves, cancellations, sums of sizes
+//! far apart, products and quotients at both limits of the range, remainders of each pair of signs, and random
+//! operands.
 
 use crate::judge::wants;
 use h41_decimal::{DecimalFault, Places, Ten};
@@ -9,10 +10,11 @@ use std::cmp::Ordering;
 use std::process::Abort;
 use std::test::Fail;
 
-/// Two operands and the expected result.
+/// A row of a test table: two operands, as the 14 hexadecimal digits of registers, and the expected result, a register
+/// or an error.
 type DecimalRow = (u64, u64, Result<u64, DecimalFault>);
 
-/// Rows for sums.
+/// Test rows for `+`: two numbers and their sum.
 static ADD: [DecimalRow; 60] = [
     (0x01234567890000, 0x05000000000990, Ok(0x01234567891000)),
     (0x01234567890000, 0x04999999999990, Ok(0x01234567890000)),
@@ -76,7 +78,7 @@ static ADD: [DecimalRow; 60] = [
     (0x99397745117967, 0x91600000000060, Ok(0x91600000000060)),
 ];
 
-/// Rows for differences.
+/// Test rows for `-`: two numbers and their difference.
 static SUB: [DecimalRow; 59] = [
     (0x01000000000000, 0x05000100000989, Ok(0x09999999999999)),
     (0x01000000000000, 0x05000000000989, Ok(0x01000000000000)),
@@ -139,7 +141,7 @@ static SUB: [DecimalRow; 59] = [
     (0x03800000000906, 0x07421473910031, Ok(0x97421473910031)),
 ];
 
-/// Rows for products.
+/// Test rows for `*`: two numbers and their product.
 static MUL: [DecimalRow; 30] = [
     (0x09999999999099, 0x01000000000001, Err(DecimalFault::Range)),
     (0x01000000000901, 0x01000000000901, Ok(0x00000000000000)),
@@ -173,7 +175,7 @@ static MUL: [DecimalRow; 30] = [
     (0x02000000000064, 0x01403028285950, Ok(0x02806056570014)),
 ];
 
-/// Rows for quotients.
+/// Test rows for `/`: two numbers and their quotient, or the error of a division.
 static DIV: [DecimalRow; 27] = [
     (0x02000000000000, 0x03000000000000, Ok(0x06666666667999)),
     (0x01000000000000, 0x03000000000000, Ok(0x03333333333999)),
@@ -204,7 +206,7 @@ static DIV: [DecimalRow; 27] = [
     (0x08224646188039, 0x96000000000089, Ok(0x91370774365950)),
 ];
 
-/// Rows for percentages.
+/// Test rows for `%`: two numbers and their percentage.
 static PERCENT: [DecimalRow; 22] = [
     (0x01000000001000, 0x95000000000999, Ok(0x95000000005997)),
     (0x01000000003000, 0x95000000000999, Ok(0x95000000015997)),
@@ -230,7 +232,7 @@ static PERCENT: [DecimalRow; 22] = [
     (0x98147781029082, 0x93000000000005, Ok(0x02444334309086)),
 ];
 
-/// Rows for remainders.
+/// Test rows for `MOD`: two numbers and their remainder.
 static MODULO: [DecimalRow; 57] = [
     (0x05000000000000, 0x00000000000000, Ok(0x05000000000000)),
     (0x00000000000000, 0x07000000000000, Ok(0x00000000000000)),
@@ -291,7 +293,8 @@ static MODULO: [DecimalRow; 57] = [
     (0x98900000000915, 0x04200000000060, Ok(0x04200000000060)),
 ];
 
-/// Rows for square roots.
+/// Test rows for `SQRT`: a number, and its square root or the error. Both numbers are the 14 hexadecimal digits of
+/// registers.
 static ROOTS: [(u64, Result<u64, DecimalFault>); 30] = [
     (0x02000000000000, Ok(0x01414213562000)),
     (0x04000000000000, Ok(0x02000000000000)),
@@ -325,13 +328,13 @@ static ROOTS: [(u64, Result<u64, DecimalFault>); 30] = [
     (0x09700000000069, Ok(0x09848857802034)),
 ];
 
-/// Returns the number in a register.
+/// Returns the decimal number in a register that is given by its 14 digits. Fails if they contain no number.
 fn operand(register: u64) -> Result<Ten, Fail> {
     let register = Reg::from_u64(register).ok_or("fourteen digits")?;
     Ok(Ten::from_reg(register).ok_or("a number")?)
 }
 
-/// Returns a result as a register.
+/// Returns the result of a decimal operation as the 14 digits of a register, or its error.
 fn answer(outcome: Result<Ten, DecimalFault>) -> Result<u64, DecimalFault> {
     match outcome {
         Ok(number) => Ok(number.to_reg().to_u64()),
@@ -339,7 +342,7 @@ fn answer(outcome: Result<Ten, DecimalFault>) -> Result<u64, DecimalFault> {
     }
 }
 
-/// An operation on two numbers.
+/// The operations on two decimal numbers that the test tables contain.
 #[derive(Clone, Copy, Debug)]
 enum DecimalOperation {
     Add,
@@ -350,7 +353,7 @@ enum DecimalOperation {
     Modulo,
 }
 
-/// Returns the result of an operation on two numbers.
+/// Returns the result of applying `operation` to two decimal numbers, or its error.
 fn carry_out(operation: DecimalOperation, x: Ten, y: Ten) -> Result<Ten, DecimalFault> {
     match operation {
         DecimalOperation::Add => x.add(y),
@@ -362,7 +365,7 @@ fn carry_out(operation: DecimalOperation, x: Ten, y: Ten) -> Result<Ten, Decimal
     }
 }
 
-/// Tests that each row of a table has its result.
+/// Tests that `operation` has the expected result for the two operands of each row of a table.
 fn answers(rt: &impl Abort, operation: DecimalOperation, rows: &[DecimalRow]) -> Result<(), Fail> {
     for (x, y, expected) in rows {
         let found = answer(carry_out(operation, operand(*x)?, operand(*y)?));

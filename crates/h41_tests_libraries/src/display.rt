@@ -1,4 +1,4 @@
-//! h41_show: texts in the forms of the Owner's Handbook, and at the limits of each rule.
+//! Tests of h41_show: numbers in the display formats of the Owner's Handbook, and at the limits of each rule.
 
 use crate::judge::wants;
 use h41_decimal::Ten;
@@ -8,10 +8,11 @@ use h41_show::{Format, Notation, RadixMark, alpha_text, number_text, register_te
 use std::process::Abort;
 use std::test::Fail;
 
-/// A number as a register, a display digit, and the expected text.
+/// A row of a test table: a number as the 14 hexadecimal digits of a register, the number of digits of the display
+/// format, and the expected text.
 type TextRow = (u64, u8, &'static str);
 
-/// Rows for FIX, with the point as the radix mark and with grouping.
+/// Test rows for the display format FIX, with the point as the radix mark and with digit grouping.
 static FIXED: [TextRow; 28] = [
     (0x00000000000000, 4, "0.0000"),
     (0x00000000000000, 0, "0."),
@@ -43,7 +44,7 @@ static FIXED: [TextRow; 28] = [
     (0x09995000000002, 0, "1,000."),
 ];
 
-/// Rows for SCI, with the point as the radix mark.
+/// Test rows for the display format SCI, with the point as the radix mark.
 static SCIENTIFIC: [TextRow; 12] = [
     (0x00000000000000, 4, "0.0000 00"),
     (0x00000000000000, 0, "0. 00"),
@@ -59,7 +60,7 @@ static SCIENTIFIC: [TextRow; 12] = [
     (0x02500000000000, 0, "3. 00"),
 ];
 
-/// Rows for ENG, with the point as the radix mark.
+/// Test rows for the display format ENG, with the point as the radix mark.
 static ENGINEERING: [TextRow; 14] = [
     (0x00000000000000, 3, "0.000 00"),
     (0x01234560000004, 3, "12.35 03"),
@@ -77,13 +78,14 @@ static ENGINEERING: [TextRow; 14] = [
     (0x09999999999098, 3, "1.000 99"),
 ];
 
-/// Returns the number in a register.
+/// Returns the decimal number in a register that is given by its 14 digits. Fails if they contain no number.
 fn held(register: u64) -> Result<Ten, Fail> {
     let register = Reg::from_u64(register).ok_or("14 digits")?;
     Ok(Ten::from_reg(register).ok_or("a number")?)
 }
 
-/// Returns a format with the point as the radix mark and with grouping.
+/// Returns the display format FIX, SCI or ENG with `digits` digits, with the point as the radix mark and with digit
+/// grouping.
 fn pointed(notation: Notation, digits: u8) -> Format {
     Format {
         notation,
@@ -93,7 +95,7 @@ fn pointed(notation: Notation, digits: u8) -> Format {
     }
 }
 
-/// Tests that each row of a table has its text.
+/// Tests that each number of a table is displayed in the format `notation` as the expected text of its row.
 fn texts(rt: &impl Abort, notation: Notation, rows: &[TextRow]) -> Result<(), Fail> {
     for (register, digits, text) in rows {
         let shown = number_text(held(*register)?, pointed(notation, *digits));

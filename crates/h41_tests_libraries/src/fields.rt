@@ -1,4 +1,4 @@
-//! h41_fields: the places of each field, and those of masks.
+//! Tests of h41_fields: the digits of a register that each field contains, and those that masks select.
 
 use h41_fields::{Field, Pointer, Span, span};
 

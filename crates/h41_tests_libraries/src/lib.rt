@@ -1,5 +1,5 @@
-//! Tests with known values of the libraries below the calculator, by which their definitions can be judged: values that no deck
-//! prints.
+//! Tests with known values of the libraries that the calculator uses, by which their definitions can be judged: values
+//! that no deck prints.
 #![tactic(auto)]
 
 #[cfg(test)]

@@ -1,4 +1,4 @@
-//! h41_dis: a listing past the last address, which no deck prints.
+//! Test of h41_dis: a listing whose addresses continue at 0000 after FFFF, which no deck prints.
 
 use crate::judge::wants;
 use h41_dis::listing;
@@ -6,7 +6,7 @@ use h41_words::Word;
 use std::alloc::Global;
 use std::test::Fail;
 
-/// Returns the words with these numbers.
+/// Returns the words with these numbers. Fails if a number is above 3FF (hexadecimal), because a word has ten bits.
 fn words(alloc: Global, numbers: &[u16]) -> Result<Vec<Word>, Fail> {
     let mut words = Vec::new(alloc);
     for number in numbers {

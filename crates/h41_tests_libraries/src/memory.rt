@@ -1,4 +1,4 @@
-//! h41_ram: memory at the start, its registers, flags and ALPHA.
+//! Tests of h41_ram: memory in the initial state, its registers, flags and ALPHA.
 
 use crate::judge::wants;
 use h41_digits::Reg;

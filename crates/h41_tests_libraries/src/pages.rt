@@ -1,17 +1,17 @@
-//! h41_pages: the functions of a module, images that are plugged and unplugged, and banks.
+//! Tests of h41_pages: the functions of a module, images that are plugged and unplugged, and banks.
 
 use crate::judge::wants;
 use h41_pages::{Entry, FetchRefusal, Pages, PlugRefusal, UnplugRefusal, image_read};
 use h41_words::{Bank, Word};
 use std::test::Fail;
 
-/// The numbers of the first words of a module with the functions KIT and KILL.
+/// The first 17 words of a module with the number 5 and the functions KIT and KILL. All other words of its page are 0.
 const MODULE: [u16; 17] = [
     0x005, 0x002, 0x000, 0x00B, 0x000, 0x010, 0x000, 0x000, 0x094, 0x009, 0x00B, 0x3E0, 0x08C,
     0x00C, 0x009, 0x00B, 0x3E0,
 ];
 
-/// Returns the words of this module.
+/// Returns the 4,096 words of a page with a module that has the functions KIT and KILL.
 fn module() -> [u16; 4096] {
     let mut words = [0; 4096];
     for (place, word) in MODULE.iter().enumerate() {
@@ -77,7 +77,7 @@ fn images_come_and_go(rt: HostRuntime) -> Result<(), Fail> {
     Ok(())
 }
 
-/// Returns the words of a page whose words are all the same.
+/// Returns the 4,096 words of a page, all of which are `word`.
 fn filled(word: u16) -> [u16; 4096] {
     [word; 4096]
 }

@@ -1,4 +1,4 @@
-//! h41_program: edits of programs, and searches for lines and labels.
+//! Tests of h41_program: edits of programs, and searches for lines and labels.
 
 ghost use Rattle.std.specs.Prelude.{IsTrue};
 ghost use Rattle.h41_program.specs.Lines.{is_inner};
@@ -13,7 +13,8 @@ use h41_program::{
 };
 use h41_ram::Ram;
 
-/// A call on memory with its expected result, in which a line is given by its bytes; or a register with its expected digits.
+/// One step of a test: a call on memory with its arguments and the expected result, in which a program line is given by
+/// its bytes; or a register with its expected digits. Positions are bytes from the start of program memory.
 enum Step {
     Load(&'static [u8], Result<u16, ProgramRefusal>),
     Insert(u16, &'static [u8], Result<u16, ProgramRefusal>),
@@ -24,23 +25,28 @@ enum Step {
     StartOf(u16, u16),
     Final(u16),
     Global(&'static [u8], Option<u16>),
-    /// The number of the line at a position. The variants that follow are the end of its program, and the line before it.
+    /// The expected number of the program line at a position. The variants `EndOf` and `Before` are the expected end of
+    /// its program, and the expected line before it.
     Number(u16, Option<u16>),
     EndOf(u16, Option<u16>),
     Before(u16, Option<u16>),
-    /// Whether the last program is open. The next variant closes it.
+    /// Whether the last program is expected to be open, which means that it has lines but no END. The variant `Close`
+    /// closes it.
     Open(Result<bool, ProgramRefusal>),
     Close(Result<(), ProgramRefusal>),
-    /// The first line from a position on is `RCL 05` in its short form, at the second position; the third is the position after it.
+    /// The first program line from a position on is expected to be `RCL 05` in its short form. The numbers are the
+    /// position, that of `RCL 05`, and the position after it.
     Recall(u16, u16, u16),
-    /// The lines at two positions are equal.
+    /// The program lines at two positions are expected to be equal.
     SameLine(u16, u16),
-    /// A register is written. The next variant is its expected content.
+    /// The number is written into the register at an address. The variant `Register` is the expected content of a
+    /// register.
     Write(u16, u64),
     Register(u16, u64),
 }
 
-/// Returns the line with which bytes begin, or STOP if they begin with none that programs can have.
+/// Returns the program line with which `bytes` begin, or STOP if they begin with no line, or with a null or `.END.`,
+/// which cannot be inserted.
 fn line(bytes: &[u8]) -> Line
     ensures { IsTrue (is_inner result) }
 {
@@ -50,7 +56,7 @@ fn line(bytes: &[u8]) -> Line
     }
 }
 
-/// Returns a line that programs can have as it is, and STOP for any other.
+/// Returns a program line unchanged if it can be inserted into a program, and STOP if it is a null or `.END.`.
 fn inner_line(line: Line) -> Line
     ensures { IsTrue (is_inner result) }
 {
@@ -60,13 +66,14 @@ fn inner_line(line: Line) -> Line
     }
 }
 
-/// Returns whether the line at a position is `RCL 05` in its short form.
+/// Returns whether a program line is at this position and is `RCL 05` in its short form.
 fn is_recall(listed: ListedLine, position: u16) -> bool {
     let recall = Line::Register(RegisterFunction::RecallRegister, ShortRegister::new(5));
     listed.position == position && listed.line == recall
 }
 
-/// Returns whether this is the first line from a position on, according to both functions that find it.
+/// Returns whether the first program line from `at` on is `RCL 05` at `position`, and `behind` is the position after
+/// it, according to both `line_at` and `first_from`.
 fn finds_recall(ram: &Ram<320>, at: u16, position: u16, behind: u16) -> bool
     requires { IsTrue (is_sound ram.now.registers) }
 {
@@ -78,7 +85,7 @@ fn finds_recall(ram: &Ram<320>, at: u16, position: u16, behind: u16) -> bool
     }
 }
 
-/// Performs a step, and returns whether its result is the expected one.
+/// Makes the call of a test step on `ram`, and returns whether its result is the expected one.
 fn makes(ram: &mut Ram<320>, step: &Step) -> bool
     requires { IsTrue (is_sound ram.old.registers) }
 {
@@ -110,7 +117,7 @@ fn makes(ram: &mut Ram<320>, step: &Step) -> bool
     }
 }
 
-/// Tests rows of steps, each of which starts with an empty memory.
+/// Names and steps of tests, each of which starts with memory in its initial state.
 static ROWS: [(&str, &[Step]); 12] = [
     (
         "two recalls",

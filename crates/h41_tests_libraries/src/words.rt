@@ -1,4 +1,4 @@
-//! h41_words: rows, words and lengths in the instruction set of HP's Nut processor.
+//! Tests of h41_words: rows, words and lengths in the instruction set of HP's Nut processor.
 
 use crate::judge::wants;
 use h41_fields::Field;

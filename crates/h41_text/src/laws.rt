@@ -9,26 +9,26 @@ use crate::write_line;
 use h41_codes::Line;
 use h41_codes::laws::canonical_is_shortest;
 
-/// A line and its canonical line have the same text.
+/// States that a program line and its canonical line, which is the one with the shortest spelling, have the same text.
 pub fn same_text()
     ensures { SameText }
 {}
 
-/// The line text round trip: the text of a line is read as its canonical line, and as no other line. The null is an exception, because it
-/// has no text.
+/// States that the text of a program line is read as its canonical line, which is the one with the shortest spelling,
+/// and as no other line. The null is an exception, because it has no text.
 pub fn line_text_round_trip()
     ensures again { LineTextRoundTrip }
     ensures one { OneLineOfText }
 {}
 
-/// Of all lines with the same text, the canonical line has the fewest bytes.
+/// States that of all program lines with the same text, the canonical line has the fewest bytes.
 pub fn shortest_of_text()
     ensures { CanonicalIsShortestOfText }
 {
     canonical_is_shortest();
 }
 
-/// Returns the number of characters in the text of a line, at most 51.
+/// Returns how many characters the text of a program line has, as `write_line` writes it: at most 51.
 pub fn line_text_fits(line: Line) -> usize
     ensures size { result ≡ length (line_text line) }
     ensures fits { result ≤ 51 }

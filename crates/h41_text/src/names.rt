@@ -9,7 +9,8 @@ ghost use Rattle.h41_text.specs.private.TextParts as part;
 use crate::places::{FUNCTION_PLACES, name_hash};
 use h41_codes::{Branch, Character, Function, NameFunction, ParameterFunction, RegisterFunction};
 
-/// The functions without a parameter. `$write` is the macro that generates a table, and `$with` are its arguments.
+/// Lists the functions without a parameter, with their names. `$write` is the macro that generates an array from the
+/// list, and `$with` are its arguments.
 macro_rules! functions {
     ($write:ident $with:tt) => {
         $write! { $with Function
@@ -97,7 +98,8 @@ macro_rules! functions {
     };
 }
 
-/// The functions with a parameter.
+/// Lists the functions with a parameter, with their names. `$write` is the macro that generates an array from the list,
+/// and `$with` are its arguments.
 macro_rules! parameter_functions {
     ($write:ident $with:tt) => {
         $write! { $with ParameterFunction
@@ -131,21 +133,21 @@ macro_rules! parameter_functions {
 
 pub(crate) use parameter_functions;
 
-/// Generates the array of the texts of a list.
+/// Generates the array of the names, as strings, from a list of functions.
 macro_rules! all_texts {
     (() $kind:ident $($name:ident => $text:literal,)*) => {
         [$($text,)*]
     };
 }
 
-/// Generates the array of the names of a list.
+/// Generates the array of the functions, as variants of their enum, from a list of functions.
 macro_rules! all_names {
     (() $kind:ident $($name:ident => $text:literal,)*) => {
         [$($kind::$name,)*]
     };
 }
 
-/// The functions without a parameter.
+/// All functions without a parameter, in the order of `functions!`.
 static FUNCTIONS: [Function; 80] = functions!(all_names());
 
 /// The names of the functions without a parameter, in the order of `FUNCTIONS`.
@@ -154,14 +156,15 @@ static FUNCTION_NAMES: [&str; 80] = functions!(all_texts());
 /// The names of the functions with a parameter, in the order of `ParameterFunction`.
 static PARAMETER_FUNCTION_NAMES: [&str; 24] = parameter_functions!(all_texts());
 
-/// Returns the function without a parameter that has this name, or `None` if there is none.
+/// Returns the function without a parameter that has this name, for example `SIN`, or `None` if there is none.
 pub(crate) fn function_named(name: &[u8]) -> Option<Function>
     ensures { result ≡ part.function_of name.now }
 {
     function_among(&FUNCTIONS, &FUNCTION_PLACES, name)
 }
 
-/// Returns the function with this name, found by the hash of the name, or `None` if there is none.
+/// Returns the function in `functions` that has this name, or `None` if there is none. `places` contains, at the index
+/// of a name's hash, the index of the function in `functions`.
 fn function_among(functions: &[Function], places: &[u8], name: &[u8]) -> Option<Function>
     requires { IsPlaced spec.function_name functions.now places.now }
     ensures { result ≡ part.with_text spec.function_name functions.now name.now }
@@ -190,7 +193,7 @@ pub fn parameter_function_name(function: ParameterFunction) -> &'static str
     PARAMETER_FUNCTION_NAMES[function as usize]
 }
 
-/// Returns the name of a function on one of the registers 00 to 15: `RCL` or `STO`.
+/// Returns the name of a function that a one-byte line applies to one of the registers 00 to 15: `RCL` or `STO`.
 pub(crate) fn register_function_name(function: RegisterFunction) -> &'static str
     ensures text { result.now ≡ spec.register_function_name function }
     ensures bound { length result.now ≤ 6 }
@@ -201,7 +204,7 @@ pub(crate) fn register_function_name(function: RegisterFunction) -> &'static str
     }
 }
 
-/// Returns the name of a function on a name: `GTO`, `XEQ` or `W`.
+/// Returns the name of a function whose operand is a name in quotes: `GTO`, `XEQ` or `W`.
 pub(crate) fn name_function_name(function: NameFunction) -> &'static str
     ensures text { result.now ≡ spec.name_function_name function }
     ensures bound { length result.now ≤ 3 }
@@ -224,10 +227,10 @@ pub fn branch_name(branch: Branch) -> &'static str
     }
 }
 
-/// The characters of numbers in ASCII, in the order of `Character`.
+/// The ASCII characters of which a number line can consist, in the order of `Character`.
 static CHARACTER_BYTES: [u8; 13] = *b"0123456789.E-";
 
-/// Returns a character of a number in ASCII.
+/// Returns the ASCII character of a character of a number line: a decimal digit, `.`, `E` or `-`.
 pub(crate) fn character_byte(character: Character) -> u8
     ensures text { result ≡ spec.character_byte character }
     ensures bound { result < 128 }
@@ -235,7 +238,8 @@ pub(crate) fn character_byte(character: Character) -> u8
     CHARACTER_BYTES[character as usize]
 }
 
-/// Returns the character of a number that an ASCII character is, or `None` if it is none.
+/// Returns the character of a number line that an ASCII character is, or `None` if it is not a decimal digit, `.`, `E`
+/// or `-`.
 pub(crate) fn character_of(byte: u8) -> Option<Character>
     ensures { result ≡ part.character_of byte }
 {
@@ -257,7 +261,7 @@ pub(crate) fn character_of(byte: u8) -> Option<Character>
     })
 }
 
-/// Returns the name of a parameter from 100 to 127.
+/// Returns the text of a parameter from 100 to 127, at most 6 characters, for example `X` for 115.
 pub(crate) fn high_parameter(number: u8) -> &'static str
     requires low { 100 ≤ number }
     requires high { number < 128 }

@@ -1,18 +1,20 @@
-//! The indices of names in their lists, by their hashes. `tools/places` generates the tables.
+//! The tables that find a function or a leading word by the hash of its name. `tools/places` generates them.
 
 ghost use Rattle.std.specs.Prelude.{◌≡◌};
 ghost use Rattle.h41_text.specs.private.Places.{name_hash};
 
 use h41_lines::hashes::word_hash;
 
-/// Returns the hash of a name, 0 to 255. No two functions without a parameter have the same hash, and no two leading words.
+/// Returns the hash of a name, 0 to 255. The names of two functions without a parameter never have the same hash, nor
+/// do those of two leading words, such as `STO` and `GTO`.
 pub(crate) fn name_hash(name: &[u8]) -> u8
     ensures { result ≡ name_hash name.now }
 {
     word_hash(name, 18352, 6855)
 }
 
-/// For each hash, the index in `FUNCTIONS` of the function whose name has it, or any index if there is none.
+/// For each hash from 0 to 255, the index in `names::FUNCTIONS` of the function whose name has this hash, or any index
+/// if there is none.
 pub(crate) static FUNCTION_PLACES: [u8; 256] = [
     0, 0, 38, 0, 0, 76, 0, 0, 0, 27, 0, 0, 40, 0, 67, 0, 0, 25, 0, 0, 4, 42, 0, 13, 49, 0, 60, 0,
     11, 43, 0, 24, 0, 0, 0, 0, 31, 0, 45, 0, 0, 0, 0, 21, 0, 69, 0, 0, 39, 0, 0, 0, 33, 0, 0, 0,
@@ -25,7 +27,8 @@ pub(crate) static FUNCTION_PLACES: [u8; 256] = [
     0, 26, 0, 0, 0, 0, 0, 0, 0, 0, 0, 71, 0, 0, 0, 0, 18, 0, 0, 0, 46, 0, 0, 0, 0, 2, 68,
 ];
 
-/// For each hash, the index in `WORDS` of the word whose name has it, or any index if there is none.
+/// For each hash from 0 to 255, the index in `words::WORDS` of the leading word whose name has this hash, or any index
+/// if there is none.
 pub(crate) static WORD_PLACES: [u8; 256] = [
     0, 0, 0, 0, 0, 0, 0, 25, 0, 0, 0, 0, 0, 0, 0, 0, 0, 0, 0, 0, 0, 0, 0, 0, 0, 0, 0, 0, 0, 9, 23,
     0, 0, 0, 0, 0, 0, 0, 0, 0, 0, 0, 0, 1, 0, 0, 20, 0, 0, 0, 0, 3, 0, 0, 0, 0, 0, 0, 0, 0, 0, 0,

@@ -1,4 +1,4 @@
-//! The reader, which returns the line of a text.
+//! Reads the text of a program line.
 ghost use Rattle.std.specs.Prelude.{◌≡◌, ◌≢◌, ◌+◌, ◌-◌, ◌<◌, ◌≤◌, ◌↔◌, ◌++◌, ℕ, length, IsErr};
 ghost use Rattle.std.specs.Prelude.{IsTrue, [], ◌∷◌, IfSome, IfNone, Ok, Some, None};
 ghost use Rattle.arrayvec.specs.ArrayVec.{array_vec_len};
@@ -20,20 +20,20 @@ use h41_codes::{
 };
 use h41_lines::numbers::hexadecimal;
 
-/// The most characters of a text line or a name.
+/// The most characters of a text line or of a name in quotes.
 const TEXT_MOST: usize = 15;
 
-/// The most characters of a number.
+/// The most characters of a number line.
 const NUMBER_MOST: usize = 16;
 
-/// The append sign. A text for ALPHA that begins with it is appended to ALPHA.
+/// The character code of the append sign. A text line that begins with it is appended to ALPHA instead of replacing it.
 const APPEND: u8 = 0x7F;
 
-/// The characters of a text while it is read.
+/// The characters of a text line or of a name in quotes, while it is read.
 type Characters = ArrayVec<u8, TEXT_MOST>;
 
-/// Returns the line with this text, in its shortest spelling. The text must be exactly as `write_line` writes it. BadText (41) if no line
-/// has this text; the empty text of the null is refused too.
+/// Returns the program line with this text, in its shortest spelling. The text must be exactly as `write_line` writes
+/// it; otherwise the error is BadText (41). The empty text, which `write_line` returns for the null, is an error too.
 pub fn read_line(text: &[u8]) -> Result<Line, BadText>
     ensures line { (line : AnyLine) → (result ≡ Ok line) ↔ IsTextOf text.now line }
     ensures refused { IsErr result ↔ ((line : AnyLine) → IsTextOf text.now line → ⊥) }
@@ -50,14 +50,15 @@ pub fn read_line(text: &[u8]) -> Result<Line, BadText>
     }
 }
 
-/// Returns whether a line has this text.
+/// Returns whether a program line has exactly this text, as `write_line` writes it.
 fn has_text(line: &Line, text: &[u8]) -> bool
     ensures { IsTrue result ↔ (line_text line.now ≡ text.now) }
 {
     write_line(*line).as_str().as_bytes() == text
 }
 
-/// Returns the only line that can have this text. The caller compares its text to find out whether it has.
+/// Returns the only program line that can have this text, or `None` if no line can. The line may still have another
+/// text, so the caller must compare.
 fn candidate(text: &[u8]) -> Option<Line>
     ensures line { result ≡ part.candidate_line text.now }
     ensures text { IfSome result HasText }
@@ -69,7 +70,7 @@ fn candidate(text: &[u8]) -> Option<Line>
     }
 }
 
-/// Returns the characters of a text that begins with the append sign: so far only this sign.
+/// Returns a list of characters that contains only the append sign.
 fn append_sign() -> Characters
     ensures { result.items ≡ 0x7F ∷ [] }
 {
@@ -78,7 +79,8 @@ fn append_sign() -> Characters
     characters
 }
 
-/// Returns the text line of these characters, followed by those in quotes.
+/// Returns the text line with the given `characters`, followed by the characters at the start of `quoted`, which is the
+/// text after the opening quote. At most 15 characters are used.
 fn alpha(mut characters: Characters, quoted: &[u8]) -> Option<Line>
     requires { array_vec_len characters ≤ 15 }
     ensures line { result ≡ part.alpha_line characters.items quoted.now }
@@ -89,7 +91,8 @@ fn alpha(mut characters: Characters, quoted: &[u8]) -> Option<Line>
     Some(Line::Text(Text::new(characters)?))
 }
 
-/// Appends the characters in quotes, up to the closing quote or until there are 15.
+/// Appends the characters at the start of `quoted`, which is the text after an opening quote, to `characters`: up to
+/// the closing quote or until there are 15 characters.
 fn push_unquoted(characters: &mut Characters, quoted: &[u8])
     requires { array_vec_len characters.old ≤ 15 }
     ensures { characters.new.items ≡ part.text_behind characters.old.items quoted.now }
@@ -106,7 +109,8 @@ fn push_unquoted(characters: &mut Characters, quoted: &[u8])
     }
 }
 
-/// Returns the first character in quotes and what follows it, or `None` if the quotes end.
+/// Returns the first character of a text after an opening quote and the text that follows it, or `None` at the closing
+/// quote, at the end of the text, and if `\` is not followed by two hexadecimal digits.
 fn first_character(quoted: &[u8]) -> Option<(u8, &[u8])>
     ensures first { IfSome result (λ p. part.first_character quoted.now ≡ Some (p.0, p.1.now)) }
     ensures none { IfNone result (part.first_character quoted.now ≡ None) }
@@ -119,7 +123,7 @@ fn first_character(quoted: &[u8]) -> Option<(u8, &[u8])>
     }
 }
 
-/// Returns the line of a text that does not begin with a quote.
+/// Returns the only program line that can have this text, which does not begin with a quote, or `None` if no line can.
 fn unquoted(text: &[u8]) -> Option<Line>
     ensures line { result ≡ part.unquoted_line text.now }
     ensures text { IfSome result HasText }
@@ -133,7 +137,8 @@ fn unquoted(text: &[u8]) -> Option<Line>
     named_line(text)
 }
 
-/// Returns the line of `-`, which is the function, or of `NEG`, which is the number of a lone minus sign. `None` for any other text.
+/// Returns the line of the text `-`, which is the subtraction, or of the text `NEG`, which is the number line with a
+/// lone minus sign. `None` for any other text.
 fn minus(text: &[u8]) -> Option<Line>
     ensures line { result ≡ part.minus_line text.now }
     ensures text { IfSome result HasText }
@@ -145,7 +150,8 @@ fn minus(text: &[u8]) -> Option<Line>
     }
 }
 
-/// Returns the line of a text that begins with a name.
+/// Returns the only program line that can have this text, whose first word is the name of a function, `GTO`, `XEQ`,
+/// `W`, `XROM`, `END` or `.END.`; otherwise `None`.
 fn named_line(text: &[u8]) -> Option<Line>
     ensures line { result ≡ part.cut_line text.now (part.parts_at_blank text.now) }
     ensures text { IfSome result HasText }
@@ -156,7 +162,8 @@ fn named_line(text: &[u8]) -> Option<Line>
     }
 }
 
-/// Returns the number line of a text, or `None` if it is no number.
+/// Returns the number line with this text, or `None` if the text has more than 16 characters, other characters than
+/// decimal digits, `.`, `E` and `-`, or is not a number line.
 fn number(text: &[u8]) -> Option<Line>
     ensures line { result ≡ part.number_of text.now }
     ensures text { IfSome result HasText }
@@ -184,7 +191,7 @@ fn cut(text: &[u8]) -> Option<(&[u8], &[u8])>
     None
 }
 
-/// Returns the line of a name without an operand.
+/// Returns the program line that consists of this name alone, for example `SIN` or `END`, or `None` if there is none.
 fn lone(name: &[u8]) -> Option<Line>
     ensures line { result ≡ part.lone_line name.now }
     ensures text { IfSome result HasText }
@@ -195,7 +202,8 @@ fn lone(name: &[u8]) -> Option<Line>
     Some(Line::Plain(function_named(name)?))
 }
 
-/// Returns the `END` or `.END.` with this name, or `None` for any other name.
+/// Returns the `END` or `.END.` line for this text, or `None` for any other text. What the text does not contain, such
+/// as the link to another line, is zero.
 fn end(name: &[u8]) -> Option<Line>
     ensures line { result ≡ part.end_line name.now }
     ensures text { IfSome result HasText }
@@ -207,7 +215,8 @@ fn end(name: &[u8]) -> Option<Line>
     }
 }
 
-/// Returns the line of a word and the text after its space.
+/// Returns the only program line that can have this leading word and, after a space, the text `behind`, or `None` if no
+/// line can.
 fn worded(word: LeadingWord, behind: &[u8]) -> Option<Line>
     ensures line { result ≡ part.word_line word behind.now }
     ensures text { IfSome result HasText }
@@ -218,7 +227,8 @@ fn worded(word: LeadingWord, behind: &[u8]) -> Option<Line>
     }
 }
 
-/// Returns the line of a word and a name in quotes.
+/// Returns the program line with this leading word and the name at the start of `quoted`, which is the text after the
+/// opening quote. `None` if no such word precedes a name: only `LBL`, `GTO`, `XEQ` and `W` do.
 fn named(word: LeadingWord, quoted: &[u8]) -> Option<Line>
     ensures line { result ≡ part.named_line word (part.unquoted_text 15 quoted.now) }
     ensures text { IfSome result HasText }
@@ -242,7 +252,8 @@ fn named(word: LeadingWord, quoted: &[u8]) -> Option<Line>
     })
 }
 
-/// Returns the line of a word and an operand.
+/// Returns the program line with this leading word and the operand that `text` spells, or `None` if `text` is not an
+/// operand of this word.
 fn with_operand(word: LeadingWord, text: &[u8]) -> Option<Line>
     ensures line { result ≡ part.operand_line word text.now }
     ensures text { IfSome result HasText }
@@ -255,7 +266,8 @@ fn with_operand(word: LeadingWord, text: &[u8]) -> Option<Line>
     }
 }
 
-/// Returns the `GTO` or `XEQ` with an operand.
+/// Returns the `GTO` or `XEQ` line with this operand: a label, or a register for `IND`. The distance to a label is
+/// zero.
 fn branch_line(branch: Branch, operand: Operand) -> Line
     ensures line { result ≡ part.branch_line branch operand }
     ensures text { HasText result }
@@ -266,7 +278,8 @@ fn branch_line(branch: Branch, operand: Operand) -> Line
     }
 }
 
-/// Returns the `XROM` with the two numbers in this text, or `None` if they are not two numbers in their ranges.
+/// Returns the `XROM` line for the text of its two numbers, for example `28,05`, or `None` if the text is not two
+/// digits below 32, a comma, and two digits below 64.
 fn module(text: &[u8]) -> Option<Line>
     ensures line { result ≡ part.module_of text.now }
     ensures text { IfSome result HasText }
@@ -285,7 +298,7 @@ fn module(text: &[u8]) -> Option<Line>
     }
 }
 
-/// Returns the number of two decimal digits, or `None` if they are not digits.
+/// Returns the number that two decimal digits form, 0 to 99, or `None` if one of the characters is not a digit.
 fn two_digits(tens: u8, ones: u8) -> Option<u8>
     ensures value { result ≡ part.two_digits_of tens ones }
     ensures bound { IfSome result (λ number. number < 100) }
@@ -297,7 +310,7 @@ fn two_digits(tens: u8, ones: u8) -> Option<u8>
     }
 }
 
-/// Returns the operand of a text, or `None` if it is no operand.
+/// Returns the operand that a text spells, for example `05`, `X` or `IND 05`, or `None` if it is not an operand.
 fn operand(text: &[u8]) -> Option<Operand>
     ensures { result ≡ part.operand_of text.now }
 {
@@ -307,7 +320,7 @@ fn operand(text: &[u8]) -> Option<Operand>
     }
 }
 
-/// Returns the text after `IND` and a space, or `None` if the text begins otherwise.
+/// Returns the rest of a text that begins with `IND` and a space, or `None` if it begins otherwise.
 fn behind_ind(text: &[u8]) -> Option<&[u8]>
     ensures rest { IfSome result (λ rest. part.behind_ind text.now ≡ Some rest.now) }
     ensures none { IfNone result (part.behind_ind text.now ≡ None) }
@@ -318,7 +331,8 @@ fn behind_ind(text: &[u8]) -> Option<&[u8]>
     }
 }
 
-/// Returns the parameter of a text, or `None` if it is no parameter.
+/// Returns the parameter that a text spells, 0 to 127, for example 5 for `05` or 115 for `X`, or `None` if it is not a
+/// parameter.
 fn parameter(text: &[u8]) -> Option<Parameter>
     ensures named { IfSome result (λ number. parameter_text number ≡ text.now) }
     ensures inside { IfSome result (λ number. number < parameter_count) }

@@ -1,4 +1,4 @@
-//! The writer, which returns the text of a line.
+//! Writes the text of a program line.
 ghost use Rattle.std.specs.Prelude.{◌≡◌, ◌+◌, ◌<◌, ◌≤◌, [], ◌∷◌, ◌++◌, length};
 ghost use Rattle.arrayvec.specs.ArrayString.{array_string_len};
 ghost use Rattle.h41_codes.specs.declared.line.Line.TheVariants as line;
@@ -15,18 +15,18 @@ use arrayvec::ArrayString;
 use h41_codes::{Branch, Character, EntryNumber, Line, ModuleNumber, Operand, ParameterFunction};
 use h41_lines::characters::{character_text, escaped, two_digits};
 
-/// The capacity of a line's text, in characters. The longest text has 51: `GTO ""`, and in the quotes 15 characters that are written as
-/// three each.
+/// The capacity of the text of a program line, in characters. The longest text has 51: `GTO ""`, and in the quotes 15
+/// characters that are written as three each.
 pub const TEXT_CAPACITY: usize = 64;
 
-/// The text of a line.
+/// The text of a program line while it is written.
 type LineText = ArrayString<TEXT_CAPACITY>;
 
-/// The append sign. A text for ALPHA that begins with it is appended to ALPHA.
+/// The character code of the append sign. A text line that begins with it is appended to ALPHA instead of replacing it.
 const APPEND: u8 = 0x7F;
 
-/// Returns the text of a line, at most 51 characters. Two spellings of a line have the same text, and the text of the null is empty.
-/// docs/PROGRAMS.md describes the texts.
+/// Returns the text of a program line, at most 51 characters, for example `STO 05`. All spellings of a line have the
+/// same text, and the text of the null is empty. docs/PROGRAMS.md describes the texts.
 pub fn write_line(line: Line) -> ArrayString<TEXT_CAPACITY>
     ensures text { result.bytes ≡ line_text line }
     ensures fits { length result.bytes ≤ 51 }
@@ -66,7 +66,7 @@ pub fn write_line(line: Line) -> ArrayString<TEXT_CAPACITY>
     }
 }
 
-/// Returns a name alone.
+/// Returns a text that consists of a name of at most 6 characters.
 fn alone(name: &str) -> LineText
     requires { length name.now ≤ 6 }
     ensures text { result.bytes ≡ name.now }
@@ -77,7 +77,7 @@ fn alone(name: &str) -> LineText
     text
 }
 
-/// Returns a name and a space.
+/// Returns a text that consists of a name of at most 6 characters and a space.
 fn begun(name: &str) -> LineText
     requires { length name.now ≤ 6 }
     ensures text { result.bytes ≡ name.now ++ 0x20 ∷ [] }
@@ -88,7 +88,7 @@ fn begun(name: &str) -> LineText
     text
 }
 
-/// Returns a name and a number of two digits.
+/// Returns a name of at most 6 characters, a space, and a number below 100 as two decimal digits, for example `LBL 05`.
 fn numbered(name: &str, number: u8) -> LineText
     requires name { length name.now ≤ 6 }
     requires number { number < 100 }
@@ -100,7 +100,7 @@ fn numbered(name: &str, number: u8) -> LineText
     text
 }
 
-/// Returns a name and an operand.
+/// Returns a name of at most 6 characters, a space, and the text of an operand, for example `STO IND 05`.
 fn with_operand(name: &str, operand: Operand) -> LineText
     requires { length name.now ≤ 6 }
     ensures text { result.bytes ≡ name.now & spec.operand_text operand }
@@ -117,7 +117,7 @@ fn with_operand(name: &str, operand: Operand) -> LineText
     text
 }
 
-/// Returns a name and a text in quotes of at most 15 characters.
+/// Returns a name of at most 3 characters, a space, and at most 15 characters in quotes, for example `GTO "AB"`.
 fn named(name: &str, characters: &[u8]) -> LineText
     requires name { length name.now ≤ 3 }
     requires characters { length characters.now ≤ 15 }
@@ -129,7 +129,7 @@ fn named(name: &str, characters: &[u8]) -> LineText
     text
 }
 
-/// Returns the text of an `XROM` with its two numbers.
+/// Returns the text of an `XROM` line with the numbers of its module and its function, for example `XROM 28,05`.
 fn module(number: ModuleNumber, entry: EntryNumber) -> LineText
     ensures text { result.bytes ≡ line_text (line.Module number entry) }
     ensures most { length result.bytes ≤ 12 }
@@ -140,7 +140,7 @@ fn module(number: ModuleNumber, entry: EntryNumber) -> LineText
     text
 }
 
-/// Returns the text of a number of at most 16 characters.
+/// Returns the text of a number line of at most 16 characters. A lone minus sign is written as `NEG`.
 fn number_line(characters: &[Character]) -> LineText
     requires { length characters.now ≤ 16 }
     ensures text { result.bytes ≡ spec.number_line characters.now }
@@ -156,7 +156,8 @@ fn number_line(characters: &[Character]) -> LineText
     text
 }
 
-/// Returns the text of a text line of at most 15 characters.
+/// Returns the text of a text line of at most 15 characters: the characters in quotes. If the first one is the append
+/// sign, `>` precedes the quotes instead.
 fn alpha(characters: &[u8]) -> LineText
     requires { length characters.now ≤ 15 }
     ensures text { result.bytes ≡ text_line characters.now }
@@ -173,7 +174,7 @@ fn alpha(characters: &[u8]) -> LineText
     text
 }
 
-/// Appends an ASCII character.
+/// Appends an ASCII character to a text.
 fn push_ascii(text: &mut LineText, character: u8)
     requires room { array_string_len text.old < TEXT_CAPACITY }
     requires ascii { character < 128 }
@@ -182,7 +183,7 @@ fn push_ascii(text: &mut LineText, character: u8)
     text.push(char::from(character));
 }
 
-/// Appends a number below 100 as two decimal digits.
+/// Appends a number below 100 to a text, as two decimal digits.
 fn push_two_digits(text: &mut LineText, number: u8)
     requires room { array_string_len text.old + 2 ≤ TEXT_CAPACITY }
     requires number { number < 100 }
@@ -191,7 +192,8 @@ fn push_two_digits(text: &mut LineText, number: u8)
     text.push_str(two_digits(number).as_str());
 }
 
-/// Appends the text of a parameter.
+/// Appends the text of a parameter from 0 to 127 to a text: two decimal digits below 100, otherwise at most 6
+/// characters.
 fn push_parameter(text: &mut LineText, number: u8)
     requires room { array_string_len text.old + 6 ≤ TEXT_CAPACITY }
     requires number { number < parameter_count }
@@ -205,7 +207,7 @@ fn push_parameter(text: &mut LineText, number: u8)
     }
 }
 
-/// Appends a text of at most 15 characters in quotes.
+/// Appends at most 15 characters to a text, between two quotes.
 fn push_quoted(text: &mut LineText, characters: &[u8])
     requires room { array_string_len text.old ≤ 4 }
     requires characters { length characters.now ≤ 15 }
@@ -219,7 +221,8 @@ fn push_quoted(text: &mut LineText, characters: &[u8])
     text.push_str("\"");
 }
 
-/// Returns a character of a text as the display shows it. A quote is an exception: it is written as `\` and two hexadecimal digits.
+/// Returns the text of a character between quotes: the character itself or `\` and two hexadecimal digits, as the
+/// display shows it. A quote is always written as `\22`.
 fn character_quoted(character: u8) -> ArrayString<3>
     ensures { result.bytes ≡ spec.character_quoted character }
 {

@@ -9,8 +9,9 @@ use h41_lines::characters::character_text;
 use h41_pages::{ModuleFunction, Name, Pages};
 use std::alloc::{AllocError, Global};
 
-/// Returns a line for each function of the plugged modules, with its two numbers and its name.
-/// OutOfMemory (21) if allocation failed.
+/// Returns a line for each function of the plugged modules: `XROM`, the number of the module and the number of the
+/// function in it, as two decimal digits each with a comma between them, and the name of the function, or `-` if it has
+/// none. OutOfMemory (21) if allocation failed.
 pub fn functions_text(alloc: Global, pages: &Pages) -> Result<Vec<u8>, AllocError>
     ensures { IfOk result (λ text. text.items ≡ spec.functions_text (functions pages.now)) }
 {
@@ -22,7 +23,8 @@ pub fn functions_text(alloc: Global, pages: &Pages) -> Result<Vec<u8>, AllocErro
     Ok(text)
 }
 
-/// Appends the line of a function. OutOfMemory (21) if allocation failed.
+/// Appends the line of a module's function: `XROM`, the number of the module, a comma, the number of the function in
+/// it, a space, its name and LF. Each number has two decimal digits. OutOfMemory (21) if allocation failed.
 #[tactic(auto, unfolding(crate::specs::PageViews::function_line))]
 fn push_function(text: &mut Vec<u8>, function: &ModuleFunction) -> Result<(), AllocError>
     ensures { OnOk result (text.new.items ≡ text.old.items ++ spec.function_line function.now) }
@@ -43,7 +45,8 @@ fn push_number(text: &mut Vec<u8>, number: u8) -> Result<(), AllocError>
     text.extend_from_slice(&[b'0' + number / 10, b'0' + number % 10])
 }
 
-/// Appends a name, or `-` if there is none. OutOfMemory (21) if allocation failed.
+/// Appends the name of a function as it is printed, or `-` if the function has none. OutOfMemory (21) if allocation
+/// failed.
 fn push_name(text: &mut Vec<u8>, name: &Option<Name>) -> Result<(), AllocError>
     ensures { OnOk result (text.new.items ≡ text.old.items ++ spec.name_text name.now) }
 {
@@ -53,7 +56,7 @@ fn push_name(text: &mut Vec<u8>, name: &Option<Name>) -> Result<(), AllocError>
     }
 }
 
-/// Appends characters as they are printed. OutOfMemory (21) if allocation failed.
+/// Appends the printed texts of characters of the HP-41. OutOfMemory (21) if allocation failed.
 fn push_printed(text: &mut Vec<u8>, characters: &[u8]) -> Result<(), AllocError>
     ensures { OnOk result (text.new.items ≡ text.old.items ++ characters_text characters.now) }
 {

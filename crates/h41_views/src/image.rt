@@ -7,14 +7,14 @@ ghost use Rattle.h41_views.specs.PageViews as spec;
 use h41_lines::characters::byte_digits;
 use std::alloc::{AllocError, Global};
 
-/// The number of lines of an image.
+/// The number of lines that `show image` prints: 256.
 const LINES: usize = 256;
 
-/// The number of bytes in a line of an image.
+/// The number of bytes of an image that `show image` prints on one line: 32.
 const LINE_BYTES: usize = 32;
 
-/// Returns the lines of an image's bytes, 32 bytes each in hexadecimal. OutOfMemory (21) if
-/// allocation failed.
+/// Returns the bytes of the image of a bank as 256 lines of 32 bytes each, two hexadecimal digits a byte. OutOfMemory
+/// (21) if allocation failed.
 pub fn image_text(alloc: Global, bytes: &[u8]) -> Result<Vec<u8>, AllocError>
     requires { length bytes.now ≡ image_size }
     ensures { IfOk result (λ text. text.items ≡ spec.image_text bytes.now) }
@@ -28,7 +28,8 @@ pub fn image_text(alloc: Global, bytes: &[u8]) -> Result<Vec<u8>, AllocError>
     Ok(text)
 }
 
-/// Appends bytes as one line. OutOfMemory (21) if allocation failed.
+/// Appends bytes as one line: two hexadecimal digits for each, and LF at the end. OutOfMemory (21) if allocation
+/// failed.
 fn push_line(text: &mut Vec<u8>, bytes: &[u8]) -> Result<(), AllocError>
     ensures { OnOk result (text.new.items ≡ text.old.items ++ spec.bytes_line bytes.now) }
 {

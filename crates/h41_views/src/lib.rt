@@ -1,4 +1,4 @@
-//! The texts of views: what the bench shows of memory, the processor and the pages.
+//! The texts that the `show` commands print of memory, the processor and the pages.
 #![tactic(auto)]
 
 mod functions;

@@ -19,11 +19,11 @@ use std::fmt;
 /// The number of flags: 56.
 const FLAGS: usize = 56;
 
-/// The most bytes of the numbers of set flags: two digits and a space for each flag.
+/// The greatest number of bytes that the numbers of the set flags need: two digits and a space for each of 56 flags.
 const FLAGS_TEXT: usize = 168;
 
-/// Returns the line of the register at an address, for example `0C0=00000000000000`. OutOfMemory
-/// (21) if allocation failed.
+/// Returns a line with an address and the 14 digits of the register there, for example `0C0=00000000000000`.
+/// OutOfMemory (21) if allocation failed.
 pub fn register_text<const REGS: usize>(
     alloc: Global,
     ram: &Ram<REGS>,
@@ -35,15 +35,16 @@ pub fn register_text<const REGS: usize>(
     text_of(alloc, RegisterLine { address, register })
 }
 
-/// Returns the lines of the stack from T to X, and of L. OutOfMemory (21) if allocation failed.
+/// Returns five lines with the registers T, Z, Y, X and L, each with its name, for example `X=00000000000000`.
+/// OutOfMemory (21) if allocation failed.
 pub fn stack_text<const REGS: usize>(alloc: Global, ram: &Ram<REGS>) -> Result<Vec<u8>, AllocError>
     ensures { IfOk result (λ text. text.items ≡ spec.stack_text ram.now.registers) }
 {
     text_of(alloc, StackLines::of(ram))
 }
 
-/// Returns the line with the numbers of the flags that are set. OutOfMemory (21) if allocation
-/// failed.
+/// Returns one line with the numbers of the flags that are set, two decimal digits each, separated by spaces.
+/// OutOfMemory (21) if allocation failed.
 #[tactic(auto, unfolding(crate::specs::Views::flags_line))]
 pub fn flags_text<const REGS: usize>(alloc: Global, ram: &Ram<REGS>) -> Result<Vec<u8>, AllocError>
     ensures { IfOk result (λ text. text.items ≡ spec.flags_line ram.now.registers) }
@@ -73,7 +74,7 @@ impl fmt::Display for RegisterLine {
     }
 }
 
-/// The stack from T to X, and L.
+/// The five registers that `show stack` prints: T, Z, Y, X and L.
 #[derive(Clone, Copy)]
 struct StackLines {
     t: Reg,
@@ -84,7 +85,7 @@ struct StackLines {
 }
 
 impl StackLines {
-    /// Returns the stack and L of a memory.
+    /// Returns the registers T, Z, Y, X and L of a memory, which are at addresses 000 to 004.
     fn of<const REGS: usize>(ram: &Ram<REGS>) -> Self
         ensures t { result.t ≡ register_at ram.now.registers 0 }
         ensures z { result.z ≡ register_at ram.now.registers 1 }
@@ -118,7 +119,7 @@ impl fmt::Display for StackLines {
     }
 }
 
-/// Writes the line of a stack register or L, with its name.
+/// Writes a line with a register of the stack or L: its name, `=` and the contents of the register.
 #[tactic(auto, unfolding(crate::specs::Views::level_line))]
 fn write_level<W: fmt::Write>(f: &mut fmt::Formatter<W>, name: &str, register: Reg) -> fmt::Result
     ensures { WritesOnOk W.write_str_gives f.old result (level_line name.now register) f.new }
@@ -126,7 +127,7 @@ fn write_level<W: fmt::Write>(f: &mut fmt::Formatter<W>, name: &str, register: R
     writeln!(f, "{name}={register}")
 }
 
-/// Returns the numbers of the flags that are set, separated by spaces.
+/// Returns the numbers of the flags that are set, in ascending order, two decimal digits each, separated by spaces.
 fn set_flags<const REGS: usize>(ram: &Ram<REGS>) -> ArrayString<FLAGS_TEXT>
     ensures { result.bytes ≡ flags_below 56 ram.now.registers }
 {
@@ -142,7 +143,7 @@ fn set_flags<const REGS: usize>(ram: &Ram<REGS>) -> ArrayString<FLAGS_TEXT>
     flags
 }
 
-/// Appends the two digits of a flag's number.
+/// Appends the number of a flag as two decimal digits. The number must be below 100.
 fn push_number(flags: &mut ArrayString<FLAGS_TEXT>, flag: usize)
     requires room { array_string_len flags.old + 2 ≤ FLAGS_TEXT }
     requires number { flag < 100 }

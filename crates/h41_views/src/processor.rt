@@ -14,7 +14,9 @@ use h41_nut::{Base, Cpu, Keys};
 use std::alloc::{AllocError, Global};
 use std::fmt;
 
-/// Returns the five lines of the processor. OutOfMemory (21) if allocation failed.
+/// Returns five lines with the state of the processor: its registers A, B and C; M and N; G, T, the status bits and the
+/// pointers; the address, the carry, the arithmetic mode, the selected register and the keyboard; and its return
+/// addresses. OutOfMemory (21) if allocation failed.
 pub fn processor_text(alloc: Global, cpu: &Cpu, keys: &Keys) -> Result<Vec<u8>, AllocError>
     ensures { IfOk result (λ text. text.items ≡ spec.processor_text cpu.now keys.now) }
 {
@@ -44,7 +46,7 @@ impl fmt::Display for Processor<'_> {
     }
 }
 
-/// Writes the line of A, B and C.
+/// Writes the line with the processor's registers A, B and C.
 #[tactic(auto, unfolding(crate::specs::Views::registers_line))]
 fn write_registers<W: fmt::Write>(f: &mut fmt::Formatter<W>, cpu: &Cpu) -> fmt::Result
     ensures { WritesOnOk W.write_str_gives f.old result (registers_line cpu.now) f.new }
@@ -53,7 +55,7 @@ fn write_registers<W: fmt::Write>(f: &mut fmt::Formatter<W>, cpu: &Cpu) -> fmt::
     writeln!(f, "A={a} B={b} C={c}")
 }
 
-/// Writes the line of M and N.
+/// Writes the line with the processor's registers M and N.
 #[tactic(auto, unfolding(crate::specs::Views::memories_line))]
 fn write_memories<W: fmt::Write>(f: &mut fmt::Formatter<W>, cpu: &Cpu) -> fmt::Result
     ensures { WritesOnOk W.write_str_gives f.old result (memories_line cpu.now) f.new }
@@ -62,7 +64,8 @@ fn write_memories<W: fmt::Write>(f: &mut fmt::Formatter<W>, cpu: &Cpu) -> fmt::R
     writeln!(f, "M={m} N={n}")
 }
 
-/// Writes the line of G, T, the status bits and the pointers.
+/// Writes the line with the processor's registers G and T, its status bits, its pointers P and Q, and the name of the
+/// selected pointer. All numbers are hexadecimal.
 #[tactic(auto, unfolding(crate::specs::Views::pointers_line))]
 fn write_pointers<W: fmt::Write>(f: &mut fmt::Formatter<W>, cpu: &Cpu) -> fmt::Result
     ensures { WritesOnOk W.write_str_gives f.old result (pointers_line cpu.now) f.new }
@@ -76,8 +79,8 @@ fn write_pointers<W: fmt::Write>(f: &mut fmt::Formatter<W>, cpu: &Cpu) -> fmt::R
     writeln!(f, "G={g} T={t} ST={status} P={p} Q={q} PT={active}")
 }
 
-/// Writes the line of the address, the carry, the arithmetic mode, the selected register and the
-/// keyboard.
+/// Writes the line with the address of the next word (PC), the carry, the arithmetic mode, the address of the selected
+/// register, and the keyboard's code and flag. All numbers are hexadecimal.
 #[tactic(auto, unfolding(crate::specs::Views::modes_line))]
 fn write_modes<W: fmt::Write>(f: &mut fmt::Formatter<W>, cpu: &Cpu, keys: &Keys) -> fmt::Result
     ensures { WritesOnOk W.write_str_gives f.old result (modes_line cpu.now keys.now) f.new }
@@ -94,7 +97,7 @@ fn write_modes<W: fmt::Write>(f: &mut fmt::Formatter<W>, cpu: &Cpu, keys: &Keys)
     )
 }
 
-/// Writes the line of the return addresses, the newest first.
+/// Writes the line with the processor's four return addresses, the newest first, as four hexadecimal digits each.
 #[tactic(auto, unfolding(crate::specs::Views::returns_line))]
 fn write_returns<W: fmt::Write>(f: &mut fmt::Formatter<W>, cpu: &Cpu) -> fmt::Result
     ensures { WritesOnOk W.write_str_gives f.old result (returns_line cpu.now) f.new }

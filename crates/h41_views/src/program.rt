@@ -12,8 +12,8 @@ use h41_ram::Ram;
 use h41_text::write_line;
 use std::alloc::{AllocError, Global};
 
-/// Returns the lines of program memory from the first on, each with its position and its text. If memory is not sound, the
-/// text is empty. OutOfMemory (21) if allocation failed.
+/// Returns the lines of program memory from the first on, each with its position (four decimal digits) and its text. If
+/// memory is not sound (`Ram::is_sound`), the text is empty. OutOfMemory (21) if allocation failed.
 pub fn program_text<const REGS: usize>(
     alloc: Global,
     ram: &Ram<REGS>,
@@ -35,14 +35,15 @@ pub fn program_text<const REGS: usize>(
     Ok(listing)
 }
 
-/// Returns whether a line is the last of program memory, `.END.`.
+/// Returns whether a program line is `.END.`, the last line of program memory.
 fn is_last(listed: &ListedLine) -> bool
     ensures { result ≡ lines.is_final_end listed.now.line }
 {
     is_final_end(listed.line)
 }
 
-/// Appends a line with its position and its text. OutOfMemory (21) if allocation failed.
+/// Appends a program line as `show lines` prints it: its position as four decimal digits, a space, its text and LF. The
+/// position must be below 10,000. OutOfMemory (21) if allocation failed.
 #[tactic(auto, unfolding(crate::specs::ProgramListing::listed_line))]
 fn push_line(listing: &mut Vec<u8>, listed: &ListedLine) -> Result<(), AllocError>
     requires { listed.now.position < 10000 }
@@ -54,7 +55,7 @@ fn push_line(listing: &mut Vec<u8>, listed: &ListedLine) -> Result<(), AllocErro
     listing.extend_from_slice(b"\n")
 }
 
-/// Returns the last four decimal digits of a position in program memory.
+/// Returns the last four decimal digits of a position in program memory, with leading zeros.
 pub fn byte_digits(byte: u16) -> ArrayString<4>
     ensures { result.bytes ≡ spec.byte_digits byte }
 {

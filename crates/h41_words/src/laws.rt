@@ -3,13 +3,15 @@
 ghost use Rattle.h41_words.specs.SecondWord.{SaidByWord, WordOfSecond};
 ghost use Rattle.h41_words.specs.WordTable.{WordOfRow, OneWordOfRow};
 
-/// States the word table round trip: the row of a word has that word's number, and each row is the row of exactly one word.
+/// States that the table of words is one-to-one: the row (meaning) that the table has for a word belongs to this word,
+/// and each row is that of exactly one word.
 pub fn word_table_round_trip()
     ensures word { WordOfRow }
     ensures row { OneWordOfRow }
 {}
 
-/// States the second word round trip: a word is determined by its meaning as a second word, and each meaning belongs to a word.
+/// States that the second words of jumps by address are one-to-one with their meanings: each word has one meaning as a
+/// second word, and each meaning is that of exactly one word.
 pub fn second_word_round_trip()
     ensures word { SaidByWord }
     ensures second { WordOfSecond }

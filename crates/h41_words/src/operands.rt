@@ -1,4 +1,4 @@
-//! The operands of words. Each is a number with a range.
+//! The operands of instruction words. Each is a number with a range.
 ghost use Rattle.std.specs.Prelude.{◌≡◌, ℕ, ℤ, ◌<◌, ◌≤◌, ◌≤ℤ◌};
 ghost use Rattle.h41_words.specs.Counts.{status_bit_count, place_count, digit_count};
 ghost use Rattle.h41_words.specs.Counts.{block_register_count, least_displacement};
@@ -6,7 +6,7 @@ ghost use Rattle.h41_words.specs.Counts.{greatest_displacement};
 
 use std::marker::Model;
 
-/// A status bit of the processor, 0 to 13.
+/// The operand of `CLRF n`, `SETF n` and `?FSET n`: the number of a status bit of the processor, 0 to 13.
 #[derive(Clone, Copy, Debug, PartialEq, Eq)]
 pub struct StatusBit {
     number: u8,
@@ -23,7 +23,7 @@ impl Model for StatusBit {
 }
 
 impl StatusBit {
-    /// Returns the status bit with a number from 0 to 13.
+    /// Returns the operand for the status bit of the processor with a number from 0 to 13.
     pub fn new(number: u8) -> Self
         requires { number < status_bit_count }
         ensures { result ≡ number }
@@ -40,7 +40,8 @@ impl StatusBit {
     }
 }
 
-/// A place of a register, 0 to 13: the position of a pointer, or the number of digits of a rotation.
+/// A digit place of a 14-digit register, 0 (rightmost) to 13: the position of a pointer, or the number of digits of a
+/// rotation.
 #[derive(Clone, Copy, Debug, PartialEq, Eq)]
 pub struct DigitPlace {
     number: u8,
@@ -57,7 +58,8 @@ impl Model for DigitPlace {
 }
 
 impl DigitPlace {
-    /// Returns the place with a number from 0 to 13.
+    /// Returns the operand for a digit place, or a number of digits to rotate by, from 0 to 13. Place 0 is the
+    /// rightmost digit of a register.
     pub fn new(number: u8) -> Self
         requires { number < place_count }
         ensures { result ≡ number }
@@ -65,7 +67,7 @@ impl DigitPlace {
         DigitPlace { number }
     }
 
-    /// Returns the number of the place, 0 to 13.
+    /// Returns the digit place, or the number of digits to rotate by, as a number from 0 to 13.
     pub fn number(self) -> u8
         ensures value { result ≡ self }
         ensures bound { result < place_count }
@@ -74,7 +76,7 @@ impl DigitPlace {
     }
 }
 
-/// A hexadecimal digit, 0 to 15, that a word loads.
+/// The operand of `LD@R n`: a hexadecimal digit, 0 to 15, that the word loads into C.
 #[derive(Clone, Copy, Debug, PartialEq, Eq)]
 pub struct LoadedDigit {
     number: u8,
@@ -91,7 +93,7 @@ impl Model for LoadedDigit {
 }
 
 impl LoadedDigit {
-    /// Returns the digit with a value from 0 to 15.
+    /// Returns the operand of `LD@R n` for a digit from 0 to 15.
     pub fn new(number: u8) -> Self
         requires { number < digit_count }
         ensures { result ≡ number }
@@ -99,7 +101,7 @@ impl LoadedDigit {
         LoadedDigit { number }
     }
 
-    /// Returns the value of the digit, 0 to 15.
+    /// Returns the digit that `LD@R n` loads, 0 to 15.
     pub fn number(self) -> u8
         ensures value { result ≡ self }
         ensures bound { result < digit_count }
@@ -108,7 +110,7 @@ impl LoadedDigit {
     }
 }
 
-/// A register, 0 to 15, of a block of 16 registers of the memory.
+/// The operand of `WRIT n`: a register, 0 to 15, of a block of 16 registers of the memory.
 #[derive(Clone, Copy, Debug, PartialEq, Eq)]
 pub struct BlockRegister {
     number: u8,
@@ -125,7 +127,7 @@ impl Model for BlockRegister {
 }
 
 impl BlockRegister {
-    /// Returns the register with a number from 0 to 15 in its block.
+    /// Returns the operand of `WRIT n` for the register with a number from 0 to 15 in its block of 16 registers.
     pub fn new(number: u8) -> Self
         requires { number < block_register_count }
         ensures { result ≡ number }
@@ -133,7 +135,7 @@ impl BlockRegister {
         BlockRegister { number }
     }
 
-    /// Returns the number of the register in its block, 0 to 15.
+    /// Returns the number, 0 to 15, of the register in its block of 16 registers of the memory.
     pub fn number(self) -> u8
         ensures value { result ≡ self }
         ensures bound { result < block_register_count }
@@ -142,7 +144,8 @@ impl BlockRegister {
     }
 }
 
-/// A register, 1 to 15, of a block of 16 registers that `READ n` can name. There is no `READ 0`: its word is `READ DATA`.
+/// The operand of `READ n`: a register, 1 to 15, of a block of 16 registers of the memory. There is no `READ 0`: its
+/// word is `READ DATA`.
 #[derive(Clone, Copy, Debug, PartialEq, Eq)]
 pub struct ReadRegister {
     number: u8,
@@ -159,7 +162,7 @@ impl Model for ReadRegister {
 }
 
 impl ReadRegister {
-    /// Returns the register with a number from 1 to 15 in its block.
+    /// Returns the operand of `READ n` for the register with a number from 1 to 15 in its block of 16 registers.
     pub fn new(number: u8) -> Self
         requires low { 1 ≤ number }
         requires high { number < block_register_count }
@@ -168,7 +171,7 @@ impl ReadRegister {
         ReadRegister { number }
     }
 
-    /// Returns the number of the register in its block, 1 to 15.
+    /// Returns the number, 1 to 15, of the register in its block of 16 registers of the memory.
     pub fn number(self) -> u8
         ensures value { result ≡ self }
         ensures low { 1 ≤ result }
@@ -196,7 +199,8 @@ impl Model for Displacement {
 }
 
 impl Displacement {
-    /// Returns the displacement of a number of words from -64 to 63.
+    /// Returns the displacement of a short jump whose target is a number of words, -64 to 63, from the address of the
+    /// jump.
     pub fn new(words: i8) -> Self
         requires low { least_displacement ≤ℤ words }
         requires high { words ≤ℤ greatest_displacement }
@@ -205,7 +209,7 @@ impl Displacement {
         Displacement { words }
     }
 
-    /// Returns the number of words, -64 to 63.
+    /// Returns the number of words, -64 to 63, from the address of the short jump to its target.
     pub fn words(self) -> i8
         ensures value { result ≡ self }
         ensures low { least_displacement ≤ℤ result }

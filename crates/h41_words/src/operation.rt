@@ -1,7 +1,7 @@
 //! The operations of arithmetic words within a field.
 
-/// An operation on a field of the registers A, B and C. The variants are in the order of the operation numbers 00 to 1F in the
-/// words.
+/// An operation on a field (some digit places) of the registers A, B and C; the other digits do not change. The
+/// variants are in the order of the operation numbers 00 to 1F in the words.
 #[derive(Clone, Copy, Debug, PartialEq, Eq)]
 pub enum Operation {
     /// `A=0`: clears A.
@@ -22,31 +22,31 @@ pub enum Operation {
     ExchangeBC,
     /// `A=C`: copies C to A.
     CToA,
-    /// `A=A+B`: adds B to A.
+    /// `A=A+B`: adds B to A and writes the sum to A.
     AddBToA,
-    /// `A=A+C`: adds C to A.
+    /// `A=A+C`: adds C to A and writes the sum to A.
     AddCToA,
     /// `A=A+1`: adds 1 to A.
     IncrementA,
-    /// `A=A-B`: subtracts B from A.
+    /// `A=A-B`: subtracts B from A and writes the difference to A.
     SubtractBFromA,
     /// `A=A-1`: subtracts 1 from A.
     DecrementA,
-    /// `A=A-C`: subtracts C from A.
+    /// `A=A-C`: subtracts C from A and writes the difference to A.
     SubtractCFromA,
-    /// `C=C+C`: adds C to itself.
+    /// `C=C+C`: adds C to itself and writes the sum to C.
     DoubleC,
-    /// `C=A+C`: adds A to C.
+    /// `C=A+C`: adds A to C and writes the sum to C.
     AddAToC,
     /// `C=C+1`: adds 1 to C.
     IncrementC,
-    /// `C=A-C`: writes A minus C to C.
+    /// `C=A-C`: subtracts C from A and writes the difference to C.
     SubtractCFromAToC,
     /// `C=C-1`: subtracts 1 from C.
     DecrementC,
-    /// `C=0-C`: writes the complement of C to the base to C.
+    /// `C=0-C`: subtracts C from 0 and writes the difference to C.
     NegateC,
-    /// `C=-C-1`: writes the complement of C to the base less one to C.
+    /// `C=-C-1`: subtracts C and 1 from 0 and writes the difference to C.
     ComplementC,
     /// `?B#0`: sets the carry if B is not 0.
     TestBNonzero,

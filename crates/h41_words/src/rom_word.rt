@@ -1,10 +1,10 @@
-//! The words of a ROM.
+//! The ten-bit words of a ROM.
 ghost use Rattle.std.specs.Prelude.{◌≡◌, ℕ, ◌<◌, ◌↔◌, IsSome, IfSome};
 ghost use Rattle.h41_words.specs.Counts.{word_count};
 
 use std::marker::Model;
 
-/// The number of different words.
+/// The number of different ten-bit words: 400 in hexadecimal.
 const COUNT: u16 = 1024;
 
 /// A word of the processor's ROM: ten bits, 000 to 3FF.
@@ -24,7 +24,7 @@ impl Model for Word {
 }
 
 impl Word {
-    /// Returns the word with a number, or `None` if the number is greater than 3FF.
+    /// Returns the ROM word with a number, or `None` if the number is greater than 3FF (hexadecimal).
     pub fn new(number: u16) -> Option<Self>
         ensures fits { IsSome result ↔ (number < word_count) }
         ensures value { IfSome result (λ word. word ≡ number) }
@@ -36,7 +36,7 @@ impl Word {
         }
     }
 
-    /// Returns the word with a number from 000 to 3FF.
+    /// Returns the ROM word with a number from 000 to 3FF (hexadecimal).
     pub(crate) fn of(number: u16) -> Self
         requires { number < word_count }
         ensures { result ≡ number }
@@ -44,7 +44,7 @@ impl Word {
         Word { number }
     }
 
-    /// Returns the number of the word, 000 to 3FF.
+    /// Returns the ten bits of the ROM word as a number, 000 to 3FF (hexadecimal).
     pub fn number(self) -> u16
         ensures value { result ≡ self }
         ensures bound { result < word_count }

@@ -6,7 +6,8 @@ use crate::operation::Operation;
 use crate::unassigned::UnassignedWord;
 use h41_fields::{Field, Pointer};
 
-/// The row of a word: its meaning. It belongs to a family of words with operands, or is a single word.
+/// The meaning of a ROM word that is the first or only word of an instruction: one row of the table of words. It is a
+/// family of words with operands, or a single word.
 #[derive(Clone, Copy, Debug, PartialEq, Eq)]
 pub enum Row {
     /// `A=A+1 ALL` and the like: performs an operation on a field of the registers A, B and C.
@@ -14,34 +15,36 @@ pub enum Row {
     /// `?NC XQ`, `?C XQ`, `?NC GO` or `?C GO`: the first word of a jump by address, with the low byte of the address. The second
     /// word (`SecondWord`) has the high byte and determines which of the four jumps it is.
     LongJump(u8),
-    /// `JNC +hh` and `JC +hh`: jumps by a displacement if the carry meets the condition.
+    /// `JNC +hh` and `JC +hh`: jumps by a displacement if the carry is clear (`JNC`) or set (`JC`).
     ShortJump(Condition, Displacement),
-    /// `CLRF n`: clears a status bit.
+    /// `CLRF n`: clears status bit `n`.
     ClearStatus(StatusBit),
-    /// `SETF n`: sets a status bit.
+    /// `SETF n`: sets status bit `n`.
     SetStatus(StatusBit),
-    /// `?FSET n`: sets the carry if a status bit is set.
+    /// `?FSET n`: sets the carry if status bit `n` is set.
     TestStatus(StatusBit),
-    /// `?R= n`: sets the carry if the active pointer is at a place.
+    /// `?R= n`: sets the carry if the active pointer is at digit place `n`.
     TestPointer(DigitPlace),
-    /// `R= n`: moves the active pointer to a place.
+    /// `R= n`: moves the active pointer to digit place `n`.
     SetPointer(DigitPlace),
-    /// `RCR n`: rotates C right by a number of digits.
+    /// `RCR n`: rotates C right by `n` digits.
     RotateRight(DigitPlace),
-    /// `LD@R n`: writes the digit to C at the active pointer's place.
+    /// `LD@R n`: writes the digit `n` to C at the active pointer's place, and moves the pointer down one place.
     LoadDigit(LoadedDigit),
-    /// `WRIT n`: writes C to a register of the selected block of 16.
+    /// `WRIT n`: writes C to register `n` of the selected block of 16 registers of the memory, and selects this
+    /// register.
     Write(BlockRegister),
-    /// `READ n`: copies a register of the selected block of 16 to C.
+    /// `READ n`: copies register `n` of the selected block of 16 registers of the memory to C, and selects this
+    /// register.
     Read(ReadRegister),
-    /// `CON hhh`: a word that is no instruction.
+    /// `CON hhh`: a word, with the number `hhh` in hexadecimal, that is no instruction.
     Constant(UnassignedWord),
 
     /// `NOP`: does nothing.
     Nop,
-    /// `WROM`: writes a word of a page.
+    /// `WROM`: writes the low ten bits of the digits 2 to 0 of C, as a word, to the address in the digits 6 to 3 of C.
     WriteRom,
-    /// `ENBANK1` to `ENBANK4`: makes a bank of the page the active bank.
+    /// `ENBANK1` to `ENBANK4`: makes bank 1, 2, 3 or 4 the active bank of the page that contains the word.
     EnableBank(Bank),
     /// `ST=0`: clears the status bits 0 to 7.
     ClearStatusByte,
@@ -49,9 +52,9 @@ pub enum Row {
     ClearKeyFlag,
     /// `?KEY`: sets the carry if the key flag is set.
     TestKeyFlag,
-    /// `R=R-1`: moves the active pointer down one place.
+    /// `R=R-1`: moves the active pointer down (to the right) by one digit place.
     DecrementPointer,
-    /// `R=R+1`: moves the active pointer up one place.
+    /// `R=R+1`: moves the active pointer up (to the left) by one digit place.
     IncrementPointer,
     /// `G=C`, `C=M`, `ST<>T` and the like: copies one of two registers to the other, or exchanges them.
     Transfer(RegisterTransfer),
@@ -59,17 +62,17 @@ pub enum Row {
     DropReturn,
     /// `POWOFF`: puts the processor to sleep.
     PowerOff,
-    /// `SLCT P` and `SLCT Q`: makes a pointer the active one.
+    /// `SLCT P` and `SLCT Q`: makes the pointer P or Q the active one.
     SelectPointer(Pointer),
-    /// `?P=Q`: sets the carry if both pointers are at the same place.
+    /// `?P=Q`: sets the carry if the pointers P and Q are at the same digit place.
     TestPointersEqual,
     /// `?LLD`: sets the carry if the battery is low.
     TestLowBattery,
     /// `CLRABC`: clears A, B and C.
     ClearRegisters,
-    /// `GOTO ADR`: jumps to the address in C.
+    /// `GOTO ADR`: jumps to the address in the digits 6 to 3 of C.
     GoToAddress,
-    /// `C=KEY`: copies the code of the key to C.
+    /// `C=KEY`: copies the code of the key, a byte, to the digits 4 and 3 of C.
     ReadKey,
     /// `SETHEX`: selects base 16 for arithmetic.
     SetHexadecimal,
@@ -79,65 +82,65 @@ pub enum Row {
     DisplayOff,
     /// `DISTOG`: turns the display on if it is off, and off if it is on.
     ToggleDisplay,
-    /// `?C RTN` and `?NC RTN`: returns if the carry meets the condition.
+    /// `?C RTN` and `?NC RTN`: returns if the carry is set (`?C RTN`) or clear (`?NC RTN`).
     ReturnIf(Condition),
     /// `RTN`: returns to the newest return address and removes it.
     Return,
     /// `LDI hhh`: copies the word that follows to places 2 to 0 of C.
     LoadImmediate,
-    /// `PUSH ADR`: makes the address in C the newest return address.
+    /// `PUSH ADR`: makes the address in the digits 6 to 3 of C the newest return address.
     PushAddress,
-    /// `POP ADR`: copies the newest return address to C and removes it.
+    /// `POP ADR`: copies the newest return address to the digits 6 to 3 of C and removes it.
     PopAddress,
-    /// `GOTO KEY`: jumps to an address whose low byte is the code of the key.
+    /// `GOTO KEY`: jumps to the next address with its low byte replaced by the code of the key.
     GoToKey,
-    /// `RAM SLCT`: selects a register of the memory.
+    /// `RAM SLCT`: selects the register of the memory whose address is the low ten bits of the digits 2 to 0 of C.
     SelectRegister,
-    /// `WRIT DATA`: writes C to the selected register.
+    /// `WRIT DATA`: writes C to the selected register of the memory.
     WriteData,
-    /// `READ DATA`: copies the selected register to C.
+    /// `READ DATA`: copies the selected register of the memory to C.
     ReadData,
-    /// `FETCH S&X`: copies a word of a page to places 2 to 0 of C.
+    /// `FETCH S&X`: copies the word at the address in the digits 6 to 3 of C to the digits 2 to 0 of C.
     FetchWord,
-    /// `C=C OR A`: combines C and A bit by bit with or.
+    /// `C=C OR A`: writes the bitwise or of C and A to C.
     Or,
-    /// `C=C AND A`: combines C and A bit by bit with and.
+    /// `C=C AND A`: writes the bitwise and of C and A to C.
     And,
-    /// `PRPH SLCT`: selects a peripheral.
+    /// `PRPH SLCT`: selects the peripheral whose number is in the digits 1 and 0 of C.
     SelectPeripheral,
 }
 
 /// The carry at which a jump or a return is taken.
 #[derive(Clone, Copy, Debug, PartialEq, Eq)]
 pub enum Condition {
-    /// `NC`: it is taken if the carry is clear.
+    /// `NC`: the jump or return is taken if the carry is clear.
     NoCarry,
-    /// `C`: it is taken if the carry is set.
+    /// `C`: the jump or return is taken if the carry is set.
     Carry,
 }
 
-/// A bank of a page, as the words that activate it name it.
+/// A bank of a page, which `ENBANK1` to `ENBANK4` make the active bank.
 #[derive(Clone, Copy, Debug, PartialEq, Eq)]
 pub enum Bank {
-    /// The first bank, of `ENBANK1`.
+    /// Bank 1, which `ENBANK1` activates.
     First,
-    /// The second bank, of `ENBANK2`.
+    /// Bank 2, which `ENBANK2` activates.
     Second,
-    /// The third bank, of `ENBANK3`.
+    /// Bank 3, which `ENBANK3` activates.
     Third,
-    /// The fourth bank, of `ENBANK4`.
+    /// Bank 4, which `ENBANK4` activates.
     Fourth,
 }
 
-/// A copy from one register to another, or an exchange of two registers: of C and G, M, N or the low byte of the status bits, or of
-/// that byte and T.
+/// A copy from one register of the processor to another, or an exchange of two: C with G, M, N or the status bits 0 to
+/// 7, or the status bits 0 to 7 with T.
 #[derive(Clone, Copy, Debug, PartialEq, Eq)]
 pub enum RegisterTransfer {
-    /// `G=C`: copies a byte of C to G.
+    /// `G=C`: copies the byte of C at the active pointer, whose low digit is at the pointer's place, to G.
     CToG,
-    /// `C=G`: copies G to a byte of C.
+    /// `C=G`: copies G to the byte of C at the active pointer, whose low digit is at the pointer's place.
     GToC,
-    /// `C<>G`: exchanges G and a byte of C.
+    /// `C<>G`: exchanges G and the byte of C at the active pointer, whose low digit is at the pointer's place.
     ExchangeCG,
     /// `M=C`: copies C to M.
     CToM,

@@ -4,31 +4,32 @@ ghost use Rattle.std.specs.Prelude.{◌≡◌};
 use crate::rom_word::Word;
 use crate::rows::Condition;
 
-/// The kind of a jump by address.
+/// What a jump by address (two words) does in addition to jumping: it calls or it only jumps.
 #[derive(Clone, Copy, Debug, PartialEq, Eq)]
 pub enum LongJumpKind {
     /// `XQ`: jumps, and makes the address after the two words the newest return address.
     Execute,
-    /// `GO`: jumps.
+    /// `GO`: jumps, and does not change the return addresses.
     Go,
 }
 
-/// The meaning of the second word of a jump by address. Every word can be a second word: its two low bits are the condition and the
-/// kind.
+/// The meaning of the second word of a jump by address. Every ten-bit word can be a second word: its two low bits are
+/// the condition and the kind, its eight high bits the high byte of the target.
 #[derive(Clone, Copy, Debug, PartialEq, Eq)]
 pub struct SecondWord {
     /// The carry at which the jump is taken: the carry before the first word of the jump.
     pub condition: Condition,
-    /// The kind of the jump.
+    /// Whether the jump is a call (`XQ`) or only a jump (`GO`).
     pub kind: LongJumpKind,
-    /// The high byte of the jump target.
+    /// The high byte of the 16-bit address of the jump target. The low byte is in the first word of the jump.
     pub high_byte: u8,
 }
 
 impl SecondWord {
     ghost use Rattle.h41_words.specs.SecondWord.{second_of, second_number_of};
 
-    /// Returns the meaning of a word as a second word.
+    /// Returns the condition, the kind and the high byte of the target that a word means as the second word of a jump
+    /// by address.
     pub fn of(word: Word) -> Self
         ensures { result ≡ second_of word }
     {
@@ -46,7 +47,8 @@ impl SecondWord {
         }
     }
 
-    /// Returns the word that has this meaning as a second word.
+    /// Returns the word that, as the second word of a jump by address, has this condition, this kind and this high
+    /// byte.
     pub fn word(self) -> Word
         ensures { result ≡ second_number_of self }
     {

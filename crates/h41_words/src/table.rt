@@ -1,4 +1,5 @@
-//! The table of the words: from a word to its row, and from a row to its word.
+//! The table of words: from a word to its row (its meaning), and from a row to its word. A word's column is its six low
+//! bits, its line the four high bits, 0 to 15.
 ghost use Rattle.std.specs.Prelude.{◌≡◌, ◌%◌, ◌/◌, ◌<◌, ◌⊎◌, IfSome, IfNone};
 ghost use Rattle.h41_words.specs.Counts.{word_count, place_count};
 ghost use Rattle.h41_words.specs.private.MappedColumns.{IsMappedColumn};
@@ -13,8 +14,9 @@ use crate::rows::{Bank, Condition, RegisterTransfer, Row};
 use crate::unassigned::UnassignedWord;
 use h41_fields::{Field, Pointer};
 
-/// The single words, column by column, each number with its row. The code for both directions is generated from this list: `$write`
-/// is the macro that generates one of them, and `$with` its arguments.
+/// The instructions without a family, grouped by column (the six low bits of the word), each number with its row. The
+/// code for both directions is generated from this list: `$write` is the macro that generates one of them, and `$with`
+/// its arguments.
 macro_rules! single_words {
     ($write:ident $with:tt) => {
         $write! { $with Row
@@ -87,7 +89,7 @@ macro_rules! single_words {
     };
 }
 
-/// The operations of arithmetic words, each number with its operation.
+/// The operations of arithmetic words, each operation number, 00 to 1F, with its operation.
 macro_rules! operations {
     ($write:ident $with:tt) => {
         $write! { $with Operation
@@ -129,7 +131,7 @@ macro_rules! operations {
     };
 }
 
-/// The fields of arithmetic words, each number with its field.
+/// The fields of arithmetic words, each field number, 0 to 7, with its field.
 macro_rules! fields {
     ($write:ident $with:tt) => {
         $write! { $with Field
@@ -147,7 +149,8 @@ macro_rules! fields {
     };
 }
 
-/// The mapped column: each line that means a number, with this number. Lines 7 and 15 mean none.
+/// The numbers of status bits, pointer places and rotations in the instructions that take one: each line (the four high
+/// bits of the word), with the number that it means. Lines 7 and 15 mean none.
 macro_rules! mapped_column {
     ($write:ident $with:tt) => {
         $write! { $with
@@ -169,7 +172,8 @@ macro_rules! mapped_column {
     };
 }
 
-/// Generates the match from a number to its name in one part of a list; any other number has the given value.
+/// Generates the match from a number to the name that one part of a list gives it. Any other number has the given
+/// value.
 macro_rules! name_beside {
     ((all $($with:tt)*) $kind:ident all $part:tt) => { match_number!($kind $part $($with)*) };
     ((column_00 $($with:tt)*) $kind:ident column_00 $part:tt $($more:tt)*) => { match_number!($kind $part $($with)*) };
@@ -181,7 +185,7 @@ macro_rules! name_beside {
     ($with:tt $kind:ident $other:ident $part:tt $($more:tt)*) => { name_beside!($with $kind $($more)*) };
 }
 
-/// Generates the match of `name_beside` for one part of a list.
+/// Generates the match from a number to its name for one part of a list. `name_beside` has selected this part.
 macro_rules! match_number {
     (
         $kind:ident { $($number:literal => $name:ident $(($operand:path))?,)* }
@@ -194,7 +198,7 @@ macro_rules! match_number {
     };
 }
 
-/// Generates the match from each name of a list to its number; any other name has the given value.
+/// Generates the match from each name of a list to the number beside it. Any other name has the given value.
 macro_rules! number_beside {
     (
         (of $value:expr $(, else $other:expr)?) $kind:ident
@@ -207,7 +211,8 @@ macro_rules! number_beside {
     };
 }
 
-/// Generates the match from a line to the number that it means, if any.
+/// Generates the match from a line (the four high bits of a word) to the number that the line means, `None` if it means
+/// none.
 macro_rules! number_of_line {
     ((of $value:expr) $($line:literal => $meant:literal,)*) => {
         match $value {
@@ -217,7 +222,7 @@ macro_rules! number_of_line {
     };
 }
 
-/// Generates the match from a number to the line that means it.
+/// Generates the match from a number, 0 to 13, to the line (the four high bits of a word) that means it.
 macro_rules! line_of_number {
     ((of $value:expr) $($line:literal => $meant:literal,)*) => {
         match $value {
@@ -227,7 +232,7 @@ macro_rules! line_of_number {
     };
 }
 
-/// Returns the row of a word.
+/// Returns the row of the table of words, which is the meaning, of a word. Every ten-bit word has one.
 #[inline(always)]
 pub fn row(word: Word) -> Row
     ensures row { result ≡ spec.row_of word }
@@ -243,7 +248,7 @@ pub fn row(word: Word) -> Row
     }
 }
 
-/// Returns the row of a jump, long or short: a word whose lowest bit is 1.
+/// Returns the row of the table of words for a jump, long or short: a word whose lowest bit is 1.
 #[tactic(auto, unfolding(crate::specs::WordTable::number_of))]
 #[inline(always)]
 fn jump(word: Word) -> Row
@@ -259,7 +264,7 @@ fn jump(word: Word) -> Row
     }
 }
 
-/// Returns the operation with a number from 0 to 31.
+/// Returns the arithmetic operation with an operation number from 0 to 31.
 #[inline(always)]
 fn operation(number: u16) -> Operation
     requires { number < 32 }
@@ -268,7 +273,7 @@ fn operation(number: u16) -> Operation
     operations!(name_beside (all of number, else unreachable!()))
 }
 
-/// Returns the field with a number from 0 to 7.
+/// Returns the field of arithmetic words with a field number from 0 to 7.
 #[inline(always)]
 fn field(number: u16) -> Field
     requires { number < 8 }
@@ -277,7 +282,7 @@ fn field(number: u16) -> Field
     fields!(name_beside (all of number, else unreachable!()))
 }
 
-/// Returns the row of a short jump.
+/// Returns the row of the table of words for a short jump: a word whose two low bits are 1.
 #[tactic(auto, unfolding(crate::specs::WordTable::number_of))]
 #[inline(always)]
 fn short_jump(word: Word) -> Row
@@ -289,7 +294,7 @@ fn short_jump(word: Word) -> Row
     Row::ShortJump(condition(number / 4 % 2), displacement(number / 8))
 }
 
-/// Returns the condition that a bit, 0 or 1, encodes.
+/// Returns the condition that a bit encodes: 0 for a clear carry, 1 for a set carry.
 #[inline(always)]
 fn condition(bit: u16) -> Condition
     requires { bit < 2 }
@@ -302,7 +307,8 @@ fn condition(bit: u16) -> Condition
     }
 }
 
-/// Returns the displacement that seven bits, 0 to 127, encode. Values from 64 on are negative.
+/// Returns the displacement of a short jump, -64 to 63 words, that seven bits, 0 to 127, encode. The bits 64 to 127
+/// encode -64 to -1.
 #[inline(always)]
 fn displacement(bits: u16) -> Displacement
     requires { bits < 128 }
@@ -313,7 +319,7 @@ fn displacement(bits: u16) -> Displacement
     Displacement::new(words as i8)
 }
 
-/// Returns the row of a word whose two low bits are 00.
+/// Returns the row of the table of words for a word whose two low bits are 00.
 #[tactic(auto, unfolding(crate::specs::WordTable::number_of))]
 #[inline(always)]
 fn miscellaneous(word: Word) -> Row
@@ -339,7 +345,8 @@ fn miscellaneous(word: Word) -> Row
     }
 }
 
-/// Returns the number, 0 to 13, that a line, 0 to 15, of a mapped column means. Returns `None` for lines 7 and 15.
+/// Returns the number, 0 to 13, of a status bit, pointer place or rotation that a line (the four high bits of the
+/// word), 0 to 15, means. Returns `None` for lines 7 and 15.
 #[inline(always)]
 fn meant_by(line: u8) -> Option<u8>
     requires { line < 16 }
@@ -350,7 +357,8 @@ fn meant_by(line: u8) -> Option<u8>
     mapped_column!(number_of_line (of line))
 }
 
-/// Returns the row of a word of a mapped column whose line means a number from 0 to 13.
+/// Returns the row of the table of words for an instruction with a number `meant` from 0 to 13, such as `CLRF n`. The
+/// word's four high bits encode this number.
 #[tactic(auto, unfolding(crate::specs::WordTable::number_of))]
 #[inline(always)]
 fn mapped(word: Word, meant: u8) -> Row
@@ -370,7 +378,8 @@ fn mapped(word: Word, meant: u8) -> Row
     }
 }
 
-/// Returns the row of a word of a mapped column whose line, 7 or 15, means no number.
+/// Returns the row of the table of words for a word with 7 or 15 as its four high bits, in a column (the six low bits)
+/// in which the other values encode the operand of an instruction, such as `CLRF n`.
 #[tactic(auto, unfolding(crate::specs::WordTable::number_of))]
 #[inline(always)]
 fn unmapped(word: Word) -> Row
@@ -382,7 +391,7 @@ fn unmapped(word: Word) -> Row
     single_words!(name_beside (unmapped of word.number(), else Row::Constant(UnassignedWord::new(word))))
 }
 
-/// Returns the row of a word whose six low bits are 00.
+/// Returns the row of the table of words for a word whose six low bits are 00 (hexadecimal).
 #[tactic(auto, unfolding(crate::specs::WordTable::number_of))]
 #[inline(always)]
 fn column_00(word: Word) -> Row
@@ -393,7 +402,7 @@ fn column_00(word: Word) -> Row
     single_words!(name_beside (column_00 of word.number(), else Row::Constant(UnassignedWord::new(word))))
 }
 
-/// Returns the row of a word whose six low bits are 18.
+/// Returns the row of the table of words for a word whose six low bits are 18 (hexadecimal).
 #[tactic(auto, unfolding(crate::specs::WordTable::number_of))]
 #[inline(always)]
 fn column_18(word: Word) -> Row
@@ -404,7 +413,7 @@ fn column_18(word: Word) -> Row
     single_words!(name_beside (column_18 of word.number(), else Row::Constant(UnassignedWord::new(word))))
 }
 
-/// Returns the row of a word whose six low bits are 20.
+/// Returns the row of the table of words for a word whose six low bits are 20 (hexadecimal).
 #[tactic(auto, unfolding(crate::specs::WordTable::number_of))]
 #[inline(always)]
 fn column_20(word: Word) -> Row
@@ -415,7 +424,7 @@ fn column_20(word: Word) -> Row
     single_words!(name_beside (column_20 of word.number(), else unreachable!()))
 }
 
-/// Returns the row of a word whose six low bits are 30.
+/// Returns the row of the table of words for a word whose six low bits are 30 (hexadecimal).
 #[tactic(auto, unfolding(crate::specs::WordTable::number_of))]
 #[inline(always)]
 fn column_30(word: Word) -> Row
@@ -426,7 +435,7 @@ fn column_30(word: Word) -> Row
     single_words!(name_beside (column_30 of word.number(), else Row::Constant(UnassignedWord::new(word))))
 }
 
-/// Returns the row of a word whose six low bits are 38.
+/// Returns the row of the table of words for a word whose six low bits are 38 (hexadecimal).
 #[tactic(auto, unfolding(crate::specs::WordTable::number_of))]
 #[inline(always)]
 fn column_38(word: Word) -> Row
@@ -439,14 +448,14 @@ fn column_38(word: Word) -> Row
     single_words!(name_beside (column_38 of number, else Row::Read(ReadRegister::new(line))))
 }
 
-/// Returns the word of a row.
+/// Returns the ten-bit word that has a row of the table of words as its meaning.
 pub fn word(row: Row) -> Word
     ensures { result ≡ spec.number_of row }
 {
     Word::of(number(row))
 }
 
-/// Returns the number of a row's word.
+/// Returns the number, 000 to 3FF (hexadecimal), of the word that has a row of the table of words as its meaning.
 #[tactic(auto, unfolding(crate::specs::WordTable::number_of))]
 fn number(row: Row) -> u16
     ensures value { result ≡ spec.number_of row }
@@ -474,7 +483,7 @@ fn number(row: Row) -> u16
     }
 }
 
-/// Returns the number of the word in a line, 0 to 15, and a column, which is the six low bits.
+/// Returns the number of the word whose four high bits are `line`, 0 to 15, and whose six low bits are `column`.
 fn at(line: u8, column: u16) -> u16
     requires line { line < 16 }
     requires column { column < 64 }
@@ -484,7 +493,8 @@ fn at(line: u8, column: u16) -> u16
     u16::from(line) * 64 + column
 }
 
-/// Returns the line of a mapped column that means a number from 0 to 13.
+/// Returns the four high bits of an instruction word, 0 to 14, that encode a status bit, pointer place or rotation from
+/// 0 to 13.
 fn line_of(meant: u8) -> u8
     requires { meant < place_count }
     ensures value { result ≡ spec.mapped_line meant }
@@ -493,7 +503,8 @@ fn line_of(meant: u8) -> u8
     mapped_column!(line_of_number (of meant))
 }
 
-/// Returns the seven bits of a displacement, 0 to 127. Those from 64 on encode the negative displacements.
+/// Returns the seven bits, 0 to 127, that encode a displacement of -64 to 63 words in a short jump. Those from 64 on
+/// encode the negative displacements.
 #[tactic(auto, using(crate::proofs::Displacements::bits_backward, crate::proofs::Displacements::bits_forward))]
 fn displacement_bits(displacement: Displacement) -> u16
     ensures value { result ≡ spec.displacement_bits displacement }
@@ -504,7 +515,7 @@ fn displacement_bits(displacement: Displacement) -> u16
     if words < 0 { 128 - size } else { size }
 }
 
-/// Returns the bit that encodes a condition, bit 2 of a short jump.
+/// Returns the bit that encodes a condition in bit 2 of a short jump: 0 for a clear carry, 1 for a set carry.
 fn condition_bit(condition: Condition) -> u16
     ensures value { result ≡ spec.condition_bit condition }
     ensures bound { result < 2 }
@@ -515,7 +526,7 @@ fn condition_bit(condition: Condition) -> u16
     }
 }
 
-/// Returns the number of an operation, 0 to 31.
+/// Returns the number, 0 to 31, of an arithmetic operation in the words.
 fn operation_number(operation: Operation) -> u16
     ensures value { result ≡ spec.operation_number operation }
     ensures bound { result < 32 }
@@ -523,7 +534,7 @@ fn operation_number(operation: Operation) -> u16
     operations!(number_beside (of operation))
 }
 
-/// Returns the number of a field, 0 to 7.
+/// Returns the number, 0 to 7, of a field in arithmetic words.
 fn field_number(field: Field) -> u16
     ensures value { result ≡ spec.field_number field }
     ensures bound { result < 8 }
@@ -531,7 +542,8 @@ fn field_number(field: Field) -> u16
     fields!(number_beside (of field))
 }
 
-/// Returns the number of words, 1 or 2, of an instruction that begins with this word. A jump by address and `LDI` have two.
+/// Returns the number of words, 1 or 2, of an instruction that begins with a word. A jump by address and `LDI` have
+/// two.
 pub fn length(word: Word) -> u16
     ensures { result ≡ spec.length_of word }
 {

@@ -1,11 +1,11 @@
-//! The words that are no instruction.
+//! The ten-bit words that are no instruction.
 ghost use Rattle.std.specs.Prelude.{◌≡◌, ℕ, ◌<◌, Contains};
 ghost use Rattle.h41_words.specs.Unassigned.{unassigned_words};
 
 use crate::rom_word::Word;
 use std::marker::Model;
 
-/// A word that is no instruction.
+/// A ten-bit word, such as 080, that is no instruction. A listing shows it as `CON hhh`.
 #[derive(Clone, Copy, Debug, PartialEq, Eq)]
 pub struct UnassignedWord {
     word: Word,
@@ -22,7 +22,7 @@ impl Model for UnassignedWord {
 }
 
 impl UnassignedWord {
-    /// Returns a word that is in the list of unassigned words as an unassigned word.
+    /// Returns the wrapper of a word that is in the list of words without an instruction.
     pub(crate) fn new(word: Word) -> Self
         requires { Contains unassigned_words word }
         ensures { result ≡ word }
@@ -30,7 +30,7 @@ impl UnassignedWord {
         UnassignedWord { word }
     }
 
-    /// Returns the word itself.
+    /// Returns the ROM word that is no instruction.
     pub fn word(self) -> Word
         ensures value { result ≡ self }
         ensures unassigned { Contains unassigned_words result }

@@ -1,4 +1,4 @@
-//! Performs the action of a key on memory and on the rest of the state that program lines work on.
+//! Performs what a pressed key does to memory and to the rest of the state of keystroke programs.
 
 ghost use Rattle.std.specs.Prelude.{◌≡◌, OnErr, is_ok};
 ghost use Rattle.h41_positions.specs.LabelledMachine.{AreRight, machine_of};
@@ -19,28 +19,30 @@ use h41_keys::Action;
 use h41_pages::Pages;
 use h41_program::ProgramRefusal;
 
-/// The program line CLX.
+/// The program line `CLX`.
 const CLEAR_X: Line = Line::Plain(Function::ClearX);
 
-/// What remains to be done after a key's action has changed memory and the rest of the state that lines work on.
+/// What remains to be done after a key has changed memory and the rest of the state of keystroke programs.
 #[derive(Clone, Copy)]
 pub enum KeyEffect {
-    /// Nothing.
+    /// Nothing remains to be done.
     Nothing,
-    /// The effect of a line that ended in this way.
+    /// The key executed a program line, which ended in this way: its result is shown, or a function in microcode
+    /// starts.
     Line(LineEnd),
-    /// The running program stops.
+    /// The running program is to be stopped.
     Stops,
-    /// A program starts.
+    /// A program is to be started, at the position.
     Starts,
 }
 
-/// Performs the action of a key, except for its effect on the display and the mode, and returns what remains to be
-/// done.
+/// Performs what a key does to memory and to the rest of the state of keystroke programs, and returns what remains to
+/// be done. The display and the mode are not changed.
 ///
 /// # Errors
 ///
-/// BrokenProgram (14), NotInProfile (13) or NoRoom (16). Nothing is changed then.
+/// BrokenProgram (14) if bytes are not a program line, NotInProfile (13) if the bench does not support a line, NoRoom
+/// (16) if the programs would not fit into main memory. Nothing is changed then.
 pub fn act<const REGS: usize>(
     machine: &mut Machine<REGS>,
     pages: &Pages,
@@ -82,7 +84,8 @@ pub fn act<const REGS: usize>(
     }
 }
 
-/// Returns the result of an edit of the program, or of a move in it, as the result of a key's action.
+/// Returns the result of an edit of the program, or of a move to another line, as the result of a key: nothing remains
+/// to be done, or the edit's error, BrokenProgram (14) or NoRoom (16).
 fn edited(given: Result<(), ProgramRefusal>) -> Result<KeyEffect, CalculatorRefusal>
     ensures { result ≡ edited_as given }
 {
@@ -92,7 +95,8 @@ fn edited(given: Result<(), ProgramRefusal>) -> Result<KeyEffect, CalculatorRefu
     }
 }
 
-/// Executes the line at the position, or one that was typed.
+/// Executes the program line at the position, or one that was typed, and returns how it ended. The errors are
+/// MemoryLost (15), BrokenProgram (14) and NotInProfile (13). Nothing is changed then.
 fn carried<const REGS: usize>(
     machine: &mut Machine<REGS>,
     pages: &Pages,

@@ -1,4 +1,4 @@
-//! The calculator: processor, memory, pages and keys, and its mode.
+//! The calculator: processor, memory, pages and keys, and whether a program or a function runs.
 
 ghost use Rattle.std.specs.Prelude.{◌≡◌, ◌≢◌, ◌≤◌, None, IfOk, IfErr, OnOk, OnErr, length};
 ghost use Rattle.std.specs.Prelude.{is_ok, option_map};
@@ -46,10 +46,10 @@ use h41_ram::flags::ALPHA_MODE;
 use std::alloc::{AllocError, Global};
 use std::marker::Model;
 
-/// What the calculator is doing.
+/// What the calculator is doing: nothing, executing a keystroke program, or executing a function in microcode.
 #[derive(Clone, Copy, Debug, PartialEq, Eq)]
 pub enum Mode {
-    /// Nothing runs.
+    /// Nothing runs: the calculator waits for a key.
     Idle,
     /// A keystroke program runs.
     Run,
@@ -57,7 +57,7 @@ pub enum Mode {
     Micro(Caller),
 }
 
-/// What continues when a function in microcode ends.
+/// What continues when a function in microcode ends: nothing, or a keystroke program.
 #[derive(Clone, Copy, Debug, PartialEq, Eq)]
 pub enum Caller {
     /// Nothing: the function was called while nothing ran.
@@ -67,7 +67,8 @@ pub enum Caller {
 }
 
 impl Caller {
-    /// Returns the caller of a function that starts in this mode.
+    /// Returns the caller of a function in microcode that starts while the calculator is in this mode: what continues
+    /// when the function ends.
     fn in_mode(mode: Mode) -> Self
         ensures { result ≡ caller_in mode }
     {
@@ -78,7 +79,8 @@ impl Caller {
         }
     }
 
-    /// Returns the mode after the function has ended.
+    /// Returns the mode after a function in microcode has ended: `Run` if a keystroke program called it, otherwise
+    /// `Idle`.
     fn mode(self) -> Mode
         ensures { result ≡ mode_of self }
     {
@@ -89,15 +91,17 @@ impl Caller {
     }
 }
 
-/// The calculator: processor, memory of `REGS` main registers, 64 to 320, pages and keys, and its mode.
+/// The whole calculator: processor, memory with `REGS` registers of main memory (64 to 320), pages, keys, keystroke
+/// programs, and whether a program or a function runs.
 #[derive(Drop)]
 pub struct Calculator<const REGS: usize> {
     cpu: Cpu,
-    /// Memory, and the rest of the state that lines work on.
+    /// Memory, and the rest of the state of keystroke programs: the position, the return stack and stack lift.
     machine: Machine<REGS>,
     pages: Pages,
     keys: Keys,
-    /// What the keyboard remembers between keys.
+    /// What the keyboard remembers between keys: SHIFT, program mode, a prompt, and the number or text that is being
+    /// typed.
     input: Input,
     /// The message: the text that the display shows before anything else, if there is one.
     message: Option<DisplayText>,
@@ -128,7 +132,8 @@ impl<const REGS: usize> Model for Calculator<REGS> {
 }
 
 impl<const REGS: usize> Calculator<REGS> {
-    /// Returns a calculator in its initial state: nothing is plugged and nothing runs.
+    /// Returns a calculator in its initial state: nothing is plugged and nothing runs. `REGS`, the number of registers
+    /// of main memory, must be 64 to 320.
     ///
     /// # Errors
     ///
@@ -150,14 +155,14 @@ impl<const REGS: usize> Calculator<REGS> {
         })
     }
 
-    /// Returns the processor.
+    /// Returns the Nut processor of the calculator with its registers.
     pub fn cpu(&self) -> &Cpu
         ensures { result.now ≡ self.now.state.nut.processor }
     {
         &self.cpu
     }
 
-    /// Returns the memory.
+    /// Returns the memory of the calculator: status registers and main memory.
     pub fn ram(&self) -> &Ram<REGS>
         ensures registers { result.now.registers ≡ self.now.state.nut.ram }
         ensures mark { result.now.touched ≡ self.now.cache.touched }
@@ -165,28 +170,28 @@ impl<const REGS: usize> Calculator<REGS> {
         &self.machine.ram
     }
 
-    /// Returns the pages.
+    /// Returns the pages of the address space with what is plugged at them.
     pub fn pages(&self) -> &Pages
         ensures { result.now ≡ self.now.state.nut.pages }
     {
         &self.pages
     }
 
-    /// Returns the mode: whether nothing, a program or a function runs.
+    /// Returns the mode: whether nothing, a keystroke program or a function in microcode runs.
     pub fn mode(&self) -> Mode
         ensures { result ≡ self.now.state.mode }
     {
         self.mode
     }
 
-    /// Returns the keyboard as the processor sees it: the key code and the key flag.
+    /// Returns the keyboard as the processor sees it: the code of the last key and the key flag.
     pub fn keys(&self) -> &Keys
         ensures { result.now ≡ self.now.state.nut.keys }
     {
         &self.keys
     }
 
-    /// Returns the state, besides memory, that lines work on: the position, the return stack and stack lift.
+    /// Returns the state, besides memory, of keystroke programs: the position, the return stack and stack lift.
     pub fn focal(&self) -> &Focal
         ensures state { result.now.state ≡ self.now.state.focal }
         ensures labels { result.now.labels ≡ self.now.cache.labels }
@@ -194,7 +199,8 @@ impl<const REGS: usize> Calculator<REGS> {
         &self.machine.focal
     }
 
-    /// Returns memory together with the rest of the state that lines work on.
+    /// Returns memory together with the rest of the state of keystroke programs: the position, the return stack and
+    /// stack lift.
     pub fn machine(&self) -> &Machine<REGS>
         ensures machine { labelled.machine_of result.now ≡ machine_of self.now.state }
         ensures cache { cache_of result.now ≡ self.now.cache }
@@ -217,12 +223,12 @@ impl<const REGS: usize> Calculator<REGS> {
         self.message
     }
 
-    /// Starts the function at an address.
+    /// Starts the function in microcode at an address, which ends the entry of a number or text.
     ///
     /// # Errors
     ///
-    /// Busy (24) while a program or a function runs; SystemRom (08) if the address is below 4000. That includes 00F0, because a
-    /// call is not a jump to the end of a function. Nothing is changed then.
+    /// Busy (24) while a program or a function runs; SystemRom (08) if the address is below 4000. That includes 00F0,
+    /// because a call is not a jump to the end of a function. Nothing is changed then.
     pub fn call(&mut self, address: u16) -> Result<(), CalculatorRefusal>
         ensures refusal { result_err result ≡ call_refusal self.old.state address }
         ensures change { OnOk result (self.new.state ≡ after_call address self.old.state) }
@@ -240,7 +246,7 @@ impl<const REGS: usize> Calculator<REGS> {
         Ok(())
     }
 
-    /// Ends the entry of a number or a text.
+    /// Ends the entry of the number or text that is being typed, if there is one.
     fn end_entry(&mut self)
         ensures state { self.new.state ≡ not_typing self.old.state }
         ensures cache { self.new.cache ≡ self.old.cache }
@@ -251,7 +257,8 @@ impl<const REGS: usize> Calculator<REGS> {
         }
     }
 
-    /// Makes the function at an address run.
+    /// Starts the function in microcode at an address. The mode becomes `Micro`, with what continues when the function
+    /// ends.
     fn enter(&mut self, address: u16)
         ensures state { self.new.state ≡ with_function address self.old.state }
         ensures cache { self.new.cache ≡ self.old.cache }
@@ -260,13 +267,14 @@ impl<const REGS: usize> Calculator<REGS> {
         self.mode = Mode::Micro(Caller::in_mode(self.mode));
     }
 
-    /// Makes one single step: the next word while a function runs, which ends when its next address is 00F0; otherwise the line
-    /// at the position.
+    /// Executes one word of microcode while a function runs, which ends when its next address is 00F0. Otherwise
+    /// executes the program line at the position.
     ///
     /// # Errors
     ///
-    /// A word: 06 to 12. A line: MemoryLost (15) if memory is not sound, BrokenProgram (14) if bytes are not a line, NotInProfile
-    /// (13) if the bench does not support the line. Nothing is changed then.
+    /// For a word: an error with a number from 06 to 12 (see `WordRefusal`). For a line: MemoryLost (15) if memory is
+    /// not sound, BrokenProgram (14) if bytes are not a line, NotInProfile (13) if the bench does not support the line.
+    /// Nothing is changed then.
     #[inline(always)]
     pub fn step(&mut self) -> Result<(), CalculatorRefusal>
         ensures refusal { RefusesStep self.old.state (result_err result) }
@@ -283,12 +291,13 @@ impl<const REGS: usize> Calculator<REGS> {
         }
     }
 
-    /// Executes the line at the position and shows its result, or starts a module's function. This is the single step while no
-    /// function runs.
+    /// Executes the program line at the position and shows its result, or starts a module's function. This is what
+    /// `step` does while no function in microcode runs.
     ///
     /// # Errors
     ///
-    /// MemoryLost (15), BrokenProgram (14) and NotInProfile (13), as for `step`. Nothing is changed then.
+    /// MemoryLost (15) if memory is not sound, BrokenProgram (14) if bytes are not a line, NotInProfile (13) if the
+    /// bench does not support the line. Nothing is changed then.
     #[inline(always)]
     pub fn step_line(&mut self) -> Result<(), CalculatorRefusal>
         ensures refusal { RefusesLine self.old.state (result_err result) }
@@ -318,7 +327,9 @@ impl<const REGS: usize> Calculator<REGS> {
         }
     }
 
-    /// Executes the line at the position with everything that it may call.
+    /// Executes the program line at the position, including the functions of modules or the names that it calls, and
+    /// shows its result or starts a module's function. The errors are MemoryLost (15), BrokenProgram (14) and
+    /// NotInProfile (13). Nothing is changed then.
     #[inline(never)]
     fn call_by_line(&mut self) -> Result<(), CalculatorRefusal>
         ensures refusal { RefusesLine self.old.state (result_err result) }
@@ -337,8 +348,8 @@ impl<const REGS: usize> Calculator<REGS> {
         }
     }
 
-    /// Shows the result of a line whose outcome was returned without its texts, and changes the mode. The texts are made from
-    /// memory.
+    /// Shows the result of an executed line, and changes the mode if the line stops or starts a program. `brief` is the
+    /// line's outcome without the texts that the display shows; they are made from memory.
     #[inline(never)]
     fn answer_briefly(&mut self, brief: BriefOutcome)
         requires { brief ≢ Elsewhere }
@@ -350,7 +361,7 @@ impl<const REGS: usize> Calculator<REGS> {
         self.answer(outcome);
     }
 
-    /// Shows the result of a line that ended, or makes the function run that it starts.
+    /// Shows the result of a line that was executed, or starts the function in microcode that the line calls.
     #[inline(always)]
     fn end_line(&mut self, end: LineEnd)
         ensures state { self.new.state ≡ after_end end self.old.state }
@@ -362,7 +373,7 @@ impl<const REGS: usize> Calculator<REGS> {
         }
     }
 
-    /// Shows the result of a line, and changes the mode if the line stops the program or starts one.
+    /// Shows the result of an executed line, and changes the mode if the line stops or starts a program.
     #[inline(always)]
     fn answer(&mut self, outcome: LineOutcome)
         ensures state { self.new.state ≡ after_answer (answer_of outcome) self.old.state }
@@ -372,7 +383,8 @@ impl<const REGS: usize> Calculator<REGS> {
         self.show(outcome);
     }
 
-    /// Shows the result of a line in the display.
+    /// Shows the result of an executed line in the display: a text, an error or the answer of a test as the message.
+    /// `OFF` turns the display off.
     #[inline(always)]
     fn show(&mut self, outcome: LineOutcome)
         ensures state { self.new.state ≡ with_shown (answer_of outcome) self.old.state }
@@ -412,7 +424,13 @@ impl<const REGS: usize> Calculator<REGS> {
         }
     }
 
-    /// Performs the action of a key that has a meaning, or returns why it is refused.
+    /// Performs what an accepted key does, stores its code, sets the key flag and turns the display on.
+    ///
+    /// # Errors
+    ///
+    /// MemoryLost (15) if nothing runs and memory is not sound, BrokenProgram (14) if bytes are not a line or a program
+    /// has no line at the position, NotInProfile (13) if the bench does not support a line, NoRoom (16) if memory is
+    /// full. Nothing is changed then.
     fn accept(&mut self, key: Key, input: Input, action: Action) -> Result<(), CalculatorRefusal>
         requires { IsAccepted self.old.state action }
         ensures key { Accepts key input action self.old.state self.new.state (result_err result) }
@@ -429,7 +447,7 @@ impl<const REGS: usize> Calculator<REGS> {
         }
     }
 
-    /// Checks that a key can be performed. MemoryLost (15) if nothing runs and memory is not sound.
+    /// Returns MemoryLost (15) if nothing runs and memory is not sound, because a key cannot be performed then.
     fn check_memory(&self) -> Result<(), CalculatorRefusal>
         ensures { result_err result ≡ keys.key_refusal self.now.state }
     {
@@ -439,7 +457,7 @@ impl<const REGS: usize> Calculator<REGS> {
         Ok(())
     }
 
-    /// Returns what runs, in the keyboard's terms.
+    /// Returns whether nothing, a program or a function runs, as a value of the keyboard's type `Activity`.
     fn waits(&self) -> h41_keys::Activity
         ensures { result ≡ keys.activity_of self.now.state.mode }
     {
@@ -450,7 +468,8 @@ impl<const REGS: usize> Calculator<REGS> {
         }
     }
 
-    /// Returns the rest of the state that decides what a key means: ALPHA mode, a message, and where the shown line is.
+    /// Returns the rest of the state that decides what a key means: ALPHA mode (flag 48), whether there is a message,
+    /// and whether the position is in memory or in a page.
     fn key_flags(&self) -> Flags
         ensures { keys.HasFlags self.now.state result }
     {
@@ -461,7 +480,8 @@ impl<const REGS: usize> Calculator<REGS> {
         }
     }
 
-    /// Stores the code of an accepted key, sets the key flag and turns the display on. While nothing runs, removes the message.
+    /// Stores the code of an accepted key for the processor, sets the key flag, turns the display on, and stores
+    /// `input` as what the keyboard remembers. While nothing runs, also removes the message.
     fn tell(&mut self, key: Key, input: Input)
         ensures state { self.new.state ≡ keys.with_key_told key input self.old.state }
         ensures cache { self.new.cache ≡ self.old.cache }
@@ -477,7 +497,8 @@ impl<const REGS: usize> Calculator<REGS> {
         }
     }
 
-    /// Does what remains of a key's action.
+    /// Does what remains after a key has changed memory: shows the result of a line or starts its function, stops the
+    /// program, or starts one.
     fn finish(&mut self, effect: KeyEffect)
         ensures state { self.new.state ≡ after_effect effect self.old.state }
         ensures cache { self.new.cache ≡ self.old.cache }
@@ -490,12 +511,12 @@ impl<const REGS: usize> Calculator<REGS> {
         }
     }
 
-    /// Executes one word while a function runs, and returns whether the function still runs. When it ends, stack lift is enabled.
-    /// This is the single step while a function runs.
+    /// Executes one word of microcode while a function runs, and returns whether the function still runs. When it ends,
+    /// stack lift is enabled, and the mode is that of `caller`. This is what `step` does while a function runs.
     ///
     /// # Errors
     ///
-    /// 06 to 12, as for `step`. Nothing is changed then.
+    /// An error with a number from 06 to 12 (see `WordRefusal`). Nothing is changed then.
     #[inline(always)]
     pub fn step_word(&mut self, caller: Caller) -> Result<bool, CalculatorRefusal>
         requires { self.old.state.mode ≡ Micro caller }
@@ -521,14 +542,14 @@ impl<const REGS: usize> Calculator<REGS> {
         Ok(true)
     }
 
-    /// Loads the lines in the bytes after the programs in memory, moves to line 00 of the first of them, and clears the return
-    /// stack. Stack lift and the message are unchanged.
+    /// Loads the program lines in `bytes` after the programs in memory, moves to line 00 of the first of them, and
+    /// clears the return stack. Stack lift and the message are unchanged.
     ///
     /// # Errors
     ///
-    /// Busy (24) while a program or a function runs; MemoryLost (15) if memory is not sound; BrokenProgram (14) if bytes of
-    /// memory or of the program are not a line, or an `.END.` comes before the end of the program; NoRoom (16) if memory is full.
-    /// Nothing is changed then.
+    /// Busy (24) while a program or a function runs; MemoryLost (15) if memory is not sound; BrokenProgram (14) if
+    /// bytes of memory or given bytes are not a line, or an `.END.` is not at the end of the given bytes; NoRoom (16)
+    /// if memory is full. Nothing is changed then.
     pub fn load(&mut self, bytes: &[u8]) -> Result<(), CalculatorRefusal>
         ensures load { Loads bytes.now self.old.state self.new.state (result_err result) }
         ensures kept { KeepsAfterProgram (is_ok result) self.old self.new }
@@ -541,12 +562,12 @@ impl<const REGS: usize> Calculator<REGS> {
         Ok(())
     }
 
-    /// Sets the number of data registers.
+    /// Sets the number of data registers, as the calculator's SIZE does, and ends the entry of a number or text.
     ///
     /// # Errors
     ///
-    /// Busy (24) while a program or a function runs; MemoryLost (15) if memory is not sound; SizeTooLarge (17) if no register
-    /// would be left for `.END.`; NoRoom (16) if the programs would not fit. Nothing is changed then.
+    /// Busy (24) while a program or a function runs; MemoryLost (15) if memory is not sound; SizeTooLarge (17) if no
+    /// register would be left for `.END.`; NoRoom (16) if the programs would not fit. Nothing is changed then.
     pub fn set_size(&mut self, count: u16) -> Result<(), CalculatorRefusal>
         ensures size { Becomes (size_makes self.old.state count) self.old.state self.new.state
             (result_err result) }
@@ -559,7 +580,8 @@ impl<const REGS: usize> Calculator<REGS> {
         Ok(())
     }
 
-    /// Checks that programs can be changed: Busy (24) while a program or a function runs, MemoryLost (15) if memory is not sound.
+    /// Returns an error if programs cannot be changed: Busy (24) while a program or a function runs, MemoryLost (15) if
+    /// memory is not sound.
     fn check_change(&self) -> Result<(), CalculatorRefusal>
         ensures { result_err result ≡ change_refusal self.now.state }
     {
@@ -572,12 +594,13 @@ impl<const REGS: usize> Calculator<REGS> {
         Ok(())
     }
 
-    /// Plugs the words of a page into a bank; with `writable` microcode may write to it.
+    /// Plugs 4,096 words at a bank of a page. If `writable` is true, microcode can write them.
     ///
     /// # Errors
     ///
-    /// In this order: NoSuchPage (01) if the page is not 4 to F or the bank is not 1 to 4, Occupied (02) if the bank is plugged,
-    /// BadImage (04) if there are not 4,096 words up to 3FF, OutOfMemory (21) if allocation failed. Nothing is changed then.
+    /// In this order: NoSuchPage (01) if the page is not 4 to F or the bank is not 1 to 4, Occupied (02) if the bank is
+    /// plugged, BadImage (04) if there are not 4,096 words or one is above 3FF, OutOfMemory (21) if allocation failed.
+    /// Nothing is changed then.
     pub fn plug(
         &mut self,
         alloc: Global,
@@ -596,7 +619,7 @@ impl<const REGS: usize> Calculator<REGS> {
         self.pages.plug(alloc, page, bank, writable, words)
     }
 
-    /// Unplugs all banks of a page.
+    /// Unplugs all banks of a page, 4 to F.
     ///
     /// # Errors
     ///
@@ -610,7 +633,8 @@ impl<const REGS: usize> Calculator<REGS> {
         self.pages.unplug(page)
     }
 
-    /// Restores the initial state, but keeps plugged pages. Bank 1 becomes the active bank of each page.
+    /// Restores the initial state of the calculator, but keeps plugged pages. Bank 1 becomes the active bank of each
+    /// page.
     pub fn reset(&mut self)
         ensures state { self.new.state ≡ after_reset self.old.state }
         ensures cache { self.new.cache ≡ no_searches }
@@ -625,19 +649,21 @@ impl<const REGS: usize> Calculator<REGS> {
     }
 }
 
-/// Returns a machine of the same size in its initial state.
+/// Returns memory and the rest of the state of keystroke programs in their initial state, with as many registers of
+/// main memory as `machine` has.
 fn begun_anew<const REGS: usize>(machine: &Machine<REGS>) -> Machine<REGS>
     ensures machine { labelled.machine_of result
         ≡ machine_with (registers.start (length machine.now.ram.registers.main)) focal.start }
     ensures cache { cache_of result ≡ no_searches }
     ensures right { labelled.AreRight result }
 {
-    // A read of memory gives the proof its bounds: 64 to 320 registers.
+    // Reading memory gives the proof its bounds: 64 to 320 registers.
     let _curtain = machine.ram.curtain();
     Machine::new()
 }
 
-/// Returns the mode after a line with this outcome.
+/// Returns the mode after an executed line with this outcome: `Idle` if the line stops a program or fails, `Run` if it
+/// starts one, otherwise `mode` unchanged.
 #[inline(always)]
 fn mode_behind(mode: Mode, outcome: &LineOutcome) -> Mode
     ensures { result ≡ mode_after (answer_of outcome.now) mode }

@@ -1,4 +1,4 @@
-//! The text of the display.
+//! The text that the display shows.
 
 ghost use Rattle.std.specs.Prelude.{◌≡◌, ◌≤◌, length};
 ghost use Rattle.h41_positions.specs.LabelledMachine.{machine_of};
@@ -22,8 +22,9 @@ use h41_text::write_line;
 const CURSOR: &str = "_";
 
 impl<const REGS: usize> Calculator<REGS> {
-    /// Returns the text of the display, the first of these that applies: nothing while the display is off, the message, a prompt,
-    /// in program mode the line, ALPHA if flag 48 is set, the number that is being typed, otherwise X in the display format.
+    /// Returns the text that the display shows, the first of these that applies: nothing while the display is off, the
+    /// message, a prompt, the program line at the position in program mode, ALPHA if flag 48 is set, the number that is
+    /// being typed, otherwise X in the display format.
     pub fn display(&self) -> ArrayString<TEXT_CAPACITY>
         ensures { ShowsDisplay self.now.state result.bytes }
     {
@@ -39,8 +40,9 @@ impl<const REGS: usize> Calculator<REGS> {
         }
     }
 
-    /// Returns the first of these that applies: in program mode the line, ALPHA if flag 48 is set, the number that is being
-    /// typed, otherwise X in the display format.
+    /// Returns the text that the display shows without a message or a prompt, the first of these that applies: the
+    /// program line at the position in program mode, ALPHA if flag 48 is set, the number that is being typed, otherwise
+    /// X in the display format.
     fn shown_entry(&self) -> ArrayString<TEXT_CAPACITY>
         ensures { spec.ShowsEntry self.now.state result.bytes }
     {
@@ -52,7 +54,8 @@ impl<const REGS: usize> Calculator<REGS> {
     }
 }
 
-/// Returns the text of a prompt: the function that waits for its parameter.
+/// Returns the text that the display shows for a prompt: the function that waits for its operand, with what was typed
+/// of it.
 fn prompt_text(prompt: &Prompt) -> ArrayString<TEXT_CAPACITY>
     ensures { result.bytes ≡ spec.shown_prompt prompt.now }
 {
@@ -61,7 +64,8 @@ fn prompt_text(prompt: &Prompt) -> ArrayString<TEXT_CAPACITY>
     text
 }
 
-/// Returns the text of the line in program mode, with the cursor if it is being typed.
+/// Returns the text that the display shows in program mode: the program line at the position, with the cursor if a
+/// number or a text line is being typed.
 fn shown_line<const REGS: usize>(
     machine: &Machine<REGS>,
     pages: &Pages,
@@ -86,7 +90,8 @@ fn cursor_of(entry: TypedEntry) -> &'static str
     }
 }
 
-/// Returns ALPHA if flag 48 is set, otherwise the number that is being typed, otherwise X in the display format.
+/// Returns the text that the display shows outside program mode: ALPHA if flag 48 is set, otherwise the number that is
+/// being typed, otherwise X in the display format.
 fn entry_text<const REGS: usize>(ram: &Ram<REGS>, entry: TypedEntry) -> ArrayString<TEXT_CAPACITY>
     ensures { result.bytes ≡ spec.entry_text ram.now.registers entry }
 {
@@ -102,7 +107,8 @@ fn entry_text<const REGS: usize>(ram: &Ram<REGS>, entry: TypedEntry) -> ArrayStr
     }
 }
 
-/// Returns the text of a number that is being typed: the line that it would be, and the cursor.
+/// Returns the text that the display shows for a number that is being typed: the number line that it would be, followed
+/// by the cursor.
 fn typed_number(number: Number) -> ArrayString<TEXT_CAPACITY>
     ensures { result.bytes ≡ spec.typed_number number }
 {

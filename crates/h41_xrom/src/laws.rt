@@ -1,4 +1,4 @@
-//! Laws of the calculator. Each law is the contract of a function whose body only calls the laws that it depends on.
+//! Laws of the calculator. Each law is the contract of a function whose body only calls the laws on which it is based.
 
 ghost use Rattle.h41_xrom.specs.CalculatorLaws.{DisplayIsDetermined, KeyIsDetermined};
 ghost use Rattle.h41_xrom.specs.CalculatorLaws.{LoadIsDetermined, StepIsDetermined};
@@ -12,7 +12,8 @@ use h41_program::laws::{edits_are_determined, searches_are_determined};
 use h41_rows::laws::values_are_determined;
 use h41_text::laws::line_text_round_trip;
 
-/// States that a state determines its single step: whether it is refused, as what, and the state after it.
+/// States that the state of a calculator determines what a single step (one program line, or one word of microcode)
+/// does: whether it is refused, with which error, and the state after it.
 pub fn step_is_determined()
     ensures refusal { StepRefusalIsDetermined }
     ensures state { StepIsDetermined }
@@ -22,14 +23,16 @@ pub fn step_is_determined()
     micro_is_determined();
 }
 
-/// States that a state and the bytes determine a load: whether it is refused, as what, and the state after it.
+/// States that the state of a calculator and the given bytes determine what loading a program does: whether it is
+/// refused, with which error, and the state after it.
 pub fn load_is_determined()
     ensures { LoadIsDetermined }
 {
     edits_are_determined();
 }
 
-/// States that a state and a key determine the result: whether the key is refused, as what, and the state after it.
+/// States that the state of a calculator and a key determine what pressing the key does: whether it is refused, with
+/// which error, and the state after it.
 pub fn key_is_determined()
     ensures { KeyIsDetermined }
 {
@@ -42,15 +45,15 @@ pub fn key_is_determined()
     values_are_determined();
 }
 
-/// States that a state determines the text of the display.
+/// States that the state of a calculator determines the text that the display shows.
 pub fn display_is_determined()
     ensures { DisplayIsDetermined }
 {
     text_is_determined();
 }
 
-/// States that lines which go on to the next line leave the same stack, data registers, ALPHA, flags and stack lift if the
-/// calculator steps them as if they are typed in turn.
+/// States that lines which continue at the next line leave the same stack, data registers, ALPHA, flags and stack lift
+/// if the calculator steps them in a program as if they are typed one after another.
 pub fn typed_as_stepped()
     ensures { TypedAsStepped }
 {

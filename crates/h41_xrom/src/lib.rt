@@ -1,4 +1,4 @@
-//! The whole calculator: processor, memory, pages, keys and keystroke programs.
+//! The whole calculator: processor, memory, pages, keys, display and keystroke programs.
 #![tactic(auto)]
 
 mod acting;

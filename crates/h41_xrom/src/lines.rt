@@ -1,4 +1,5 @@
-//! Executes lines that call something outside memory: functions of modules, and functions of the calculator by name.
+//! Executes program lines that call something outside memory: functions of modules, and functions of the calculator by
+//! name.
 
 ghost use Rattle.std.specs.Prelude.{◌≡◌, None, Some, OnErr};
 ghost use Rattle.h41_positions.specs.LabelledMachine.{AreRight, machine_of};
@@ -16,7 +17,7 @@ use h41_focal::{FocalRefusal, LineFault, LineOutcome, Machine};
 use h41_pages::{Entry, Pages};
 use h41_text::read_line;
 
-/// Where a line is from.
+/// The origin of a line that is executed: a program or the keyboard.
 #[derive(Clone, Copy)]
 pub enum LineSource {
     /// From the program: the line at the position.
@@ -25,22 +26,23 @@ pub enum LineSource {
     Keys(Line),
 }
 
-/// How a line ends.
+/// How the execution of a line ends: with an outcome, or with the start of a function in microcode.
 #[derive(Clone, Copy)]
 pub enum LineEnd {
-    /// The line was executed, or failed, with this outcome.
+    /// The line was executed, or failed with an error; this is its outcome.
     Answers(LineOutcome),
-    /// The line starts a function of a module in microcode, whose words begin at this address. A program continues after the
-    /// line.
+    /// The line starts a function of a module in microcode, whose first word is at this address. A program continues
+    /// after the line.
     Begins(u16),
 }
 
-/// Executes the line at the position, or a typed one. A function that memory does not contain is looked up in the modules, then
-/// among the calculator's own functions.
+/// Executes the program line at the position, or a typed one, and returns how it ends. What the line calls and memory
+/// does not contain is searched in the modules, then among the calculator's own functions.
 ///
 /// # Errors
 ///
-/// MemoryLost (15), BrokenProgram (14) or NotInProfile (13). Nothing is changed then.
+/// MemoryLost (15) if memory is not sound, BrokenProgram (14) if bytes are not a line, NotInProfile (13) if the bench
+/// does not support the line. Nothing is changed then.
 #[inline(always)]
 pub fn carry_line<const REGS: usize>(
     machine: &mut Machine<REGS>,
@@ -69,7 +71,9 @@ pub fn carry_line<const REGS: usize>(
     }
 }
 
-/// Executes the line without what it calls outside memory.
+/// Executes the program line at the position, or a typed one, and returns its outcome. If the line calls something
+/// outside memory, nothing changes, and the outcome says what it calls. The errors are MemoryLost (15), BrokenProgram
+/// (14) and NotInProfile (13). Nothing is changed then.
 #[inline(always)]
 fn carry<const REGS: usize>(
     machine: &mut Machine<REGS>,
@@ -91,7 +95,8 @@ fn carry<const REGS: usize>(
     }
 }
 
-/// Executes a function in place of the line.
+/// Executes a function of the calculator in place of a line that calls it by name, and returns its outcome. The errors
+/// are MemoryLost (15), BrokenProgram (14) and NotInProfile (13). Nothing is changed then.
 fn carry_function<const REGS: usize>(
     machine: &mut Machine<REGS>,
     pages: &Pages,
@@ -111,8 +116,9 @@ fn carry_function<const REGS: usize>(
     }
 }
 
-/// Calls a module's function by its table entry: one in microcode starts, one in keystrokes is a program that is called. Without
-/// an entry the line fails with NONEXISTENT.
+/// Calls the function of a module's table entry from a line: a function in microcode starts; for a keystroke program,
+/// the position moves to its first line. If `entry` is `None`, the line fails with NONEXISTENT. The errors of the call
+/// itself are MemoryLost (15) and BrokenProgram (14). Nothing is changed then.
 fn call_entry<const REGS: usize>(
     machine: &mut Machine<REGS>,
     pages: &Pages,
@@ -132,7 +138,9 @@ fn call_entry<const REGS: usize>(
     }
 }
 
-/// Starts the function of a table entry. For one in microcode a program moves on to the line after this one.
+/// Starts the function of a module's table entry from a line. If it is in microcode, a program moves to the line after
+/// the call first; if it is a keystroke program, the position moves to its first line. The errors are MemoryLost (15)
+/// and BrokenProgram (14). Nothing is changed then.
 fn begin_entry<const REGS: usize>(
     machine: &mut Machine<REGS>,
     pages: &Pages,
@@ -153,8 +161,9 @@ fn begin_entry<const REGS: usize>(
     Ok(LineEnd::Begins(entry.address))
 }
 
-/// Calls a module's program at an address. The line after the call is put on the return stack; a typed line starts the program
-/// with an empty return stack.
+/// Calls the keystroke program that begins at an address of a page. If the call is a program line, the line after it
+/// becomes the newest return address; a typed line starts the program with an empty return stack. MemoryLost (15) or
+/// BrokenProgram (14) if the calling line cannot be read. Nothing is changed then.
 fn enter<const REGS: usize>(
     machine: &mut Machine<REGS>,
     pages: &Pages,
@@ -181,7 +190,9 @@ fn enter<const REGS: usize>(
     }
 }
 
-/// Moves a program on to the line after this one. A typed line changes nothing.
+/// Moves the position to the line after the one that calls a function in microcode, if that line is from a program; a
+/// typed line changes nothing. MemoryLost (15) or BrokenProgram (14) if the calling line cannot be read. Nothing is
+/// changed then.
 fn pass<const REGS: usize>(
     machine: &mut Machine<REGS>,
     pages: &Pages,
@@ -201,7 +212,9 @@ fn pass<const REGS: usize>(
     }
 }
 
-/// Makes the line fail with NONEXISTENT, because what it calls does not exist.
+/// Makes a line fail with NONEXISTENT, because what it calls does not exist, and returns how the line ends. If flag 25
+/// is set, it is cleared and the error is ignored. MemoryLost (15) or BrokenProgram (14) if the line cannot be read.
+/// Nothing is changed then.
 fn fail<const REGS: usize>(
     machine: &mut Machine<REGS>,
     pages: &Pages,
@@ -217,7 +230,8 @@ fn fail<const REGS: usize>(
     Ok(LineEnd::Answers(fault_of(machine, pages, source)?))
 }
 
-/// Returns the outcome of a line that fails with NONEXISTENT.
+/// Makes a line fail with NONEXISTENT, and returns its outcome: the error, or `Done` if flag 25 was set, which is then
+/// cleared. MemoryLost (15) or BrokenProgram (14) if the line cannot be read. Nothing is changed then.
 fn fault_of<const REGS: usize>(
     machine: &mut Machine<REGS>,
     pages: &Pages,
@@ -237,8 +251,9 @@ fn fault_of<const REGS: usize>(
     }
 }
 
-/// Calls what has a name: a module's function, otherwise a function of the calculator in place of the line, otherwise the line
-/// fails with NONEXISTENT.
+/// Calls what has the name that a line calls: the function of a module with this name, otherwise the calculator's own
+/// function, which is executed in place of the line. If there is neither, the line fails with NONEXISTENT. The errors
+/// are MemoryLost (15), BrokenProgram (14) and NotInProfile (13). Nothing is changed then.
 fn call_named<const REGS: usize>(
     machine: &mut Machine<REGS>,
     pages: &Pages,
@@ -261,7 +276,8 @@ fn call_named<const REGS: usize>(
     }
 }
 
-/// Returns the calculator's function with this name, if there is one.
+/// Returns the calculator's own function without an operand that has this name, for example `SIN`, or `None` if there
+/// is none.
 pub fn function_named(name: &[u8]) -> Option<Function>
     ensures { IsNamed name.now result }
 {
@@ -271,7 +287,7 @@ pub fn function_named(name: &[u8]) -> Option<Function>
     }
 }
 
-/// Returns the function of a line without an operand, if it is one.
+/// Returns the function of a program line that is a function without an operand, otherwise `None`.
 fn function_of(line: &Line) -> Option<Function>
     ensures { IsFunction line.now result }
 {

@@ -1,11 +1,12 @@
-//! The texts that the display shows for errors and for the answers of tests.
+//! The texts that the display shows for errors of lines and for the answers of typed tests.
 
 ghost use Rattle.std.specs.Prelude.{◌≡◌};
 ghost use Rattle.h41_xrom.specs.Messages as spec;
 
 use h41_focal::{DisplayText, LineFault};
 
-/// Returns the message of an error, for example `DATA ERROR`, as in the Owner's Handbook.
+/// Returns the message that the display shows for an error of a line, for example `DATA ERROR`, as in the Owner's
+/// Handbook.
 pub fn fault_text(fault: LineFault) -> DisplayText
     ensures { result.bytes ≡ spec.fault_text fault }
 {
@@ -19,7 +20,7 @@ pub fn fault_text(fault: LineFault) -> DisplayText
     text
 }
 
-/// Returns the answer of a typed test: `YES` or `NO`.
+/// Returns the text that the display shows for the answer of a typed test: `YES` if it is true, otherwise `NO`.
 pub fn test_text(holds: bool) -> DisplayText
     ensures { result.bytes ≡ spec.test_text holds }
 {

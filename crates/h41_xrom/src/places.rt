@@ -1,4 +1,4 @@
-//! Where the shown line is, in the keyboard's terms.
+//! What the keyboard has to know about the program line at the position.
 
 ghost use Rattle.std.specs.Prelude.{◌≡◌};
 ghost use Rattle.h41_positions.specs.LabelledMachine.{machine_of};
@@ -12,7 +12,8 @@ use h41_positions::{Position, line_in_page};
 use h41_program::{is_final_end, is_last_open};
 use h41_ram::Ram;
 
-/// Returns where the shown line is: in memory, or in a page, with what certain keys would change there.
+/// Returns whether the program line at the position is in memory or in a page. For a page, the result also says whether
+/// deleting the line would change nothing, and whether `GTO . .` would put an END into memory.
 pub fn shown_place<const REGS: usize>(machine: &Machine<REGS>, pages: &Pages) -> Place
     ensures { IsPlace pages.now (machine_of machine.now)
         (machine_of machine.now).focal.position result }
@@ -29,7 +30,7 @@ pub fn shown_place<const REGS: usize>(machine: &Machine<REGS>, pages: &Pages) ->
     }
 }
 
-/// Returns whether the line at an address of a page is `.END.`. Memory that is not sound has no lines.
+/// Returns whether the line at an address of a page is `.END.`. The result is false if memory is not sound.
 fn is_final_at<const REGS: usize>(ram: &Ram<REGS>, pages: &Pages, address: u16) -> bool
     ensures { IsFinalAt pages.now ram.now.registers address result }
 {
@@ -39,8 +40,8 @@ fn is_final_at<const REGS: usize>(ram: &Ram<REGS>, pages: &Pages, address: u16) 
     ram.is_sound() && is_final_end(first.line)
 }
 
-/// Returns whether `GTO . .` would put an END into memory: it would if the last program has lines and no END of its own. It
-/// would not if memory is not sound, or its chain of labels and ENDs does not reach `.END.`.
+/// Returns whether `GTO . .` would put an END into memory: whether the last program has lines and no END of its own.
+/// The result is false if memory is not sound, or if its list of lines does not reach `.END.`.
 fn puts_end<const REGS: usize>(ram: &Ram<REGS>) -> bool
     ensures { PutsEnd ram.now.registers result }
 {

@@ -1,4 +1,4 @@
-//! Why calls of the calculator are refused. The numbers are those that decks print.
+//! The errors of calls of the calculator. Decks print them with these numbers. After an error nothing has changed.
 
 ghost use Rattle.std.specs.Prelude.{◌≡◌};
 
@@ -8,27 +8,29 @@ use h41_nut::WordRefusal;
 use h41_program::ProgramRefusal;
 use thiserror::Error;
 
-/// Why a call was refused. A refused call changes nothing.
+/// The reasons why a call of the calculator is refused, with the numbers 06 to 18 and 24. A refused call changes
+/// nothing.
 #[derive(Clone, Copy, Debug, PartialEq, Eq, Error)]
 pub enum CalculatorRefusal {
-    /// 06 to 12: a word is refused, or an address below 4000 was called (SystemRom, 08).
+    /// An error of microcode with a number from 06 to 12: a word is refused, or an address below 4000 was called
+    /// (SystemRom, 08).
     #[error("{0}")]
     Word(WordRefusal),
     /// NotInProfile (13): the bench does not support this program line.
     #[error("this line is not carried out")]
     NotInProfile,
-    /// BrokenProgram (14), NoRoom (16) and SizeTooLarge (17): bytes that are not a line, and refused
-    /// changes of program memory.
+    /// BrokenProgram (14): bytes are not a program line. NoRoom (16) and SizeTooLarge (17): memory has too few
+    /// registers for a change of the programs or of the number of data registers.
     #[error("{0}")]
     Program(ProgramRefusal),
-    /// MemoryLost (15): memory is not sound.
+    /// MemoryLost (15): memory is not sound (`Ram::is_sound`).
     #[error("memory is lost")]
     MemoryLost,
-    /// KeyNotHeld (18): the bench does not support this key in this state, or it would change lines in a
+    /// KeyNotHeld (18): the bench does not support this key in this state, or the key would change program lines in a
     /// page.
     #[error("the key has no meaning here")]
     KeyNotHeld,
-    /// Busy (24): a program or a function is running.
+    /// Busy (24): a keystroke program or a function in microcode is running.
     #[error("a program or a function is running")]
     Busy,
 }

@@ -1,4 +1,4 @@
-//! The line that program mode stores for a typed line.
+//! The program line that a line typed in program mode is stored as.
 
 ghost use Rattle.std.specs.Prelude.{IfSome, IsTrue};
 ghost use Rattle.h41_positions.specs.LabelledMachine.{machine_of};
@@ -13,8 +13,9 @@ use h41_focal::Machine;
 use h41_pages::Pages;
 use h41_program::global;
 
-/// Returns the line that is stored for a typed one. It is the line itself, except for XEQ of a name that is not a label in
-/// memory: that becomes the XROM of a module's function with the name, otherwise the calculator's own function, if there is one.
+/// Returns the program line as which a typed line is stored in program mode. It is the typed line itself, except for
+/// `XEQ` with a name that is not a label in memory: that becomes the XROM line of a module's function with the name,
+/// otherwise the calculator's own function, if there is one.
 pub fn stored_line<const REGS: usize>(machine: &Machine<REGS>, pages: &Pages, line: Line) -> Line
     requires sound { IsTrue (is_sound machine.now.ram.registers) }
     requires inner { IsTrue (is_inner line) }
@@ -32,7 +33,9 @@ pub fn stored_line<const REGS: usize>(machine: &Machine<REGS>, pages: &Pages, li
     }
 }
 
-/// Returns the line that is stored in place of XEQ of a name, if there is one.
+/// Returns the program line that is stored in place of `XEQ` with a name: the XROM line of a module's function with the
+/// name, otherwise the calculator's own function. `None` if the name is that of a label in memory, or if there is no
+/// such function.
 fn stored_for<const REGS: usize>(
     machine: &Machine<REGS>,
     pages: &Pages,

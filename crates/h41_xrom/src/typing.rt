@@ -1,4 +1,4 @@
-//! How typed numbers and letters change memory. Nothing remains to be done after these actions.
+//! What typing numbers and letters does to memory.
 
 ghost use Rattle.std.specs.Prelude.{◌≡◌, [], ◌∷◌, ◌++◌, take, Ok};
 ghost use Rattle.h41_positions.specs.LabelledMachine.{Keeps, machine_of};
@@ -18,8 +18,8 @@ use h41_ram::flags::{ALPHA_ENTRY, ALPHA_MODE, NUMBER_ENTRY};
 use h41_ram::{ALPHA_LENGTH, Ram};
 use h41_rows::{append_text, bring_in, replace_text, written};
 
-/// Puts a number whose first key was pressed into X. The stack is lifted first if stack lift is enabled.
-/// Stack lift is enabled afterwards, and flag 22 is set.
+/// Writes the number that was begun by its first key to X. The stack is lifted first if stack lift is enabled.
+/// Stack lift is enabled afterwards, and flag 22 is set. Nothing remains to be done (`KeyEffect::Nothing`).
 pub fn begin_number<const REGS: usize>(machine: &mut Machine<REGS>, number: &Number) -> KeyEffect
     ensures number { BeginsNumber number.now (machine_of machine.old)
         (Ok (Leaves (machine_of machine.new))) }
@@ -34,7 +34,8 @@ pub fn begin_number<const REGS: usize>(machine: &mut Machine<REGS>, number: &Num
     KeyEffect::Nothing
 }
 
-/// Replaces the number in X while it is being typed.
+/// Writes the number that is being typed to X again, after a further key. The stack is not lifted. Nothing remains to
+/// be done (`KeyEffect::Nothing`).
 pub fn change_number<const REGS: usize>(machine: &mut Machine<REGS>, number: &Number) -> KeyEffect
     ensures number { ChangesNumber number.now (machine_of machine.old)
         (Ok (Leaves (machine_of machine.new))) }
@@ -46,7 +47,8 @@ pub fn change_number<const REGS: usize>(machine: &mut Machine<REGS>, number: &Nu
     KeyEffect::Nothing
 }
 
-/// Performs the actions of letters and of the key ALPHA on memory. Other actions change nothing.
+/// Performs what a typed letter, the correction key in ALPHA mode, or the key ALPHA does to memory. Other actions
+/// change nothing.
 pub fn type_letters<const REGS: usize>(ram: &mut Ram<REGS>, action: Action)
     ensures memory { ram.new.registers ≡ lettered action ram.old.registers }
     ensures mark { KeepsMark ram.old ram.new }
@@ -62,7 +64,7 @@ pub fn type_letters<const REGS: usize>(ram: &mut Ram<REGS>, action: Action)
     }
 }
 
-/// Toggles ALPHA mode (flag 48).
+/// Switches ALPHA mode (flag 48) on if it is off, and off if it is on.
 fn toggle_alpha<const REGS: usize>(ram: &mut Ram<REGS>)
     ensures memory { ram.new.registers ≡ with_alpha_toggled ram.old.registers }
     ensures mark { KeepsMark ram.old ram.new }
@@ -72,7 +74,7 @@ fn toggle_alpha<const REGS: usize>(ram: &mut Ram<REGS>)
     ram.set_flag(ALPHA_MODE, on);
 }
 
-/// Replaces ALPHA by a letter, and sets flag 23.
+/// Replaces ALPHA by one letter, and sets flag 23.
 fn begin_text<const REGS: usize>(ram: &mut Ram<REGS>, letter: u8)
     ensures memory { ram.new.registers ≡ with_letters ram.old.registers (letter ∷ []) }
     ensures mark { KeepsMark ram.old ram.new }
@@ -82,7 +84,7 @@ fn begin_text<const REGS: usize>(ram: &mut Ram<REGS>, letter: u8)
     ram.set_flag(ALPHA_ENTRY, true);
 }
 
-/// Appends a letter to ALPHA, and sets flag 23.
+/// Appends one letter to ALPHA, and sets flag 23. ALPHA keeps its last 24 characters.
 fn add_letter<const REGS: usize>(ram: &mut Ram<REGS>, letter: u8)
     ensures memory { ram.new.registers ≡ with_letters ram.old.registers
         (alpha_of ram.old.registers ++ letter ∷ []) }
@@ -93,7 +95,7 @@ fn add_letter<const REGS: usize>(ram: &mut Ram<REGS>, letter: u8)
     ram.set_flag(ALPHA_ENTRY, true);
 }
 
-/// Removes the last character of ALPHA.
+/// Removes the last of the 24 characters of ALPHA.
 fn take_letter<const REGS: usize>(ram: &mut Ram<REGS>)
     ensures memory { ram.new.registers ≡ with_text ram.old.registers
         (take 23 (alpha_of ram.old.registers)) }
@@ -104,7 +106,7 @@ fn take_letter<const REGS: usize>(ram: &mut Ram<REGS>)
     replace_text(ram, &alpha[..ALPHA_LENGTH - 1]);
 }
 
-/// Clears ALPHA.
+/// Removes all characters of ALPHA.
 fn clear_alpha<const REGS: usize>(ram: &mut Ram<REGS>)
     ensures memory { ram.new.registers ≡ with_text ram.old.registers [] }
     ensures mark { KeepsMark ram.old ram.new }

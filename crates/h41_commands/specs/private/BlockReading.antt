@@ -11,6 +11,8 @@ use Rattle.h41_commands.specs.private.TakenBlocks.{TakenBlock}
 use Rattle.h41_commands.specs.DeckLines.{is_end}
 use Rattle.h41_commands.specs.private.Entries.{IsTaken, what_is_spelled}
 use Rattle.h41_commands.specs.private.ItemReading.{opened_by}
+use Rattle.h41_ends.specs.HeardLines.{Hears}
+use Rattle.h41_ends.specs.ReadEvents.{ReadEvent}
 use Rattle.h41_ends.specs.InputLines.{MayFollow, ReadsMore}
 use Rattle.h41_ends.specs.declared.input_lines.InputLines.{InputLines}
 
@@ -39,6 +41,17 @@ pub record ReadsTaken {E : Type 0} (result : Result (Option TakenBlock) E)
   pub reads : ReadsMore before after old new lines
   pub taken : TakeBlock kind result lines
 
+-- lines without an end, and the same of the reads beside an output: each comes when such are told
+abbrev pub HaveNoEnd : List (List ℕ) → Type 0
+HaveNoEnd lines = list_any is_end lines ≡ false
+
+pub record HearsTaken {E : Type 0} (result : Result (Option TakenBlock) E)
+    (kind : Option BlockKind) (before after : Option (List ReadEvent)) (written : Option (List ℕ))
+    (old new : InputLines) : Type 0 where
+  pub lines : List (List ℕ)
+  pub hears : Hears HaveNoEnd before after written old new lines
+  pub taken : TakeBlock kind result lines
+
 -- The lines are the block of a command, whatever lines follow.
 abbrev pub SpellBlock : {E : Type 0} → Result Command LineRefusal → Result Item E → Bool
     → List (List ℕ) → Type 0
@@ -54,4 +67,12 @@ pub record ReadsBlock {E : Type 0} (result : Result Item E)
     (old new : InputLines) : Type 0 where
   pub lines : List (List ℕ)
   pub reads : ReadsMore before after old new lines
+  pub spelled : SpellBlock command result new.at_end lines
+
+-- and the same of the reads beside an output
+pub record HearsBlock {E : Type 0} (result : Result Item E)
+    (command : Result Command LineRefusal) (before after : Option (List ReadEvent))
+    (written : Option (List ℕ)) (old new : InputLines) : Type 0 where
+  pub lines : List (List ℕ)
+  pub hears : Hears HaveNoEnd before after written old new lines
   pub spelled : SpellBlock command result new.at_end lines

@@ -16,6 +16,8 @@ use Rattle.h41_commands.specs.DeckLines.{is_end}
 use Rattle.h41_commands.specs.FirstLines.{first_line, line_kind}
 use Rattle.h41_commands.specs.Items.{Spelled, commands, is_open, opens_first, with_values}
 use Rattle.h41_commands.specs.Items.{without_open_block}
+use Rattle.h41_ends.specs.HeardLines.{Hears}
+use Rattle.h41_ends.specs.ReadEvents.{ReadEvent}
 use Rattle.h41_ends.specs.InputLines.{MayFollow, ReadsMore, line_in, most_left}
 use Rattle.h41_ends.specs.declared.input_lines.InputLines.{InputLines}
 
@@ -48,6 +50,15 @@ pub record ReadsFirst {E : Type 0} (result : Result (Option LineKind) E)
   pub reads : ReadsMore before after old new (skipped ++ first_lines result new)
   pub kind : TellsKind result (line_in new)
 
+-- the same of the reads beside an output: each comes when lines that spell nothing are told
+pub record HearsFirst {E : Type 0} (result : Result (Option LineKind) E)
+    (before after : Option (List ReadEvent)) (written : Option (List ℕ)) (old new : InputLines)
+    : Type 0 where
+  pub skipped : List (List ℕ)
+  pub nothing : SpellNothing skipped
+  pub hears : Hears SpellNothing before after written old new (skipped ++ first_lines result new)
+  pub kind : TellsKind result (line_in new)
+
 -- Lines specify these items, whatever lines follow.
 abbrev pub Spell : Bool → List (List ℕ) → List Spelled → Type 0
 Spell at_end lines items =
@@ -68,6 +79,18 @@ pub record ReadsNext (result : Result (Option Spelled) ItemFault)
     (before after : Option (List ℕ)) (old new : InputLines) : Type 0 where
   pub lines : List (List ℕ)
   pub reads : ReadsMore before after old new lines
+  pub spelled : SpellNext result new.at_end lines
+
+-- lines that spell nothing but a block that is open
+abbrev pub SpellNoneEnded : List (List ℕ) → Type 0
+SpellNoneEnded lines = without_open_block (commands lines) ≡ []
+
+-- the same of the reads beside an output: each comes when no item is told to its end
+pub record HearsNext (result : Result (Option Spelled) ItemFault)
+    (before after : Option (List ReadEvent)) (written : Option (List ℕ)) (old new : InputLines)
+    : Type 0 where
+  pub lines : List (List ℕ)
+  pub hears : Hears SpellNoneEnded before after written old new lines
   pub spelled : SpellNext result new.at_end lines
 
 -- The kind of the line that was returned.

@@ -1,4 +1,4 @@
-//! The bytes of a page's image, from the lines of an `image` block.
+//! The bytes of a page's image, from the deck lines of an `image` block.
 
 ghost use Rattle.std.specs.Prelude.{◌≤◌, vec_len};
 ghost use Rattle.h41_commands.specs.private.TakenBlocks.{most_kept};
@@ -9,16 +9,16 @@ use crate::refusal::LineRefusal;
 use h41_pages::{ReadRefusal, image_read, is_image_bytes};
 use std::alloc::{AllocError, Global};
 
-/// How many bytes are kept: 8,193, one more than the longest image (8,192 bytes), so that bytes that are too many remain too
-/// many.
+/// How many bytes of an image are kept: 8,193, one more than the longest image (8,192 bytes), so that an image that is
+/// too long remains too long.
 const KEPT: usize = 8193;
 
-/// The bytes of the lines taken so far, at most 8,193 of them.
+/// The bytes in the deck lines of an `image` block that were taken so far, at most 8,193 of them.
 #[derive(Debug, Drop)]
 pub struct ImageBytes {
     bytes: Vec<u8>,
-    /// Whether a line had something other than bytes: two hexadecimal digits each, of either case, with spaces and tabs
-    /// anywhere.
+    /// Whether a line taken so far had something other than bytes: two hexadecimal digits each, of either case, with
+    /// spaces and tabs anywhere.
     is_wrong: bool,
     ghost bounded: { vec_len bytes ≤ most_kept },
 }
@@ -31,7 +31,7 @@ impl ImageBytes {
     ghost use Rattle.h41_commands.specs.private.TakenBlocks.{kept_bytes};
     ghost use Rattle.h41_commands.specs.private.Contents.{KeepsMore, TakesImage, image_in};
 
-    /// Returns a block with no bytes.
+    /// Returns an `image` block without lines and without bytes.
     pub fn new(alloc: Global) -> Self
         ensures { image_in result ≡ kept_bytes (block_bytes []) }
     {
@@ -41,8 +41,8 @@ impl ImageBytes {
         }
     }
 
-    /// Takes the bytes of one more line of the block. Bytes after the first 8,193 are checked but not kept. OutOfMemory (21) if
-    /// allocation failed.
+    /// Takes the bytes of one more deck line of the block; empty lines and comments are skipped. Bytes after the first
+    /// 8,193 are checked but not kept. OutOfMemory (21) if allocation failed.
     pub fn add_line(&mut self, line: &[u8]) -> Result<(), AllocError>
         ensures { IfOk result (λ _. TakesImage self.old line.now self.new) }
     {
@@ -60,7 +60,8 @@ impl ImageBytes {
         Ok(())
     }
 
-    /// Keeps more bytes, as many as there is room for. OutOfMemory (21) if allocation failed.
+    /// Appends as many of the given bytes as there is room for, up to 8,193 bytes in all. OutOfMemory (21) if
+    /// allocation failed.
     fn keep(&mut self, more: &[u8]) -> Result<(), AllocError>
         ensures { IfOk result (λ _. KeepsMore self.old more.now self.new) }
     {
@@ -69,7 +70,8 @@ impl ImageBytes {
         Ok(())
     }
 
-    /// Returns why the bytes are refused as an image, if they are: BadNumber (51), otherwise BadImage (04).
+    /// Returns BadNumber (51) if a line had something other than bytes; otherwise BadImage (04) if the bytes are not
+    /// the image of a page; otherwise `None`.
     pub fn refusal(&self) -> Option<LineRefusal>
         ensures { result ≡ result_err (image_content (image_in self.now)) }
     {
@@ -82,7 +84,8 @@ impl ImageBytes {
         }
     }
 
-    /// Returns the words of the image. The bytes must not be refused. OutOfMemory (21) if allocation failed.
+    /// Returns the words of the page whose image the bytes of the block are. The bytes must not be refused. OutOfMemory
+    /// (21) if allocation failed.
     pub fn into_words(self, alloc: Global) -> Result<Vec<u16>, AllocError>
         requires { result_err (image_content (image_in self)) ≡ None }
         ensures words { IfOk result (λ words. image_content (image_in self) ≡ Ok words.items) }

@@ -1,4 +1,4 @@
-//! The words of a page, from the lines of a `words` block.
+//! The words of a page, from the deck lines of a `words` block.
 
 ghost use Rattle.std.specs.Prelude.{◌≤◌, vec_len};
 ghost use Rattle.h41_pages.specs.Addresses.{page_size};
@@ -12,15 +12,15 @@ use std::alloc::{AllocError, Global};
 /// The number of words of a page: 4,096.
 pub const PAGE_WORDS: usize = 4096;
 
-/// The greatest value of a word: 3FF, because a word has ten bits.
+/// The greatest value of a word: 3FF (hexadecimal), because a word has ten bits.
 const GREATEST: u16 = 0x3FF;
 
-/// The words of the lines taken so far, at most 4,096.
+/// The words in the deck lines of a `words` block that were taken so far, at most 4,096.
 #[derive(Debug, Drop)]
 pub struct PageWords {
     words: Vec<u16>,
-    /// The error so far. BadNumber (51), for a word that is not a number, replaces BadImage (04),
-    /// for a word above 3FF or one word too many.
+    /// The error of the lines taken so far. BadNumber (51), for a word that is not 1 to 3 hexadecimal digits, replaces
+    /// BadImage (04), for a word above 3FF (hexadecimal) or one word too many.
     fault: Option<LineRefusal>,
     ghost bounded: { vec_len words ≤ page_size },
 }
@@ -31,7 +31,7 @@ impl PageWords {
     ghost use Rattle.h41_commands.specs.Blocks.{word_values};
     ghost use Rattle.h41_commands.specs.private.Contents.{TakesLine, TakesWord, words_in};
 
-    /// Returns a page with no words.
+    /// Returns a `words` block without lines and without words.
     pub fn new(alloc: Global) -> Self
         ensures { words_in result ≡ word_values [] }
     {
@@ -41,7 +41,8 @@ impl PageWords {
         }
     }
 
-    /// Takes the words of one more line of the block. OutOfMemory (21) if allocation failed.
+    /// Takes the words of one more deck line of the block; empty lines and comments are skipped. OutOfMemory (21) if
+    /// allocation failed.
     pub fn add_line(&mut self, line: &[u8]) -> Result<(), AllocError>
         ensures { IfOk result (λ _. TakesLine self.old line.now self.new) }
     {
@@ -53,7 +54,8 @@ impl PageWords {
         Ok(())
     }
 
-    /// Takes one more word. OutOfMemory (21) if allocation failed.
+    /// Takes one more word of a `words` block, 1 to 3 hexadecimal digits. A wrong word is noted as an error of the
+    /// block. OutOfMemory (21) if allocation failed.
     fn add(&mut self, word: &[u8]) -> Result<(), AllocError>
         ensures { IfOk result (λ _. TakesWord self.old word.now self.new) }
     {
@@ -71,14 +73,15 @@ impl PageWords {
         Ok(())
     }
 
-    /// Returns why the words are refused, if they are: BadNumber (51), otherwise BadImage (04).
+    /// Returns BadNumber (51) if a word is not 1 to 3 hexadecimal digits; otherwise BadImage (04) if a word is above
+    /// 3FF (hexadecimal) or there are more than 4,096; otherwise `None`.
     pub fn refusal(&self) -> Option<LineRefusal>
         ensures { result ≡ result_err (words_in self.now) }
     {
         self.fault
     }
 
-    /// Returns the words. They must not be refused.
+    /// Returns the words of the block's lines, at most 4,096. They must not be refused.
     pub fn into_words(self) -> Vec<u16>
         requires { result_err (words_in self) ≡ None }
         ensures words { words_in self ≡ Ok result.items }

@@ -1,4 +1,4 @@
-//! Translates the text of a program's lines into the bytes of the program.
+//! Translates the text of a program, one program line per line of text, into the bytes of the program.
 
 ghost use Rattle.std.specs.Iterator.{YieldsFirstRef, item_count};
 ghost use Rattle.std.specs.Prelude.{◌≡◌, ◌++◌, [], IfOk, OnOk};
@@ -16,12 +16,12 @@ use h41_lines::lines::line_end;
 use h41_text::{BadText, read_line};
 use std::alloc::{AllocError, Global};
 
-/// An iterator over the lines of a program's text that remain, each without its line end (LF).
+/// An iterator over the lines of a program's text, each without its line end (LF).
 #[derive(Debug, Drop)]
 struct Texts<'a> {
-    /// The bytes that remain.
+    /// The bytes of the text that are not returned yet.
     rest: &'a [u8],
-    /// Whether the last line was returned.
+    /// Whether the last line of the text was returned.
     is_done: bool,
 }
 
@@ -62,17 +62,17 @@ impl<'a> Iterator for Texts<'a> {
     }
 }
 
-/// Program lines in sequence, encoded as they are loaded.
+/// The bytes of program lines in sequence, encoded as they are loaded.
 #[derive(Debug, Drop)]
 struct Packed {
-    /// The bytes of the lines, with a null byte between two numbers.
+    /// The bytes of the program lines, with a null byte between two numbers.
     bytes: Vec<u8>,
-    /// Whether the last line is a number.
+    /// Whether the last program line is a number.
     ends_with_number: bool,
 }
 
 impl Packed {
-    /// Returns a sequence of no lines.
+    /// Returns the bytes of a program without lines: none.
     fn new(alloc: Global) -> Self
         ensures { IsPacked [] result }
     {
@@ -82,7 +82,8 @@ impl Packed {
         }
     }
 
-    /// Appends a line. OutOfMemory (21) if allocation failed.
+    /// Appends the bytes of a program line, with a null byte before it if it and the line before it are numbers.
+    /// OutOfMemory (21) if allocation failed.
     fn push(&mut self, line: &Line) -> Result<(), AllocError>
         requires { IsLine line.now }
         ensures { OnOk result (PushesLine self.old line.now self.new) }
@@ -95,7 +96,7 @@ impl Packed {
         Ok(())
     }
 
-    /// Appends the bytes of a line. OutOfMemory (21) if allocation failed.
+    /// Appends the bytes that spell a program line, 1 to 18. OutOfMemory (21) if allocation failed.
     fn push_spelling(&mut self, line: &Line) -> Result<(), AllocError>
         requires { IsLine line.now }
         ensures { OnOk result (self.new.bytes.items ≡ self.old.bytes.items ++ spelling line.now) }
@@ -107,15 +108,15 @@ impl Packed {
     }
 }
 
-/// Returns whether a line is a number.
+/// Returns whether a program line is a number.
 fn is_number(line: &Line) -> bool
     ensures { result ≡ lines.is_number line.now }
 {
     matches!(line, Line::Number(_))
 }
 
-/// Returns the bytes between a line and the line before it: a null byte between two numbers, because their digits would run
-/// together; otherwise none.
+/// Returns the bytes between a program line and the one before it: a null byte if both are numbers, because their
+/// digits would run together; otherwise none.
 fn gap(ends_with_number: bool, is_number: bool) -> &'static [u8]
     ensures { result.now ≡ null_between ends_with_number is_number }
 {

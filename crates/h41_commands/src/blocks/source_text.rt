@@ -1,4 +1,4 @@
-//! The source of a page's words and the text of a program, from the lines of an `asm` or a `program` block.
+//! The source of a page's words or the text of a program, from the deck lines of an `asm` or a `program` block.
 
 ghost use Rattle.std.specs.Prelude.{◌≡◌, ◌≤◌, IfOk, vec_len};
 ghost use Rattle.h41_pages.specs.Addresses.{page_size};
@@ -13,13 +13,13 @@ use h41_asm::{AssembleError, assemble};
 use h41_words::Word;
 use std::alloc::{AllocError, Global};
 
-/// How many bytes are reserved when the first line is taken: sixteen for each word of a page.
+/// The number of bytes that are reserved for the text when the first line is taken: sixteen for each word of a page.
 const ROOM: usize = 16 * PAGE_WORDS;
 
-/// The number of pages: 16.
+/// The number of pages of the calculator: 16.
 const PAGES: u8 = 16;
 
-/// The text of the lines taken so far.
+/// The text of the deck lines of an `asm` or `program` block that were taken so far, each followed by an LF.
 #[derive(Debug, Drop)]
 pub struct SourceText {
     text: Vec<u8>,
@@ -33,7 +33,7 @@ impl SourceText {
     ghost use Rattle.h41_commands.specs.private.Contents.{FillsFrom, values_in};
     ghost use Rattle.h41_commands.specs.ProgramBlocks.{TextSpells};
 
-    /// Returns a text with no lines.
+    /// Returns an `asm` or `program` block without lines.
     pub fn new(alloc: Global) -> Self
         ensures { source_in result ≡ block_source [] }
     {
@@ -42,8 +42,8 @@ impl SourceText {
         }
     }
 
-    /// Takes one more line of the block. An empty line or a comment is kept as an empty line, so that line numbers remain
-    /// correct. OutOfMemory (21) if allocation failed.
+    /// Takes one more deck line of the block. An empty line or a comment is kept as an empty line, so that line numbers
+    /// remain correct. OutOfMemory (21) if allocation failed.
     #[inline(always)]
     pub fn add_line(&mut self, line: &[u8]) -> Result<(), AllocError>
         ensures { IfOk result (λ _. TakesSource self.old line.now self.new) }
@@ -58,8 +58,8 @@ impl SourceText {
         Ok(())
     }
 
-    /// Returns the bytes of the program with this text, or BadText (41) with the number of the first line that is not the
-    /// text of a program line. OutOfMemory (21) if allocation failed.
+    /// Returns the bytes of the program whose text the block has, or BadText (41) with the number of the first line,
+    /// counted from 1, that is not the text of a program line. OutOfMemory (21) if allocation failed.
     pub fn into_bytes(self, alloc: Global) -> Result<Result<Vec<u8>, LineRefusal>, AllocError>
         ensures { IfOk result (λ made. TextSpells (source_in self) (values_in made)) }
     {
@@ -91,8 +91,8 @@ impl SourceText {
     }
 }
 
-/// Returns the numbers of a page's words, or BadImage (04) if there are more than 4,096. OutOfMemory (21) if allocation
-/// failed.
+/// Returns the numbers of the given words, 000 to 3FF (hexadecimal), or BadImage (04) if there are more than 4,096
+/// words. OutOfMemory (21) if allocation failed.
 fn page_numbers(alloc: Global, words: &[Word]) -> Result<Result<Vec<u16>, LineRefusal>, AllocError>
     ensures fitting { IfOk result (λ made. values_in made ≡ words_of_page words.now) }
     ensures bound { IfOk result (λ made. IfOk made (λ words. vec_len words ≤ page_size)) }

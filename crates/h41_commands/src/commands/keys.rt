@@ -6,10 +6,10 @@ ghost use Rattle.h41_commands.specs.DeckLines.{most_keys};
 use h41_keys::Key;
 use std::marker::Model;
 
-/// The most keys of one command: 98, because a line of 200 bytes has no room for more.
+/// The greatest number of keys of one `key` command: 98, because a line of 200 bytes has no room for more.
 const MOST_KEYS: usize = 98;
 
-/// The keys that one command presses, in their order; at most 98.
+/// The keys that one `key` command presses, in their order; at most 98.
 #[derive(Clone, Copy, Debug, PartialEq, Eq)]
 pub struct PressedKeys {
     cells: [Key; MOST_KEYS],
@@ -41,7 +41,7 @@ impl Model for PressedKeys {
 }
 
 impl PressedKeys {
-    /// Returns an empty sequence of keys.
+    /// Returns an empty sequence of keys, to which `push` appends.
     pub(crate) fn new() -> Self
         ensures { result ≡ [] }
     {
@@ -51,7 +51,7 @@ impl PressedKeys {
         }
     }
 
-    /// Appends a key.
+    /// Appends a key to the keys of a `key` command. There must be fewer than 98.
     pub(crate) fn push(&mut self, key: Key)
         requires { length self.old < most_keys }
         ensures { self.new ≡ self.old ++ key ∷ [] }
@@ -60,7 +60,7 @@ impl PressedKeys {
         self.count += 1;
     }
 
-    /// Returns the keys in their order, at most 98.
+    /// Returns the keys of a `key` command in their order, at most 98.
     pub fn as_slice(&self) -> &[Key]
         ensures value { result.now ≡ self.now }
         ensures bound { length self.now ≤ most_keys }

@@ -1,4 +1,4 @@
-//! Parses the words of a line as a command.
+//! Parses the words of a deck line as a command.
 
 ghost use Rattle.std.specs.Prelude.{◌≡◌, ◌≤◌, ◌+◌, ◌*◌, ◌∷◌, [], ℕ, Ok, codes, drop, length};
 ghost use Rattle.h41_commands.specs.Commands.{break_location, call_command, location_by};
@@ -26,7 +26,7 @@ use h41_keys::Key;
 use h41_lines::words::LineWords;
 use h41_positions::Position;
 
-/// The most single steps of one command: 9,999,999.
+/// The greatest number of single steps of one command: 9,999,999.
 const MOST_STEPS: u32 = 9_999_999;
 
 /// The greatest position in memory that a breakpoint may have: 9,999.
@@ -35,18 +35,18 @@ const MOST_POSITION: u32 = 9_999;
 /// The greatest number that `size` accepts: 9,999.
 const MOST_REGISTERS: u32 = 9_999;
 
-/// The most words of one listing: 4,096, the size of a page.
+/// The greatest number of words of one listing: 4,096, the size of a page.
 const MOST_WORDS: u32 = 4_096;
 
-/// The bank that is meant if a command names none.
+/// The number of the bank that a command means if it names none: 1.
 const FIRST_BANK: u8 = 1;
 
-/// Returns the command that a line of at most 200 bytes specifies.
+/// Returns the command that a deck line of at most 200 bytes specifies.
 ///
 /// # Errors
 ///
-/// BadCommand (50) if it is not a command, or a word is missing or too many; otherwise BadNumber (51) if a number
-/// is wrong.
+/// BadCommand (50) if the line is not a command, or a word of it is missing or one too many; otherwise BadNumber (51)
+/// if a number is wrong.
 pub fn parse(line: &[u8]) -> Result<Command, LineRefusal>
     requires { length line.now ≤ longest_line }
     ensures { result ≡ command_of (words_of line.now) }
@@ -61,7 +61,7 @@ pub fn parse(line: &[u8]) -> Result<Command, LineRefusal>
     }
 }
 
-/// Returns the words of a line after its first word, which ends at the byte index `at`.
+/// Returns the words of a deck line after its first word, which ends at the byte index `at`.
 #[inline(always)]
 pub fn operands(line: &[u8], at: usize) -> LineWords<'_>
     requires { at ≡ name_end line.now }
@@ -70,7 +70,8 @@ pub fn operands(line: &[u8], at: usize) -> LineWords<'_>
     LineWords::new(&line[at..])
 }
 
-/// Returns the command of a line that opens a block of this kind, from the words after its first word.
+/// Returns the command of a deck line that begins a block of this kind, from the words after its first word. The errors
+/// are BadCommand (50) and BadNumber (51).
 fn with_block(kind: BlockKind, operands: LineWords<'_>) -> Result<Command, LineRefusal>
     ensures { result ≡ opening_command kind (words_of operands.entry.rest.now) }
 {
@@ -80,7 +81,8 @@ fn with_block(kind: BlockKind, operands: LineWords<'_>) -> Result<Command, LineR
     }
 }
 
-/// Returns the command of a line that opens no block, from its first word and the words after it.
+/// Returns the command of a deck line that begins no block, from its first word and the words after it. The errors are
+/// BadCommand (50) and BadNumber (51).
 fn without_block(name: &[u8], operands: LineWords<'_>) -> Result<Command, LineRefusal>
     requires { length name.now + 2 * length (words_of operands.rest.now) ≤ longest_line }
     ensures { result ≡ plain_command name.now (words_of operands.entry.rest.now) }
@@ -91,7 +93,8 @@ fn without_block(name: &[u8], operands: LineWords<'_>) -> Result<Command, LineRe
     }
 }
 
-/// Returns the command of this kind, which has no block, from the words after its first word.
+/// Returns the command of a given kind without a block, from the words after its first word. The errors are BadCommand
+/// (50) and BadNumber (51).
 fn plain(kind: PlainKind, operands: LineWords<'_>) -> Result<Command, LineRefusal>
     requires { length (words_of operands.rest.now) ≤ most_keys }
     ensures { result ≡ read_plain kind (words_of operands.entry.rest.now) }
@@ -112,7 +115,8 @@ fn plain(kind: PlainKind, operands: LineWords<'_>) -> Result<Command, LineRefusa
     }
 }
 
-/// Parses `words P [bN] [rw]`, `image P [bN] [rw]` and `asm P [bN] [rw]`, whose block fills a bank of a page.
+/// Returns the command `words P [bN] [rw]`, `image P [bN] [rw]` or `asm P [bN] [rw]`, whose block fills a bank of a
+/// page, from the words after its first word. The errors are BadCommand (50) and BadNumber (51).
 fn plug(kind: PageKind, mut operands: LineWords<'_>) -> Result<Command, LineRefusal>
     ensures { result ≡ plug_command kind (words_of operands.entry.rest.now) }
 {
@@ -122,7 +126,8 @@ fn plug(kind: PageKind, mut operands: LineWords<'_>) -> Result<Command, LineRefu
     }
 }
 
-/// Parses such a command from the word that names the page, and the words after it.
+/// Returns the command `words`, `image` or `asm` from the word that gives the page, and the words after it (`bN`,
+/// `rw`). The errors are BadCommand (50) and BadNumber (51).
 fn plug_with(
     kind: PageKind,
     page: &[u8],
@@ -142,7 +147,8 @@ fn plug_with(
     Err(LineRefusal::BadCommand)
 }
 
-/// Parses such a command from the word that names the page, and the word that names its bank or is `rw`.
+/// Returns the command `words`, `image` or `asm` from the word that gives the page, and the word after it, which names
+/// a bank (`bN`) or is `rw`. The errors are BadCommand (50) and BadNumber (51).
 fn plug_by(kind: PageKind, page: &[u8], option: &[u8]) -> Result<Command, LineRefusal>
     ensures { result ≡ plug_with kind page.now (option.now ∷ []) }
 {
@@ -153,7 +159,8 @@ fn plug_by(kind: PageKind, page: &[u8], option: &[u8]) -> Result<Command, LineRe
     }
 }
 
-/// Parses such a command from the words that name the page and its bank.
+/// Returns the command `words`, `image` or `asm` from the words that give the page and the bank (`bN`). The errors are
+/// BadCommand (50) and BadNumber (51).
 fn plug_at_bank(
     kind: PageKind,
     page: &[u8],
@@ -168,7 +175,8 @@ fn plug_at_bank(
     plug_at(kind, page, bank_number(bank)?, writable)
 }
 
-/// Parses such a command from the word that names the page, and the number of the bank.
+/// Returns the command `words`, `image` or `asm` from the word that gives the page, and the number of the bank, 0 to 9.
+/// BadNumber (51) if the page is not one hexadecimal digit.
 fn plug_at(kind: PageKind, page: &[u8], bank: u8, writable: bool) -> Result<Command, LineRefusal>
     ensures { result ≡ plug_at kind page.now bank writable }
 {
@@ -188,8 +196,8 @@ fn is_bank_word(word: &[u8]) -> bool
     matches!(word, [b'b', ..])
 }
 
-/// Returns the number of the bank that a word names: `bN`, where N is one decimal digit. BadNumber (51) if it is
-/// not.
+/// Returns the number, 0 to 9, of the bank that a word names: `bN`, where N is one decimal digit. BadNumber (51) if the
+/// word has another length, or N is not a digit.
 fn bank_number(word: &[u8]) -> Result<u8, LineRefusal>
     ensures { result ≡ bank_number word.now }
 {
@@ -199,7 +207,8 @@ fn bank_number(word: &[u8]) -> Result<u8, LineRefusal>
     Ok(number_up_to(9, 10, &word[1..])? as u8)
 }
 
-/// Parses `load` and `program`, whose block is a program.
+/// Returns the command `load` or `program`, whose block is a program, from the words after its first word. BadCommand
+/// (50) if there are any.
 fn load(kind: ProgramKind, mut operands: LineWords<'_>) -> Result<Command, LineRefusal>
     ensures { result ≡ load_command kind (words_of operands.entry.rest.now) }
 {
@@ -209,7 +218,7 @@ fn load(kind: ProgramKind, mut operands: LineWords<'_>) -> Result<Command, LineR
     }
 }
 
-/// Parses `unplug P`.
+/// Returns the command `unplug P`, from the words after `unplug`. The errors are BadCommand (50) and BadNumber (51).
 fn unplug(operands: LineWords<'_>) -> Result<Command, LineRefusal>
     ensures { result ≡ unplug_command (words_of operands.entry.rest.now) }
 {
@@ -220,7 +229,7 @@ fn unplug(operands: LineWords<'_>) -> Result<Command, LineRefusal>
 ///
 /// # Errors
 ///
-/// BadCommand (50) if there is not exactly one word, BadNumber (51) if it is not one hexadecimal digit.
+/// BadCommand (50) if there is not exactly one word, BadNumber (51) if the word is not one hexadecimal digit.
 pub fn unplugged_page(mut operands: LineWords<'_>) -> Result<u8, LineRefusal>
     ensures { unplug_command (words_of operands.entry.rest.now)
         ≡ and_then result (λ page. Ok (commands.Unplug page)) }
@@ -231,14 +240,16 @@ pub fn unplugged_page(mut operands: LineWords<'_>) -> Result<u8, LineRefusal>
     }
 }
 
-/// Returns the page that one hexadecimal digit names. BadNumber (51) if the word is not such a digit.
+/// Returns the page, 0 to 15, that a word of one hexadecimal digit names. BadNumber (51) if the word is not such a
+/// digit.
 fn page_number(page: &[u8]) -> Result<u8, LineRefusal>
     ensures { result ≡ spec.hexadecimal 1 page.now }
 {
     Ok(hexadecimal(1, 1, page)? as u8)
 }
 
-/// Parses `size n`.
+/// Returns the command `size n`, with n from 0 to 9,999, from the words after `size`. The errors are BadCommand (50)
+/// and BadNumber (51).
 fn size(mut operands: LineWords<'_>) -> Result<Command, LineRefusal>
     ensures { result ≡ size_command (words_of operands.entry.rest.now) }
 {
@@ -251,7 +262,7 @@ fn size(mut operands: LineWords<'_>) -> Result<Command, LineRefusal>
     }
 }
 
-/// Parses `reset`.
+/// Returns the command `reset`, from the words after `reset`. BadCommand (50) if there are any.
 fn reset(operands: LineWords<'_>) -> Result<Command, LineRefusal>
     ensures { result ≡ reset_command (words_of operands.entry.rest.now) }
 {
@@ -263,7 +274,7 @@ fn reset(operands: LineWords<'_>) -> Result<Command, LineRefusal>
 ///
 /// # Errors
 ///
-/// BadCommand (50) if one does.
+/// BadCommand (50) if a word follows.
 pub fn no_operand(mut operands: LineWords<'_>) -> Result<(), LineRefusal>
     ensures { reset_command (words_of operands.entry.rest.now)
         ≡ and_then result (λ none. Ok commands.Reset) }
@@ -274,7 +285,8 @@ pub fn no_operand(mut operands: LineWords<'_>) -> Result<(), LineRefusal>
     }
 }
 
-/// Parses `call hhhh`.
+/// Returns the command `call hhhh`, with an address of four hexadecimal digits, from the words after `call`. The errors
+/// are BadCommand (50) and BadNumber (51).
 fn call(mut operands: LineWords<'_>) -> Result<Command, LineRefusal>
     ensures { result ≡ call_command (words_of operands.entry.rest.now) }
 {
@@ -284,7 +296,7 @@ fn call(mut operands: LineWords<'_>) -> Result<Command, LineRefusal>
     }
 }
 
-/// Parses `step [n]`.
+/// Returns the command `step [n]`, from the words after `step`. The errors are BadCommand (50) and BadNumber (51).
 fn step(operands: LineWords<'_>) -> Result<Command, LineRefusal>
     ensures { result ≡ step_command (words_of operands.entry.rest.now) }
 {
@@ -295,7 +307,7 @@ fn step(operands: LineWords<'_>) -> Result<Command, LineRefusal>
 ///
 /// # Errors
 ///
-/// BadCommand (50) if there is more than one word, BadNumber (51) if it is not such a number.
+/// BadCommand (50) if there is more than one word, BadNumber (51) if the word is not a number from 0 to 9,999,999.
 pub fn step_count(mut operands: LineWords<'_>) -> Result<u32, LineRefusal>
     ensures { step_command (words_of operands.entry.rest.now)
         ≡ and_then result (λ count. Ok (commands.Step count)) }
@@ -307,14 +319,14 @@ pub fn step_count(mut operands: LineWords<'_>) -> Result<u32, LineRefusal>
     }
 }
 
-/// Parses `run n`.
+/// Returns the command `run n`, from the words after `run`. The errors are BadCommand (50) and BadNumber (51).
 fn run(operands: LineWords<'_>) -> Result<Command, LineRefusal>
     ensures { result ≡ counted_command commands.Run (words_of operands.entry.rest.now) }
 {
     Ok(Command::Run(most_steps(operands)?))
 }
 
-/// Parses `trace n`.
+/// Returns the command `trace n`, from the words after `trace`. The errors are BadCommand (50) and BadNumber (51).
 fn trace(operands: LineWords<'_>) -> Result<Command, LineRefusal>
     ensures { result ≡ counted_command commands.Trace (words_of operands.entry.rest.now) }
 {
@@ -325,7 +337,7 @@ fn trace(operands: LineWords<'_>) -> Result<Command, LineRefusal>
 ///
 /// # Errors
 ///
-/// BadCommand (50) if there is not exactly one word, BadNumber (51) if it is not such a number.
+/// BadCommand (50) if there is not exactly one word, BadNumber (51) if the word is not a number from 0 to 9,999,999.
 pub fn most_steps(mut operands: LineWords<'_>) -> Result<u32, LineRefusal>
     ensures { (command : ℕ → Command) → counted_command command (words_of operands.entry.rest.now)
         ≡ and_then result (λ count. Ok (command count)) }
@@ -336,14 +348,16 @@ pub fn most_steps(mut operands: LineWords<'_>) -> Result<u32, LineRefusal>
     }
 }
 
-/// Parses `break w hhhh`, `break l n` and `break p hhhh`.
+/// Returns the command `break w hhhh`, `break l n` or `break p hhhh`, from the words after `break`. The errors are
+/// BadCommand (50) and BadNumber (51).
 fn set_break(operands: LineWords<'_>) -> Result<Command, LineRefusal>
     ensures { result ≡ placed_command commands.Break (words_of operands.entry.rest.now) }
 {
     Ok(Command::Break(break_location(operands)?))
 }
 
-/// Parses `unbreak w hhhh`, `unbreak l n` and `unbreak p hhhh`.
+/// Returns the command `unbreak w hhhh`, `unbreak l n` or `unbreak p hhhh`, from the words after `unbreak`. The errors
+/// are BadCommand (50) and BadNumber (51).
 fn unbreak(operands: LineWords<'_>) -> Result<Command, LineRefusal>
     ensures { result ≡ placed_command commands.Unbreak (words_of operands.entry.rest.now) }
 {
@@ -354,8 +368,8 @@ fn unbreak(operands: LineWords<'_>) -> Result<Command, LineRefusal>
 ///
 /// # Errors
 ///
-/// BadCommand (50) if there are not exactly two words or the first is not `w`, `l` or `p`; BadNumber (51) if the
-/// second is not a number that fits.
+/// BadCommand (50) if there are not exactly two words or the first is not `w`, `l` or `p`; BadNumber (51) if the second
+/// is not a number in its range.
 pub fn break_location(mut operands: LineWords<'_>) -> Result<Location, LineRefusal>
     ensures { result ≡ break_location (words_of operands.entry.rest.now) }
 {
@@ -365,7 +379,8 @@ pub fn break_location(mut operands: LineWords<'_>) -> Result<Location, LineRefus
     }
 }
 
-/// Returns the location of a breakpoint, from the word for its kind and the word for its number.
+/// Returns the location of a breakpoint, from the word for its kind (`w`, `l` or `p`) and the word for its number. The
+/// errors are BadCommand (50) if the kind is another, and BadNumber (51).
 fn location_by(kind: &[u8], number: &[u8]) -> Result<Location, LineRefusal>
     ensures { result ≡ location_by kind.now number.now }
 {
@@ -383,7 +398,8 @@ fn location_by(kind: &[u8], number: &[u8]) -> Result<Location, LineRefusal>
     }
 }
 
-/// Parses `list hhhh n`.
+/// Returns the command `list hhhh n`, with n from 1 to 4,096, from the words after `list`. The errors are BadCommand
+/// (50) and BadNumber (51).
 fn list(mut operands: LineWords<'_>) -> Result<Command, LineRefusal>
     ensures { result ≡ list_command (words_of operands.entry.rest.now) }
 {
@@ -397,14 +413,16 @@ fn list(mut operands: LineWords<'_>) -> Result<Command, LineRefusal>
     }
 }
 
-/// Parses `show WHAT`, `show ram hhh` and `show image P [bN]`.
+/// Returns the command `show WHAT`, `show ram hhh` or `show image P [bN]`, from the words after `show`. The errors are
+/// BadCommand (50) and BadNumber (51).
 fn show(operands: LineWords<'_>) -> Result<Command, LineRefusal>
     ensures { result ≡ show_command (words_of operands.entry.rest.now) }
 {
     Ok(Command::Show(view(operands)?))
 }
 
-/// Parses `key NAME ..`.
+/// Returns the command `key NAME ..`, from the words after `key`. BadCommand (50) if there is none, or if one is not
+/// the name of a key.
 fn key(operands: LineWords<'_>) -> Result<Command, LineRefusal>
     requires { length (words_of operands.rest.now) ≤ most_keys }
     ensures { result ≡ key_command (words_of operands.entry.rest.now) }
@@ -422,11 +440,11 @@ fn key(operands: LineWords<'_>) -> Result<Command, LineRefusal>
     Ok(Command::Key(keys))
 }
 
-/// Returns the view that the words after `show` name.
+/// Returns the part of the calculator's state that the words after `show` name.
 ///
 /// # Errors
 ///
-/// BadCommand (50) if they name none, BadNumber (51) if a number in them is wrong.
+/// BadCommand (50) if the words name no part, BadNumber (51) if a number in them is wrong.
 pub fn view(mut operands: LineWords<'_>) -> Result<View, LineRefusal>
     ensures { result ≡ view_of (words_of operands.entry.rest.now) }
 {
@@ -437,7 +455,8 @@ pub fn view(mut operands: LineWords<'_>) -> Result<View, LineRefusal>
     }
 }
 
-/// Parses `ram hhh` and `image P [bN]`, from the first word, the second, and those after them.
+/// Returns the view `ram hhh` or `image P [bN]`, from the first word after `show`, the second, and those after them.
+/// The errors are BadCommand (50) and BadNumber (51).
 fn view_with(what: &[u8], operand: &[u8], mut others: LineWords<'_>) -> Result<View, LineRefusal>
     ensures { result ≡ view_of (what.now ∷ operand.now ∷ words_of others.entry.rest.now) }
 {
@@ -450,7 +469,8 @@ fn view_with(what: &[u8], operand: &[u8], mut others: LineWords<'_>) -> Result<V
     Err(LineRefusal::BadCommand)
 }
 
-/// Parses `image P [bN]`, from the word that names the page and the words after it.
+/// Returns the view `image P [bN]`, from the word that gives the page and the words after it. The errors are BadCommand
+/// (50) and BadNumber (51).
 fn image_with(page: &[u8], mut others: LineWords<'_>) -> Result<View, LineRefusal>
     ensures { result ≡ view_of (codes "image" ∷ page.now ∷ words_of others.entry.rest.now) }
 {
@@ -461,7 +481,8 @@ fn image_with(page: &[u8], mut others: LineWords<'_>) -> Result<View, LineRefusa
     }
 }
 
-/// Parses `image P bN`, from the words that name the page and the bank.
+/// Returns the view `image P bN`, from the words that give the page and the bank. The errors are BadCommand (50) and
+/// BadNumber (51).
 fn image_view_at(page: &[u8], bank: &[u8]) -> Result<View, LineRefusal>
     ensures { result ≡ image_view_at page.now bank.now }
 {
@@ -471,14 +492,15 @@ fn image_view_at(page: &[u8], bank: &[u8]) -> Result<View, LineRefusal>
     image_view(page, bank_number(bank)?)
 }
 
-/// Returns the view of a page's image, from the word that names the page and the number of the bank.
+/// Returns the view of a page's image, from the word that gives the page and the number of the bank, 0 to 9. BadNumber
+/// (51) if the page is not one hexadecimal digit.
 fn image_view(page: &[u8], bank: u8) -> Result<View, LineRefusal>
     ensures { result ≡ image_view page.now bank }
 {
     Ok(View::Image(page_number(page)?, bank))
 }
 
-/// Returns the view that one word names. BadCommand (50) if it names none.
+/// Returns the view that one word after `show` names, such as `cpu`. BadCommand (50) if it names none.
 #[tactic(auto, unfolding(crate::specs::Commands::view_named))]
 fn view_named(what: &[u8]) -> Result<View, LineRefusal>
     ensures { result ≡ view_named what.now }

@@ -66,6 +66,11 @@ Leaves (Err WriteFault) item s t contents old new =
     RepliesInPart item s t (contents old) (contents new)
 Leaves (Err OutOfMemory) item s t contents old new = Keeps (contents old) (contents new)
 
+-- If allocation failed, the bench is in the state that it had before the call.
+abbrev pub KeepsIfOutOfMemory : {A : Type 0} → Result A CommandFault → BenchState → BenchState
+    → Type 0
+KeepsIfOutOfMemory result s t = result ≡ Err OutOfMemory → t ≡ s
+
 -- A block that is not refused.
 abbrev pub IsAccepted : TakenBlock → Type 0
 IsAccepted block = result_err (judgement block) ≡ None

@@ -8,7 +8,7 @@ use h41_refusals::Refusal;
 use h41_views::image_text;
 use std::alloc::{AllocError, Global};
 
-/// Returns the lines of the image in the bank of a page, or why it is refused: NoSuchPage (01) or
+/// Returns the lines that `show image` prints for the bank of a page, or why it is refused: NoSuchPage (01) or
 /// NotPlugged (03). OutOfMemory (21) if allocation failed.
 pub fn image_shown(
     alloc: Global,

@@ -28,7 +28,8 @@ pub fn listed(
     }
 }
 
-/// Returns `count` words of one page from an address on, or why they cannot be listed.
+/// Returns `count` words of one page from an address on, or why they cannot be listed: SystemRom (08), EmptyPage (09),
+/// or BadImage (04) if the page has fewer words after the address.
 fn words_at(pages: &Pages, address: u16, count: usize) -> Result<&[Word], Refusal>
     ensures refusal { result_err result ≡ spec.list_refusal pages.now address count }
     ensures words { IfOk result (λ words. words.now ≡ spec.words_at pages.now address count) }

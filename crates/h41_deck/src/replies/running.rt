@@ -1,4 +1,4 @@
-//! Runs, traces and breakpoints.
+//! Executes `run`, `trace`, `break` and `unbreak`.
 
 ghost use Rattle.std.specs.Prelude.{◌≡◌, ◌≤◌, [], false, length, OnErr, OnOk, true};
 ghost use Rattle.h41_commands.specs.declared.commands.Command.TheVariants as commands;
@@ -21,8 +21,8 @@ const RAN: usize = 24;
 /// The most bytes of a line of a trace, with its LF.
 const TRACED: usize = TRACE_CAPACITY + 1;
 
-/// Makes a run of at most `limit` steps, and writes how many it made and why it stopped. Returns the refusal of the next step, if
-/// the run stopped because of it.
+/// Makes a run of at most `limit` steps, and writes how many it made and why it stopped. Returns the refusal of the
+/// next step, if the run stopped because of it. The error flag of the writer must be clear.
 ///
 /// # Errors
 ///
@@ -44,7 +44,7 @@ pub fn run<W: Sink, const REGS: usize>(
     Ok(stop_refusal(stop))
 }
 
-/// Returns the line of a run: how many steps it made, and why it stopped.
+/// Returns the line that `run` prints: how many steps were made, and why the run stopped.
 fn ran_text(made: u32, stop: Stop) -> ArrayString<RAN>
     ensures { result.bytes ≡ spec.ran_text made stop }
 {
@@ -57,7 +57,7 @@ fn ran_text(made: u32, stop: Stop) -> ArrayString<RAN>
     text
 }
 
-/// Returns why a run stopped, as the word that is printed.
+/// Returns the word that `run` prints for the reason to stop: `Idle`, `Break`, `Limit` or `Refused`.
 fn stop_name(stop: Stop) -> &'static str
     ensures text { result.now ≡ spec.stop_name stop }
     ensures short { length result.now ≤ 7 }
@@ -70,7 +70,7 @@ fn stop_name(stop: Stop) -> &'static str
     }
 }
 
-/// Returns the refusal that a run stopped for, if it did.
+/// Returns the refusal because of which a run stopped, or `None` if it stopped for another reason.
 fn stop_refusal(stop: Stop) -> Option<Refusal>
     ensures { result ≡ spec.stop_refusal stop }
 {
@@ -80,13 +80,14 @@ fn stop_refusal(stop: Stop) -> Option<Refusal>
     }
 }
 
-/// Makes `count` single steps, up to the first that is refused, and returns why that one is refused. Before each step its line is
-/// written.
+/// Makes `count` single steps, up to the first that is refused, and returns why that one is refused. Before each step,
+/// the line that shows it is written: where the calculator is, and what it executes next. The error flag of the writer
+/// must be clear.
 ///
 /// # Errors
 ///
-/// `WriteFault` (23): no further line is written, but the remaining steps are made, because what a command does to the bench does
-/// not depend on its writer.
+/// `WriteFault` (23): no further line is written, but the remaining steps are made, because what a command does to the
+/// bench does not depend on its writer.
 pub fn trace<W: Sink, const REGS: usize>(
     bench: &mut Bench<REGS>,
     count: u32,
@@ -112,7 +113,7 @@ pub fn trace<W: Sink, const REGS: usize>(
     Ok(None)
 }
 
-/// Returns the line of a trace for the next step.
+/// Returns the line that a trace prints for the next step, with its LF.
 fn traced_line<const REGS: usize>(bench: &Bench<REGS>) -> ArrayString<TRACED>
     ensures { IsTraceLine bench.now.state result.bytes }
 {
@@ -122,7 +123,8 @@ fn traced_line<const REGS: usize>(bench: &Bench<REGS>) -> ArrayString<TRACED>
     line
 }
 
-/// Sets a breakpoint. Returns BreakFull (19) if it is refused.
+/// Sets a breakpoint at a location. Returns the refusal BreakFull (19) if breakpoints are set at 16 other locations,
+/// otherwise `None`.
 pub fn set_break<const REGS: usize>(bench: &mut Bench<REGS>, location: Location) -> Option<Refusal>
     ensures { Reply (commands.Break location) [] bench.old.state bench.new.state (ends_by result) }
 {
@@ -132,7 +134,7 @@ pub fn set_break<const REGS: usize>(bench: &mut Bench<REGS>, location: Location)
     }
 }
 
-/// Removes a breakpoint. Returns NoBreak (20) if it is not set.
+/// Removes the breakpoint at a location. Returns the refusal NoBreak (20) if none is set there, otherwise `None`.
 pub fn unbreak<const REGS: usize>(bench: &mut Bench<REGS>, location: Location) -> Option<Refusal>
     ensures { Reply (commands.Unbreak location) []
         bench.old.state bench.new.state (ends_by result) }

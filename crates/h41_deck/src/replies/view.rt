@@ -14,7 +14,7 @@ use h41_views::{
 };
 use std::alloc::{AllocError, Global};
 
-/// Returns the text of a view, or why it is refused. OutOfMemory (21) if allocation failed.
+/// Returns the text that `show` prints for a view, or why it is refused. OutOfMemory (21) if allocation failed.
 #[inline(never)]
 pub fn shown<const REGS: usize>(
     alloc: Global,
@@ -40,7 +40,7 @@ pub fn shown<const REGS: usize>(
     Ok(Ok(text))
 }
 
-/// Returns a text with a line end. OutOfMemory (21) if allocation failed.
+/// Returns a text followed by a line end. OutOfMemory (21) if allocation failed.
 fn line_of(alloc: Global, text: &str) -> Result<Vec<u8>, AllocError>
     ensures { IfOk result (λ line. line.items ≡ line_of text.now) }
 {

@@ -1,4 +1,4 @@
-//! The names in the texts of instructions.
+//! The names that the texts of instructions contain: the mnemonics, and the names of the fields of a register.
 
 ghost use Rattle.std.specs.Prelude.{◌≡◌, ◌≤◌, length};
 ghost use Rattle.h41_words.specs.Mnemonics as spec;
@@ -6,8 +6,8 @@ ghost use Rattle.h41_words.specs.Mnemonics as spec;
 use h41_fields::{Field, Pointer};
 use h41_words::{Bank, Condition, LongJumpKind, Operation, RegisterTransfer, Row};
 
-/// Returns the mnemonic of a row of one word. It is `CON` for the first word of an instruction of two words, and for a word that is
-/// no instruction.
+/// Returns the mnemonic of a row of the word table, without its operand. It is `CON` for the first word of an
+/// instruction of two words, and for a word that is no instruction.
 pub(crate) fn mnemonic(row: &Row) -> &'static str
     ensures { result.now ≡ spec.mnemonic row.now }
 {
@@ -60,7 +60,7 @@ pub(crate) fn mnemonic(row: &Row) -> &'static str
     }
 }
 
-/// Returns the name of an operation.
+/// Returns the mnemonic of an arithmetic instruction without the name of its field, for example `C=A+C`.
 fn operation_name(operation: Operation) -> &'static str
     ensures { result.now ≡ spec.operation_text operation }
 {
@@ -100,7 +100,7 @@ fn operation_name(operation: Operation) -> &'static str
     }
 }
 
-/// Returns the name of a field, at most three characters.
+/// Returns the name of a field of a register, for example `S&X` for the exponent and its sign; at most three bytes.
 pub(crate) fn field_name(field: Field) -> &'static str
     ensures text { result.now ≡ spec.field_text field }
     ensures short { length result.now ≤ 3 }
@@ -117,7 +117,7 @@ pub(crate) fn field_name(field: Field) -> &'static str
     }
 }
 
-/// Returns the name of a copy or an exchange of registers.
+/// Returns the mnemonic of the instruction that copies or exchanges two registers, for example `C<>G`.
 fn transfer_name(transfer: RegisterTransfer) -> &'static str
     ensures { result.now ≡ spec.transfer_text transfer }
 {
@@ -140,7 +140,8 @@ fn transfer_name(transfer: RegisterTransfer) -> &'static str
     }
 }
 
-/// Returns the name of a jump by a displacement.
+/// Returns the mnemonic of a short jump: `JNC` if it jumps when the carry is clear, `JC` if it jumps when the carry is
+/// set.
 fn short_jump_name(condition: Condition) -> &'static str
     ensures { result.now ≡ spec.short_jump_text condition }
 {
@@ -150,7 +151,7 @@ fn short_jump_name(condition: Condition) -> &'static str
     }
 }
 
-/// Returns the name of a jump by address, at most six characters.
+/// Returns the mnemonic of a jump by address: `?NC XQ`, `?C XQ`, `?NC GO` or `?C GO`; at most six bytes.
 pub(crate) fn long_jump_name(condition: Condition, kind: LongJumpKind) -> &'static str
     ensures text { result.now ≡ spec.long_jump_text condition kind }
     ensures short { length result.now ≤ 6 }
@@ -163,7 +164,7 @@ pub(crate) fn long_jump_name(condition: Condition, kind: LongJumpKind) -> &'stat
     }
 }
 
-/// Returns the name of the word that activates a bank.
+/// Returns the mnemonic of the instruction that activates a bank: `ENBANK1` to `ENBANK4`.
 fn bank_name(bank: Bank) -> &'static str
     ensures { result.now ≡ spec.bank_text bank }
 {
@@ -175,7 +176,7 @@ fn bank_name(bank: Bank) -> &'static str
     }
 }
 
-/// Returns the name of the word that selects a pointer.
+/// Returns the mnemonic of the instruction that selects a pointer: `SLCT P` or `SLCT Q`.
 fn selection_name(pointer: Pointer) -> &'static str
     ensures { result.now ≡ spec.selection_text pointer }
 {
@@ -185,7 +186,8 @@ fn selection_name(pointer: Pointer) -> &'static str
     }
 }
 
-/// Returns the name of a return with a condition.
+/// Returns the mnemonic of a conditional return: `?NC RTN` if it returns when the carry is clear, `?C RTN` if it
+/// returns when the carry is set.
 fn return_name(condition: Condition) -> &'static str
     ensures { result.now ≡ spec.return_text condition }
 {

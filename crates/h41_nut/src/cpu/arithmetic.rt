@@ -1,4 +1,4 @@
-//! The words that work on a field of A, B and C.
+//! Executes the words that compute with a field of the registers A, B and C.
 
 ghost use Rattle.std.specs.Prelude.{◌≡◌, ◌≤◌, false, OnOk, OnErr};
 ghost use Rattle.std.specs.Result.{result_err};
@@ -18,9 +18,9 @@ use h41_fields::{Field, span};
 use h41_words::Operation;
 
 impl Cpu {
-    /// `OPERATION FIELD`: performs an operation on a field in the current base. Returns SystemRom (08), and changes nothing, if the
-    /// next address is 0000. The function does not depend on the size of memory; it is generic so that each loop over words
-    /// contains its own inlined copy.
+    /// Executes a word that performs `operation` on a field of A, B and C in the current base. Returns SystemRom (08),
+    /// and changes nothing, if the next address is 0000. The function does not depend on the size of memory; it is
+    /// generic so that each loop over words contains its own inlined copy.
     #[inline(always)]
     pub(crate) fn arithmetic<const REGS: usize>(
         &mut self,
@@ -43,8 +43,8 @@ impl Cpu {
         Ok(())
     }
 
-    /// Performs an operation on a span of places, in base 10 if `DEC` is true, otherwise in base 16. The carry before it has no
-    /// effect.
+    /// Performs an operation on the digits of A, B and C in a span of positions, in base 10 if `DEC` is true, otherwise
+    /// in base 16. The result sets the carry; the carry before it has no effect.
     #[inline(always)]
     fn operate<const DEC: bool>(&mut self, operation: Operation, span: Span)
         requires base { base_of DEC ≡ base_number self.old.base }

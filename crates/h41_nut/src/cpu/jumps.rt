@@ -1,4 +1,4 @@
-//! The next address of the processor: after the word, by jumps, and by returns.
+//! Sets the address of the next word: after the executed word, by jumps, and by returns.
 
 ghost use Rattle.std.specs.Prelude.{◌≡◌, ◌<◌, ◌≤◌, ◌==◌, IfOk};
 ghost use Rattle.std.specs.Result.{result_err};
@@ -18,7 +18,7 @@ use h41_pages::FIRST_ADDRESS;
 use h41_words::{Condition, Displacement, LongJumpKind, SecondWord};
 
 impl Cpu {
-    /// Returns the address after the word.
+    /// Returns the address just after that of the word which is executed. The address after FFFF is 0000.
     #[inline(always)]
     pub(crate) fn next_address(&self) -> u16
         ensures { result ≡ arrivals.next_address self.now }
@@ -26,8 +26,8 @@ impl Cpu {
         self.pc.wrapping_add(1)
     }
 
-    /// Returns the address after the word, or SystemRom (08) if no step may go there. Since the word is in a page that can be
-    /// plugged, this is the case for 0000 only.
+    /// Returns the address just after that of the word which is executed, or SystemRom (08) if it is 0000. The word is
+    /// in pages 4 to F, so that no other address after it is in the system's ROM.
     #[inline(always)]
     pub(crate) fn following(&self) -> Result<u16, WordRefusal>
         requires { first_address ≤ self.now.pc }
@@ -40,7 +40,7 @@ impl Cpu {
         }
     }
 
-    /// Sets the address and the carry.
+    /// Sets the address of the next word, and the carry.
     #[inline(always)]
     pub(crate) fn arrive(&mut self, address: u16, carry: bool)
         ensures { self.new ≡ arrivals.at_address address carry self.old }
@@ -49,8 +49,8 @@ impl Cpu {
         self.carry = carry;
     }
 
-    /// Jumps to an address and clears the carry; returns whether a function ends there. The error is SystemRom (08) if no step may
-    /// go there.
+    /// Jumps to an address and clears the carry; returns whether it is 00F0, at which a function ends. The error is
+    /// SystemRom (08) if the address is in pages 0 to 3 and not 00F0; nothing changes then.
     #[inline(always)]
     pub(crate) fn go_to(&mut self, address: u16) -> Result<bool, WordRefusal>
         ensures change { GoesTo (λ _. address) (λ s. s) self.old self.new result }
@@ -61,7 +61,8 @@ impl Cpu {
         Ok(ends)
     }
 
-    /// Continues after the word and clears the carry. The error is SystemRom (08) if the next address is 0000.
+    /// Continues with the word after the one that is executed, and clears the carry. The error is SystemRom (08) if the
+    /// next address is 0000; nothing changes then.
     #[inline(always)]
     pub(crate) fn go_on(&mut self) -> Result<(), WordRefusal>
         requires { first_address ≤ self.old.pc }
@@ -70,7 +71,8 @@ impl Cpu {
         self.answer(false)
     }
 
-    /// Continues after the word, with the result of a test as the carry. The error is SystemRom (08) if the next address is 0000.
+    /// Continues with the word after the one that is executed, with the result of a test as the carry. The error is
+    /// SystemRom (08) if the next address is 0000; nothing changes then.
     #[inline(always)]
     pub(crate) fn answer(&mut self, test: bool) -> Result<(), WordRefusal>
         requires { first_address ≤ self.old.pc }
@@ -81,9 +83,10 @@ impl Cpu {
         Ok(())
     }
 
-    /// `?NC XQ` and the like: jumps to the address in both words if the carry meets the condition of the second word. `XQ` pushes
-    /// the address after both words. Returns whether a function ends at the next address; the error is SystemRom (08) if no step
-    /// may go there.
+    /// Executes `?NC XQ`, `?C XQ`, `?NC GO` and `?C GO`: jumps to the address in both words if the carry meets the
+    /// condition of the second word, otherwise continues after both. `XQ` adds the address after both words as the
+    /// newest return address if it jumps. Returns whether the next address is 00F0, at which a function ends; the error
+    /// is SystemRom (08) if it is another one in pages 0 to 3.
     #[inline(always)]
     pub(crate) fn long_jump(
         &mut self,
@@ -106,8 +109,9 @@ impl Cpu {
         Ok(ends)
     }
 
-    /// `JNC` and `JC`: jumps by the displacement from the word's own address if the carry meets the condition. Returns whether a
-    /// function ends at the next address; the error is SystemRom (08) if no step may go there.
+    /// Executes `JNC` and `JC`: jumps by the displacement, counted in words from the word's own address, if the carry
+    /// meets the condition, otherwise continues after the word. Returns whether the next address is 00F0, at which a
+    /// function ends; the error is SystemRom (08) if it is another one in pages 0 to 3.
     #[inline(always)]
     pub(crate) fn short_jump(
         &mut self,
@@ -126,8 +130,8 @@ impl Cpu {
         }
     }
 
-    /// `RTN`: jumps to the newest return address and removes it. Returns whether a function ends there; the error is SystemRom (08)
-    /// if no step may go there.
+    /// Executes `RTN`: jumps to the newest return address and removes it. Returns whether that address is 00F0, at
+    /// which a function ends; the error is SystemRom (08) if it is another one in pages 0 to 3.
     pub(crate) fn return_to_newest(&mut self) -> Result<bool, WordRefusal>
         ensures change { GoesTo spec.newest_return spec.with_return_popped self.old self.new
             result }
@@ -140,8 +144,9 @@ impl Cpu {
         Ok(ends)
     }
 
-    /// `?C RTN` and `?NC RTN`: returns if the carry meets the condition. Returns whether a function ends at the next address; the
-    /// error is SystemRom (08) if no step may go there.
+    /// Executes `?C RTN` and `?NC RTN`: jumps to the newest return address and removes it if the carry meets the
+    /// condition, otherwise continues after the word. Returns whether the next address is 00F0, at which a function
+    /// ends; the error is SystemRom (08) if it is another one in pages 0 to 3.
     pub(crate) fn return_if(&mut self, condition: Condition) -> Result<bool, WordRefusal>
         requires { first_address ≤ self.old.pc }
         ensures change { ReturnsIf condition self.old self.new result }
@@ -155,21 +160,22 @@ impl Cpu {
         }
     }
 
-    /// `XQ->GO`: drops the newest return address.
+    /// Executes `XQ->GO`: removes the newest return address.
     pub(crate) fn drop_return(&mut self)
         ensures { self.new ≡ spec.with_return_popped self.old }
     {
         self.pop();
     }
 
-    /// `PUSH ADR`: makes the address in C the newest return address.
+    /// Executes `PUSH ADR`: adds the address in digits 6 to 3 of C as the newest return address. The oldest one is
+    /// lost.
     pub(crate) fn push_address(&mut self)
         ensures { self.new ≡ with_address_pushed self.old }
     {
         self.push(self.address_in_c());
     }
 
-    /// `POP ADR`: copies the newest return address to C and removes it.
+    /// Executes `POP ADR`: copies the newest return address to digits 6 to 3 of C and removes it.
     pub(crate) fn pop_address(&mut self)
         ensures { self.new ≡ with_address_popped self.old }
     {
@@ -178,8 +184,9 @@ impl Cpu {
         self.pop();
     }
 
-    /// `GOTO KEY`: jumps to the next address with its low byte replaced by the key's code. Returns whether a function ends there;
-    /// the error is SystemRom (08) if no step may go there.
+    /// Executes `GOTO KEY`: jumps to the address after the word, with its low byte replaced by the key's code. Returns
+    /// whether that address is 00F0, at which a function ends; the error is SystemRom (08) if it is another one in
+    /// pages 0 to 3.
     pub(crate) fn go_to_key(&mut self, key: u8) -> Result<bool, WordRefusal>
         ensures change { GoesTo (spec.key_target key) (λ s. s) self.old self.new result }
         ensures end { TellsEnd result self.new }
@@ -187,7 +194,7 @@ impl Cpu {
         self.go_to(self.next_address() / 256 * 256 + u16::from(key))
     }
 
-    /// Removes the newest return address. The oldest is then 0000.
+    /// Removes the newest of the four return addresses. The others move up, and the oldest is then 0000.
     fn pop(&mut self)
         ensures { self.new ≡ spec.with_return_popped self.old }
     {
@@ -195,7 +202,7 @@ impl Cpu {
         self.returns = [second, third, fourth, 0];
     }
 
-    /// Adds a return address as the newest one. The oldest is lost.
+    /// Adds a return address as the newest of four. The oldest one is lost.
     fn push(&mut self, address: u16)
         ensures { self.new ≡ spec.with_return_pushed address self.old }
     {
@@ -204,7 +211,7 @@ impl Cpu {
     }
 }
 
-/// Returns whether a jump or a return with a condition is taken at this carry.
+/// Returns whether a jump or a return with a condition is taken if the carry has this value.
 #[inline(always)]
 fn is_taken(condition: Condition, carry: bool) -> bool
     ensures { result ≡ spec.is_taken condition carry }
@@ -215,7 +222,8 @@ fn is_taken(condition: Condition, carry: bool) -> bool
     }
 }
 
-/// Returns the address at a displacement from an address, modulo 65,536.
+/// Returns the address that is `displacement` words after an address, or before it if the displacement is negative,
+/// modulo 65,536.
 #[inline(always)]
 fn displaced(address: u16, displacement: Displacement) -> u16
     ensures { result ≡ displaced_address address displacement }
@@ -228,7 +236,8 @@ fn displaced(address: u16, displacement: Displacement) -> u16
     }
 }
 
-/// Returns whether a function ends at an address, or SystemRom (08) if no step may go there.
+/// Returns whether a jump target is 00F0, at which a function ends, or SystemRom (08) if it is another address in pages
+/// 0 to 3.
 #[inline(always)]
 pub(crate) fn arrival(address: u16) -> Result<bool, WordRefusal>
     ensures refusal { result_err result ≡ arrivals.arrival_refusal address }
@@ -243,8 +252,8 @@ pub(crate) fn arrival(address: u16) -> Result<bool, WordRefusal>
     }
 }
 
-/// Returns whether no step may go to an address in pages 0 to 3, which is true of each except 00F0. It is a cold function of its
-/// own, because few words jump there.
+/// Returns whether an address in pages 0 to 3 cannot be a jump target, which is true of each except 00F0. It is a cold
+/// function of its own, because few words jump there.
 #[cold]
 #[inline(never)]
 fn is_closed(address: u16) -> bool

@@ -1,4 +1,4 @@
-//! The words of the pointers.
+//! Executes the words that move or select the pointers P and Q.
 
 ghost use Rattle.std.specs.Prelude.{◌≡◌, ◌<◌};
 ghost use Rattle.h41_nut.specs.Pointers as spec;
@@ -8,7 +8,7 @@ use h41_digits::PLACES;
 use h41_fields::Pointer;
 
 impl Cpu {
-    /// Returns the place, 0 to 13, that the active pointer names.
+    /// Returns the digit position, 0 (the rightmost) to 13, to which the active pointer is set.
     pub(crate) fn pointer(&self) -> usize
         ensures place { result ≡ spec.pointer_of self.now }
         ensures bound { result < 14 }
@@ -19,7 +19,7 @@ impl Cpu {
         }
     }
 
-    /// `R= n`, `R=R+1` and `R=R-1`: moves the active pointer to a place.
+    /// Executes `R= n`, `R=R+1` and `R=R-1`: sets the active pointer to a digit position, 0 (the rightmost) to 13.
     pub(crate) fn set_pointer(&mut self, place: usize)
         requires { place < 14 }
         ensures { self.new ≡ spec.with_pointer place self.old }
@@ -30,7 +30,7 @@ impl Cpu {
         }
     }
 
-    /// `SLCT P` and `SLCT Q`: makes a pointer the active one.
+    /// Executes `SLCT P` and `SLCT Q`: makes a pointer the active one.
     pub(crate) fn select_pointer(&mut self, pointer: Pointer)
         ensures { self.new ≡ spec.with_active pointer self.old }
     {
@@ -38,7 +38,7 @@ impl Cpu {
     }
 }
 
-/// Returns the place above another. The place above 13 is 0.
+/// Returns the digit position to the left of another, 0 to 13. To the left of 13 it is 0.
 pub(crate) fn place_above(place: usize) -> usize
     requires { place < 14 }
     ensures value { result ≡ spec.place_above place }
@@ -47,7 +47,7 @@ pub(crate) fn place_above(place: usize) -> usize
     if place == PLACES - 1 { 0 } else { place + 1 }
 }
 
-/// Returns the place below another. The place below 0 is 13.
+/// Returns the digit position to the right of another, 0 to 13. To the right of 0 it is 13.
 pub(crate) fn place_below(place: usize) -> usize
     requires { place < 14 }
     ensures value { result ≡ spec.place_below place }

@@ -1,4 +1,5 @@
-//! The words that load, copy and rotate registers, and those that change modes.
+//! Executes the words that load, copy and rotate registers, and those that set the base, the display or the memory
+//! address.
 
 ghost use Rattle.std.specs.Prelude.{◌≡◌, ◌<◌, ◌≤◌};
 ghost use Rattle.h41_pages.specs.Addresses.{first_address};
@@ -17,14 +18,14 @@ use h41_digits::{PLACES, Reg};
 use h41_words::{DigitPlace, LoadedDigit, RegisterTransfer, Word};
 
 impl Cpu {
-    /// Returns the address in the digits 6 to 3 of C.
+    /// Returns the address in the digits 6 to 3 of C, 0000 to FFFF.
     pub(crate) fn address_in_c(&self) -> u16
         ensures { result ≡ spec.address_in_c self.now }
     {
         self.c.number(3, 6) as u16
     }
 
-    /// Returns the low ten bits of the digits 2 to 0 of C.
+    /// Returns the low ten bits of the digits 2 to 0 of C, which are a word or a memory address.
     pub(crate) fn word_in_c(&self) -> u16
         ensures value { result ≡ spec.word_in_c self.now }
         ensures bound { result < word_count }
@@ -32,14 +33,15 @@ impl Cpu {
         (self.c.number(0, 2) % 1024) as u16
     }
 
-    /// Copies the digits of a word to places 2 to 0 of C.
+    /// Copies the number of a word to the digits 2 to 0 of C. The other digits do not change.
     fn put_word(&mut self, word: Word)
         ensures { self.new ≡ spec.with_word_in_c word self.old }
     {
         self.c = self.c.with_number(0, 2, u64::from(word.number()));
     }
 
-    /// `LDI`: copies the second word to C and continues after it. The error is SystemRom (08) if no step may go there.
+    /// Executes `LDI`: copies the second word to the digits 2 to 0 of C and continues after it. The error is SystemRom
+    /// (08) if the next address is in pages 0 to 3 and not 00F0; nothing changes then.
     pub(crate) fn load_immediate(&mut self, second: Word) -> Result<(), WordRefusal>
         ensures { GoesTo address_after_both (spec.with_word_in_c second) self.old self.new result }
     {
@@ -50,7 +52,8 @@ impl Cpu {
         Ok(())
     }
 
-    /// `FETCH S&X`: copies a word to C and continues. The error is SystemRom (08) if the next address is 0000.
+    /// Executes `FETCH S&X` after the word was read: copies it to the digits 2 to 0 of C and continues. The error is
+    /// SystemRom (08) if the next address is 0000; nothing changes then.
     pub(crate) fn load_word(&mut self, word: Word) -> Result<(), WordRefusal>
         requires { first_address ≤ self.old.pc }
         ensures { GoesOn (spec.with_word_in_c word) self.old self.new result }
@@ -61,7 +64,8 @@ impl Cpu {
         Ok(())
     }
 
-    /// `LD@R n`: writes a digit to C at the active pointer's place, and moves the pointer down one place.
+    /// Executes `LD@R n`: writes a digit to C at the position of the active pointer, and moves the pointer one position
+    /// to the right.
     pub(crate) fn load_digit(&mut self, digit: LoadedDigit)
         ensures { self.new ≡ spec.with_digit_loaded digit self.old }
     {
@@ -70,28 +74,28 @@ impl Cpu {
         self.set_pointer(place_below(place));
     }
 
-    /// `C=KEY`: copies the key's code to the digits 4 and 3 of C.
+    /// Executes `C=KEY`: copies the key's code, a byte, to the digits 4 and 3 of C.
     pub(crate) fn load_key(&mut self, key: u8)
         ensures { self.new ≡ spec.with_key_in_c key self.old }
     {
         self.c = self.c.with_number(3, 4, u64::from(key));
     }
 
-    /// `READ DATA`, `C=C OR A` and `C=C AND A`: copies a register to C.
+    /// Copies 14 digits to C, for `READ DATA`, `C=C OR A` and `C=C AND A`.
     pub(crate) fn load_register(&mut self, register: Reg)
         ensures { self.new ≡ spec.with_c register self.old }
     {
         self.c = register;
     }
 
-    /// `RCR n`: rotates C right by a number of digits.
+    /// Executes `RCR n`: rotates C right by 0 to 13 digits.
     pub(crate) fn rotate_right(&mut self, digits: DigitPlace)
         ensures { self.new ≡ spec.with_c_rotated digits self.old }
     {
         self.c = rotated(self.c, usize::from(digits.number()));
     }
 
-    /// `CLRABC`: clears A, B and C.
+    /// Executes `CLRABC`: sets A, B and C to zero.
     pub(crate) fn clear_registers(&mut self)
         ensures { self.new ≡ spec.with_abc_clear self.old }
     {
@@ -100,7 +104,7 @@ impl Cpu {
         self.c = Reg::zero();
     }
 
-    /// `RAM SLCT`, `WRIT n`: selects an address of the memory.
+    /// Sets the selected memory address, for `RAM SLCT` and `WRIT n`. It has ten bits.
     pub(crate) fn select(&mut self, address: u16)
         requires { address < word_count }
         ensures { self.new ≡ with_selected address self.old }
@@ -108,7 +112,7 @@ impl Cpu {
         self.selected = address;
     }
 
-    /// `READ n`: selects an address of the memory, and copies its register to C.
+    /// Sets the selected memory address, which has ten bits, and copies the register there to C, for `READ n`.
     pub(crate) fn select_and_load(&mut self, address: u16, register: Reg)
         requires { address < word_count }
         ensures { self.new ≡ selecting_and_loading address register self.old }
@@ -117,21 +121,22 @@ impl Cpu {
         self.c = register;
     }
 
-    /// `SETHEX` and `SETDEC`: selects the base of arithmetic.
+    /// Executes `SETHEX` and `SETDEC`: sets the base of arithmetic, 16 or 10.
     pub(crate) fn set_base(&mut self, base: Base)
         ensures { self.new ≡ spec.with_base base self.old }
     {
         self.base = base;
     }
 
-    /// `DISOFF` and `DISTOG`: turns the display on or off.
+    /// Executes `DISOFF` and `DISTOG`: turns the display on or off.
     pub(crate) fn set_display(&mut self, on: bool)
         ensures { self.new ≡ spec.with_display on self.old }
     {
         self.display = on;
     }
 
-    /// `G=C`, `C=M`, `ST<>T` and the like: copies a register, or exchanges two.
+    /// Executes the words that copy a register or the low status bits to another register, or exchange two, for example
+    /// `G=C`, `C=M` and `ST<>T`.
     #[inline(always)]
     pub(crate) fn transfer(&mut self, transfer: RegisterTransfer)
         ensures { self.new ≡ spec.after_transfer transfer self.old }
@@ -167,7 +172,8 @@ impl Cpu {
         }
     }
 
-    /// Returns the byte of C at the active pointer: its low digit is at the pointer's place, its high digit one place above.
+    /// Returns the byte of C at the active pointer: its low digit is at the pointer's position, its high digit one
+    /// position to the left. To the left of position 13 is position 0.
     fn byte_at_pointer(&self) -> u8
         ensures { result ≡ spec.byte_at_pointer self.now }
     {
@@ -175,7 +181,8 @@ impl Cpu {
         self.c.get(place) + 16 * self.c.get(place_above(place))
     }
 
-    /// Writes a byte to C at the active pointer: the low digit to the pointer's place, the high digit one place above.
+    /// Writes a byte to C at the active pointer: the low digit to the pointer's position, the high digit one position
+    /// to the left. To the left of position 13 is position 0.
     fn put_byte_at_pointer(&mut self, byte: u8)
         ensures { self.new ≡ spec.with_byte_at_pointer byte self.old }
     {
@@ -186,7 +193,8 @@ impl Cpu {
             .with(place_above(place), byte / 16);
     }
 
-    /// Returns the address of a register, 0 to 15, in the selected block of 16.
+    /// Returns the memory address of a register, 0 to 15, in the block of 16 registers that contains the selected
+    /// address.
     pub(crate) fn block_address(&self, register: u8) -> u16
         requires { register < 16 }
         ensures value { result ≡ block_address register self.now }
@@ -196,7 +204,7 @@ impl Cpu {
     }
 }
 
-/// Returns a register rotated right by 0 to 13 digits.
+/// Returns the content of a register rotated right by 0 to 13 digits.
 fn rotated(register: Reg, digits: usize) -> Reg
     requires { digits < 14 }
     ensures { result ≡ spec.rotated_register register digits }
@@ -211,14 +219,14 @@ fn rotated(register: Reg, digits: usize) -> Reg
         .with_number(PLACES - digits, PLACES - 1, leaving)
 }
 
-/// Returns the bits that are set in at least one of two registers.
+/// Returns the bits that are set in at least one of two register contents.
 pub(crate) fn digits_or(x: Reg, y: Reg) -> Reg
     ensures { result ≡ spec.digits_or x y }
 {
     Reg::holding(x.to_u64() | y.to_u64())
 }
 
-/// Returns the bits that are set in both of two registers.
+/// Returns the bits that are set in both of two register contents.
 pub(crate) fn digits_and(x: Reg, y: Reg) -> Reg
     ensures { result ≡ spec.digits_and x y }
 {

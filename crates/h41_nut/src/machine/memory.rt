@@ -1,4 +1,4 @@
-//! The words that write and read the memory.
+//! Executes the words that write and read the registers of memory.
 
 ghost use Rattle.std.specs.Prelude.{◌≡◌, ◌≤◌, ◌&&◌, is_ok, OnOk, OnErr};
 ghost use Rattle.h41_pages.specs.Addresses.{first_address};
@@ -11,8 +11,8 @@ use crate::refusal::WordRefusal;
 use h41_ram::Ram;
 use h41_words::{BlockRegister, ReadRegister};
 
-/// `WRIT n`: writes C to a register of the selected block, and selects this register. The error is SystemRom (08) if the next
-/// address is 0000.
+/// Executes `WRIT n`: writes C to a register of the selected block of 16 registers, and selects this register. The
+/// error is SystemRom (08) if the next address is 0000; nothing changes then.
 pub fn write_register<const REGS: usize>(
     cpu: &mut Cpu,
     ram: &mut Ram<REGS>,
@@ -34,8 +34,8 @@ pub fn write_register<const REGS: usize>(
     Ok(())
 }
 
-/// `READ n`: copies a register of the selected block to C, and selects this register. The error is SystemRom (08) if the next
-/// address is 0000.
+/// Executes `READ n`: copies a register of the selected block of 16 registers to C, and selects this register. The
+/// error is SystemRom (08) if the next address is 0000; nothing changes then.
 pub fn read_register<const REGS: usize>(
     cpu: &mut Cpu,
     ram: &Ram<REGS>,
@@ -50,7 +50,8 @@ pub fn read_register<const REGS: usize>(
     Ok(())
 }
 
-/// `WRIT DATA`: writes C to the selected register. The error is SystemRom (08) if the next address is 0000.
+/// Executes `WRIT DATA`: writes C to the selected register. The error is SystemRom (08) if the next address is 0000;
+/// nothing changes then.
 pub fn write_data<const REGS: usize>(cpu: &mut Cpu, ram: &mut Ram<REGS>) -> Result<(), WordRefusal>
     requires { first_address ≤ cpu.old.pc }
     ensures processor { GoesOn (λ s. s) cpu.old cpu.new result }
@@ -66,7 +67,8 @@ pub fn write_data<const REGS: usize>(cpu: &mut Cpu, ram: &mut Ram<REGS>) -> Resu
     Ok(())
 }
 
-/// `READ DATA`: copies the selected register to C. The error is SystemRom (08) if the next address is 0000.
+/// Executes `READ DATA`: copies the selected register to C. The error is SystemRom (08) if the next address is 0000;
+/// nothing changes then.
 pub fn read_data<const REGS: usize>(cpu: &mut Cpu, ram: &Ram<REGS>) -> Result<(), WordRefusal>
     requires { first_address ≤ cpu.old.pc }
     ensures { GoesOn (spec.with_selected_in_c ram.now.registers) cpu.old cpu.new result }

@@ -1,4 +1,4 @@
-//! The words of peripherals, and those that are no instruction.
+//! Executes the words of peripherals, and refuses those that are no instruction.
 
 ghost use Rattle.std.specs.Prelude.{◌≡◌, ◌≤◌};
 ghost use Rattle.h41_pages.specs.Addresses.{first_address};
@@ -9,7 +9,8 @@ use crate::cpu::Cpu;
 use crate::refusal::WordRefusal;
 use h41_words::UnassignedWord;
 
-/// `PRPH SLCT`: does nothing if the digits 1 and 0 of C are zero. Otherwise the error is PeripheralNotHeld (10).
+/// Executes `PRPH SLCT`: does nothing and continues if the digits 1 and 0 of C are zero. Otherwise the error is
+/// PeripheralNotHeld (10). The error is SystemRom (08) if the next address is 0000.
 pub fn select_peripheral(cpu: &mut Cpu) -> Result<(), WordRefusal>
     requires { first_address ≤ cpu.old.pc }
     ensures { GoesOnUnless (spec.peripheral_refusal cpu.old) (λ s. s) cpu.old cpu.new result }
@@ -20,8 +21,8 @@ pub fn select_peripheral(cpu: &mut Cpu) -> Result<(), WordRefusal>
     cpu.go_on()
 }
 
-/// Returns the reason why a word that is no instruction is refused: WordNotInProfile (07) for 3FC, PeripheralNotHeld (10) for words
-/// of peripherals, UndefinedWord (06) for any other.
+/// Returns why the word `word` at the address `address`, which is no instruction, is refused: WordNotInProfile (07) for
+/// 3FC, PeripheralNotHeld (10) for words of peripherals, UndefinedWord (06) for any other.
 pub fn constant_refusal(word: UnassignedWord, address: u16) -> WordRefusal
     ensures { result ≡ spec.constant_refusal word address }
 {

@@ -1,4 +1,4 @@
-//! The words that write and read the pages.
+//! Fetches words from the pages, and executes the words that read and write the pages.
 
 ghost use Rattle.std.specs.Prelude.{◌≡◌, ◌≤◌, IfOk, OnOk, OnErr};
 ghost use Rattle.std.specs.Result.{result_err};
@@ -12,8 +12,8 @@ use crate::refusal::WordRefusal;
 use h41_pages::{FetchRefusal, Pages};
 use h41_words::Word;
 
-/// Returns the word at an address. The errors: SystemRom (08) in pages 0 to 3, EmptyPage (09) if the active bank of its page is not
-/// plugged.
+/// Returns the word at an address. The errors are SystemRom (08) in pages 0 to 3, and EmptyPage (09) if the active bank
+/// of the address's page is not plugged.
 #[inline(always)]
 pub fn fetch(pages: &Pages, address: u16) -> Result<Word, WordRefusal>
     ensures word { result ≡ word_at pages.now address }
@@ -22,8 +22,9 @@ pub fn fetch(pages: &Pages, address: u16) -> Result<Word, WordRefusal>
     Ok(pages.fetch(address)?)
 }
 
-/// `WROM`: writes the word in C at the address in C. The error is ReadOnly (12), before all others, if the active bank of its page
-/// is not plugged as writable.
+/// Executes `WROM`: writes the low ten bits of the digits 2 to 0 of C to the address in the digits 6 to 3 of C. The
+/// error is ReadOnly (12) if the active bank of that address's page is not plugged as writable; otherwise SystemRom
+/// (08) if the next address is 0000. Nothing changes then.
 pub fn write_rom(cpu: &mut Cpu, pages: &mut Pages) -> Result<(), WordRefusal>
     requires { first_address ≤ cpu.old.pc }
     ensures processor { WritesWord pages.old cpu.old cpu.new result }
@@ -38,8 +39,9 @@ pub fn write_rom(cpu: &mut Cpu, pages: &mut Pages) -> Result<(), WordRefusal>
     Ok(())
 }
 
-/// `FETCH S&X`: copies the word at the address in C to C, or 000 if the active bank of its page is not plugged (this project's
-/// choice). The error is SystemRom (08), before all others, in the system's pages.
+/// Executes `FETCH S&X`: copies the word at the address in the digits 6 to 3 of C to the digits 2 to 0 of C, or 000 if
+/// the active bank of its page is not plugged (this project's choice). The error is SystemRom (08) if that address is
+/// in pages 0 to 3, or if the next address is 0000.
 #[tactic(auto, unfolding(h41_pages::specs::PageMap::fetched))]
 pub fn fetch_word(cpu: &mut Cpu, pages: &Pages) -> Result<(), WordRefusal>
     requires { first_address ≤ cpu.old.pc }

@@ -1,4 +1,4 @@
-//! The number and the name of each refusal.
+//! The number and the name of each refusal, as the bench prints them.
 
 ghost use Rattle.std.specs.Prelude.{◌≡◌, ◌≤◌, length};
 ghost use Rattle.h41_refusals.specs.Refusals as spec;
@@ -34,7 +34,7 @@ impl Refusal {
     }
 }
 
-/// Returns `! NN Name` of a refusal of the calculator.
+/// Returns the refusal of the calculator as `! NN Name`, for example `! 13 NotInProfile`, at most 22 bytes.
 fn calculator_heading(refusal: CalculatorRefusal) -> &'static str
     ensures text { result.now ≡ spec.heading_of (spec.calculator_name refusal) }
     ensures short { length result.now ≤ 22 }
@@ -49,7 +49,7 @@ fn calculator_heading(refusal: CalculatorRefusal) -> &'static str
     }
 }
 
-/// Returns `! NN Name` of a refusal of a word.
+/// Returns the refusal of a microcode word as `! NN Name`, for example `! 09 EmptyPage`, at most 22 bytes.
 fn word_heading(refusal: WordRefusal) -> &'static str
     ensures text { result.now ≡ spec.heading_of (spec.word_name refusal) }
     ensures short { length result.now ≤ 22 }
@@ -65,7 +65,7 @@ fn word_heading(refusal: WordRefusal) -> &'static str
     }
 }
 
-/// Returns `! NN Name` of a refusal of program memory.
+/// Returns the refusal of program memory as `! NN Name`, for example `! 16 NoRoom`, at most 22 bytes.
 fn program_heading(refusal: ProgramRefusal) -> &'static str
     ensures text { result.now ≡ spec.heading_of (spec.program_name refusal) }
     ensures short { length result.now ≤ 22 }
@@ -77,7 +77,7 @@ fn program_heading(refusal: ProgramRefusal) -> &'static str
     }
 }
 
-/// Returns `! NN Name` of a refusal of lines.
+/// Returns the refusal of a command's lines as `! NN Name`, for example `! 50 BadCommand`, at most 22 bytes.
 fn line_heading(refusal: LineRefusal) -> &'static str
     ensures text { result.now ≡ spec.heading_of (spec.line_name refusal) }
     ensures short { length result.now ≤ 22 }
@@ -93,7 +93,7 @@ fn line_heading(refusal: LineRefusal) -> &'static str
     }
 }
 
-/// Returns `! NN Name` of an error of a source.
+/// Returns the error in a source as `! NN Name`, for example `! 30 BadLine`, at most 22 bytes.
 fn source_heading(fault: SourceFault) -> &'static str
     ensures text { result.now ≡ spec.heading_of (spec.source_name fault) }
     ensures short { length result.now ≤ 22 }

@@ -1,4 +1,4 @@
-//! The line that prints a refusal, and the detail after the name.
+//! The line that prints a refusal: its number, its name, and the address or line number after them.
 
 ghost use Rattle.std.specs.Prelude.{◌≡◌, ◌≤◌, ◌<◌, ◌++◌};
 ghost use Rattle.arrayvec.specs.ArrayString.{array_string_len};
@@ -15,12 +15,12 @@ use itoa::Buffer;
 /// The most bytes of the line of a refusal: 22 without its detail, a space, the 20 digits of a line number, and LF.
 const LINE: usize = 44;
 
-/// The detail that a refusal prints after its name.
+/// What a refusal prints after its name: an address or the number of a line.
 #[derive(Clone, Copy, Debug, PartialEq, Eq)]
 pub enum Detail {
-    /// An address.
+    /// The address of the refused word, which is printed as four hexadecimal digits.
     Address(u16),
-    /// The number of a line, counted from 1.
+    /// The number of the wrong line, counted from 1, which is printed in decimal.
     Line(usize),
 }
 
@@ -41,7 +41,8 @@ impl Refusal {
         line
     }
 
-    /// Returns the address or the line number of the refusal, if it has one.
+    /// Returns what the refusal prints after its name: the address of a refused word, or the number of the wrong line
+    /// of a source or of a program's text. `None` for all other refusals.
     pub fn detail(self) -> Option<Detail>
         ensures { result ≡ detail self }
     {
@@ -57,7 +58,7 @@ impl Refusal {
     }
 }
 
-/// Returns the address of a refused word.
+/// Returns the address that the refusal of a microcode word contains.
 fn word_address(refusal: WordRefusal) -> u16
     ensures { result ≡ word_detail refusal }
 {
@@ -72,7 +73,8 @@ fn word_address(refusal: WordRefusal) -> u16
     }
 }
 
-/// Appends a space and the detail, if there is one.
+/// Appends a space and the address (four hexadecimal digits) or the line number (decimal) of a refusal, or nothing for
+/// `None`. `line` has at most 22 bytes before.
 fn push_detail(line: &mut ArrayString<LINE>, detail: Option<Detail>)
     requires { array_string_len line.old ≤ 22 }
     ensures written { line.new.bytes ≡ line.old.bytes ++ detail_text detail }

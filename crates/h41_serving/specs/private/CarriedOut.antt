@@ -5,12 +5,12 @@ use Rattle.std.specs.Io.KnownBytes.{Keeps}
 use Rattle.h41_ends.specs.declared.sink.Sink as sinks
 use Rattle.h41_ends.specs.declared.source.Source as sources
 use Rattle.h41_refusals.specs.declared.fault.Fault.{Fault}
-use Rattle.h41_refusals.specs.declared.fault.Fault.TheVariants.{ReadFault, WriteFault}
+use Rattle.h41_refusals.specs.declared.fault.Fault.TheVariants.{OutOfMemory, ReadFault, WriteFault}
 use Rattle.h41_arguments.specs.declared.arguments.Task.{Task}
 use Rattle.h41_jobs.specs.declared.ended.Ended.{Ended}
 use Rattle.h41_jobs.specs.Inputs.{IsUnread}
 use Rattle.h41_serving.specs.Tasks.{FailedOrTooLong, IsPassedOn, LeavesBegun, LeavesFront}
-use Rattle.h41_serving.specs.Tasks.{LeavesUnread, MayEnd, TaskEnds, WritesFrontOf, WritesTaskText}
+use Rattle.h41_serving.specs.Tasks.{LeavesMemory, LeavesUnread, MayEnd, TaskEnds, WritesFrontOf, WritesTaskText}
 use Rattle.h41_serving.specs.Tasks.{WritesTextOf}
 
 -- How a task ends, and what it leaves written and read.
@@ -26,6 +26,7 @@ pub record CarriesOut {R W : Type 0} (task : Task) (result : Result Ended Fault)
       IfErr result
       (λ fault. fault ≢ WriteFault → LeavesBegun task source sink before after old new)
   pub unread : result ≡ Err ReadFault → LeavesUnread task source sink before after old new
+  pub memory : result ≡ Err OutOfMemory → LeavesMemory task source sink before after old new
   pub cut : result ≡ Err WriteFault → LeavesFront task source sink before after old new
   pub passed : IfErr result (λ fault. fault ≢ WriteFault → IsPassedOn task (sink.flushed new))
   pub write_fault : result ≡ Err WriteFault → sink.failed new ≡ true

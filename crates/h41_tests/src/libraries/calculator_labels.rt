@@ -1,4 +1,4 @@
-//! h41_xrom and h41_debug: the label cache of a calculator.
+//! Tests of h41_xrom and h41_debug: which labels the cache of a calculator contains.
 
 use crate::judge::wants;
 use h41_codes::Parameter;
@@ -7,14 +7,15 @@ use h41_keys::Key;
 use std::process::Abort;
 use std::test::Fail;
 
-/// Returns the cached position of LBL 02 for a search from byte 4, at which the search of the
-/// program's GTO 02 begins.
+/// Returns what the label cache contains for the search for LBL 02 that the program's GTO 02 starts, from byte 4 of
+/// program memory: the position of the label, or that there is none. `None` if the search is not cached.
 fn kept(bench: &Bench<320>) -> Option<Option<u16>> {
     let label = Parameter::new(2);
     bench.calculator().focal().cache().kept_local(4, label)
 }
 
-/// Requires that lines are executed one by one, and that the label is in the cache after each.
+/// Requires that the next `lines` program lines can be executed one by one, and that the cache contains LBL 02 at byte
+/// 0 after each.
 fn keeps(rt: &impl Abort, bench: &mut Bench<320>, lines: usize) {
     for _line in 0..lines {
         wants(rt, "a line", bench.step().is_ok());

@@ -1,4 +1,4 @@
-//! h41_focal and h41_labels: labels in the cache are found as if there were no cache.
+//! Tests of h41_focal and h41_labels: labels in the cache are found as if there were no cache.
 
 ghost use Rattle.std.specs.Prelude.{◌<◌};
 
@@ -15,8 +15,8 @@ use h41_ram::{Ram, StatusRegister};
 use std::marker::Model;
 use std::test::Fail;
 
-/// The machine of a calculator. Each label in its cache is where a search finds it, or the dirty flag of
-/// memory is set.
+/// Memory and the state of keystroke execution, with a label cache. Each label in the cache is where a search finds it,
+/// or the dirty flag of memory is set.
 #[derive(Drop)]
 struct Kept {
     machine: Machine<320>,
@@ -32,18 +32,19 @@ impl Model for Kept {
     ghost invariant = { λ kept. AreRight kept.machine };
 }
 
-/// What is done to a machine.
+/// What a test does to the machine of a calculator.
 enum Act {
-    /// The line at the position is executed.
+    /// Executes the program line at the calculator's position.
     Step,
-    /// The line at the beginning of the bytes is typed.
+    /// Executes the line at the beginning of the bytes as if it were typed.
     Type(&'static [u8]),
-    /// A function in microcode has written a register, and the program moves on to the next line.
+    /// Writes the number into the register at an address, as a function in microcode does, and moves the program on to
+    /// the next line.
     Write(u16, u64),
 }
 
 impl Kept {
-    /// Returns a machine in its initial state, with programs loaded, or `None` if they cannot be loaded.
+    /// Returns a machine in its initial state with the programs in `bytes` loaded, or `None` if they cannot be loaded.
     fn with(bytes: &[u8]) -> Option<Self> {
         let mut ram = Ram::<320>::new();
         if !ram.is_sound() || load(&mut ram, bytes).is_err() {
@@ -54,7 +55,7 @@ impl Kept {
         Some(Kept { machine })
     }
 
-    /// Performs an act, and returns whether it was not refused.
+    /// Does `act` to the machine, and returns whether it was not refused.
     fn does(&mut self, pages: &Pages, act: &Act) -> bool {
         match act {
             Act::Step => self.machine.step(pages).is_ok(),
@@ -69,30 +70,31 @@ impl Kept {
         }
     }
 
-    /// Writes a register.
+    /// Writes `register` into memory at an address.
     fn writes(&mut self, address: u16, register: Reg) {
         kept_answers_stay_right();
         self.machine.ram.write(address, register);
     }
 
-    /// Writes the value that a register has into it again, which sets the dirty flag.
+    /// Writes the register at an address back unchanged, which sets the dirty flag of memory.
     fn writes_again(&mut self, address: u16) {
         let register = self.machine.ram.read(address);
         self.writes(address, register);
     }
 
-    /// Moves a program on to the next line. Returns whether this was not refused.
+    /// Moves the program on to the next line, as after a function in microcode. Returns whether this was not refused.
     fn passes(&mut self, pages: &Pages) -> bool {
         kept_answers_stay_right();
         self.machine.pass(pages).is_ok()
     }
 
-    /// Returns whether the next line is at a byte of memory.
+    /// Returns whether the calculator's position is this byte of program memory.
     fn is_at(&self, byte: u16) -> bool {
         self.machine.focal.position == Position::Memory(byte)
     }
 
-    /// Returns the cached position of a local label for a search from a byte on.
+    /// Returns what the label cache contains for the search for a local label from byte `at` of program memory: the
+    /// position of the label, or that there is none. `None` if the search is not cached. `label` must be below 128.
     fn kept(&self, at: u16, label: u8) -> Option<Option<u16>>
         requires { label < 128 }
     {
@@ -103,7 +105,7 @@ impl Kept {
     }
 }
 
-/// Returns the line at the beginning of the bytes, or STOP if they are not a line.
+/// Returns the program line at the beginning of the bytes, or STOP if they do not begin with one.
 fn line(bytes: &[u8]) -> Line {
     match decode(bytes) {
         Ok((line, _)) => line,
@@ -111,7 +113,8 @@ fn line(bytes: &[u8]) -> Line {
     }
 }
 
-/// Returns whether two machines agree, except for their label caches.
+/// Returns whether two machines have equal registers, positions, return addresses and stack lift, whatever their label
+/// caches contain.
 fn agree(kept: &Kept, other: &Kept) -> bool {
     let (one, two) = (&kept.machine, &other.machine);
     for address in 0..0x200 {
@@ -125,7 +128,8 @@ fn agree(kept: &Kept, other: &Kept) -> bool {
         && one.focal.lift == two.focal.lift
 }
 
-/// Programs by their bytes, and what is done to each, with the position afterwards.
+/// Test rows: a name, the bytes of programs, and what is done to a machine with them, each with the expected position
+/// in program memory afterwards.
 static ROWS: [(&str, &[u8], &[(Act, u16)]); 3] = [
     (
         "a loop",
@@ -216,7 +220,7 @@ fn what_has_a_search_forgotten(rt: HostRuntime) -> Result<(), Fail> {
     wants(&rt, "the label behind it", kept.kept(4, 2) == Some(Some(0)));
     wants(&rt, "a jump", kept.does(&pages, &Act::Step));
     wants(&rt, "to the same label", kept.is_at(0));
-    // A register of the program is written.
+    // The register 19B, which contains the program, is written.
     kept.writes_again(0x19B);
     wants(&rt, "a line", kept.does(&pages, &Act::Step));
     wants(&rt, "none is kept", kept.kept(4, 2) == None);

@@ -2,6 +2,7 @@ use Rattle.std.proofs.Common.{◌≡◌, ℕ, Bool, Err, false, List, Ok, Some, 
 use Rattle.std.specs.Result.{result_ok}
 use Rattle.h41_ends.specs.InputLines.{MayFollow}
 use Rattle.h41_commands.specs.Commands.{command_of, kind_of}
+use Rattle.h41_commands.proofs.ClosedBlocks.{never_open}
 use Rattle.h41_commands.proofs.ItemLines.{block_given, block_open, block_refused}
 use Rattle.h41_commands.specs.private.BlockReading.{SpellBlock}
 use Rattle.h41_lines.specs.Words.{words_of}
@@ -17,6 +18,18 @@ use Rattle.h41_commands.proofs.reading.read_block.Goals as goal
 use Rattle.h41_commands.proofs.reading.read_block.Goals.{in-Ok, in-Err+in-Words-1, in-Err+in-Image-1, in-Err+in-Source-1, in-Err+in-Bytes-1}
 use Rattle.h41_commands.proofs.reading.read_block.Goals.{in-Err+in-Text-1}
 use Rattle.h41_commands.proofs.reading.read_block.Goals.{in-Err+in-Nothing-1}
+
+pub invariant_of-result-clause-own : goal.invariant_of-result-clause-own
+invariant_of-result-clause-own g c =
+    let taken = rw c.in-Some.is at c.in_ok-block.ensures.block in
+    let parsed : c.ok.result ≡ Some c.in-Ok.command = c.ok.ensures.value ∙ ap result_ok c.in-Ok.is in
+    let kind : c.and_then.result ≡ kind_of c.in-Ok.command = rw parsed at c.and_then.ensures in
+    taken.taken.taken.kind_is ∙ c.of_kind-block.ensures.kind_is ∙ kind
+
+pub invariant_of-result-clause-ended : goal.invariant_of-result-clause-ended
+invariant_of-result-clause-ended g c =
+    let taken = rw c.in-Some.is at c.in_ok-block.ensures.block in
+    never_open c.in-Some.block taken.taken.inside c.in-Ok.command taken.taken.taken.lines_are
 
 pub returns-in_default-clause-item : goal.returns-in_default-clause-item
 returns-in_default-clause-item g c =
@@ -56,6 +69,44 @@ returns-clause-item g c =
     ] in
     rw is (record { lines = taken.lines; reads = taken.reads; spelled = spelled })
 
+pub returns-in_default-clause-heard : goal.returns-in_default-clause-heard
+returns-in_default-clause-heard g c =
+    let is = sym (c.parse-command.ensures ∙ ap (λ (line : List ℕ). command_of (words_of line)) c.line.ensures) in
+    let taken = rw c.in_default.is at c.in_ok-block.ensures.heard in
+    let end = rw c.in_default.is at c.in_ok-block.ensures.end in
+    rw is (record {
+      lines = taken.lines;
+      hears = taken.hears;
+      spelled = λ more may.
+          block_open taken.lines c.parse-command.result more taken.taken (subst (λ (ended : Bool). MayFollow ended more) (end refl) may);
+    })
+
+pub returns-clause-heard : goal.returns-clause-heard
+returns-clause-heard g c =
+    let is = sym (c.parse-command.ensures ∙ ap (λ (line : List ℕ). command_of (words_of line)) c.line.ensures) in
+    let taken = rw c.in-Some.is at c.in_ok-block.ensures.heard in
+    let refused : (why : LineRefusal) → c.match-command.result ≡ Refused why → c.parse-command.result ≡ Err why
+    → SpellBlock {E = ItemFault} c.parse-command.result (Ok c.match-command.result) c.read_lines.new.input.at_end taken.lines =
+    λ why refuses parsed.
+    rw refuses (λ more may. block_refused _ taken.lines c.in-Some.block c.parse-command.result why more taken.taken parsed) in
+    let spelled : SpellBlock {E = ItemFault} c.parse-command.result (Ok c.match-command.result) c.read_lines.new.input.at_end taken.lines =
+    elim c.match-command.branch [
+      | in-Ok w ↦
+          let parsed : c.ok.result ≡ Some w.in-Ok.command = c.ok.ensures.value ∙ ap result_ok w.in-Ok.is in
+          let kind : c.and_then.result ≡ kind_of w.in-Ok.command = rw parsed at c.and_then.ensures in
+          rw w.result-is
+          (λ more may.
+          block_given _ taken.lines c.in-Some.block c.parse-command.result w.in-Ok.command more taken.taken w.in-Ok.is
+          (c.of_kind-block.ensures.kind_is ∙ kind))
+      | in-Err+in-Words-1 w ↦ refused w.in-Err.refusal w.result-is w.in-Err.is
+      | in-Err+in-Image-1 w ↦ refused w.in-Err.refusal w.result-is w.in-Err.is
+      | in-Err+in-Source-1 w ↦ refused w.in-Err.refusal w.result-is w.in-Err.is
+      | in-Err+in-Bytes-1 w ↦ refused w.in-Err.refusal w.result-is w.in-Err.is
+      | in-Err+in-Text-1 w ↦ refused w.in-Err.refusal w.result-is w.in-Err.is
+      | in-Err+in-Nothing-1 w ↦ refused w.in-Err.refusal w.result-is w.in-Err.is
+    ] in
+    rw is (record { lines = taken.lines; hears = taken.hears; spelled = spelled })
+
 pub returns-clause-open : goal.returns-clause-open
 returns-clause-open g c =
     let shut : is_unended c.parse-command.result ≡ false = ap is_unended c.parse-command.ensures ∙ never_unended _ in search rules
@@ -85,6 +136,12 @@ returns-in_err-block-clause-kept g c =
 pub returns-in_err-block-clause-counted : goal.returns-in_err-block-clause-counted
 returns-in_err-block-clause-counted g c =
     c.in_err-block.ensures.counted
+
+pub returns-in_err-block-clause-heard : goal.returns-in_err-block-clause-heard
+returns-in_err-block-clause-heard g c =
+    let failed = err_from_is_err_and c.from_residual.result c.from_residual.ensures.1 in
+    let taken = c.in_err-block.ensures.heard in
+    rw failed.1 (record { lines = taken.lines; hears = taken.hears; spelled = taken.taken })
 
 pub returns-in_err-block-clause-reader : goal.returns-in_err-block-clause-reader
 returns-in_err-block-clause-reader g c =

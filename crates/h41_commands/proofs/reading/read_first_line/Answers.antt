@@ -1,7 +1,10 @@
 use Rattle.std.proofs.Common.{◌≡◌, Some, ◌∷◌, ◌++◌, [], ap, sym, refl, ◌∙◌, arith, rules}
 use Rattle.std.proofs.lemmas.Result.{err_from_is_err_and}
 use Rattle.h41_ends.specs.InputLines.{line_in}
-use Rattle.h41_ends.proofs.InputReading.{keeps-both, keeps-known, reads_both, reads_nothing}
+use Rattle.h41_ends.proofs.HeardReads.{hears_still}
+use Rattle.h41_ends.proofs.InputReading.{counts_both, keeps-both, keeps-known, nothing_read, reads_both, reads_nothing}
+use Rattle.h41_commands.specs.private.ItemReading.{SpellNothing}
+use Rattle.h41_commands.proofs.HeardItems.{hears_skipped}
 use Rattle.h41_commands.specs.FirstLines.{first_line}
 use Rattle.h41_commands.proofs.FirstLines.{skips_line}
 use Rattle.h41_commands.proofs.NameEnds.{told_kind, told_none}
@@ -16,7 +19,12 @@ loop-input-init g c = record {
   kept = keeps-known _;
   reader = c.requires.reader_clear;
   writer = c.requires.writer_clear;
-  counted = c.requires.counted;
+  counted = λ first counted. counted;
+  heard = (
+    [],
+    λ more. refl,
+    hears_still SpellNothing _ _ c.args.input.now c.args.input.now [] (nothing_read c.args.input.now) (λ end. end),
+  );
 }
 
 pub returns-in_err-next_line-clause-line : goal.returns-in_err-next_line-clause-line
@@ -49,6 +57,8 @@ loop-input-preserved g c =
     let so_far = c.loop-input.invariant.lines in
     let next = rw c.if-branch.true at c.in_ok-next_line.ensures.lines in
     let line = line_in c.next_line.new.self in
+    let heard = c.loop-input.invariant.heard in
+    let heard_next = rw c.if-branch.true at c.in_ok-next_line.ensures.heard in
     record {
       lines = (
         so_far.0 ++ line ∷ [],
@@ -60,7 +70,15 @@ loop-input-preserved g c =
       kept = keeps-both _ _ _ c.loop-input.invariant.kept c.in_ok-next_line.ensures.kept;
       reader = search rules;
       writer = search rules;
-      counted = c.in_ok-next_line.ensures.counted;
+      counted = counts_both c.args.input.now c.loop-input.input c.next_line.new.self _ _ _ c.loop-input.invariant.counted
+          c.in_ok-next_line.ensures.counted;
+      heard = (
+        heard.0 ++ line ∷ [],
+        skips_line heard.0 line heard.1 (told_none line (ap first_line (sym c.line.ensures)
+            ∙ sym c.first_line.ensures ∙ c.in_default.is)),
+        hears_skipped _ _ _ _ _ c.args.input.now c.loop-input.input c.next_line.new.self _ _ c.loop-input.invariant.kept heard.1 heard.2
+            heard_next,
+      );
     }
 
 pub returns-clause-line : goal.returns-clause-line
@@ -107,6 +125,7 @@ returns-in_err-next_line-clause-kept g c =
 
 pub returns-in_err-next_line-clause-counted : goal.returns-in_err-next_line-clause-counted
 returns-in_err-next_line-clause-counted g c =
+    counts_both c.args.input.now c.loop-input.input c.next_line.new.self _ _ _ c.loop-input.invariant.counted
     c.in_err-next_line.ensures.counted
 
 pub returns-in_err-next_line-clause-reader : goal.returns-in_err-next_line-clause-reader
@@ -123,6 +142,55 @@ pub returns-in_err-next_line-clause-write_fault : goal.returns-in_err-next_line-
 returns-in_err-next_line-clause-write_fault g c =
     λ is. c.in_err-next_line.ensures.write_fault
     (told c.from_residual.result c.in_err-next_line.field-0.0 line.WriteFault c.from_residual.ensures.1 is)
+
+pub returns-in_err-next_line-clause-heard : goal.returns-in_err-next_line-clause-heard
+returns-in_err-next_line-clause-heard g c =
+    let heard = c.loop-input.invariant.heard in
+    let failed = err_from_is_err_and c.from_residual.result c.from_residual.ensures.1 in
+    rw failed.1
+    (record {
+      skipped = heard.0;
+      nothing = heard.1;
+      hears = hears_skipped _ _ _ _ _ c.args.input.now c.loop-input.input c.next_line.new.self _ _ c.loop-input.invariant.kept heard.1
+          heard.2 c.in_err-next_line.ensures.heard;
+      kind = tt;
+    })
+
+pub returns-in-Some-clause-heard : goal.returns-in-Some-clause-heard
+returns-in-Some-clause-heard g c =
+    let heard = c.loop-input.invariant.heard in
+    let next = rw c.if-branch.true at c.in_ok-next_line.ensures.heard in
+    let line = line_in c.next_line.new.self in
+    let told : first_line line ≡ Some c.in-Some.first = ap first_line (sym c.line.ensures) ∙ sym c.in-Some.ensures in
+    record {
+      skipped = heard.0;
+      nothing = heard.1;
+      hears = hears_skipped _ _ _ _ _ c.args.input.now c.loop-input.input c.next_line.new.self _ _ c.loop-input.invariant.kept heard.1
+          heard.2 next;
+      kind = told_kind line c.in-Some.first told;
+    }
+
+pub returns-clause-heard : goal.returns-clause-heard
+returns-clause-heard g c =
+    let heard = c.loop-input.invariant.heard in
+    let next = rw c.if-branch.false at c.in_ok-next_line.ensures.heard in
+    record {
+      skipped = heard.0;
+      nothing = heard.1;
+      hears = hears_skipped _ _ _ _ _ c.args.input.now c.loop-input.input c.next_line.new.self _ _ c.loop-input.invariant.kept heard.1
+          heard.2 next;
+      kind = tt;
+    }
+
+pub returns-in-Some-clause-counted : goal.returns-in-Some-clause-counted
+returns-in-Some-clause-counted g c =
+    counts_both c.args.input.now c.loop-input.input c.next_line.new.self _ _ _ c.loop-input.invariant.counted
+    c.in_ok-next_line.ensures.counted
+
+pub returns-clause-counted : goal.returns-clause-counted
+returns-clause-counted g c =
+    counts_both c.args.input.now c.loop-input.input c.next_line.new.self _ _ _ c.loop-input.invariant.counted
+    c.in_ok-next_line.ensures.counted
 
 pub first_line-requires : goal.first_line-requires
 first_line-requires g c = assumption

@@ -1,6 +1,7 @@
 use Rattle.std.proofs.Common.{◌≡◌, ◌≤◌, ℕ, false, List}
 use Rattle.std.specs.Io.KnownBytes.{Keeps}
-use Rattle.h41_ends.specs.InputLines.{IsCounted, ReadsMore, most_left}
+use Rattle.h41_ends.specs.HeardLines.{Hears}
+use Rattle.h41_ends.specs.InputLines.{CountsOn, ReadsMore, most_left}
 use Rattle.h41_commands.specs.private.ItemReading.{SpellNothing}
 use Rattle.h41_commands.proofs.reading.read_first_line.Given as goal
 
@@ -13,7 +14,10 @@ invariant-loop-input g l = record {
   kept : Keeps (g.W.Sink.contents l.fn.writer) (g.W.Sink.contents l.writer);
   reader : g.R.Source.failed l.reader ≡ false;
   writer : g.W.Sink.failed l.writer ≡ false;
-  counted : IsCounted l.input (g.R.Source.given l.reader);
+  counted : CountsOn l.fn.input l.input (g.R.Source.given l.fn.reader) (g.R.Source.given l.reader);
+  heard : (skipped : List (List ℕ)) × SpellNothing skipped
+      × Hears SpellNothing (g.R.Talk.reads l.fn.reader) (g.R.Talk.reads l.reader) (g.W.Sink.contents l.fn.writer) l.fn.input l.input
+      skipped;
 }
 
 abbrev pub decreases-loop-input : goal.decreases-loop-input

@@ -1,8 +1,10 @@
 use Rattle.std.proofs.Common.{◌≡◌, ◌≤◌, ℕ, false, List}
 use Rattle.std.specs.List.{list_any}
 use Rattle.std.specs.Io.KnownBytes.{Keeps}
-use Rattle.h41_ends.specs.InputLines.{IsCounted, ReadsMore, most_left}
+use Rattle.h41_ends.specs.HeardLines.{Hears}
+use Rattle.h41_ends.specs.InputLines.{CountsOn, ReadsMore, most_left}
 use Rattle.h41_commands.specs.DeckLines.{is_end}
+use Rattle.h41_commands.specs.private.BlockReading.{HaveNoEnd}
 use Rattle.h41_commands.specs.private.Entries.{IsTaken}
 use Rattle.h41_commands.proofs.reading.read_lines.Given as goal
 
@@ -15,7 +17,10 @@ invariant-loop-block g l = record {
   kept : Keeps (g.W.Sink.contents l.fn.writer) (g.W.Sink.contents l.writer);
   reader : g.R.Source.failed l.reader ≡ false;
   writer : g.W.Sink.failed l.writer ≡ false;
-  counted : IsCounted l.input (g.R.Source.given l.reader);
+  counted : CountsOn l.fn.input l.input (g.R.Source.given l.fn.reader) (g.R.Source.given l.reader);
+  heard : (inside : List (List ℕ)) × HaveNoEnd inside × IsTaken l.fn.block.kind inside l.block
+      × Hears HaveNoEnd (g.R.Talk.reads l.fn.reader) (g.R.Talk.reads l.reader) (g.W.Sink.contents l.fn.writer) l.fn.input l.input
+      inside;
 }
 
 abbrev pub decreases-loop-block : goal.decreases-loop-block

@@ -4,12 +4,14 @@ use Rattle.std.proofs.lemmas.Result.{err_from_is_err_and}
 use Rattle.h41_commands.proofs.FirstLines.{first_line, first_none, shut_line}
 use Rattle.h41_commands.specs.private.Entries.{what_is_spelled}
 use Rattle.h41_commands.specs.Items.{line_spelled}
-use Rattle.h41_ends.proofs.InputReading.{consumes-nothing}
+use Rattle.h41_commands.proofs.HeardItems.{heard_fault, heard_line, heard_none}
+use Rattle.h41_ends.proofs.InputReading.{consumes-nothing, gives_within}
 use Rattle.h41_ends.specs.InputLines.{line_in}
 use Rattle.h41_deck.proofs.AnswersInTurn.{told_kept, told_more, told_none}
 use Rattle.h41_deck.proofs.DeckFaults.{below_most, deck_ended, deck_written, ended, failed_answer, failed_first, failed_item, failed_write}
 use Rattle.h41_deck.proofs.DeckFaults.{leaves_answer, leaves_first, leaves_item, leaves_whole, never_failed, same_fault, told_fault}
 use Rattle.h41_deck.proofs.DeckReading.{read_item, read_none, whole_done}
+use Rattle.h41_deck.proofs.DeckTurns.{block_heard, block_unheard, heard_item, heard_nothing, turns_end}
 use Rattle.h41_deck.proofs.ShortLines.{block_failed, block_next, block_short}
 use Rattle.h41_deck.proofs.deck.answer_lines.Goals as goal
 
@@ -23,7 +25,13 @@ loop-first-init g c = record {
   );
   reader = c.requires.reader_clear;
   writer = c.requires.writer_clear;
-  counted = c.new-input.ensures.counted _;
+  counted = c.new-input.ensures.counted (g.R.Source.given c.args.reader.now);
+  heard = (
+    [],
+    heard_nothing g.row.REGS (g.R.Talk.reads c.args.reader.now) (g.W.Sink.contents c.args.writer.now) c.new-input.result
+        c.new-input.ensures.nothing,
+    rw c.requires.new (told_none g.row.REGS (g.W.Sink.contents c.args.writer.now)),
+  );
 }
 
 pub read_first_line-requires-clause-reader_clear : goal.read_first_line-requires-clause-reader_clear
@@ -32,17 +40,11 @@ read_first_line-requires-clause-reader_clear g c = c.loop-first.invariant.reader
 pub read_first_line-requires-clause-writer_clear : goal.read_first_line-requires-clause-writer_clear
 read_first_line-requires-clause-writer_clear g c = c.loop-first.invariant.writer
 
-pub read_first_line-requires-clause-counted : goal.read_first_line-requires-clause-counted
-read_first_line-requires-clause-counted g c = c.loop-first.invariant.counted
-
 pub read_block-requires-clause-reader_clear : goal.read_block-requires-clause-reader_clear
 read_block-requires-clause-reader_clear g c = c.in_ok-first.ensures.reader never_failed
 
 pub read_block-requires-clause-writer_clear : goal.read_block-requires-clause-writer_clear
 read_block-requires-clause-writer_clear g c = c.in_ok-first.ensures.writer never_failed
-
-pub read_block-requires-clause-counted : goal.read_block-requires-clause-counted
-read_block-requires-clause-counted g c = c.in_ok-first.ensures.counted
 
 pub loop-first-smaller : goal.loop-first-smaller
 loop-first-smaller g c = rw c.in-Some.is at c.in_ok-first.ensures.fewer
@@ -74,6 +76,10 @@ loop-first-preserved-then-opens_block g c =
     let told = told_kept _ _ _ so_far.0 c.loop-first.bench.state c.loop-first.outcome
     (told_kept _ _ _ so_far.0 c.loop-first.bench.state c.loop-first.outcome so_far.2 c.in_ok-first.ensures.kept)
     c.in_ok-item.ensures.kept in
+    let heard = c.loop-first.invariant.heard in
+    let heard_next = block_heard _ _ _ _ _ c.loop-first.input c.read_first_line.new.input c.read_block.new.input c.in-Some.first.kind
+    c.in_ok-first.ensures.kept (sym c.if-opens_block.ensures) (rw c.in-Some.is at c.in_ok-first.ensures.heard) c.in_ok-item.item
+    c.in_ok-item.ensures.heard in
     record {
       done = (
         so_far.0 ++ what_is_spelled c.in_ok-item.item ∷ [],
@@ -84,7 +90,18 @@ loop-first-preserved-then-opens_block g c =
       );
       reader = c.in_ok-item.ensures.reader never_failed;
       writer = c.in_ok-answered.ensures.clear never_failed;
-      counted = c.in_ok-item.ensures.counted;
+      counted = c.in_ok-item.ensures.counted _ (c.in_ok-first.ensures.counted _ c.loop-first.invariant.counted);
+      heard = (
+        heard.0 ++ what_is_spelled c.in_ok-item.item ∷ [],
+        heard_item _ _ _ _ _ c.loop-first.input c.read_block.new.input heard.0 c.loop-first.bench.state c.loop-first.outcome heard.1 heard.2
+            (what_is_spelled c.in_ok-item.item) heard_next (below_most _ _ _ c.in_ok-item.ensures.bound fewer) c.in_ok-item.ensures.open,
+        rw c.and-outcome.ensures (told_more _ _ _ heard.0 c.loop-first.bench.state c.answer.new.bench.state c.loop-first.outcome
+            c.in_ok-answered.answered (what_is_spelled c.in_ok-item.item)
+            (told_kept _ _ _ heard.0 c.loop-first.bench.state c.loop-first.outcome
+            (told_kept _ _ _ heard.0 c.loop-first.bench.state c.loop-first.outcome heard.2 c.in_ok-first.ensures.kept)
+            c.in_ok-item.ensures.kept)
+            c.in_ok-answered.ensures.reply),
+      );
     }
 
 pub loop-first-preserved : goal.loop-first-preserved
@@ -95,6 +112,9 @@ loop-first-preserved g c =
     let line = line_in c.read_first_line.new.input in
     let next = first_line _ _ c.loop-first.input c.read_first_line.new.input c.in-Some.first.kind first (sym c.if-opens_block.ensures) in
     let told = told_kept _ _ _ so_far.0 c.loop-first.bench.state c.loop-first.outcome so_far.2 c.in_ok-first.ensures.kept in
+    let heard = c.loop-first.invariant.heard in
+    let heard_next = heard_line _ _ _ c.loop-first.input c.read_first_line.new.input c.in-Some.first.kind
+    (rw c.in-Some.is at c.in_ok-first.ensures.heard) (sym c.if-opens_block.ensures) in
     record {
       done = (
         so_far.0 ++ line_spelled line ∷ [],
@@ -106,11 +126,20 @@ loop-first-preserved g c =
       );
       reader = c.in_ok-first.ensures.reader never_failed;
       writer = c.in_ok-next.ensures.clear never_failed;
-      counted = c.in_ok-first.ensures.counted;
+      counted = c.in_ok-first.ensures.counted _ c.loop-first.invariant.counted;
+      heard = (
+        heard.0 ++ line_spelled line ∷ [],
+        heard_item _ _ _ _ _ c.loop-first.input c.read_first_line.new.input heard.0 c.loop-first.bench.state c.loop-first.outcome
+            heard.1 heard.2 (line_spelled line) heard_next fewer (λ unended. absurd (false≢true (sym (shut_line line) ∙ unended))),
+        rw c.and-outcome-in-Some.ensures (told_more _ _ _ heard.0 c.loop-first.bench.state c.answer_line.new.bench.state
+            c.loop-first.outcome c.in_ok-next.next (line_spelled line)
+            (told_kept _ _ _ heard.0 c.loop-first.bench.state c.loop-first.outcome heard.2 c.in_ok-first.ensures.kept)
+            (rw c.line.ensures at c.in_ok-next.ensures.reply)),
+      );
     }
 
-pub returns : goal.returns
-returns g c =
+pub returns-clause-lines : goal.returns-clause-lines
+returns-clause-lines g c =
     let so_far = c.loop-first.invariant.done in
     let next = first_none _ _ _ _ (rw c.in_default.is at c.in_ok-first.ensures.line) in
     let end = rw c.in_default.is at c.in_ok-first.ensures.end in
@@ -123,8 +152,8 @@ returns g c =
     (deck_ended _ _ _ _ so_far.0 c.loop-first.bench.state c.loop-first.outcome whole so_far.2) c.in_ok-flush.ensures.flushed
     (c.in_ok-first.ensures.reader never_failed) c.in_ok-flush.ensures.clear
 
-pub returns-in_err-first : goal.returns-in_err-first
-returns-in_err-first g c =
+pub returns-in_err-first-clause-lines : goal.returns-in_err-first-clause-lines
+returns-in_err-first-clause-lines g c =
     let so_far = c.loop-first.invariant.done in
     let from = err_from_is_err_and c.from_residual.result c.from_residual.ensures.1 in
     let fault = c.in_err-first.ensures in
@@ -134,12 +163,13 @@ returns-in_err-first g c =
     (leaves_first g.row.REGS g.R.Source g.W.Sink c.args.reader.now c.loop-first.reader c.read_first_line.new.reader c.args.writer.now
     c.loop-first.writer c.read_first_line.new.writer c.loop-first.input c.read_first_line.new.input so_far.0 c.loop-first.bench.state
     c.loop-first.outcome c.in_err-first.field-0.0 so_far.1 so_far.2 fault.line fault.kept
-    (λ is. fault.stopped (ap (λ why. Err why) is)) (λ is. fault.cause (ap (λ why. Err why) is)) fault.counted)
+    (λ is. fault.stopped (ap (λ why. Err why) is)) (λ is. fault.cause (ap (λ why. Err why) is))
+    (fault.counted _ c.loop-first.invariant.counted))
     (λ is. fault.flushed (ap (λ why. Err why) is)) (λ is. fault.write_fault (ap (λ why. Err why) is))
     (λ other. fault.reader (λ is. other (same_fault _ refl is))) (λ other. fault.writer (λ is. other (same_fault _ refl is))))
 
-pub returns-in_err-item : goal.returns-in_err-item
-returns-in_err-item g c =
+pub returns-in_err-item-clause-lines : goal.returns-in_err-item-clause-lines
+returns-in_err-item-clause-lines g c =
     let so_far = c.loop-first.invariant.done in
     let from = err_from_is_err_and c.from_residual-in_err-item.result c.from_residual-in_err-item.ensures.1 in
     let first = rw c.in-Some.is at c.in_ok-first.ensures.line in
@@ -153,12 +183,13 @@ returns-in_err-item g c =
     c.loop-first.outcome c.in_err-item.field-0.0 so_far.1 told
     (block_failed _ _ _ c.loop-first.input c.read_first_line.new.input c.read_block.new.input c.in-Some.first.kind
     (sym c.if-opens_block.ensures) first c.in_err-item.field-0.0 fault.item) fault.kept
-    (λ is. fault.stopped (ap (λ why. Err why) is)) (λ is. fault.cause (ap (λ why. Err why) is)) fault.counted)
+    (λ is. fault.stopped (ap (λ why. Err why) is)) (λ is. fault.cause (ap (λ why. Err why) is))
+    (fault.counted _ (c.in_ok-first.ensures.counted _ c.loop-first.invariant.counted)))
     (λ is. fault.flushed (ap (λ why. Err why) is)) (λ is. fault.write_fault (ap (λ why. Err why) is))
     (λ other. fault.reader (λ is. other (same_fault _ refl is))) (λ other. fault.writer (λ is. other (same_fault _ refl is))))
 
-pub returns-in_err-answered : goal.returns-in_err-answered
-returns-in_err-answered g c =
+pub returns-in_err-answered-clause-lines : goal.returns-in_err-answered-clause-lines
+returns-in_err-answered-clause-lines g c =
     let so_far = c.loop-first.invariant.done in
     let from = err_from_is_err_and c.from_residual-in_err-answered.result c.from_residual-in_err-answered.ensures.1 in
     let first = rw c.in-Some.is at c.in_ok-first.ensures.line in
@@ -181,8 +212,8 @@ returns-in_err-answered g c =
     (c.in_ok-item.ensures.reader never_failed) (λ is. fault.mark (ap (λ why. Err why) is))
     (λ other. fault.clear (λ is. other (same_fault _ refl is))))
 
-pub returns-in_err-next : goal.returns-in_err-next
-returns-in_err-next g c =
+pub returns-in_err-next-clause-lines : goal.returns-in_err-next-clause-lines
+returns-in_err-next-clause-lines g c =
     let so_far = c.loop-first.invariant.done in
     let from = err_from_is_err_and c.from_residual-in_err-next.result c.from_residual-in_err-next.ensures.1 in
     let first = rw c.in-Some.is at c.in_ok-first.ensures.line in
@@ -203,8 +234,8 @@ returns-in_err-next g c =
     (c.in_ok-first.ensures.reader never_failed) (λ is. fault.mark (ap (λ why. Err why) is))
     (λ other. fault.clear (λ is. other (same_fault _ refl is))))
 
-pub returns-in_err-flush : goal.returns-in_err-flush
-returns-in_err-flush g c =
+pub returns-in_err-flush-clause-lines : goal.returns-in_err-flush-clause-lines
+returns-in_err-flush-clause-lines g c =
     let so_far = c.loop-first.invariant.done in
     let from = err_from_is_err_and c.from_residual-in_err-flush.result c.from_residual-in_err-flush.ensures.1 in
     let next = first_none _ _ _ _ (rw c.in_default.is at c.in_ok-first.ensures.line) in
@@ -216,6 +247,81 @@ returns-in_err-flush g c =
     (leaves_whole g.row.REGS g.R.Source g.W.Sink c.args.reader.now c.read_first_line.new.reader c.args.writer.now
     c.read_first_line.new.writer c.flush.new.writer so_far.0 c.loop-first.bench.state c.loop-first.outcome whole told c.flush.ensures.bytes)
     c.in_err-flush.ensures.mark (c.in_ok-first.ensures.reader never_failed))
+
+-- each read comes in turn
+pub returns-clause-turns : goal.returns-clause-turns
+returns-clause-turns g c =
+    let heard = c.loop-first.invariant.heard in
+    let next = heard_none _ _ _ _ _ (rw c.in_default.is at c.in_ok-first.ensures.heard) in
+    turns_end _ _ _ _ _ c.loop-first.input c.read_first_line.new.input heard.0 c.loop-first.bench.state c.loop-first.outcome heard.1 heard.2
+    next.lines next.hears
+
+pub returns-in_err-first-clause-turns : goal.returns-in_err-first-clause-turns
+returns-in_err-first-clause-turns g c =
+    let heard = c.loop-first.invariant.heard in
+    let next = heard_fault _ _ _ _ _ c.in_err-first.field-0.0 c.in_err-first.ensures.heard in
+    turns_end _ _ _ _ _ c.loop-first.input c.read_first_line.new.input heard.0 c.loop-first.bench.state c.loop-first.outcome heard.1 heard.2
+    next.lines next.hears
+
+pub returns-in_err-item-clause-turns : goal.returns-in_err-item-clause-turns
+returns-in_err-item-clause-turns g c =
+    let heard = c.loop-first.invariant.heard in
+    let next = block_unheard _ _ _ _ _ c.loop-first.input c.read_first_line.new.input c.read_block.new.input c.in-Some.first.kind
+    c.in_ok-first.ensures.kept (sym c.if-opens_block.ensures) (rw c.in-Some.is at c.in_ok-first.ensures.heard) c.in_err-item.field-0.0
+    c.in_err-item.ensures.heard in
+    turns_end _ _ _ _ _ c.loop-first.input c.read_block.new.input heard.0 c.loop-first.bench.state c.loop-first.outcome heard.1 heard.2
+    next.lines next.hears
+
+pub returns-in_err-answered-clause-turns : goal.returns-in_err-answered-clause-turns
+returns-in_err-answered-clause-turns g c =
+    let heard = c.loop-first.invariant.heard in
+    let next = block_heard _ _ _ _ _ c.loop-first.input c.read_first_line.new.input c.read_block.new.input c.in-Some.first.kind
+    c.in_ok-first.ensures.kept (sym c.if-opens_block.ensures) (rw c.in-Some.is at c.in_ok-first.ensures.heard) c.in_ok-item.item
+    c.in_ok-item.ensures.heard in
+    turns_end _ _ _ _ _ c.loop-first.input c.read_block.new.input heard.0 c.loop-first.bench.state c.loop-first.outcome heard.1 heard.2
+    next.lines next.hears
+
+pub returns-in_err-next-clause-turns : goal.returns-in_err-next-clause-turns
+returns-in_err-next-clause-turns g c =
+    let heard = c.loop-first.invariant.heard in
+    let next = heard_line _ _ _ c.loop-first.input c.read_first_line.new.input c.in-Some.first.kind
+    (rw c.in-Some.is at c.in_ok-first.ensures.heard) (sym c.if-opens_block.ensures) in
+    turns_end _ _ _ _ _ c.loop-first.input c.read_first_line.new.input heard.0 c.loop-first.bench.state c.loop-first.outcome heard.1 heard.2
+    next.lines next.hears
+
+pub returns-in_err-flush-clause-turns : goal.returns-in_err-flush-clause-turns
+returns-in_err-flush-clause-turns g c =
+    let heard = c.loop-first.invariant.heard in
+    let next = heard_none _ _ _ _ _ (rw c.in_default.is at c.in_ok-first.ensures.heard) in
+    turns_end _ _ _ _ _ c.loop-first.input c.read_first_line.new.input heard.0 c.loop-first.bench.state c.loop-first.outcome heard.1 heard.2
+    next.lines next.hears
+
+-- no more is read than may be
+pub returns-clause-bound : goal.returns-clause-bound
+returns-clause-bound g c =
+    gives_within c.read_first_line.new.input _ _ (c.in_ok-first.ensures.counted _ c.loop-first.invariant.counted)
+
+pub returns-in_err-first-clause-bound : goal.returns-in_err-first-clause-bound
+returns-in_err-first-clause-bound g c =
+    gives_within c.read_first_line.new.input _ _ (c.in_err-first.ensures.counted _ c.loop-first.invariant.counted)
+
+pub returns-in_err-item-clause-bound : goal.returns-in_err-item-clause-bound
+returns-in_err-item-clause-bound g c =
+    gives_within c.read_block.new.input _ _
+    (c.in_err-item.ensures.counted _ (c.in_ok-first.ensures.counted _ c.loop-first.invariant.counted))
+
+pub returns-in_err-answered-clause-bound : goal.returns-in_err-answered-clause-bound
+returns-in_err-answered-clause-bound g c =
+    gives_within c.read_block.new.input _ _
+    (c.in_ok-item.ensures.counted _ (c.in_ok-first.ensures.counted _ c.loop-first.invariant.counted))
+
+pub returns-in_err-next-clause-bound : goal.returns-in_err-next-clause-bound
+returns-in_err-next-clause-bound g c =
+    gives_within c.read_first_line.new.input _ _ (c.in_ok-first.ensures.counted _ c.loop-first.invariant.counted)
+
+pub returns-in_err-flush-clause-bound : goal.returns-in_err-flush-clause-bound
+returns-in_err-flush-clause-bound g c =
+    gives_within c.read_first_line.new.input _ _ (c.in_ok-first.ensures.counted _ c.loop-first.invariant.counted)
 
 pub line-requires : goal.line-requires
 line-requires g c = assumption

@@ -56,6 +56,7 @@ returns-in-Err-clause-fault g c = λ is. record {
   cause = record {
     read = λ was. c.in-Err.ensures.read (ap (λ (of : Fault). Err of) was);
     write = λ was. c.in-Err.ensures.write_fault (ap (λ (of : Fault). Err of) was);
+    memory = λ was. c.in-Err.ensures.memory (ap (λ (of : Fault). Err of) was);
     not_read = λ other. c.in-Err.ensures.reader (λ same. other (same_fault _ refl same));
     not_write = λ other. c.in-Err.ensures.writer (λ same. other (same_fault _ refl same));
   };

@@ -1,7 +1,10 @@
-use Rattle.std.proofs.Common.{arith, refl}
+use Rattle.std.proofs.Common.{[], arith, refl, ◌∙◌}
 use Rattle.std.proofs.lemmas.Result.{err_from_is_err_and}
 use Rattle.h41_ends.proofs.Answered.{no_end, no_fault, no_more}
-use Rattle.h41_ends.proofs.InputReading.{counted_same, keeps-both, reads_both, reads_last, reads_line}
+use Rattle.h41_ends.specs.HeardLines.{AreNone}
+use Rattle.h41_ends.proofs.HeardReads.{hears_on, hears_still}
+use Rattle.h41_ends.proofs.InputReading.{counts_both, counts_same, keeps-both, keeps-known, last_read, line_read, nothing_read}
+use Rattle.h41_ends.proofs.InputReading.{reads_both, reads_last, reads_line, reads_nothing}
 use Rattle.h41_ends.proofs.input_lines.InputLines.next_line.Goals as goal
 
 pub returns-in-Some-clause-lines : goal.returns-in-Some-clause-lines
@@ -26,18 +29,22 @@ loop-end-preserved g c = record {
   kept = keeps-both _ _ _ c.loop-end.invariant.kept c.in_ok-read_more.ensures.kept;
   reader = c.in_ok-read_more.ensures.reader (λ is. no_fault _ _ is);
   writer = c.in_ok-read_more.ensures.writer (λ is. no_fault _ _ is);
-  counted = c.in_ok-read_more.ensures.counted;
+  counted = counts_both c.args.self.now c.loop-end.self c.read_more.new.self _ _ _ c.loop-end.invariant.counted
+      c.in_ok-read_more.ensures.counted;
+  heard = hears_on _ _ _ _ _ c.args.self.now c.loop-end.self c.read_more.new.self [] c.loop-end.invariant.kept
+      c.loop-end.invariant.heard c.in_ok-read_more.ensures.heard;
 }
 
 pub returns-in-Some-clause-counted : goal.returns-in-Some-clause-counted
 returns-in-Some-clause-counted g c =
-    counted_same c.loop-end.self c.tell_ended.new.self _ c.loop-end.invariant.counted c.tell_ended.ensures.same.count
-    c.tell_ended.ensures.same.over
+    counts_both c.args.self.now c.loop-end.self c.tell_ended.new.self _ _ _ c.loop-end.invariant.counted
+    (counts_same c.loop-end.self c.tell_ended.new.self _ c.tell_ended.ensures.same.count c.tell_ended.ensures.same.over)
 
 pub returns-then-not-branch-clause-counted : goal.returns-then-not-branch-clause-counted
 returns-then-not-branch-clause-counted g c =
-    counted_same c.read_more.new.self c.tell_last.new.self _ c.in_ok-read_more.ensures.counted c.tell_last.ensures.count
-    c.tell_last.ensures.over
+    counts_both c.args.self.now c.read_more.new.self c.tell_last.new.self _ _ _
+    (counts_both c.args.self.now c.loop-end.self c.read_more.new.self _ _ _ c.loop-end.invariant.counted c.in_ok-read_more.ensures.counted)
+    (counts_same c.read_more.new.self c.tell_last.new.self _ c.tell_last.ensures.count c.tell_last.ensures.over)
 
 pub returns-in_err-read_more-clause-lines : goal.returns-in_err-read_more-clause-lines
 returns-in_err-read_more-clause-lines g c =
@@ -122,6 +129,46 @@ returns-then-not-branch-clause-reader g c = λ other. c.in_ok-read_more.ensures.
 
 pub returns-then-not-branch-clause-writer : goal.returns-then-not-branch-clause-writer
 returns-then-not-branch-clause-writer g c = λ other. c.in_ok-read_more.ensures.writer (λ is. no_fault _ _ is)
+
+pub returns-in-Some-clause-heard : goal.returns-in-Some-clause-heard
+returns-in-Some-clause-heard g c =
+    hears_on _ _ _ _ _ c.args.self.now c.loop-end.self c.tell_ended.new.self _ c.loop-end.invariant.kept c.loop-end.invariant.heard
+    (hears_still AreNone _ _ c.loop-end.self c.tell_ended.new.self _
+    (line_read c.loop-end.self c.tell_ended.new.self c.in-Some.end (rw c.held.ensures at c.in-Some.ensures) c.tell_ended.ensures)
+    (λ end. c.tell_ended.ensures.same.at_end ∙ end))
+
+pub returns-then-not-branch-clause-heard : goal.returns-then-not-branch-clause-heard
+returns-then-not-branch-clause-heard g c =
+    let no_more = rw c.if-not-branch.true at c.in_ok-read_more.ensures.end in
+    let end = no_more refl in
+    let kept = keeps-both _ _ _ c.loop-end.invariant.kept c.in_ok-read_more.ensures.kept in
+    hears_on _ _ _ _ _ c.args.self.now c.read_more.new.self c.tell_last.new.self _ kept
+    (hears_on _ _ _ _ _ c.args.self.now c.loop-end.self c.read_more.new.self [] c.loop-end.invariant.kept c.loop-end.invariant.heard
+    c.in_ok-read_more.ensures.heard)
+    (hears_still AreNone _ _ c.read_more.new.self c.tell_last.new.self _
+    (last_read c.read_more.new.self c.tell_last.new.self c.tell_last.result c.in_ok-read_more.ensures.goes_on end.unended
+    c.tell_last.ensures)
+    (λ is. c.tell_last.ensures.at_end))
+
+pub returns-in_err-read_more-clause-heard : goal.returns-in_err-read_more-clause-heard
+returns-in_err-read_more-clause-heard g c =
+    let failed = err_from_is_err_and c.from_residual.result c.from_residual.ensures.1 in
+    rw failed.1 (hears_on _ _ _ _ _ c.args.self.now c.loop-end.self c.read_more.new.self _ c.loop-end.invariant.kept
+    c.loop-end.invariant.heard c.in_err-read_more.ensures.heard)
+
+pub returns-then-self-clause-heard : goal.returns-then-self-clause-heard
+returns-then-self-clause-heard g c = c.loop-end.invariant.heard
+
+pub loop-end-init : goal.loop-end-init
+loop-end-init g c = record {
+  reads = reads_nothing _ c.args.self.now;
+  bound = omega arith;
+  kept = keeps-known _;
+  reader = c.requires.reader_clear;
+  writer = c.requires.writer_clear;
+  counted = λ first counted. counted;
+  heard = hears_still AreNone _ _ c.args.self.now c.args.self.now [] (nothing_read c.args.self.now) (λ end. end);
+}
 
 pub held-requires : goal.held-requires
 held-requires g c = assumption

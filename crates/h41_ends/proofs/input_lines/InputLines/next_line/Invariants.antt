@@ -1,6 +1,7 @@
 use Rattle.std.proofs.Common.{◌≡◌, ◌≤◌, false, []}
 use Rattle.std.specs.Io.KnownBytes.{Keeps}
-use Rattle.h41_ends.specs.InputLines.{IsCounted, ReadsMore, most_left}
+use Rattle.h41_ends.specs.HeardLines.{AreNone, Hears}
+use Rattle.h41_ends.specs.InputLines.{CountsOn, ReadsMore, most_left}
 use Rattle.h41_ends.specs.private.ReadingOn.{reads_left}
 use Rattle.h41_ends.proofs.input_lines.InputLines.next_line.Given as goal
 
@@ -12,7 +13,8 @@ invariant-loop-end g l = record {
   kept : Keeps (g.W.Sink.contents l.fn.writer) (g.W.Sink.contents l.writer);
   reader : g.R.Source.failed l.reader ≡ false;
   writer : g.W.Sink.failed l.writer ≡ false;
-  counted : IsCounted l.self (g.R.Source.given l.reader);
+  counted : CountsOn l.fn.self l.self (g.R.Source.given l.fn.reader) (g.R.Source.given l.reader);
+  heard : Hears AreNone (g.R.Talk.reads l.fn.reader) (g.R.Talk.reads l.reader) (g.W.Sink.contents l.fn.writer) l.fn.self l.self [];
 }
 
 abbrev pub decreases-loop-end : goal.decreases-loop-end

@@ -1,10 +1,14 @@
-use Rattle.std.proofs.Common.{◌≡◌, ◌≤◌, nat_lt, false, ◌-◌, take, min, length, length-append, length-take, ap, refl, ◌∙◌, arith}
+use Rattle.std.proofs.Common.{◌≡◌, ◌≤◌, ◌+◌, if◌then◌else◌, sym, [], nat_lt, false, ◌-◌}
+use Rattle.std.proofs.Common.{take, min, length, length-append, length-take, ap, refl, ◌∙◌, arith}
 use Rattle.std.proofs.lemmas.Bool.{ltb-false}
-use Rattle.h41_ends.specs.Ends.{most_bytes}
+use Rattle.h41_ends.specs.Ends.{given_after, most_bytes}
+use Rattle.h41_ends.specs.HeardLines.{AreNone}
 use Rattle.h41_ends.specs.InputLines.{held_in}
 use Rattle.h41_ends.proofs.InputBuffers.{held_kept, held_more}
 use Rattle.h41_ends.proofs.Answered.{no_answer, no_fault, no_write}
-use Rattle.h41_ends.proofs.InputReading.{counted_more, counted_same, reaches_end, reads_failed, reads_some, stopped_short}
+use Rattle.h41_ends.proofs.HeardReads.{hears_one, hears_still}
+use Rattle.h41_ends.proofs.InputReading.{counts_more, failed_read, nothing_read, reaches_end, reads_failed, reads_some, some_read}
+use Rattle.h41_ends.proofs.InputReading.{stopped_short}
 use Rattle.h41_ends.proofs.input_lines.InputLines.read_more.Goals as goal
 
 pub returns-in-Err-clause-lines : goal.returns-in-Err-clause-lines
@@ -12,7 +16,7 @@ returns-in-Err-clause-lines g c =
     let front = c.shorten.new.self in
     let same = c.shorten.ensures.same in
     reads_failed _ _ c.args.self.now _ c.requires.unended c.requires.goes_on
-    (held_kept front.buffer c.read.new.buffer (take 202 (held_in c.args.self.now)) front.start front.end (4096 - front.end) (omega (
+    (held_kept front.buffer c.read_after.new.buffer (take 202 (held_in c.args.self.now)) front.start front.end _ (omega (
       arith,
       front.held_end,
     )) c.shorten.ensures.held)
@@ -22,7 +26,7 @@ pub returns-in-Err-clause-stopped : goal.returns-in-Err-clause-stopped
 returns-in-Err-clause-stopped g c =
     let front = c.shorten.new.self in
     stopped_short c.args.self.now _ c.requires.unended c.requires.goes_on
-    (held_kept front.buffer c.read.new.buffer (take 202 (held_in c.args.self.now)) front.start front.end (4096 - front.end) (omega (
+    (held_kept front.buffer c.read_after.new.buffer (take 202 (held_in c.args.self.now)) front.start front.end _ (omega (
       arith,
       front.held_end,
     )) c.shorten.ensures.held)
@@ -31,13 +35,15 @@ returns-in-Err-clause-stopped g c =
 pub returns-in-Err-clause-counted : goal.returns-in-Err-clause-counted
 returns-in-Err-clause-counted g c =
     let same = c.shorten.ensures.same in
-    rw c.in-Err.ensures.given (counted_same c.args.self.now _ _ c.requires.counted same.count same.over)
+    λ first counted. c.in-Err.ensures.given ∙ counted
+    ∙ ap (given_after first) (λ i. sym same.count i + (if sym same.over i then 1 else 0))
 
 pub returns-in-Ok-clause-counted : goal.returns-in-Ok-clause-counted
 returns-in-Ok-clause-counted g c =
     let same = c.shorten.ensures.same in
     let read = c.take_read.ensures in
-    counted_more c.args.self.now c.take_read.new.self c.in-Ok.count _ _ c.requires.counted c.in-Ok.ensures.given
+    counts_more c.args.self.now c.take_read.new.self c.in-Ok.count _ _ c.if-self.false
+    (omega (arith, c.in-Ok.ensures.bound.0, same.count)) c.in-Ok.ensures.given
     (rw same.count at read.total) (rw same.count at read.over)
 
 pub returns-in-Ok-clause-lines : goal.returns-in-Ok-clause-lines
@@ -45,11 +51,11 @@ returns-in-Ok-clause-lines g c =
     let old = c.args.self.now in
     let front = c.shorten.new.self in
     let same = c.shorten.ensures.same in
-    let tail = c.read.new.buffer in
+    let tail = c.read_after.new.buffer in
     let count = c.in-Ok.count in
     let fits : count ≤ length tail = c.in-Ok.ensures.bound.0 in
     let held =
-    held_more front.buffer tail (take 202 (held_in old)) front.start front.end (4096 - front.end) (min count (most_bytes - front.count))
+    held_more front.buffer tail (take 202 (held_in old)) front.start front.end _ (min count (most_bytes - front.count))
     c.shorten.ensures.start (omega (arith, front.held_end)) (omega (arith, fits)) c.shorten.ensures.held in
     let read = c.take_read.ensures in
     reads_some _ _ old c.take_read.new.self count tail c.requires.unended c.requires.goes_on c.if-self.false
@@ -61,29 +67,29 @@ returns-in-Ok-clause-end g c = λ is.
     let old = c.args.self.now in
     let front = c.shorten.new.self in
     let same = c.shorten.ensures.same in
-    let tail = c.read.new.buffer in
+    let tail = c.read_after.new.buffer in
     let count = c.in-Ok.count in
     let fits : count ≤ length tail = c.in-Ok.ensures.bound.0 in
     let held =
-    held_more front.buffer tail (take 202 (held_in old)) front.start front.end (4096 - front.end) (min count (most_bytes - front.count))
+    held_more front.buffer tail (take 202 (held_in old)) front.start front.end _ (min count (most_bytes - front.count))
     c.shorten.ensures.start (omega (arith, front.held_end)) (omega (arith, fits)) c.shorten.ensures.held in
     let read = c.take_read.ensures in
     let none : nat_lt 0 count ≡ false = cc in
     let zero : count ≡ 0 = omega (arith, ltb-false 0 count none) in
     reaches_end _ old c.take_read.new.self count tail c.requires.unended (rw same.count at (read.held ∙ held))
     (rw same.count at read.over) zero
-    (c.in-Ok.ensures.bytes.1 zero (omega (arith, c.read.auto.buffer, c.shorten.ensures.room)))
+    (c.in-Ok.ensures.bytes.1 zero (omega (arith, c.read_after.auto.buffer, c.shorten.ensures.room)))
 
 pub returns-in-Ok-clause-bound : goal.returns-in-Ok-clause-bound
 returns-in-Ok-clause-bound g c =
     let old = c.args.self.now in
     let front = c.shorten.new.self in
     let same = c.shorten.ensures.same in
-    let tail = c.read.new.buffer in
+    let tail = c.read_after.new.buffer in
     let count = c.in-Ok.count in
     let fits : count ≤ length tail = c.in-Ok.ensures.bound.0 in
     let held =
-    held_more front.buffer tail (take 202 (held_in old)) front.start front.end (4096 - front.end) (min count (most_bytes - front.count))
+    held_more front.buffer tail (take 202 (held_in old)) front.start front.end _ (min count (most_bytes - front.count))
     c.shorten.ensures.start (omega (arith, front.held_end)) (omega (arith, fits)) c.shorten.ensures.held in
     let read = c.take_read.ensures in
     omega (
@@ -158,11 +164,50 @@ returns-then-self-clause-reader g c = λ other. absurd (other refl)
 pub returns-then-self-clause-write_fault : goal.returns-then-self-clause-write_fault
 returns-then-self-clause-write_fault g c = λ is. absurd (no_write is)
 
+pub returns-in-Err-clause-heard : goal.returns-in-Err-clause-heard
+returns-in-Err-clause-heard g c =
+    let old = c.args.self.now in
+    let front = c.shorten.new.self in
+    let same = c.shorten.ensures.same in
+    let held = held_kept front.buffer c.read_after.new.buffer (take 202 (held_in old)) front.start front.end _ (omega (
+      arith,
+      front.held_end,
+    )) c.shorten.ensures.held in
+    hears_one _ _ _ old _ _ c.in-Err.ensures.reads c.in_ok-flush_rest.ensures.bytes c.in_ok-flush_rest.ensures.flushed
+    (failed_read old _ c.requires.unended held (record { count = same.count; over = same.over; at_end = same.at_end }))
+    (record { unended = c.requires.unended; goes_on = c.requires.goes_on }) c.if-self.false
+
+pub returns-in-Ok-clause-heard : goal.returns-in-Ok-clause-heard
+returns-in-Ok-clause-heard g c =
+    let old = c.args.self.now in
+    let front = c.shorten.new.self in
+    let same = c.shorten.ensures.same in
+    let tail = c.read_after.new.buffer in
+    let count = c.in-Ok.count in
+    let fits : count ≤ length tail = c.in-Ok.ensures.bound.0 in
+    let held =
+    held_more front.buffer tail (take 202 (held_in old)) front.start front.end _ (min count (most_bytes - front.count))
+    c.shorten.ensures.start (omega (arith, front.held_end)) (omega (arith, fits)) c.shorten.ensures.held in
+    let read = c.take_read.ensures in
+    hears_one _ _ _ old c.take_read.new.self _ c.in-Ok.ensures.reads c.in_ok-flush_rest.ensures.bytes
+    c.in_ok-flush_rest.ensures.flushed
+    (some_read old c.take_read.new.self count tail c.requires.unended c.requires.goes_on c.if-self.false
+    (rw same.count at (read.held ∙ held)) (rw same.count at read.total) (rw same.count at read.over) fits)
+    (record { unended = c.requires.unended; goes_on = c.requires.goes_on }) c.if-self.false
+
+pub returns-in_err-flush_rest-clause-heard : goal.returns-in_err-flush_rest-clause-heard
+returns-in_err-flush_rest-clause-heard g c =
+    hears_still AreNone _ _ c.args.self.now c.args.self.now [] (nothing_read c.args.self.now) (λ end. end)
+
+pub returns-then-self-clause-heard : goal.returns-then-self-clause-heard
+returns-then-self-clause-heard g c =
+    hears_still AreNone _ _ c.args.self.now c.args.self.now [] (nothing_read c.args.self.now) (λ end. end)
+
 pub flush_rest-requires : goal.flush_rest-requires
 flush_rest-requires g c = assumption
 
-pub read-requires : goal.read-requires
-read-requires g c = assumption
+pub read_after-requires : goal.read_after-requires
+read_after-requires g c = assumption
 
 pub shorten-requires : goal.shorten-requires
 shorten-requires g c = assumption

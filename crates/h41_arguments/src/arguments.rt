@@ -72,14 +72,14 @@ impl Ending {
     }
 }
 
-/// The address of the first word if `--origin` is not given: 8000 (hexadecimal).
+/// The address of the first ROM word if `--origin` is not given: 8000 (hexadecimal).
 const ORIGIN: u16 = 0x8000;
 
 /// The size of memory if `--memory` is not given: 320 registers.
 const MEMORY: MemorySize = MemorySize::Cv;
 
 /// The version of the program, and that of the Rattle kit which proves it, as `rt version` prints it.
-const VERSION: &str = "0.1.0, proved with rattle-kit-13f logic dac8208d650f15bf";
+const VERSION: &str = "1.0.0, proved with rattle-kit-13f logic dac8208d650f15bf";
 
 /// The message if the value of `--origin` is not four hexadecimal digits.
 const WRONG_ORIGIN: &str = "error: wrong value of --origin: expected four hexadecimal digits\n";

@@ -2,7 +2,8 @@
 
 use h41_words::{Condition, LongJumpKind, Operation};
 
-/// The operand that a mnemonic or a directive takes, with what it needs to form the words.
+/// The kind of operand that a mnemonic or a directive takes. It also contains what the mnemonic itself determines, for
+/// example the operation on a field, or the condition of a jump.
 #[derive(Clone, Copy)]
 pub(crate) enum Taking {
     /// The name of a field, such as `ALL` in `A=A+1 ALL`, with the operation on it.

@@ -1,4 +1,4 @@
-//! Laws of program lines and their bytes. Each law is the contract of a function that does nothing else.
+//! Laws of program lines and their bytes. Each law is the contract of a function with an empty body.
 
 ghost use Rattle.h41_codes.specs.ByteLaws.{ByteRoundTrip, LineOrNone, OneLine, NoPrefix};
 ghost use Rattle.h41_codes.specs.ByteLaws.{CanonicalIsLine, CanonicalIsShortest, CanonicalOnce};

@@ -1,4 +1,4 @@
--- When the reads of an input come, over the lines of an item.
+-- What was written before each read, while the lines of an item are read.
 use Rattle.std.proofs.Common.{◌≡◌, ℕ, true, false, List, [], ◌∷◌, ◌++◌, Option, Some, None, Result, Ok, Err, refl, sym, subst}
 use Rattle.std.specs.Io.KnownBytes.{Keeps}
 use Rattle.h41_ends.specs.HeardLines.{AreNone, Hears}
@@ -25,7 +25,7 @@ use Rattle.h41_commands.proofs.FirstLines.{named, opening_words, spells}
 use Rattle.h41_commands.proofs.ItemLines.{endless_still, fault_before, fault_inside, nothing_still, spells_block, spells_none, spells_open}
 use Rattle.h41_lines.specs.Words.{words_of}
 
--- one more call of lines that spell nothing, or that have no end
+-- One more call that reads lines which spell nothing, or which contain no `end`.
 nothing_on : (told : List (List ℕ)) → SpellNothing told → (lines : List (List ℕ)) → AreNone lines → SpellNothing (told ++ lines)
 nothing_on told nothing lines none =
     subst (λ (more : List (List ℕ)). SpellNothing (told ++ more)) (sym none) (nothing_still told nothing)
@@ -48,7 +48,7 @@ module _ (first second third : Option (List ReadEvent)) (written between : Optio
       hears_both HaveNoEnd AreNone HaveNoEnd written between told (λ lines is. is) (endless_on told endless) kept first second third
       old mid new more p q
 
--- the first line of an item, whatever source it came from
+-- The first line of an item. The source that it was read from does not matter.
 abbrev first_of : {E : Type 0} {result : Result (Option LineKind) E} {before after : Option (List ReadEvent)}
     {written : Option (List ℕ)} {old new : InputLines} → HearsFirst result before after written old new
     → ReadsFirst result None None old new
@@ -79,7 +79,7 @@ module _ (before after : Option (List ReadEvent)) (written : Option (List ℕ)) 
     spelled = spells None None old new kind (first_of first) shut;
   }
 
--- a block, and one that was not read to its end
+-- A block, and a block that was not read to its end.
 module _ (before mid after : Option (List ReadEvent)) (written between : Option (List ℕ)) (old first_at new : InputLines) (kind : BlockKind)
     (kept : Keeps written between)
     (first : HearsFirst {E = LineReadFault} (Ok (Some (Named (Opening kind)))) before mid written old first_at) where

@@ -62,7 +62,7 @@ impl Model for Block {
 }
 
 impl Block {
-    /// Returns an empty block for a command. It takes the deck lines after the command's line.
+    /// Returns an empty block for a command. The method `line` then adds each deck line that follows the command's line.
     pub fn new(alloc: Global, command: Command) -> Self
         ensures { IsNew (kind_of command) result }
     {

@@ -18,7 +18,7 @@ pub enum BlockKind {
     Program(ProgramKind),
 }
 
-/// What the deck lines of a block contain that defines the contents of a page.
+/// What the deck lines are in a block that defines the contents of a page: words, the bytes of an image, or a source.
 #[derive(Clone, Copy, Debug, PartialEq, Eq)]
 pub enum PageKind {
     /// `words`: words of a page, of 1 to 3 hexadecimal digits each.
@@ -29,7 +29,7 @@ pub enum PageKind {
     Asm,
 }
 
-/// What the deck lines of a block contain that defines a program.
+/// What the deck lines are in a block that defines a program: its bytes or its text.
 #[derive(Clone, Copy, Debug, PartialEq, Eq)]
 pub enum ProgramKind {
     /// `load`: the bytes of a program, of 2 hexadecimal digits each.

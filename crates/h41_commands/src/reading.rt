@@ -70,13 +70,14 @@ pub fn read_first_line<R: Talk<W>, W: Sink>(
     Ok(None)
 }
 
-/// Reads the remaining lines of a command whose first line was read last and begins a block, up to `end`, and returns
-/// the command with its block, or refuses the lines. NoEnd (52) is the reason if the deck ends before `end`.
+/// Reads the lines of a block up to `end`, and returns the command with its block. The first line of the command is the
+/// line that `input` read last. Returns a refused item if the deck ends before `end`, NoEnd (52), or otherwise if the
+/// first line is not a valid command, BadCommand (50) or BadNumber (51).
 ///
 /// # Errors
 ///
-/// `OutOfMemory` (21) if allocation failed; `ReadFault` (22) if a read fails, or the deck has more than 67,108,864 bytes;
-/// `WriteFault` (23) if the writer cannot be flushed.
+/// `OutOfMemory` (21) if allocation failed; `ReadFault` (22) if a read fails, or the deck has more than 67,108,864
+/// bytes; `WriteFault` (23) if the writer cannot be flushed.
 #[inline(never)]
 pub fn read_block<R: Talk<W>, W: Sink>(
     alloc: Global,

@@ -19,8 +19,8 @@ use h41_digits::Reg;
 /// A mask of the lower four bits of each of the five lowest bytes.
 const LOW_HALVES: u64 = 0x0F_0F0F_0F0F;
 
-/// The number 6 in each of the five lowest bytes. If it is added to a decimal digit in each byte, a digit above 9 sets
-/// bit 4.
+/// The number 6 in each of the five lowest bytes. If it is added to five bytes that are each a digit from 0 to F, bit 4
+/// of a byte becomes set if and only if its digit is above 9.
 const SIXES: u64 = 0x06_0606_0606;
 
 /// The number 16 in each of the five lowest bytes: a mask of the carries that adding 6 to each byte causes.

@@ -1,4 +1,4 @@
--- When the reads of a deck come.
+-- What was written before each read of a deck.
 use Rattle.std.proofs.Common.{◌≡◌, ℕ, ◌<◌, Bool, not, true, false, List, [], ◌∷◌, ◌++◌, length, flat_map, Option, Some, Ok, Err}
 use Rattle.std.proofs.Common.{refl, sym, subst, ap, ◌∙◌, append_assoc, arith}
 use Rattle.std.specs.List.{list_any}
@@ -35,7 +35,7 @@ use Rattle.h41_deck.specs.declared.replies.Outcome.{Outcome}
 use Rattle.h41_deck.proofs.AnswersInTurn.{Told, done_answered}
 use Rattle.h41_deck.proofs.DeckReading.{held_nothing, same_commands, shut_all}
 
--- the reads of a deck so far, and the items that its lines spell
+-- The reads of a deck so far, and the items that its lines spell.
 pub record HeardSoFar (registers : ℕ) (before after : Option (List ReadEvent)) (old : Option (List ℕ)) (input : InputLines)
     (done : List Spelled) : Type 0 where
   pub reads : List ReadEvent
@@ -61,7 +61,7 @@ heard_nothing registers before old input read = record {
 module _ {registers : ℕ} (before mid after : Option (List ReadEvent)) (old written : Option (List ℕ)) (input next : InputLines)
     (done : List Spelled) (s : BenchState) (outcome : Outcome) (so_far : HeardSoFar registers before mid old input done)
     (told : Told registers old written done s outcome) where
-  -- a read comes when the items that are done are those that have their end in what was read
+  -- At a read, the items that were answered are those whose last line end was read.
   comes : input.at_end ≡ false → (bytes : List ℕ) (read : ReadEvent) → ComesWith written (AreMore SpellNoneEnded so_far.told) bytes read
       → ComesInTurn registers old bytes read
   comes goes bytes read comes_with =
@@ -100,13 +100,13 @@ module _ {registers : ℕ} (before mid after : Option (List ReadEvent)) (old wri
             (bytes_in so_far.reads) hears.reads (hears.each (bytes_in so_far.reads) so_far.told so_far.read)
       ] refl)
 
-  -- what a deck leaves that ends here
+  -- The reads of a deck that ends here.
   pub turns_end : (lines : List (List ℕ)) → Hears SpellNoneEnded mid after written input next lines
       → ReadsInTurn registers before after old
   turns_end lines hears =
       (so_far.reads ++ hears.reads, adds_both before mid after so_far.reads hears.reads so_far.added hears.added, more_come lines hears)
 
-  -- before more is told the end was not reached
+  -- The end of the deck was not reached before more lines were read.
   heard_on : (lines : List (List ℕ)) → Hears SpellNoneEnded mid after written input next lines → most_left next < most_left input
       → input.at_end ≡ false
   heard_on lines hears less = false_from_ne_true input.at_end (λ end.
@@ -141,7 +141,7 @@ module _ {registers : ℕ} (before mid after : Option (List ReadEvent)) (old wri
         each = more_come more.lines more.hears;
       }
 
--- the next item is a block, or one that was not read to its end
+-- The next item is a block, or one that was not read to its end.
 module _ (before mid after : Option (List ReadEvent)) (written between : Option (List ℕ)) (old first_at new : InputLines) where
   pub block_heard : (kind : LineKind) → Keeps written between → opens_block kind ≡ true
       → HearsFirst {E = LineReadFault} (Ok (Some kind)) before mid written old first_at → (item : Item)

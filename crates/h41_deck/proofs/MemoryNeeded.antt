@@ -47,7 +47,7 @@ pub memory_needed : MemoryIsNeeded
 memory_needed registers deck text memory takes lines_open = elim memory.1 [
   | inl unread ↦
       let none : memory.0.first ≡ [] = none_first memory.0.first memory.0.rest
-          (sym memory.0.begins ∙ ap (λ (bytes : List ℕ). commands (lines bytes)) unread) in
+      (sym memory.0.begins ∙ ap (λ (bytes : List ℕ). commands (lines bytes)) unread) in
       let answered = subst (λ (items : List Spelled). AnswersInTurn items (start registers) memory.0.answers) none memory.0.answered in
       (unread, memory.0.text_is ∙ ap (flat_map printed_text) (none_answered (start registers) memory.0.answers answered))
   | inr (inl next) ↦

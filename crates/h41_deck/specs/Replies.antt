@@ -11,6 +11,8 @@ use Rattle.h41_commands.specs.declared.commands.Command.TheVariants.{Plug, Load,
 use Rattle.h41_commands.specs.declared.commands.Command.TheVariants.{Reset, Call, Key, Step, Run}
 use Rattle.h41_commands.specs.declared.commands.Command.TheVariants.{Trace, Break, Unbreak, Show}
 use Rattle.h41_commands.specs.declared.commands.Command.TheVariants as commands
+use Rattle.h41_commands.specs.declared.commands.View.{View}
+use Rattle.h41_commands.specs.declared.commands.View.TheVariants as views
 use Rattle.h41_commands.specs.declared.refusal.LineRefusal.{LineRefusal}
 use Rattle.h41_commands.specs.Blocks.{page_of_words}
 use Rattle.h41_commands.specs.Items.{Spelled}
@@ -169,6 +171,19 @@ is_silent (commands.List address count) = false
 is_silent (Show view) = false
 is_silent command = true
 
+-- The views whose text is allocated. That of the position is written without an allocation.
+abbrev pub view_takes_memory : View → Bool
+view_takes_memory views.Cpu = true
+view_takes_memory (views.Register address) = true
+view_takes_memory views.Stack = true
+view_takes_memory views.Flags = true
+view_takes_memory views.Alpha = true
+view_takes_memory views.Display = true
+view_takes_memory views.Position = false
+view_takes_memory views.Lines = true
+view_takes_memory (views.Image page bank) = true
+view_takes_memory views.Functions = true
+
 -- The commands that allocate memory. The others never end a deck with OutOfMemory (21).
 abbrev pub takes_memory : Command → Bool
 takes_memory (Plug kind page bank writable) = true
@@ -184,7 +199,7 @@ takes_memory (Trace count) = false
 takes_memory (Break location) = false
 takes_memory (Unbreak location) = false
 takes_memory (commands.List address count) = true
-takes_memory (Show view) = true
+takes_memory (Show view) = view_takes_memory view
 
 -- Whether lines specify such a command.
 abbrev pub item_takes_memory : Spelled → Bool

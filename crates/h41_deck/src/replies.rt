@@ -12,6 +12,7 @@ ghost use Rattle.h41_refusals.specs.Refusals.{refusal_line};
 ghost use Rattle.h41_deck.specs.Views.{line_of};
 ghost use Rattle.h41_deck.specs.private.Blocks.{LoadsTaken, PlugsTaken, PlugsWordsOf};
 ghost use Rattle.h41_deck.specs.Replies.{LoadsBytes, Reply, is_silent, takes_memory};
+ghost use Rattle.h41_deck.specs.Replies.{view_takes_memory};
 ghost use Rattle.h41_deck.specs.private.Writing.{Acts, SaysAlone, Says, EndsAs, IsAccepted};
 ghost use Rattle.h41_deck.specs.private.Writing.{IsRefusalOf, KeepsIfOutOfMemory, made_text};
 
@@ -327,6 +328,7 @@ pub(crate) fn show<W: Sink, const REGS: usize>(
     requires clear { W.failed writer.old ≡ false }
     ensures text { SaysAlone result (commands.Show view) bench.old.state bench.new.state
         W.contents writer.old writer.new }
+    ensures memory { result ≡ Err CommandFault.OutOfMemory → view_takes_memory view ≡ true }
     ensures unchanged { KeepsIfOutOfMemory result bench.old.state bench.new.state }
     ensures mark { result ≡ Err CommandFault.WriteFault → W.failed writer.new ≡ true }
     ensures clear { result ≢ Err CommandFault.WriteFault → W.failed writer.new ≡ false }

@@ -1,4 +1,4 @@
--- When the reads of an input come, over the calls of one line.
+-- What was written before each read, while one line is read.
 use Rattle.std.proofs.Common.{inr, ◌≡◌, ℕ, ◌≤◌, true, false, List, [], ◌∷◌, ◌++◌, length, Option, Some, None, refl, sym, subst, ap, ◌∙◌}
 use Rattle.std.proofs.Common.{append_assoc, append-nil}
 use Rattle.std.specs.Io.KnownBytes.{Keeps}
@@ -14,7 +14,7 @@ use Rattle.h41_ends.specs.ReadEvents.{AddsReads, EachRead, ReadEvent, bytes_in}
 use Rattle.h41_ends.proofs.EndedLines.{stopped_lines}
 use Rattle.h41_ends.proofs.InputReading.{Reads, keeps-both}
 
--- the reads that are known
+-- Reads that are known, one list after the other.
 pub adds_none : (known : Option (List ReadEvent)) → AddsReads known known []
 adds_none None = tt
 adds_none (Some reads) = sym (append-nil reads)
@@ -30,7 +30,7 @@ adds_both (Some us) (Some vs) (Some ws) xs ys p q =
 pub bytes_both : (xs ys : List ReadEvent) → bytes_in (xs ++ ys) ≡ bytes_in xs ++ bytes_in ys
 bytes_both xs ys = flat_map-append (λ (read : ReadEvent). read.bytes) xs ys
 
--- each of them
+-- A property of each read.
 pub each_as : (fits others : List ℕ → ReadEvent → Type 0) → ((bytes : List ℕ) (read : ReadEvent) → fits bytes read → others bytes read)
     → (bytes : List ℕ) (reads : List ReadEvent) → EachRead fits bytes reads → EachRead others bytes reads
 each_as fits others so bytes [] each = tt
@@ -47,7 +47,7 @@ each_both fits bytes (x ∷ xs) ys p q = (
 )
 
 module _ (fits : List (List ℕ) → Type 0) (known : Option (List ReadEvent)) (written : Option (List ℕ)) where
-  -- no read was made
+  -- No read was made.
   pub hears_still : (old new : InputLines) (told : List (List ℕ)) → Reads [] old new told → (old.at_end ≡ true → new.at_end ≡ true)
       → Hears fits known known written old new told
   hears_still old new told read stays = record {
@@ -58,7 +58,7 @@ module _ (fits : List (List ℕ) → Type 0) (known : Option (List ReadEvent)) (
     stays = λ end. (stays end, refl);
   }
 
--- one read was made
+-- One read was made.
 pub hears_one : (before after : Option (List ReadEvent)) (written : Option (List ℕ)) (old new : InputLines) (event : ReadEvent)
     → AddsReads before after (event ∷ []) → Keeps written event.written → event.flushed ≡ true → Reads event.bytes old new []
     → IsStopped old → old.is_over ≡ false → Hears AreNone before after written old new []
@@ -76,7 +76,7 @@ hears_one before after written old new event added kept flushed read stopped cle
   stays = λ end. let never : true ≡ false = sym end ∙ stopped.goes_on in cc;
 }
 
--- where lines are such ones, they are others too
+-- Lines that satisfy one property satisfy another one too.
 pub hears_as : (fits others : List (List ℕ) → Type 0) → ((lines : List (List ℕ)) → fits lines → others lines)
     → (before after : Option (List ReadEvent)) (written : Option (List ℕ)) (old new : InputLines) (told : List (List ℕ))
     → Hears fits before after written old new told → Hears others before after written old new told
@@ -95,7 +95,7 @@ hears_as fits others so before after written old new told hears = record {
   stays = hears.stays;
 }
 
--- what was read, whatever source it came from
+-- What was read. The source that it was read from does not matter.
 abbrev pub reads_of : {fits : List (List ℕ) → Type 0} {before after : Option (List ReadEvent)} {written : Option (List ℕ)}
     {old new : InputLines} {told : List (List ℕ)} → Hears fits before after written old new told → ReadsMore None None old new told
 reads_of hears = record {
@@ -106,7 +106,7 @@ reads_of hears = record {
   stays = λ end. ((hears.stays end).0, ap bytes_in (hears.stays end).1);
 }
 
--- both calls were made
+-- Both calls were made.
 module _ (fits_one fits_other fits : List (List ℕ) → Type 0) (written between : Option (List ℕ)) (told : List (List ℕ))
     (as_one : (lines : List (List ℕ)) → fits_one lines → fits lines)
     (as_other : (lines : List (List ℕ)) → fits_other lines → fits (told ++ lines)) (kept : Keeps written between) where
@@ -158,7 +158,7 @@ module _ (fits_one fits_other fits : List (List ℕ) → Type 0) (written betwee
         (behind.0, (λ i. before.1 i ++ behind.1 i));
   }
 
--- of calls that tell no line before the reads
+-- Two calls, of which the first returns no line.
 pub hears_on : (first second third : Option (List ReadEvent)) (written between : Option (List ℕ)) (old mid new : InputLines)
     (more : List (List ℕ)) → Keeps written between → Hears AreNone first second written old mid []
     → Hears AreNone second third between mid new more → Hears AreNone first third written old new more

@@ -42,7 +42,7 @@ keeps-both (Some us) None third p q = absurd p
 keeps-both (Some us) (Some bs) None p q = absurd q
 keeps-both (Some us) (Some bs) (Some cs) p q = q ∙ p
 
--- what was read and told before is what was read and told with these bytes and lines more
+-- The bytes read and the lines returned, with these bytes and lines added.
 abbrev pub Reads : List ℕ → InputLines → InputLines → List (List ℕ) → Type 0
 Reads bytes old new told =
     (first : List ℕ) (lines : List (List ℕ)) → HasRead first lines old → HasRead (first ++ bytes) (lines ++ told) new
@@ -304,7 +304,7 @@ one_over old new n clear fits count over =
           omega (arith, was, is, short, count)
     ]
 
--- with more bytes there are as many more
+-- The count after more bytes is higher by their number.
 given_both : (first a b : ℕ) → given_after (given_after first a) b ≡ given_after first (a + b)
 given_both first a b = omega arith
 
@@ -315,7 +315,7 @@ counts_more old new n given more clear fits is count over first counted =
     is ∙ ap (λ (before : ℕ). given_after before n) counted ∙ given_both first (read_count old) n
     ∙ ap (given_after first) (sym (one_over old new n clear fits count over))
 
--- where there were more bytes than may be read, the reader has given too many; it never gives more than one of them
+-- If there are more bytes than the limit, the reader has delivered exactly one byte beyond it.
 pub gives_too_many : (input : InputLines) (first given : ℕ) → IsCounted input first given → input.is_over ≡ true
     → input.count ≡ most_bytes → GivesTooMany first given
 gives_too_many input first given counted over full =

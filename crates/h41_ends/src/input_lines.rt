@@ -78,8 +78,9 @@ impl InputLines {
         }
     }
 
-    /// Returns the line that `next_line` read last, without its line end (LF, or CR and LF). Of a line of more than 201
-    /// bytes, it returns the first 201. Before the first line, it returns no bytes.
+    /// Returns the line that `next_line` has just read, without its line end (LF, or CR and LF). Of a line of more than
+    /// 201 bytes, it returns the first 201. Before the first call of `next_line`, it returns no bytes. After a call that
+    /// did not return `Ok(true)`, the line before may be lost.
     #[inline(always)]
     pub fn line(&self) -> &[u8]
         ensures { result.now ≡ line_in self.now }

@@ -21,16 +21,20 @@ pub trait Sink {
     // Whether the sink was flushed after its last write.
     ghost flushed: { Self → Bool };
 
-    /// Writes a prefix of `bytes` and returns its length. A call that fails writes nothing and sets the error flag. A call that
-    /// accepts no byte of a text that is not empty sets the flag too. No call clears it.
+    /// Writes a prefix of `bytes` and returns its length. A call that fails writes nothing and sets the error flag. A call
+    /// that accepts no byte of a text that is not empty sets the flag too. No call clears it. The flag must be clear before
+    /// the call, so that nothing is written after a failure.
     fn write(&mut self, bytes: &[u8]) -> io::Result<usize>
+        requires { failed self.old ≡ false }
         ensures bound { WritesAtMost result bytes.now }
         ensures bytes { WriteAppends (contents self.old) (contents self.new) result bytes.now }
         ensures mark { failed self.new ≡ (failed self.old || is_failed_write result bytes.now) }
         ensures flushed { flushed self.new ≡ false };
 
-    /// Passes on the bytes that are still in a buffer. A call that fails sets the error flag.
+    /// Passes on the bytes that are still in a buffer. A call that fails sets the error flag, which must be clear before
+    /// the call.
     fn flush(&mut self) -> io::Result<()>
+        requires { failed self.old ≡ false }
         ensures bytes { Keeps (contents self.old) (contents self.new) }
         ensures mark { failed self.new ≡ (failed self.old || is_err result) }
         ensures flushed { flushed self.new ≡ is_ok result };

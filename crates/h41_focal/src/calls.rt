@@ -75,8 +75,13 @@ pub fn step_as<const REGS: usize>(
     result
 }
 
-/// Executes a typed line and returns its outcome, as `Machine::key` does, with the same errors. Memory is moved into a
-/// `Machine` and back; callers that execute many lines should keep a `Machine` instead.
+/// Executes a typed line and returns its outcome. Memory is moved into a `Machine` and back; callers that execute many
+/// lines should keep a `Machine` instead.
+///
+/// # Errors
+///
+/// MemoryLost (15) if memory is not sound; NotInProfile (13) if the bench does not support the line. Nothing is changed
+/// then.
 pub fn key_line<const REGS: usize>(
     ram: &mut Ram<REGS>,
     pages: &Pages,

@@ -1,7 +1,7 @@
 //! Reads an input completely, or refuses it if it is too long.
 
 ghost use Rattle.std.specs.Prelude.{◌≡◌, ◌≢◌, ◌≤◌, true, false, Err, IfOk, IfSome, vec_len};
-ghost use Rattle.h41_ends.specs.Ends.{most_bytes};
+ghost use Rattle.h41_ends.specs.Ends.{GivesWithin, most_bytes};
 ghost use Rattle.h41_jobs.specs.Inputs.{IsUnread, IsWhole};
 
 use h41_ends::{Source, read_whole};
@@ -19,6 +19,7 @@ pub fn read_input<R: Source>(alloc: Global, reader: &mut R) -> Result<Vec<u8>, F
     ensures bytes { IfOk result (λ bytes. IfSome (R.remaining reader.old) (IsWhole bytes.items)) }
     ensures bound { IfOk result (λ bytes. vec_len bytes ≤ most_bytes) }
     ensures read_fault { result ≡ Err Fault.ReadFault → IsUnread R.Source reader.old reader.new }
+    ensures within { GivesWithin (R.given reader.old) (R.given reader.new) }
     ensures no_write { result ≢ Err Fault.WriteFault }
     ensures clear { result ≢ Err Fault.ReadFault → R.failed reader.new ≡ false }
 {

@@ -9,8 +9,8 @@ use h41_words::Word;
 /// The greatest number that a word of ten bits can have: 3FF (hexadecimal).
 const GREATEST_WORD: u32 = 0x3FF;
 
-/// Returns the word that hexadecimal digits write, of either case and with any number of leading zeros, or `None`
-/// if they are not a number up to 3FF.
+/// Returns the word whose number is `digits` in hexadecimal. Letters may be in either case, and leading zeros are
+/// allowed. Returns `None` if `digits` is empty, has a byte that is not a hexadecimal digit, or is above 3FF.
 pub fn word_value(digits: &[u8]) -> Option<Word>
     ensures { result ≡ word_value digits.now }
 {

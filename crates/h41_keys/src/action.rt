@@ -31,7 +31,8 @@ pub enum Action {
     BeginNumber(Number),
     /// The number that is being typed changed. The number in X is replaced by the given one.
     ChangeNumber(Number),
-    /// The last character of the number was deleted, by BACK or by CHS on a sign alone. X becomes zero, and stack lift is disabled.
+    /// The only character of the number that is being typed was deleted outside program mode, by BACK or by CHS on a
+    /// sign alone. X becomes zero, and stack lift is disabled.
     EndNumber,
     /// Flag 48 is toggled: ALPHA mode begins or ends.
     ToggleAlpha,

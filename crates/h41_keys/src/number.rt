@@ -206,8 +206,8 @@ fn number_ended(input: Input) -> Pressed
     }
 }
 
-/// Returns whether one more digit may be typed to a number: the mantissa has at most ten digits, the exponent at most
-/// two.
+/// Returns whether one more digit may be typed to a number: if it has an exponent, whether this has fewer than two
+/// digits; otherwise, whether the number has fewer than ten.
 fn has_room(text: &[Character]) -> bool
     ensures { result ≡ spec.has_room text.now }
 {

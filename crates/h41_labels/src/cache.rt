@@ -28,7 +28,7 @@ pub struct LabelCache {
     /// A number for each search, in the slot of its answer. These numbers are compared before the searches, because
     /// they differ for most pairs of searches.
     marks: ArrayVec<u32, MOST>,
-    /// The index, 0 to 63, of the slot with the oldest answer.
+    /// The index, 0 to 63, of the slot with the oldest answer, or 0 if the cache is empty.
     oldest: usize,
 }
 

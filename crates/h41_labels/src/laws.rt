@@ -1,4 +1,5 @@
-//! Laws of the label cache. Each law is the contract of a function that does nothing else.
+//! Laws of the label cache. Each law is the contract of a function that only proves it: its body does nothing, or calls
+//! other laws.
 ghost use Rattle.h41_labels.specs.KeptLaws.{RightnessDepends, SearchesStayRight};
 
 use h41_program::laws::programs_depend_on_their_registers;

@@ -48,8 +48,9 @@ pub fn program_block_means_one()
     line_text_round_trip();
 }
 
-/// States that each command has exactly one reply, a new state and an answer, from each state of the bench in which the
-/// results that the command depends on exist, for example those of its steps.
+/// States that each command has exactly one reply, which consists of a new state and an answer. This holds in each
+/// state of the bench in which the results that the command depends on exist, for example those of the steps that it
+/// makes.
 pub fn reply_has_one_answer()
     ensures { ReplyHasOneAnswer }
 {

@@ -122,7 +122,7 @@ impl Cpu {
         self.display = false;
     }
 
-    /// Turns the display on, as each key does.
+    /// Turns the display on, as each accepted key does.
     pub fn turn_display_on(&mut self)
         ensures { self.new ≡ with_display true self.old }
     {

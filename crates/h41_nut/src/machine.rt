@@ -165,8 +165,9 @@ fn execute_straight<const REGS: usize>(
     }
 }
 
-/// Executes a word that only uses the processor and the keyboard, and continues with the word after it. The only error
-/// is SystemRom (08) if the next address is 0000.
+/// Executes a word for which `is_within` is true: it uses only the processor and the keyboard, and is not arithmetic, a
+/// jump, a return, `CLRKEY`, `POWOFF` or `PRPH SLCT`. Execution continues with the word after it. The only error is
+/// SystemRom (08) if the next address is 0000; nothing changes then.
 #[inline(always)]
 fn execute_within(row: Row, cpu: &mut Cpu, keys: Keys) -> Result<(), WordRefusal>
     requires held { first_address ≤ cpu.old.pc }
@@ -188,8 +189,9 @@ fn execute_within(row: Row, cpu: &mut Cpu, keys: Keys) -> Result<(), WordRefusal
     }
 }
 
-/// Changes the registers of the processor as a word does that only uses the processor and the keyboard, and that is not
-/// a test. The address of the next word and the carry are set afterwards, by the caller.
+/// Changes the registers of the processor as a word does for which `is_within` is true: one that uses only the
+/// processor and the keyboard, and is not arithmetic, a jump, a return, `CLRKEY`, `POWOFF` or `PRPH SLCT`. The caller
+/// moves to the next word.
 #[inline(always)]
 fn change(row: Row, cpu: &mut Cpu, keys: Keys)
     requires within { is_within row ≡ true }
@@ -223,8 +225,9 @@ fn change(row: Row, cpu: &mut Cpu, keys: Keys)
     }
 }
 
-/// Executes `ENBANK1` to `ENBANK4`: activates the bank that the word names in page `page`. It is a cold function of its
-/// own that determines the bank from the word, so that all these words have one path, and other words a shorter one.
+/// Activates the bank of page `page` that a word `ENBANK1` to `ENBANK4` names. The caller has already set the address
+/// of the next word. The function is separate and cold, and decodes the word again, so that the code that executes all
+/// other words is shorter.
 #[cold]
 #[inline(never)]
 fn enable_bank(pages: &mut Pages, page: u8, word: Word)

@@ -12,7 +12,7 @@ pub enum WordRefusal {
     /// UndefinedWord (06): the word at this address is neither an instruction nor a word of a peripheral.
     #[error("the word at {0:04X} is undefined")]
     UndefinedWord(u16),
-    /// WordNotInProfile (07): the word at this address, 3FC, is not supported.
+    /// WordNotInProfile (07): the word at this address is 3FC, which is not supported.
     #[error("the word at {0:04X} is not held")]
     WordNotInProfile(u16),
     /// SystemRom (08): this address is in pages 0 to 3, which belong to the system's ROM.

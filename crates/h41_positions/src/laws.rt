@@ -1,4 +1,5 @@
-//! Laws of positions. Each law is the contract of a function that does nothing else.
+//! Laws of positions. Each law is the contract of a function that only proves it: its body does nothing, or calls other
+//! laws.
 
 ghost use Rattle.h41_positions.specs.PositionLaws.{EachIsRead, HasOneAnswer, HasOneAnswerEach};
 ghost use Rattle.h41_positions.specs.PositionLaws.{IsReadOnce, LinesHaveNext};

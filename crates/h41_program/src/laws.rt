@@ -1,5 +1,5 @@
-//! Laws of program memory. Each law is the contract of a function that does nothing else. The list of lines from a
-//! position is what program memory contains from that byte on, up to `.END.`.
+//! Laws of program memory. Each law is the contract of a function that only proves it: its body does nothing, or calls
+//! other laws. The list of lines from a position is what program memory contains from that byte on, up to `.END.`.
 ghost use Rattle.std.specs.Prelude.{ℕ, Bool, Option, Result};
 ghost use Rattle.h41_program.specs.Dependence.{AnswersDepend, FirstsDepend, LineDepends};
 ghost use Rattle.h41_program.specs.Dependence.{ListsDepend, LocalDepends, NextDepends, NonesDepend};

@@ -122,7 +122,8 @@ impl Packer {
         }
     }
 
-    /// Appends the encoded bytes of a line to those of the packed lines.
+    /// Appends the encoded bytes of a line to those of the packed lines if there are then at most 2237. Otherwise sets
+    /// `full` and appends nothing.
     fn push_line(&mut self, line: &Line)
         requires { IsLine line.now }
         ensures { Pushes self.old self.new (spelling line.now) }

@@ -7,8 +7,8 @@ pub const NUMBER_ENTRY: usize = 22;
 /// Flag 23, ALPHA data input: it is set when a letter is typed into ALPHA.
 pub const ALPHA_ENTRY: usize = 23;
 
-/// Flag 24, range error ignore: while it is set, a result that is out of range becomes the greatest number with its sign, without
-/// an error.
+/// Flag 24, range error ignore: while it is set, a result that is out of range becomes the greatest number with its
+/// sign, without an error.
 pub const RANGE_IGNORE: usize = 24;
 
 /// Flag 25, error ignore: if it is set, the next error clears it, and the program continues without an error message.

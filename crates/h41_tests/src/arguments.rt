@@ -103,7 +103,7 @@ fn refuses_an_origin(rt: HostRuntime) {
     is_mistake(&rt, rt.alloc(), &["bench", "asm", "--origin"]);
 }
 
-/// Requires that the program ends with exit status 2 for these words of the command line, because they are wrong.
+/// Requires that `read_words` refuses these words of the command line: it returns an ending with exit status 2.
 fn is_mistake<'a>(rt: &impl Abort, alloc: Global, words: &'a [&'a str]) {
     let holds = match read_words(alloc, words) {
         Ok(_) => false,
@@ -112,14 +112,14 @@ fn is_mistake<'a>(rt: &impl Abort, alloc: Global, words: &'a [&'a str]) {
     assert!(rt; holds, "at {words:?}");
 }
 
-/// Requires that the program ends with this exit status for these words of the command line, without a task, and prints
-/// the usage of `bench`.
+/// Requires that `read_words` finds nothing to execute in these words of the command line: it returns an ending with
+/// this exit status and the usage of `bench`.
 fn ends<'a>(rt: &impl Abort, alloc: Global, words: &'a [&'a str], status: u8) {
     tells(rt, alloc, words, status, "Usage: bench");
 }
 
-/// Requires that the program ends with this exit status for these words of the command line, without a task, and prints
-/// a text that contains `part`.
+/// Requires that `read_words` finds nothing to execute in these words of the command line: it returns an ending with
+/// this exit status and a text that contains `part`.
 fn tells<'a>(rt: &impl Abort, alloc: Global, words: &'a [&'a str], status: u8, part: &str) {
     let holds = match read_words(alloc, words) {
         Ok(_) => false,
@@ -149,7 +149,7 @@ fn tells_the_version(rt: HostRuntime) {
             rt.alloc(),
             &words,
             0,
-            "bench 0.1.0, proved with rattle-kit-",
+            "bench 1.0.0, proved with rattle-kit-",
         );
     }
     ends(&rt, rt.alloc(), &["bench", "run", "--version"], 2);

@@ -186,7 +186,7 @@ fn prints_what_is_asked_for(rt: HostRuntime) -> Result<(), Fail> {
             100,
             100,
             0,
-            "bench 0.1.0, proved with rattle-kit-..",
+            "bench 1.0.0, proved with rattle-kit-..",
             "",
         ),
         (&["--help"], 0, 100, 3, "", "! 23 WriteFault\n"),

@@ -1,7 +1,8 @@
-//! Tests of h41_decimal: rows whose expected values were computed with exact fractions, written as registers: the digit
-//! of the sign, ten digits of the mantissa, three of the exponent. They contain halves, cancellations, sums of sizes
-//! far apart, products and quotients at both limits of the range, remainders of each pair of signs, and random
-//! operands.
+//! Tests of h41_decimal. Most are tables whose expected values were computed with exact arithmetic. Numbers are written
+//! as the digits of a register: one for the sign, ten for the mantissa, three for the exponent. The tables contain ties
+//! in rounding, cancellations, sums of numbers of very different magnitudes, products and quotients at both limits of
+//! the range, remainders for each pair of signs, and random operands. Other tests are of rounding to places, of a
+//! comparison, and of registers that contain no number.
 
 use crate::judge::wants;
 use h41_decimal::{DecimalFault, Places, Ten};

@@ -19,7 +19,8 @@ use std::fmt;
 /// The number of flags: 56.
 const FLAGS: usize = 56;
 
-/// The greatest number of bytes that the numbers of the set flags need: two digits and a space for each of 56 flags.
+/// The capacity, in bytes, of the text with the numbers of the set flags: two digits for each of 56 flags, and a space
+/// between them, need at most 167.
 const FLAGS_TEXT: usize = 168;
 
 /// Returns a line with an address and the 14 digits of the register there, for example `0C0=00000000000000`.

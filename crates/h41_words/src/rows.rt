@@ -6,8 +6,8 @@ use crate::operation::Operation;
 use crate::unassigned::UnassignedWord;
 use h41_fields::{Field, Pointer};
 
-/// The meaning of a ROM word that is the first or only word of an instruction: one row of the table of words. It is a
-/// family of words with operands, or a single word.
+/// The meaning of a ROM word that is not the second word of an instruction: one row of the table of words, with the
+/// operands that this word contains, if any. `Constant` is the row of all words that are no instruction.
 #[derive(Clone, Copy, Debug, PartialEq, Eq)]
 pub enum Row {
     /// `A=A+1 ALL` and the like: performs an operation on a field of the registers A, B and C.
@@ -66,7 +66,7 @@ pub enum Row {
     SelectPointer(Pointer),
     /// `?P=Q`: sets the carry if the pointers P and Q are at the same digit place.
     TestPointersEqual,
-    /// `?LLD`: sets the carry if the battery is low.
+    /// `?LLD`: sets the carry if the battery is low. The bench's battery never is, so the carry is cleared.
     TestLowBattery,
     /// `CLRABC`: clears A, B and C.
     ClearRegisters,

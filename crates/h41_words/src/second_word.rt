@@ -17,7 +17,7 @@ pub enum LongJumpKind {
 /// the condition and the kind, its eight high bits the high byte of the target.
 #[derive(Clone, Copy, Debug, PartialEq, Eq)]
 pub struct SecondWord {
-    /// The carry at which the jump is taken: the carry before the first word of the jump.
+    /// Whether the jump is taken if the carry is set, or if it is clear. The carry before the first word counts.
     pub condition: Condition,
     /// Whether the jump is a call (`XQ`) or only a jump (`GO`).
     pub kind: LongJumpKind,

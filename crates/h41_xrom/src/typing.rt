@@ -1,4 +1,4 @@
-//! What typing numbers and letters does to memory.
+//! What typed numbers, typed letters, the correction key in ALPHA mode and the key ALPHA do to memory and to stack lift.
 
 ghost use Rattle.std.specs.Prelude.{◌≡◌, [], ◌∷◌, ◌++◌, take, Ok};
 ghost use Rattle.h41_positions.specs.LabelledMachine.{Keeps, machine_of};

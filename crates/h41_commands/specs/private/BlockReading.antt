@@ -41,7 +41,7 @@ pub record ReadsTaken {E : Type 0} (result : Result (Option TakenBlock) E)
   pub reads : ReadsMore before after old new lines
   pub taken : TakeBlock kind result lines
 
--- lines without an end, and the same of the reads beside an output: each comes when such are told
+-- No line of these is `end`.
 abbrev pub HaveNoEnd : List (List ℕ) → Type 0
 HaveNoEnd lines = list_any is_end lines ≡ false
 
@@ -69,7 +69,7 @@ pub record ReadsBlock {E : Type 0} (result : Result Item E)
   pub reads : ReadsMore before after old new lines
   pub spelled : SpellBlock command result new.at_end lines
 
--- and the same of the reads beside an output
+-- A block was read up to its `end`, in a record of its reads.
 pub record HearsBlock {E : Type 0} (result : Result Item E)
     (command : Result Command LineRefusal) (before after : Option (List ReadEvent))
     (written : Option (List ℕ)) (old new : InputLines) : Type 0 where

@@ -50,7 +50,7 @@ pub record ReadsFirst {E : Type 0} (result : Result (Option LineKind) E)
   pub reads : ReadsMore before after old new (skipped ++ first_lines result new)
   pub kind : TellsKind result (line_in new)
 
--- the same of the reads beside an output: each comes when lines that spell nothing are told
+-- The same with the reads: before each, only lines that spell nothing are complete.
 pub record HearsFirst {E : Type 0} (result : Result (Option LineKind) E)
     (before after : Option (List ReadEvent)) (written : Option (List ℕ)) (old new : InputLines)
     : Type 0 where
@@ -81,11 +81,11 @@ pub record ReadsNext (result : Result (Option Spelled) ItemFault)
   pub reads : ReadsMore before after old new lines
   pub spelled : SpellNext result new.at_end lines
 
--- lines that spell nothing but a block that is open
+-- Lines that spell nothing except an open block.
 abbrev pub SpellNoneEnded : List (List ℕ) → Type 0
 SpellNoneEnded lines = without_open_block (commands lines) ≡ []
 
--- the same of the reads beside an output: each comes when no item is told to its end
+-- The same with the reads: before each, no item is complete.
 pub record HearsNext (result : Result (Option Spelled) ItemFault)
     (before after : Option (List ReadEvent)) (written : Option (List ℕ)) (old new : InputLines)
     : Type 0 where

@@ -13,7 +13,8 @@ use std::alloc::{AllocError, Global};
 /// too long remains too long.
 const KEPT: usize = 8193;
 
-/// The bytes in the deck lines of an `image` block that were taken so far, at most 8,193 of them.
+/// The bytes of an `image` block, from the deck lines that were added so far. At most 8,193 are kept: one more than an
+/// image has, so that an image that is too long is still recognized.
 #[derive(Debug, Drop)]
 pub struct ImageBytes {
     bytes: Vec<u8>,

@@ -10,8 +10,8 @@ use Rattle.h41_arguments.specs.declared.arguments.Task.{Task}
 use Rattle.h41_jobs.specs.declared.ended.Ended.{Ended}
 use Rattle.h41_jobs.specs.Inputs.{IsUnread}
 use Rattle.h41_serving.specs.Tasks.{FailedOrTooLong, IsPassedOn, LeavesBegun, LeavesFront}
-use Rattle.h41_serving.specs.Tasks.{LeavesMemory, LeavesUnread, MayEnd, TaskEnds, WritesFrontOf, WritesTaskText}
-use Rattle.h41_serving.specs.Tasks.{WritesTextOf}
+use Rattle.h41_serving.specs.Tasks.{LeavesMemory, LeavesUnread, MayEnd, TaskEnds, WritesFrontOf}
+use Rattle.h41_serving.specs.Tasks.{WritesTaskText, WritesTextOf}
 
 -- How a task ends, and what it leaves written and read.
 pub record CarriesOut {R W : Type 0} (task : Task) (result : Result Ended Fault)

@@ -248,7 +248,7 @@ returns-in_err-flush-clause-lines g c =
     c.read_first_line.new.writer c.flush.new.writer so_far.0 c.loop-first.bench.state c.loop-first.outcome whole told c.flush.ensures.bytes)
     c.in_err-flush.ensures.mark (c.in_ok-first.ensures.reader never_failed))
 
--- each read comes in turn
+-- At each read, exactly the complete commands were answered.
 pub returns-clause-turns : goal.returns-clause-turns
 returns-clause-turns g c =
     let heard = c.loop-first.invariant.heard in
@@ -296,7 +296,7 @@ returns-in_err-flush-clause-turns g c =
     turns_end _ _ _ _ _ c.loop-first.input c.read_first_line.new.input heard.0 c.loop-first.bench.state c.loop-first.outcome heard.1 heard.2
     next.lines next.hears
 
--- no more is read than may be
+-- At most one byte beyond the limit is read.
 pub returns-clause-bound : goal.returns-clause-bound
 returns-clause-bound g c =
     gives_within c.read_first_line.new.input _ _ (c.in_ok-first.ensures.counted _ c.loop-first.invariant.counted)

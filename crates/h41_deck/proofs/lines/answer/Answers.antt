@@ -1,6 +1,7 @@
 use Rattle.std.proofs.Common.{Some}
 use Rattle.std.proofs.lemmas.Result.{err_from_is_err_and}
-use Rattle.h41_deck.proofs.Commanded.{ends_part, ends_reply, refused_item}
+use Rattle.h41_commands.specs.private.TakenBlocks.{judgement}
+use Rattle.h41_deck.proofs.Commanded.{ends_part, ends_reply, given_memory, refused_item}
 use Rattle.h41_deck.proofs.lines.answer.Goals as goal
 
 pub returns-in_ok-end-in-Refused-clause-reply : goal.returns-in_ok-end-in-Refused-clause-reply
@@ -15,6 +16,10 @@ returns-in_err-end-in-Refused-clause-reply g c =
     rw (failed.1, failed.2, c.in-Refused.is)
     (ends_part _ c.args.bench.now.state _ _ _ _ (Some c.from.result)
     (refused_item c.in-Refused.refusal c.args.bench.now.state _ _ c.from.ensures) c.in_err-end-in-Refused.ensures.written)
+
+pub returns-in-Given-clause-memory : goal.returns-in-Given-clause-memory
+returns-in-Given-clause-memory g c = λ is. rw c.in-Given.is
+    (given_memory (judgement c.in-Given.field-0.block) c.in-Given.field-0.command (c.apply.ensures.accepted is) (c.apply.ensures.memory is))
 
 pub apply-requires : goal.apply-requires
 apply-requires g c = assumption

@@ -25,6 +25,7 @@ returns-in_err-say_made-in_default g c =
           (λ values. part_alone (commands.Show c.args.view) values c.args.bench.now.state _ _ c.in_ok-shown-in_default.shown
           (show_said (commands.Show c.args.view) values c.args.view c.args.bench.now.state c.in_ok-shown-in_default.shown refl
           c.in_ok-shown-in_default.ensures) c.in_err-say_made-in_default.ensures.written);
+      memory = rw (failed.1, failed.2) (λ is. cc);
       unchanged = search rules;
       mark = search rules;
       clear = search rules;

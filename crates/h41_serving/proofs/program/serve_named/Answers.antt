@@ -5,7 +5,7 @@ use Rattle.h41_serving.proofs.program.serve_named.Goals as goal
 pub returns-in-Some : goal.returns-in-Some
 returns-in-Some g c =
     let served = c.serve-status.ensures in
-    let set = sym c.error.ensures ∙ ap is_some c.in-Some.is in
+    let set = sym c.error.ensures.failed ∙ ap is_some c.in-Some.is in
     let three = served.reader set in record {
       ends = served.status;
       text = served.text;
@@ -28,7 +28,7 @@ returns-in-Some g c =
 pub returns-in-None : goal.returns-in-None
 returns-in-None g c =
     let served = c.serve-status.ensures in
-    let unset = sym c.error.ensures ∙ ap is_some c.in-None.is in record {
+    let unset = sym c.error.ensures.failed ∙ ap is_some c.in-None.is in record {
       ends = served.status;
       text = served.text;
       flushed = served.flushed;

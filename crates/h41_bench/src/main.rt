@@ -18,11 +18,13 @@ fn main(rt: HostRuntime) -> ExitCode {
     let mut output = ToWrite::new(output);
     let mut input = FromRead::new(Either::Left(rt.stdin()));
     let mut open = |file: &str| File::open(&rt, file).map(Either::Right);
+    let mut file = None;
     let words = words_of(&rt);
     let status = run_program(
         rt.alloc(),
         words,
         &mut open,
+        &mut file,
         &mut input,
         &mut output,
         &mut faults,

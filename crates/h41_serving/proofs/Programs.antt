@@ -1,6 +1,6 @@
 -- What the program does, by the result of reading the words of its command line.
-use Rattle.std.proofs.Common.{inl, inr, ◌≡◌, ◌≢◌, ◌⊎◌, ℕ, Bool, true, false, List, [], ◌∷◌, Option, Some, None, Result, Ok, Err}
-use Rattle.std.proofs.Common.{IfNone, IfSome, String, ap, codes, refl, string_bytes, subst, sym, ◌∙◌}
+use Rattle.std.proofs.Common.{inl, inr, ◌≡◌, ◌≢◌, ◌⊎◌, ℕ, List, [], ◌∷◌, Option, Some, None, Result, Ok, Err}
+use Rattle.std.proofs.Common.{IfNone, IfSome, String, ap, refl, string_bytes, subst, sym, ◌∙◌}
 use Rattle.std.specs.Borrow.{Bor}
 use Rattle.std.specs.Fn.{Mut}
 use Rattle.std.specs.Global.{Global}
@@ -12,14 +12,12 @@ use Rattle.h41_ends.specs.declared.source.FromRead.{FromRead}
 use Rattle.h41_ends.specs.declared.source.Source as sources
 use Rattle.h41_arguments.specs.BenchCommand.{bench_app, command_asked, job_asked}
 use Rattle.h41_arguments.specs.CommandLine.{file_for}
-use Rattle.h41_arguments.specs.Ending.{EndsByKind, GivesJob, GivesJobOf, RefusedByKind, SaysMistake, SaysWrongOption, kind_status}
-use Rattle.h41_arguments.specs.Ending.{option_mistake, parts_of}
+use Rattle.h41_arguments.specs.Ending.{GivesJob, GivesJobOf, RefusedByKind, SaysMistake, SaysWrongOption, kind_status}
+use Rattle.h41_arguments.specs.Ending.{option_mistake}
 use Rattle.h41_arguments.specs.declared.arguments.Ending.{Ending}
 use Rattle.h41_arguments.specs.declared.arguments.Ending.TheVariants as endings
 use Rattle.h41_arguments.specs.declared.arguments.Job.{Job}
 use Rattle.h41_arguments.specs.declared.arguments.Task.{Task}
-use Rattle.h41_arguments.specs.declared.arguments.Task.TheVariants as tasks
-use Rattle.h41_arguments.specs.declared.memory.MemorySize.TheVariants as sizes
 use Rattle.h41_arguments.proofs.CommandLemmas.{helps, if_none, if_some, mistakes, versions}
 use Rattle.h41_arguments.proofs.CommandWalks.{CommandName, asm_name, dis_name, file_meets, name_text, run_name, task_named}
 use Rattle.h41_arguments.proofs.TwiceGiven.{twice_refused}
@@ -35,28 +33,29 @@ mistake_differs text is = cc
 
 module _ {O R X W E : Type 0} (opener : Mut O (Bor (List ℕ) × Unit {0}) (Result R X))
     (source : sources.Ghosts (FromRead R)) (sink : sinks.Ghosts W) (told : sinks.Ghosts E)
-    (opener_old opener_new : O) (input_old input_new : FromRead R) (old new : W)
-    (told_old told_new : E) (status : ℕ) where
+    (opener_old opener_new : O) (file_old file_new : Option (FromRead R)) (input_old input_new : FromRead R)
+    (old new : W) (told_old told_new : E) (status : ℕ) where
   abbrev Out : Type 0
-  Out = RunsOut opener source sink told opener_old opener_new input_old input_new old new told_old told_new status
+  Out = RunsOut opener source sink told opener_old opener_new file_old file_new input_old input_new old new told_old told_new status
 
   abbrev Of : Task × List ℕ → Type 0
-  Of = DoesJobOf opener source sink told opener_old opener_new input_old input_new old new told_old told_new status
+  Of = DoesJobOf opener source sink told opener_old opener_new file_old file_new input_old input_new old new told_old told_new status
 
   abbrev Mistaken : List ℕ → Type 0
-  Mistaken = EndsMistaken opener source sink told opener_old opener_new input_old input_new old new told_old told_new status
+  Mistaken =
+      EndsMistaken opener source sink told opener_old opener_new file_old file_new input_old input_new old new told_old told_new status
 
   abbrev Printed : List ℕ → Type 0
-  Printed = EndsPrinted opener source sink told opener_old opener_new input_old input_new old new told_old told_new status
+  Printed = EndsPrinted opener source sink told opener_old opener_new file_old file_new input_old input_new old new told_old told_new status
 
   abbrev Refused : Kinds → Type 0
-  Refused = EndsRefused opener source sink told opener_old opener_new input_old input_new old new told_old told_new status
+  Refused = EndsRefused opener source sink told opener_old opener_new file_old file_new input_old input_new old new told_old told_new status
 
   abbrev Words : List (List ℕ) → Type 0
-  Words = AnswersWords opener source sink told opener_old opener_new input_old input_new old new told_old told_new status
+  Words = AnswersWords opener source sink told opener_old opener_new file_old file_new input_old input_new old new told_old told_new status
 
   abbrev Inputs : Type 0
-  Inputs = LeavesInputs opener source sink told opener_old opener_new input_old input_new old new told_old told_new status
+  Inputs = LeavesInputs opener source sink told opener_old opener_new file_old file_new input_old input_new old new told_old told_new status
 
   -- Allocation may fail for any words.
   pub answers_out : (words : List (List ℕ)) → Out → Words words
@@ -68,7 +67,8 @@ module _ {O R X W E : Type 0} (opener : Mut O (Bor (List ℕ) × Unit {0}) (Resu
 
   -- The words gave a job, which is done.
   pub answers_job : (words : List (List ℕ)) (job : Job) → RefusedByKind words (Ok job) → GivesJobOf words (Ok job)
-      → DoesJob opener source sink told opener_old opener_new input_old input_new old new told_old told_new status job → Words words
+      → DoesJob opener source sink told opener_old opener_new file_old file_new input_old input_new old new told_old told_new status job
+      → Words words
   answers_job words job refused given does = record {
     job = λ passed. if_some (job_asked words) _ (λ parts is.
         let gives : GivesJob (Some parts) (Ok job) = subst (λ (of : Option (Task × List ℕ)). GivesJob of (Ok job)) is (given passed) in
@@ -177,7 +177,8 @@ module _ {O R X W E : Type 0} (opener : Mut O (Bor (List ℕ) × Unit {0}) (Resu
   ]
 
   pub answers_plainly : (words : List (List ℕ)) → Words words
-      → AnswersPlainly opener source sink told opener_old opener_new input_old input_new old new told_old told_new status words
+      → AnswersPlainly opener source sink told opener_old opener_new file_old file_new input_old input_new
+      old new told_old told_new status words
   answers_plainly words answers = record {
     run = plain_job run_name words answers;
     asm = plain_job asm_name words answers;

@@ -11,6 +11,7 @@ use Rattle.h41_refusals.specs.declared.fault.Fault.{Fault}
 use Rattle.h41_refusals.specs.declared.fault.Fault.TheVariants.{OutOfMemory, ReadFault, WriteFault}
 use Rattle.h41_ends.specs.declared.sink.Sink as sinks
 use Rattle.h41_ends.specs.declared.source.Source as sources
+use Rattle.h41_ends.specs.Ends.{GivesWithin}
 use Rattle.h41_jobs.specs.Texts.{HasNoWrongWord}
 use Rattle.h41_serving.specs.Tasks.{LeavesTooLong, TaskEnds, WritesFrontOfRead, WritesOfRead, ended_of_deck}
 use Rattle.h41_serving.specs.private.CarriedOut.{CarriesOut}
@@ -70,8 +71,9 @@ module _ {R W : Type 0} (size : MemorySize) (source : sources.Ghosts R) (sink : 
   pub run_failed : (fault : Fault) → decks.FaultLeaves (registers_of size) fault source sink before after old new
       → (fault ≢ WriteFault → sink.flushed new ≡ true) → (fault ≡ WriteFault → sink.failed new ≡ true)
       → (fault ≢ ReadFault → source.failed after ≡ false) → (fault ≢ WriteFault → sink.failed new ≡ false)
+      → GivesWithin (source.given before) (source.given after)
       → CarriesOut (tasks.Run size) (Err fault) source sink before after old new
-  run_failed fault left passed mark reader writer =
+  run_failed fault left passed mark reader writer within =
       let registers = registers_of size in record {
         text = tt;
         ends = tt;
@@ -85,6 +87,7 @@ module _ {R W : Type 0} (size : MemorySize) (source : sources.Ghosts R) (sink : 
         memory = λ is. leaves_memory registers source sink before after old new (let same = same_fault _ refl is in rw same at left);
         cut = λ is. leaves_front registers source sink before after old new (let same = same_fault _ refl is in rw same at left);
         passed = passed;
+        within = within;
         write_fault = λ is. mark (same_fault _ refl is);
         reader = λ ends. reader (λ is. ends (ap (λ (of : Fault). Err of) is));
         writer = λ ends. writer (λ is. ends (ap (λ (of : Fault). Err of) is));
@@ -93,8 +96,9 @@ module _ {R W : Type 0} (size : MemorySize) (source : sources.Ghosts R) (sink : 
   pub run_ended : (outcome : Outcome) → decks.WritesDeck (registers_of size) (Ok outcome) (source.remaining before) sink.contents old new
       → decks.EndsKnown (registers_of size) (source.remaining before) outcome → sink.flushed new ≡ true
       → source.failed after ≡ false → sink.failed new ≡ false
+      → GivesWithin (source.given before) (source.given after)
       → CarriesOut (tasks.Run size) (Ok (ended_of_deck outcome)) source sink before after old new
-  run_ended outcome written ends flushed reader writer = record {
+  run_ended outcome written ends flushed reader writer within = record {
     text = written;
     ends = ends_known size outcome (source.remaining before) ends;
     kind = no_wrong_word outcome;
@@ -105,6 +109,7 @@ module _ {R W : Type 0} (size : MemorySize) (source : sources.Ghosts R) (sink : 
     memory = λ is. cc;
     cut = λ is. cc;
     passed = tt;
+    within = within;
     write_fault = λ is. cc;
     reader = λ other. reader;
     writer = λ other. writer;

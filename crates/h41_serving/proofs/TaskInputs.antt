@@ -6,7 +6,7 @@ use Rattle.std.specs.Io.KnownBytes.{Appends, Keeps}
 use Rattle.h41_arguments.specs.declared.arguments.Task.TheVariants as tasks
 use Rattle.h41_ends.specs.declared.sink.Sink as sinks
 use Rattle.h41_ends.specs.declared.source.Source as sources
-use Rattle.h41_ends.specs.Ends.{most_bytes}
+use Rattle.h41_ends.specs.Ends.{GivesWithin, most_bytes}
 use Rattle.h41_refusals.specs.declared.fault.Fault.{Fault}
 use Rattle.h41_refusals.specs.declared.fault.Fault.TheVariants.{OutOfMemory, ReadFault, WriteFault}
 use Rattle.h41_jobs.specs.declared.ended.Ended.{Ended}
@@ -88,6 +88,7 @@ module _ {R W : Type 0} (result : Result Ended Fault) (source : sources.Ghosts R
     memory = λ is. kept_memory is whole.nothing;
     cut = whole.cut;
     passed = passed_none result;
+    within = whole.within;
     write_fault = whole.write_fault;
     reader = whole.reader;
     writer = whole.writer;
@@ -106,6 +107,7 @@ module _ {R W : Type 0} (result : Result Ended Fault) (source : sources.Ghosts R
     memory = λ is. kept_memory is whole.nothing;
     cut = whole.cut;
     passed = passed_none result;
+    within = whole.within;
     write_fault = whole.write_fault;
     reader = whole.reader;
     writer = whole.writer;
@@ -113,7 +115,8 @@ module _ {R W : Type 0} (result : Result Ended Fault) (source : sources.Ghosts R
 
 module _ {R W : Type 0} (text_of : List ℕ → List ℕ → Type 0) (ends_of : Ended → List ℕ → Type 0) (may_end : Ended → Type 0)
     (source : sources.Ghosts R) (sink : sinks.Ghosts W) (before after : R) (old new : W) (bytes text : List ℕ)
-    (read : IfSome (source.remaining before) (IsWhole bytes)) (has : text_of bytes text) (reader : source.failed after ≡ false) where
+    (read : IfSome (source.remaining before) (IsWhole bytes)) (has : text_of bytes text) (reader : source.failed after ≡ false)
+    (within : GivesWithin (source.given before) (source.given after)) where
   -- Writing the text fails.
   pub not_written : (count : ℕ) × Appends (sink.contents old) (sink.contents new) (take count text) → sink.failed new ≡ true
       → CarriesOutWhole text_of ends_of may_end (Err WriteFault) source sink before after old new
@@ -125,6 +128,7 @@ module _ {R W : Type 0} (text_of : List ℕ → List ℕ → Type 0) (ends_of : 
     unread = λ is. cc;
     nothing = λ other. absurd (other refl);
     cut = λ is. whole_front text_of _ _ _ bytes text read has front;
+    within = within;
     write_fault = λ is. mark;
     reader = λ other. reader;
     writer = λ other. absurd (other refl);
@@ -142,6 +146,7 @@ module _ {R W : Type 0} (text_of : List ℕ → List ℕ → Type 0) (ends_of : 
     unread = λ is. cc;
     nothing = tt;
     cut = λ is. cc;
+    within = within;
     write_fault = λ is. cc;
     reader = λ other. reader;
     writer = λ other. writer;

@@ -1,5 +1,5 @@
 -- What writing a text reports, and what a text after others does.
-use Rattle.std.proofs.Common.{◌≡◌, Bool, true, false, List, ℕ, ◌+◌, ◌≤◌, ◌++◌, length, take, min, Option, Some, None, arith}
+use Rattle.std.proofs.Common.{◌≡◌, Bool, true, false, List, ℕ, ◌+◌, ◌++◌, length, take, min, Option, Some, None, arith}
 use Rattle.std.proofs.Common.{Result, Ok, Err, OnErr, OnOk, ap₂, append_assoc, drop, refl, subst, sym, ◌∙◌}
 use Rattle.std.proofs.Math.Seq.{take-add}
 use Rattle.std.specs.Prelude.{MatchBool}

@@ -1,7 +1,8 @@
 -- What the program does with the words of its command line: what it reads, prints and reports, and
 -- its status.
 use Rattle.std.specs.Prelude.{◌≡◌, ◌≢◌, ◌⊎◌, ℕ, ◌≤◌, Bool, true, false, List, [], ◌∷◌, ◌++◌, codes}
-use Rattle.std.specs.Prelude.{drop, Result, IfNone, IfSome, MatchBool, MatchResult, string_bytes}
+use Rattle.std.specs.Prelude.{drop, Option, Some, Result, IfNone, IfSome, MatchBool, MatchResult}
+use Rattle.std.specs.Prelude.{string_bytes}
 use Rattle.std.specs.Borrow.{Bor}
 use Rattle.std.specs.Fn.{CalledAt, Mut}
 use Rattle.std.specs.Str.{bytes_eq}
@@ -10,7 +11,7 @@ use Rattle.clap.specs.declared.error.kind.ErrorKind.{ErrorKind}
 use Rattle.h41_ends.specs.declared.sink.Sink as sinks
 use Rattle.h41_ends.specs.declared.source.FromRead.{FromRead}
 use Rattle.h41_ends.specs.declared.source.Source as sources
-use Rattle.h41_ends.specs.Ends.{has_read_failed, reader_of}
+use Rattle.h41_ends.specs.Ends.{GivesWithin, has_read_failed, read_given, reader_of}
 use Rattle.h41_refusals.specs.declared.fault.Fault.{Fault}
 use Rattle.h41_refusals.specs.declared.fault.Fault.TheVariants.{OutOfMemory, ReadFault, WriteFault}
 use Rattle.h41_arguments.specs.BenchCommand.{bench_app, command_asked, job_asked}
@@ -105,21 +106,23 @@ module _ {R W E : Type 0} (source : sources.Ghosts R) (sink : sinks.Ghosts W)
     pub reader : TellsMark status (source.failed after)
     pub writer : TellsMark status (sink.failed new)
     pub begun : JobBegun status job source sink before after old new
+    pub within : GivesWithin (source.given before) (source.given after)
     pub unread : JobLeavesUnread job source sink before after old new
     pub cut : JobLeavesFront status job source sink before after old new
     pub passed : JobPassedOn status job (sink.failed new) (sink.flushed new)
     pub fault : status ≡ 3 → TellsFaultOf job
 
--- ---- The program, with the function that opens a file, standard input, the output and the stream
--- for errors.
+-- ---- The program, with the function that opens a file, the place for the source over the opened
+-- file, standard input, the output and the stream for errors.
 
 module _ {O R X W E : Type 0} (opener : Mut O (Bor (List ℕ) × Unit {0}) (Result R X))
     (source : sources.Ghosts (FromRead R)) (sink : sinks.Ghosts W) (told : sinks.Ghosts E)
-    (opener_old opener_new : O) (input_old input_new : FromRead R) (old new : W)
-    (told_old told_new : E) (status : ℕ) where
+    (opener_old opener_new : O) (file_old file_new : Option (FromRead R))
+    (input_old input_new : FromRead R) (old new : W) (told_old told_new : E) (status : ℕ) where
   -- No file is opened, and standard input is not read.
   pub record LeavesInputs : Type 0 where
     pub unopened : opener_new ≡ opener_old
+    pub kept : file_new ≡ file_old
     pub unread : input_new ≡ input_old
 
   -- Allocation failed before there was anything to do.
@@ -140,20 +143,25 @@ module _ {O R X W E : Type 0} (opener : Mut O (Bor (List ℕ) × Unit {0}) (Resu
   -- A job with standard input; no file is opened.
   pub record DoesJobOfInput (job : Job) : Type 0 where
     pub unopened : opener_new ≡ opener_old
+    pub kept : file_new ≡ file_old
     pub serves :
         ServesNamed source sink told input_old input_new old new told_old told_new status job
 
-  -- A job with an opened file, from its beginning.
+  -- A job with an opened file. `before` is a new source over it, and `after` is that source as the
+  -- job leaves it, which the caller receives.
   pub record DoesJobOver (job : Job) (file : R) : Type 0 where
     pub before : FromRead R
     pub after : FromRead R
     pub reader : reader_of before ≡ file
     pub clear : has_read_failed before ≡ false
+    pub given : read_given before ≡ 0
     pub serves : ServesNamed source sink told before after old new told_old told_new status job
+    pub received : file_new ≡ Some after
 
   -- The file cannot be opened.
   pub record IsUnopened (job : Job) : Type 0 where
     pub ends : status ≡ 3
+    pub kept : file_new ≡ file_old
     pub silent : new ≡ old
     pub line : TellsUnopened told told_old told_new job.file.now
 

@@ -10,6 +10,7 @@ use Rattle.h41_deck.specs.declared.replies.Outcome.TheVariants as outcomes
 use Rattle.h41_deck.specs.Deck as decks
 use Rattle.h41_ends.specs.Ends.{Appended, GivesTooMany, most_bytes}
 use Rattle.h41_ends.specs.InputLines.{bytes_within}
+use Rattle.h41_ends.specs.ReadEvents.{ReadEvent}
 use Rattle.h41_arguments.specs.declared.arguments.Job.{Job}
 use Rattle.h41_arguments.specs.declared.arguments.Task.{Task}
 use Rattle.h41_arguments.specs.declared.arguments.Task.TheVariants as tasks
@@ -205,6 +206,17 @@ abbrev pub JobLeavesFront : {R W : Type 0} → ℕ → Job → sources.Ghosts R 
 JobLeavesFront status job source sink before after old new =
     status ≡ 3 → sink.failed new ≡ true
     → LeavesFront job.task source sink before after old new
+
+-- If the reads of a deck are known, they are all in turn: at each of them, the replies to all
+-- commands whose last line end was read are written and flushed, and nothing else is written. A
+-- source and a list of words are read completely before anything is written, so that nothing is
+-- claimed of their reads.
+abbrev pub TaskInTurn : Task → Option (List ReadEvent) → Option (List ReadEvent) → Option (List ℕ)
+    → Type 0
+TaskInTurn (tasks.Run size) before after old =
+    decks.ReadsInTurn (registers_of size) before after old
+TaskInTurn (tasks.Assemble origin) before after old = Unit {0}
+TaskInTurn (tasks.List origin) before after old = Unit {0}
 
 -- A text is written completely and flushed. If the stream fails, a prefix of it is written, and
 -- nothing after that.

@@ -1,7 +1,8 @@
 //! Executes a deck with a given size of memory.
 
 ghost use Rattle.std.specs.Prelude.{◌≡◌, ◌≢◌, true, false, Err, IfOk, OnOk};
-ghost use Rattle.h41_deck.specs.Deck.{EndsKnown, LeavesDeck, PassedOn, WritesDeck};
+ghost use Rattle.h41_deck.specs.Deck.{EndsKnown, LeavesDeck, PassedOn, ReadsInTurn, WritesDeck};
+ghost use Rattle.h41_ends.specs.Ends.{GivesWithin};
 ghost use Rattle.h41_arguments.specs.MemorySizes.{registers_of};
 
 use h41_arguments::MemorySize;
@@ -31,6 +32,9 @@ pub(crate) fn run_with<R: Talk<W>, W: Sink>(
     ensures left { LeavesDeck (registers_of size) result R.Source W.Sink
         reader.old reader.new writer.old writer.new }
     ensures passed { PassedOn result (W.flushed writer.new) }
+    ensures turns { ReadsInTurn (registers_of size) (R.reads reader.old) (R.reads reader.new)
+        (W.contents writer.old) }
+    ensures bound { GivesWithin (R.given reader.old) (R.given reader.new) }
     ensures write_fault { result ≡ Err Fault.WriteFault → W.failed writer.new ≡ true }
     ensures reader { result ≢ Err Fault.ReadFault → R.failed reader.new ≡ false }
     ensures writer { result ≢ Err Fault.WriteFault → W.failed writer.new ≡ false }

@@ -24,41 +24,55 @@ const NO_TEXT: &str = "error: a word of the command line is not UTF-8\n";
 /// status: that of the deck, source or list; 0 for help and the version; 2 for wrong words; 3 if allocation or a stream
 /// failed.
 ///
-/// The program reads the file that the words name, which `open_file` opens, or standard input if the name is `-`. Its
-/// text, help and the version go to `output`. Messages about wrong words, and I/O errors, go to `faults`. The error
-/// flags of the three streams must be clear.
+/// The program reads the file that the words name, which `open_file` opens, or standard input if the name is `-`. If it
+/// opens a file, `file` receives the source over it, as the job leaves it; otherwise `file` does not change. The text,
+/// help and the version go to `output`. Messages about wrong words, and I/O errors, go to `faults`. The error flags of
+/// the three streams must be clear.
 pub fn run_program<O: FnMut(&str) -> io::Result<R>, R: Read + Drop, W: Sink, E: Sink>(
     alloc: Global,
     words: io::Result<Vec<String>>,
     open_file: &mut O,
+    file: &mut Option<FromRead<R>>,
     input: &mut FromRead<R>,
     output: &mut W,
     faults: &mut E,
 ) -> u8
-    requires opens { (file : List ℕ) → TakesAt O.FnMut open_file.old file }
+    requires opens { (name : List ℕ) → TakesAt O.FnMut open_file.old name }
     requires input_clear { has_read_failed input.old ≡ false }
     requires output_clear { W.failed output.old ≡ false }
     requires faults_clear { E.failed faults.old ≡ false }
     ensures words { IfOk words (λ all. AnswersWords
         O.FnMut ⟦<FromRead<R> as Source>⟧ W.Sink E.Sink open_file.old open_file.new
-        input.old input.new output.old output.new faults.old faults.new result
+        file.old file.new input.old input.new output.old output.new
+        faults.old faults.new result
         (behind_name (map string_bytes all.items))) }
     ensures plainly { IfOk words (λ all. AnswersPlainly
         O.FnMut ⟦<FromRead<R> as Source>⟧ W.Sink E.Sink open_file.old open_file.new
-        input.old input.new output.old output.new faults.old faults.new result
+        file.old file.new input.old input.new output.old output.new
+        faults.old faults.new result
         (behind_name (map string_bytes all.items))) }
     ensures no_memory { IfErr words (λ error. error_kind error ≡ ErrorKind.OutOfMemory
         → RunsOut
         O.FnMut ⟦<FromRead<R> as Source>⟧ W.Sink E.Sink open_file.old open_file.new
-        input.old input.new output.old output.new faults.old faults.new result) }
+        file.old file.new input.old input.new output.old output.new
+        faults.old faults.new result) }
     ensures no_text { IfErr words (λ error. error_kind error ≢ ErrorKind.OutOfMemory
         → EndsMistaken
         O.FnMut ⟦<FromRead<R> as Source>⟧ W.Sink E.Sink open_file.old open_file.new
-        input.old input.new output.old output.new faults.old faults.new result no_text) }
+        file.old file.new input.old input.new output.old output.new
+        faults.old faults.new result no_text) }
     ensures bound { result ≤ 3 }
 {
     match words {
-        Ok(words) => run_words(alloc, words.as_slice(), open_file, input, output, faults),
+        Ok(words) => run_words(
+            alloc,
+            words.as_slice(),
+            open_file,
+            file,
+            input,
+            output,
+            faults,
+        ),
         Err(error) if error.kind() == ErrorKind::OutOfMemory => tell(Fault::OutOfMemory, faults),
         Err(_) => tell_wrong(NO_TEXT, faults),
     }
@@ -70,17 +84,19 @@ fn run_words<O: FnMut(&str) -> io::Result<R>, R: Read + Drop, W: Sink, E: Sink>(
     alloc: Global,
     words: &[String],
     open_file: &mut O,
+    file: &mut Option<FromRead<R>>,
     input: &mut FromRead<R>,
     output: &mut W,
     faults: &mut E,
 ) -> u8
-    requires opens { (file : List ℕ) → TakesAt O.FnMut open_file.old file }
+    requires opens { (name : List ℕ) → TakesAt O.FnMut open_file.old name }
     requires input_clear { has_read_failed input.old ≡ false }
     requires output_clear { W.failed output.old ≡ false }
     requires faults_clear { E.failed faults.old ≡ false }
     ensures words { AnswersWords
         O.FnMut ⟦<FromRead<R> as Source>⟧ W.Sink E.Sink open_file.old open_file.new
-        input.old input.new output.old output.new faults.old faults.new result
+        file.old file.new input.old input.new output.old output.new
+        faults.old faults.new result
         (behind_name (map string_bytes words.now)) }
     ensures bound { result ≤ 3 }
 {
@@ -88,7 +104,7 @@ fn run_words<O: FnMut(&str) -> io::Result<R>, R: Read + Drop, W: Sink, E: Sink>(
         return tell(Fault::OutOfMemory, faults);
     };
     match read_words(alloc, words.as_slice()) {
-        Ok(job) => run_job(alloc, job, open_file, input, output, faults),
+        Ok(job) => run_job(alloc, job, open_file, file, input, output, faults),
         Err(ending) => end(&ending, output, faults),
     }
 }
@@ -150,29 +166,36 @@ fn tell_wrong<E: Sink>(text: &str, faults: &mut E) -> u8
     if faults.failed() { FAILED } else { MISTAKEN }
 }
 
-/// Does the task of `job` with the file that it names, or with standard input if the name of the file is `-`. Returns
-/// the exit status, 0 to 3.
+/// Does the task of `job` with the file that it names, or with standard input if the name of the file is `-`. If a file
+/// is opened, `file` receives the source over it, as the job leaves it. Returns the exit status, 0 to 3.
 fn run_job<O: FnMut(&str) -> io::Result<R>, R: Read + Drop, W: Sink, E: Sink>(
     alloc: Global,
     job: Job<'_>,
     open_file: &mut O,
+    file: &mut Option<FromRead<R>>,
     input: &mut FromRead<R>,
     output: &mut W,
     faults: &mut E,
 ) -> u8
-    requires opens { (file : List ℕ) → TakesAt O.FnMut open_file.old file }
+    requires opens { (name : List ℕ) → TakesAt O.FnMut open_file.old name }
     requires input_clear { has_read_failed input.old ≡ false }
     requires output_clear { W.failed output.old ≡ false }
     requires faults_clear { E.failed faults.old ≡ false }
     ensures { DoesJob
         O.FnMut ⟦<FromRead<R> as Source>⟧ W.Sink E.Sink open_file.old open_file.new
-        input.old input.new output.old output.new faults.old faults.new result job.entry }
+        file.old file.new input.old input.new output.old output.new
+        faults.old faults.new result job.entry }
 {
     if job.file == "-" {
         return serve_named(alloc, job, input, output, faults);
     }
     match open_file(job.file) {
-        Ok(file) => serve_named(alloc, job, &mut FromRead::new(file), output, faults),
+        Ok(opened) => {
+            let mut source = FromRead::new(opened);
+            let status = serve_named(alloc, job, &mut source, output, faults);
+            *file = Some(source);
+            status
+        }
         Err(error) => tell_unopened(job.file, &error, faults),
     }
 }

@@ -1,11 +1,13 @@
 //! Executes a deck, assembles a source or lists words from one stream to another, and returns the exit status.
 
 ghost use Rattle.std.specs.Prelude.{◌≡◌, ◌≢◌, ◌≤◌, true, false, IfSome};
+ghost use Rattle.h41_ends.specs.Ends.{GivesWithin};
 ghost use Rattle.h41_jobs.specs.Texts.{mistake_line};
 ghost use Rattle.h41_serving.specs.Statuses.{EndsJob, IsTaskStatus, TellsFault, TellsMark};
 ghost use Rattle.h41_serving.specs.Statuses.{fault_line};
 ghost use Rattle.h41_serving.specs.Tasks.{JobBegun, JobLeavesFront, JobLeavesUnread, JobPassedOn};
-ghost use Rattle.h41_serving.specs.Tasks.{JobWritesText, Tells, TellsWord, ended_of_deck};
+ghost use Rattle.h41_serving.specs.Tasks.{JobWritesText, TaskInTurn, Tells, TellsWord};
+ghost use Rattle.h41_serving.specs.Tasks.{ended_of_deck};
 ghost use Rattle.h41_serving.specs.private.CarriedOut.{CarriesOut};
 
 use crate::inputs::{assemble_source, list_words};
@@ -71,6 +73,12 @@ pub fn serve<R: Talk<W>, W: Sink, E: Sink>(
     ensures passed { JobPassedOn result job.entry (W.failed writer.new) (W.flushed writer.new) }
     ensures fault { TellsFault result job.entry.task R.Source W.Sink E.Sink
         reader.old reader.new writer.old writer.new faults.old faults.new }
+
+    // At each read of a deck, the replies to all commands whose last line end was read are written and flushed, and
+    // nothing else is written. Of any input, at most one byte more is read than the limit.
+    ensures turns { TaskInTurn job.entry.task (R.reads reader.old) (R.reads reader.new)
+        (W.contents writer.old) }
+    ensures bound { GivesWithin (R.given reader.old) (R.given reader.new) }
 {
     match carry_out(alloc, job.task, reader, writer) {
         Ok(Ended::Accepted) => ACCEPTED,
@@ -94,7 +102,10 @@ fn carry_out<R: Talk<W>, W: Sink>(
 ) -> Result<Ended, Fault>
     requires reader_clear { R.failed reader.old ≡ false }
     requires writer_clear { W.failed writer.old ≡ false }
-    ensures { CarriesOut task result R.Source W.Sink reader.old reader.new writer.old writer.new }
+    ensures carried { CarriesOut task result R.Source W.Sink
+        reader.old reader.new writer.old writer.new }
+    ensures turns { TaskInTurn task (R.reads reader.old) (R.reads reader.new)
+        (W.contents writer.old) }
 {
     match task {
         Task::Run { memory } => Ok(ended(run_with(alloc, memory, reader, writer)?)),

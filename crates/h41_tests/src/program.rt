@@ -88,6 +88,7 @@ const USAGE: &str = "Usage: bench..";
 fn end(rt: &impl Abort, alloc: Global, rows: &[ProgramRow]) -> Result<(), Fail> {
     for (words, writes, tells, status, printed, told) in rows {
         let mut open_file = |name: &str| open(name);
+        let mut file = None;
         let mut input = FromRead::new(sound_text(INPUT));
         let mut output = writer(alloc, 10_000, *writes);
         let mut faults = writer(alloc, 10_000, *tells);
@@ -96,6 +97,7 @@ fn end(rt: &impl Abort, alloc: Global, rows: &[ProgramRow]) -> Result<(), Fail> 
             alloc,
             given,
             &mut open_file,
+            &mut file,
             &mut input,
             &mut output,
             &mut faults,
@@ -248,6 +250,7 @@ fn tells_words_that_cannot_be_had(rt: HostRuntime) {
     ];
     for (kind, status, told) in rows {
         let mut open_file = |name: &str| open(name);
+        let mut file = None;
         let mut input = FromRead::new(sound_text(INPUT));
         let mut output = writer(rt.alloc(), 1, 100);
         let mut faults = writer(rt.alloc(), 1, 100);
@@ -256,6 +259,7 @@ fn tells_words_that_cannot_be_had(rt: HostRuntime) {
             rt.alloc(),
             words,
             &mut open_file,
+            &mut file,
             &mut input,
             &mut output,
             &mut faults,

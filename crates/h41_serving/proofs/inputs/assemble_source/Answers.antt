@@ -11,7 +11,7 @@ returns-in_err-write_answer g c =
     rw (from.1, from.2)
     (not_written (AssemblyText c.args.origin) (AssemblyEnds c.args.origin) HasNoWrongWord g.R.Source g.W.Sink
     c.args.reader.now c.read_input.new.reader c.args.writer.now c.write_answer.new.writer c.in_ok-source.source.items
-    c.in_ok-answer.answer.text.items read.bytes made.text (read.clear (λ is. cc)) c.in_err-write_answer.ensures.front
+    c.in_ok-answer.answer.text.items read.bytes made.text (read.clear (λ is. cc)) read.within c.in_err-write_answer.ensures.front
     c.in_err-write_answer.ensures.mark)
 
 pub returns : goal.returns
@@ -22,5 +22,5 @@ returns g c =
     rw written.ended
     (written_whole (AssemblyText c.args.origin) (AssemblyEnds c.args.origin) HasNoWrongWord g.R.Source g.W.Sink
     c.args.reader.now c.read_input.new.reader c.args.writer.now c.write_answer.new.writer c.in_ok-source.source.items
-    c.in_ok-answer.answer.text.items read.bytes made.text (read.clear (λ is. cc)) c.in_ok-answer.answer.ended made.ends made.kind
-    written.text written.flushed written.clear)
+    c.in_ok-answer.answer.text.items read.bytes made.text (read.clear (λ is. cc)) read.within c.in_ok-answer.answer.ended made.ends
+    made.kind written.text written.flushed written.clear)

@@ -6,22 +6,22 @@ use Rattle.h41_serving.proofs.TaskDecks.{same_fault}
 use Rattle.h41_serving.proofs.serving.serve.Goals as goal
 
 pub returns-in-Ok-Accepted-clause-text : goal.returns-in-Ok-Accepted-clause-text
-returns-in-Ok-Accepted-clause-text g c = λ other. c.in-Ok-Accepted.ensures.text
+returns-in-Ok-Accepted-clause-text g c = λ other. c.in-Ok-Accepted.ensures.carried.text
 
 pub returns-in-Ok-Accepted-clause-flushed : goal.returns-in-Ok-Accepted-clause-flushed
-returns-in-Ok-Accepted-clause-flushed g c = λ other. c.in-Ok-Accepted.ensures.flushed
+returns-in-Ok-Accepted-clause-flushed g c = λ other. c.in-Ok-Accepted.ensures.carried.flushed
 
 pub returns-in-Ok-Refused-clause-text : goal.returns-in-Ok-Refused-clause-text
-returns-in-Ok-Refused-clause-text g c = λ other. c.in-Ok-Refused.ensures.text
+returns-in-Ok-Refused-clause-text g c = λ other. c.in-Ok-Refused.ensures.carried.text
 
 pub returns-in-Ok-Refused-clause-flushed : goal.returns-in-Ok-Refused-clause-flushed
-returns-in-Ok-Refused-clause-flushed g c = λ other. c.in-Ok-Refused.ensures.flushed
+returns-in-Ok-Refused-clause-flushed g c = λ other. c.in-Ok-Refused.ensures.carried.flushed
 
 pub returns-in-Ok-WrongWord-clause-text : goal.returns-in-Ok-WrongWord-clause-text
-returns-in-Ok-WrongWord-clause-text g c = λ other. c.in-Ok-WrongWord.ensures.text
+returns-in-Ok-WrongWord-clause-text g c = λ other. c.in-Ok-WrongWord.ensures.carried.text
 
 pub returns-in-Ok-WrongWord-clause-flushed : goal.returns-in-Ok-WrongWord-clause-flushed
-returns-in-Ok-WrongWord-clause-flushed g c = λ other. c.in-Ok-WrongWord.ensures.flushed
+returns-in-Ok-WrongWord-clause-flushed g c = λ other. c.in-Ok-WrongWord.ensures.carried.flushed
 
 pub returns-in-Err-clause-text : goal.returns-in-Err-clause-text
 returns-in-Err-clause-text g c = λ other. absurd (other c.tell.ensures.status)
@@ -34,31 +34,33 @@ returns-in-Err-clause-outcome g c = λ other. absurd (other c.tell.ensures.statu
 
 pub returns-in-Err-clause-begun : goal.returns-in-Err-clause-begun
 returns-in-Err-clause-begun g c =
-    λ is clear. c.in-Err.ensures.begun
-    (λ was. absurd (false≢true (sym clear ∙ c.in-Err.ensures.write_fault (ap (λ (of : Fault). Err of) was))))
+    λ is clear. c.in-Err.ensures.carried.begun
+    (λ was. absurd (false≢true (sym clear ∙ c.in-Err.ensures.carried.write_fault (ap (λ (of : Fault). Err of) was))))
 
 pub returns-in-Err-clause-unread : goal.returns-in-Err-clause-unread
 returns-in-Err-clause-unread g c =
-    λ set. c.in-Err.ensures.unread (ap (λ (of : Fault). Err of) (is_read c.in-Err.fault _ refl c.in-Err.ensures.reader set))
+    λ set. c.in-Err.ensures.carried.unread
+    (ap (λ (of : Fault). Err of) (is_read c.in-Err.fault _ refl c.in-Err.ensures.carried.reader set))
 
 pub returns-in-Err-clause-cut : goal.returns-in-Err-clause-cut
 returns-in-Err-clause-cut g c =
-    λ is set. c.in-Err.ensures.cut (ap (λ (of : Fault). Err of) (is_write c.in-Err.fault _ refl c.in-Err.ensures.writer set))
+    λ is set. c.in-Err.ensures.carried.cut
+    (ap (λ (of : Fault). Err of) (is_write c.in-Err.fault _ refl c.in-Err.ensures.carried.writer set))
 
 pub returns-in-Err-clause-passed : goal.returns-in-Err-clause-passed
 returns-in-Err-clause-passed g c =
-    λ is clear. c.in-Err.ensures.passed
-    (λ was. absurd (false≢true (sym clear ∙ c.in-Err.ensures.write_fault (ap (λ (of : Fault). Err of) was))))
+    λ is clear. c.in-Err.ensures.carried.passed
+    (λ was. absurd (false≢true (sym clear ∙ c.in-Err.ensures.carried.write_fault (ap (λ (of : Fault). Err of) was))))
 
 pub returns-in-Err-clause-fault : goal.returns-in-Err-clause-fault
 returns-in-Err-clause-fault g c = λ is. record {
   fault = c.in-Err.fault;
   cause = record {
-    read = λ was. c.in-Err.ensures.read (ap (λ (of : Fault). Err of) was);
-    write = λ was. c.in-Err.ensures.write_fault (ap (λ (of : Fault). Err of) was);
-    memory = λ was. c.in-Err.ensures.memory (ap (λ (of : Fault). Err of) was);
-    not_read = λ other. c.in-Err.ensures.reader (λ same. other (same_fault _ refl same));
-    not_write = λ other. c.in-Err.ensures.writer (λ same. other (same_fault _ refl same));
+    read = λ was. c.in-Err.ensures.carried.read (ap (λ (of : Fault). Err of) was);
+    write = λ was. c.in-Err.ensures.carried.write_fault (ap (λ (of : Fault). Err of) was);
+    memory = λ was. c.in-Err.ensures.carried.memory (ap (λ (of : Fault). Err of) was);
+    not_read = λ other. c.in-Err.ensures.carried.reader (λ same. other (same_fault _ refl same));
+    not_write = λ other. c.in-Err.ensures.carried.writer (λ same. other (same_fault _ refl same));
   };
   line = c.tell.ensures.line;
 }

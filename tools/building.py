@@ -2,9 +2,10 @@
 import os
 import sys
 
-from decks import MEMORY, Failure, shown
+from decks import MEMORY, Failure
 from files import put
 from linking import LONG, Linked, Unit
+from rules import Lint, lines_of
 from stepping import tool
 
 PAGE_SIZE = 4096
@@ -70,12 +71,7 @@ def listing(linked: Linked) -> int:
 
 def lint(linked: Linked) -> int:
     """Prints the findings of tools/lint in all banks. A label that another bank uses is used."""
-    for unit in linked.units:
-        for at, label in unit.entered.items():
-            unit.lines[at].reference = label.name
-            unit.labels.setdefault(label.name, label.address & 0xFFF)
-    findings_of = tool("lint").Lint
-    found = [f"{unit.whole.place(at)}: {what}: {shown(unit.texts[at].strip())}" for unit in linked.units if unit.bank.source
-             for at, what in findings_of(unit).found if at not in unit.entered]
+    linked.share()
+    found = lines_of(Lint(*(unit for unit in linked.units if unit.bank.source)))
     print(*found, sep="\n", end="\n" if found else "")
     return int(bool(found))

@@ -4,11 +4,11 @@ from collections.abc import Iterable, Iterator
 from typing import NamedTuple
 
 from cases import TARGET, Case
-from decks import BENCH, LONGEST_DECK, NO_ANSWER, Failure, ended, hexadecimal, running
+from decks import BENCH, LONGEST_DECK, NO_ANSWER, Failure, ended, hexadecimal, lines_of, running, with_keys
 from linking import Linked
 from settings import CPU, DATA_NAME, FLAG_NAME, MEMORY_NAME, STACK, Setting
 from stubs import JUNK, Sizes, junk_of, memory_of, sizes_of, stub_of
-from typed import NoKeys, keys_of
+from typed import NoKeys, Text, keys_of, pieces_of
 
 # The steps after which a call is ended, if the case has no limit.
 LIMIT = 100_000
@@ -120,9 +120,14 @@ class Caller:
         """Returns the line that presses the keys before a call."""
         asked = next((one.value for one in case.before if one.name == "keys"), None)
         try:
-            return f"key {' '.join(keys_of(asked))}\n" if asked else ""
+            pieces = pieces_of(asked or "")
         except NoKeys as why:
             raise Failure(f"{case.path}:{case.number}: keys={asked}: {why}") from why
+        if "ALPHA" not in pieces and sum(isinstance(piece, Text) for piece in pieces) < 2:
+            return f"key {' '.join(keys_of(asked))}\n" if asked else ""
+        # ALPHA may be on before a text.
+        deck = self.linked.deck() + self.start.encode("latin-1") + f"key {asked}\n".encode("latin-1")
+        return lines_of(with_keys(deck, self.linked.project.memory))[-1].decode("latin-1")
 
     def junk(self, seed: int | None) -> dict[str, str] | None:
         """Returns the junk of a seed; None without a seed."""

@@ -1,4 +1,6 @@
 """Cases of tests: a row each, or a row of a table in CSV. A case calls a label or a function, with registers before and wanted after."""
+from __future__ import annotations
+
 import re
 from typing import NamedTuple
 

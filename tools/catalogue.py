@@ -11,6 +11,7 @@ import listings
 import programs
 from containers import BY_NAME, FREE42, LIF, Member, members_of
 from decks import MARK_OF_UTF8, MARKS_OF_UTF16, Failure, answered, block, hexadecimal, shown
+from doubts import Doubt, at_places, of_bytes, of_line, parted
 from exchange import Count, counts_in, wanted_counts
 from functions import Functions, table
 from modules import lines_of_bytes, lines_of_texts
@@ -203,37 +204,42 @@ def programs_of(member: Member) -> List[object]:
     if member.kind in (DATA, OTHER):
         return [Row(member.path, "none", "; ".join(member.notes))]
     if member.kind == "raw" or member.container == "raw" or suffix == ".raw":
-        return of_bytes(member)
+        return programs_of_bytes(member)
     lines = text_of(member)
     if lines is None:
         is_text = member.kind == LISTING or suffix in LISTING_NAMES
         why = "found bytes that are no text in UTF-8, expected a listing: convert it with iconv, or name bytes of a program .raw"
         return [Row(member.path, "refused" if is_text else "none", why if is_text else "found bytes of an unknown kind")]
-    return of_listing(member, lines)
+    return programs_of_listing(member, lines)
 
 
-def of_bytes(member: Member) -> List[object]:
+def programs_of_bytes(member: Member) -> List[object]:
     """Returns the programs in the bytes of a member, or a row if there are none."""
     found: List[object] = []
     begin = 0
+    doubts = list(of_bytes(member.data))
     for number, data in enumerate(programs_in(member.data), 1):
-        found.append(Program(member.path, number, begin, data, [], list(member.notes) if number == 1 else [], None))
+        own = [*(member.notes if number == 1 else []), *(in_row(doubt) for doubt in doubts if doubt.program == number)]
+        found.append(Program(member.path, number, begin, data, [], own, None))
         begin += len(data)
     return found or [Row(member.path, "refused", "found nulls alone, expected the bytes of a program")]
 
 
-def of_listing(member: Member, lines: List[str]) -> List[object]:
+def in_row(doubt: Doubt) -> str:
+    """Returns a doubt as a row has it."""
+    return f"line {doubt.line}: {doubt.text} [{doubt.name}]"
+
+
+def programs_of_listing(member: Member, lines: List[str]) -> List[object]:
     """Returns the programs of a listing, or a row that says why it has none."""
     listing = listings.Listing(lines, functions=functions())
-    told = [line for line in lines if line.strip() and not line.startswith(("#", ";"))]
     if listing.bad:
         number, line, reason = listing.bad[0]
         more = f" (and {listing.unread - 1} more)" if listing.unread > 1 else ""
-        is_none = 2 * listing.unread > len(told) or member.container == LIF
+        is_none = listing.is_foreign() or member.container == LIF
         return [Row(member.path, "none" if is_none else "refused", "a text that is no listing" if is_none else
                     f"line {number}: `{shown(line)}`: not a program line{f': {reason}' if reason else ''}{more}")]
-    doubts = [f"line {number}: {text}" for number, text in listing.told if text.endswith(")") and "(removed)" not in text]
-    doubts += [note for note in listing.notes if ";" in note or "not removed" in note or "missing" in note]
+    doubts = [in_row(doubt) for doubt in parted(listing.doubts, ())[0]]
     counts = counts_in(lines) if member.container == FREE42 else []
     found, texts = [], []
     for text in [*(text for text in listing.texts if text and not text.startswith("#")), None]:
@@ -327,8 +333,9 @@ def row_of(program: Program, lines: Optional[List[Tuple[int, str]]]) -> Row:
     row.size, row.indirect = size_of(texts)
     row.hash = hashed("\n".join(texts).encode())
     row.exact = hashed(program.data if program.data is not None else b"\n" + "\n".join(texts).encode())
-    if program.data is not None and not ends_of(program.data):
-        row.doubts.append("no END")
+    if program.data is not None:
+        row.doubts += [in_row(doubt) for number, text in enumerate(texts, 1) for doubt in at_places(of_line(text), number, text)]
+        row.doubts += [] if ends_of(program.data) else ["no END"]
     judge(row, texts)
     return row
 
@@ -392,21 +399,30 @@ def judge(row: Row, texts: List[str]) -> None:
     row.calls = list(dict.fromkeys(row.calls))
 
 
-def rows_of(paths: List[str]) -> List[Row]:
-    """Returns the rows of files: one for each program, and one for a file without any."""
+def rows_of(paths: List[str]) -> List[List[Row]]:
+    """Returns the rows of each file: one for each program, or one if it has none."""
     share_answers()
-    found: List[object] = []
-    members: List[Member] = []
+    found: List[List[object]] = []
     for path in paths:
         own, row = found_in(path)
-        members += own
-        found += [row] if row else own
-    read = iter(ANSWERS.complete(programs_of, members))
-    items = [item for one in found for item in ([one] if isinstance(one, Row) else next(read))]
-    own = [item for item in items if isinstance(item, Program)]
-    pairs = list(zip(own, lines_in(own) if own else []))
-    rows = iter(ANSWERS.complete(lambda pair: row_of(*pair), pairs))
-    return whole_files([item if isinstance(item, Row) else next(rows) for item in items])
+        found.append([row] if row else list(own))
+    read = iter(ANSWERS.complete(programs_of, [one for own in found for one in own if isinstance(one, Member)]))
+    items = [[item for one in own for item in ([one] if isinstance(one, Row) else next(read))] for own in found]
+    programs_found = [item for own in items for item in own if isinstance(item, Program)]
+    pairs = list(zip(programs_found, lines_in(programs_found) if programs_found else []))
+    dropped = after_refused(pairs)
+    rows = iter(ANSWERS.complete(lambda pair: row_of(*pair), [pair for pair in pairs if id(pair[0]) not in dropped]))
+    return [whole_files([item if isinstance(item, Row) else next(rows) for item in own if id(item) not in dropped]) for own in items]
+
+
+def after_refused(pairs: List[Tuple[Program, Optional[List[Tuple[int, str]]]]]) -> Set[int]:
+    """Returns the programs, by their identities, of files of bytes of which one is refused, without the first refused one of each file.
+    They get no row, and random bytes can have hundreds of them."""
+    first: Dict[str, Program] = {}
+    for program, lines in pairs:
+        if lines is None and program.data is not None:
+            first.setdefault(program.file, program)
+    return {id(program) for program, _ in pairs if program.data is not None and first.get(program.file, program) is not program}
 
 
 def whole_files(rows: List[Row]) -> List[Row]:

@@ -5,7 +5,7 @@ import signal
 import subprocess
 import sys
 
-from typed import NoKeys, is_spelled, keys_of
+from typed import NoKeys, Text, is_spelled, keys_of, pieces_of
 
 TOP = os.path.join(os.path.dirname(os.path.realpath(__file__)), "..")
 BENCH = os.path.join(TOP, "bench")
@@ -32,6 +32,9 @@ NO_ANSWER = 70
 MARK = b"?\nstep ?\n"
 MARK_ANSWER = [b"! 50 BadCommand", b"! 51 BadNumber"]
 
+# The refusal of a key that is not supported in the current state, and the flags of ALPHA and USER.
+KEY_NOT_HELD, ALPHA_FLAG, USER_FLAG = b"! 18 KeyNotHeld", b"48", b"27"
+
 # Commands that print a text from the deck, which may look like a refusal. They are never refused.
 NEVER_REFUSED = ([b"show", b"alpha"], [b"show", b"display"])
 
@@ -42,6 +45,10 @@ class Failure(Exception):
     def __init__(self, why, status=1):
         super().__init__(why)
         self.status = status
+
+    def __reduce__(self):
+        """Lets another process raise the same failure."""
+        return type(self), (str(self), self.status)
 
 
 def bytes_of(path):
@@ -127,20 +134,44 @@ def names_in(line):
     return keys_of(text_of(line).decode("latin-1").strip(" \t")[len("key"):])
 
 
-def with_keys(deck):
-    """Returns a deck in which texts and numbers of key lines are replaced by the names of their keys. The number of lines does not
-    change. A line whose text no keys can type stays, and is refused."""
-    if b"key" not in deck:
-        return deck
-    lines = lines_of(deck)
+def spelled_lines(lines):
+    """Returns the key lines of a deck that have texts or numbers, by their numbers, counted from 0: each as its keys with its texts. A line
+    whose text no keys can type is skipped, because it is refused."""
+    found = {}
     for first, last in items_of(lines):
         words = words_of(lines[first])
         if first == last and words[:1] == [b"key"] and any(is_spelled(word.decode("latin-1")) for word in words):
             try:
-                names = " ".join(["key", *names_in(lines[first])]).encode("latin-1")
+                found[first] = pieces_of(text_of(lines[first]).decode("latin-1").strip(" \t")[len("key"):])
             except NoKeys:
                 continue
-            lines[first] = names + lines[first][len(text_of(lines[first])):]
+    return found
+
+
+def alpha_may_be_on(lines, pieces):
+    """Returns whether ALPHA can be on before a text in a key line of a deck, or a name open. `pieces` are the key lines with texts."""
+    from alpha import may_be_on
+    if not any(isinstance(piece, Text) for row in pieces.values() for piece in row):
+        return False
+    before = lines[:max(pieces) + 1]
+    words = [words_of(before[first]) for first, _ in items_of(before)]
+    keys = {key for row in words if row[:1] == [b"key"] for key in row[1:]}
+    return may_be_on({row[0] for row in words if row}, keys, before)
+
+
+def with_keys(deck, memory=MEMORY):
+    """Returns a deck in which texts and numbers of key lines are replaced by the names of their keys. The number of lines does not
+    change. If ALPHA may be on before a text, the deck is run to find out. A line whose text no keys can type stays, and is refused."""
+    if b"key" not in deck:
+        return deck
+    from alpha import Row, resolve
+    lines = lines_of(deck)
+    pieces = spelled_lines(lines)
+    rows = {at: Row(row) for at, row in pieces.items()}
+    if alpha_may_be_on(lines, pieces):
+        resolve(lines, rows, lambda asked: {first: answer for first, _, answer in answered(asked, memory)[1]})
+    for at, row in rows.items():
+        lines[at] = " ".join(["key", *row.keys()]).encode("latin-1") + lines[at][len(text_of(lines[at])):]
     return b"".join(lines)
 
 
@@ -161,7 +192,7 @@ def running(memory):
 
 def run(deck, memory=MEMORY):
     """Runs a deck. Returns its status and its output. Error messages of the program and of the launcher go to standard error."""
-    deck = with_keys(deck)
+    deck = with_keys(deck, memory)
     if len(deck) > LONGEST_DECK:
         raise Failure(f"the deck has {len(deck):,} bytes with the commands that this tool adds: at most {LONGEST_DECK:,} can be run", 3)
     ran = subprocess.run([BENCH, *running(memory)], input=deck, stdout=subprocess.PIPE)
@@ -180,7 +211,7 @@ def ended(status, when):
 def answered(deck, memory=MEMORY):
     """Runs a deck. Returns its status, and for each command and block the first and last line, counted from 0, and the lines that it has
     printed."""
-    lines = lines_of(deck)
+    lines = lines_of(with_keys(deck, memory))
     items = items_of(lines)
     status, output = run(marked(lines, items), memory)
     answers = answers_of(output)
@@ -201,18 +232,37 @@ def refused(deck, memory=MEMORY):
 
 
 def refused_key(lines, at, memory=MEMORY):
-    """Returns which key of a refused key line is refused, or why its text has no keys; an empty text if the line is not a key line, or
-    has only one key. `at` counts lines from 0. The deck is run up to this line, with a line for each of its keys."""
+    """Returns which key of a refused key line is refused, and why if that is known, or why its text has no keys; an empty text if the line
+    is not a key line, or nothing more is known of its only key. `at` counts lines from 0. The deck is run up to this line, with a line for
+    each of its keys."""
     if words_of(lines[at])[:1] != [b"key"]:
         return ""
     try:
-        names = names_in(lines[at])
+        names_in(lines[at])
     except NoKeys as why:
         return str(why)
+    named = lines_of(with_keys(b"".join(lines[:at + 1]), memory))[at]
+    names = [word.decode("latin-1") for word in words_of(named)[1:]]
     keys = "".join(f"key {name}\n" for name in names).encode("latin-1")
     _, answers = answered(b"".join(lines[:at]) + keys, memory)
-    refusals = [number for number, (_, _, answer) in enumerate(answers[-len(names):], 1) if answer]
-    return f"key {refusals[0]} is refused: {names[refusals[0] - 1]}" if refusals and names[1:] else ""
+    refusals = [(number, answer[-1]) for number, (_, _, answer) in enumerate(answers[-len(names):], 1) if answer]
+    if not refusals:
+        return ""
+    number, refusal = refusals[0]
+    why = why_not_held(b"".join(lines[:at]), names[:number - 1], memory) if refusal == KEY_NOT_HELD else ""
+    found = f"key {number} is refused: {names[number - 1]}" if names[1:] else ""
+    return f"{found}{': ' if found and why else ''}{why}"
+
+
+def why_not_held(deck, names, memory=MEMORY):
+    """Returns why a key is refused as KeyNotHeld after a deck and some keys, if ALPHA or USER is on; otherwise an empty text."""
+    deck = deck if deck.endswith(b"\n") or not deck else deck + b"\n"
+    keys = "".join(f"key {name}\n" for name in names).encode("latin-1")
+    _, answers = answered(deck + keys + b"show flags\n", memory)
+    flags = b" ".join(answers[-1][2]).split() if answers else []
+    if ALPHA_FLAG in flags:
+        return "ALPHA is on, so that keys write letters: `key ALPHA` turns it off"
+    return "flag 27, USER, is set, but the bench has no USER mode: `XEQ` calls a label" if USER_FLAG in flags else ""
 
 
 def hexadecimal(data):

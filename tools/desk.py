@@ -8,10 +8,13 @@ import tempfile
 import threading
 import time
 
-from decks import BENCH, MARK, MARK_ANSWER, NO_ANSWER, Failure, items_of, lines_of, with_keys, words_of
+from alpha import PROBES, takes_letters, typed_keys
+from decks import BENCH, MARK, MARK_ANSWER, NO_ANSWER, Failure, items_of, lines_of, spelled_lines, words_of
+from decks import text_of as text_of_line
 from keyboard import KEYS
 from session import Session, is_whole
 from sources import Labels
+from typed import Text
 from values import text_of
 
 # The longest time in seconds to wait for an answer of the bench, even on a busy machine, and the intended time for a piece of a run.
@@ -141,6 +144,8 @@ class Part:
         # For a command in pieces: how many steps are left, how many were requested so far, and how many lines or words a run has
         # executed.
         self.left, self.asked, self.ran = count if self.kind else 0, 0, 0
+        # The keys of a key line, with texts among them.
+        self.pieces = [] if self.words[:1] != ["key"] else spelled_lines([text]).get(0, self.words[1:])
         # The entry of this part in the session, and whether it is a block without `end` at the end of the deck.
         self.entry, self.is_open = None, False
 
@@ -166,7 +171,7 @@ def parts_of(deck, may_be_open=False):
     """Returns the parts of a deck; their texts together are the deck. The last block may lack its `end` if `may_be_open` is set."""
     if deck.endswith(b"\r"):
         raise Failure("the deck ends in CR without LF, which makes the CR part of its last line: end the line with LF")
-    lines = lines_of(with_keys(deck))
+    lines = lines_of(deck)
     parts, at = [], 0
     for first, last in items_of(lines):
         if first > at:
@@ -286,8 +291,8 @@ class Desk:
             part.entry.reply = [NO_END]
         elif part.kind:
             self.carry_piece(part, most if part.kind != "trace" else 1 if part.left <= LAST_STEPS else part.left - LAST_STEPS)
-        elif part.words[:1] == ["key"] and part.words[1:] and all(name in KEYS for name in part.words[1:]):
-            self.press(part.entry, part.words[1:])
+        elif part.pieces and all(isinstance(piece, Text) or piece in KEYS for piece in part.pieces):
+            self.press(part)
         elif part.is_command:
             part.entry.reply = self.bench.ask_all([part.text.rstrip(b"\n")])[0]
             self.keep_up(part)
@@ -313,8 +318,22 @@ class Desk:
             entry.reply = entry.reply + reply
             part.left = 0 if is_refused else part.left
 
-    def press(self, entry, names):
-        """Presses keys in turn, up to the first one that is refused."""
+    def press(self, part):
+        """Presses keys in turn, up to the first one that is refused. In the session, the names of keys replace texts and numbers."""
+        entry, names = part.entry, []
+        for piece in part.pieces:
+            keys = [piece]
+            if isinstance(piece, Text):
+                keys = typed_keys(piece, entry.key is None and takes_letters(
+                    *(answer[0] for answer in self.bench.ask_all([probe.encode() for probe in PROBES]))))
+            names += keys
+            if entry.key is None:
+                self.press_names(entry, keys)
+        if names != part.words[1:]:
+            entry.text = f"key {' '.join(names)}".encode("latin-1") + part.text[len(text_of_line(part.text)):]
+
+    def press_names(self, entry, names):
+        """Presses keys by their names, up to the first one that is refused."""
         for name in names:
             pos = self.views["pos"][0]
             reply, display, after = self.bench.ask_all([b"key " + name.encode(), b"show display", b"show pos"])

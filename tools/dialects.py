@@ -8,6 +8,8 @@ from dataclasses import dataclass, replace
 
 from decks import LONGEST_LINE, block, refused, shown
 from documents import codes_of, pairs_of, section_of, tables_of
+from entries import entries
+from forms import with_letters, without_columns
 
 FIELDS = ("@R", "S&X", "R<", "ALL", "P-Q", "XS", "M", "MS")
 LONG, SHORT = ("?NC XQ", "?C XQ", "?NC GO", "?C GO"), ("JNC", "JC")
@@ -33,9 +35,16 @@ NUMBER = re.compile(r"([0-9]{1,2}|[A-F])(?:[(/](.)\)?)?", re.I)
 ADDRESS = re.compile(r"(?:0x|\$|->)?([0-9A-F]{4})H?", re.I)
 WORD = re.compile(r"(0x|\$)?([0-9A-F]{1,4}?)(H)?", re.I)
 GAP = re.compile(r"(?<=\S)(?:\s{2,}|\t)(?=\S)")
-DISTANCE = re.compile(r"([+-])([0-9A-F]{1,2})", re.I)
+DISTANCE = re.compile(r"\*?([+-])([0-9A-F]{1,2})", re.I)
+DECIMAL_DISTANCE = re.compile(r"\*?([+-])([0-9]{1,2})d")
+# What a listing adds to a jump: where it leads.
+LEADS = re.compile(r"(?<=.)->.*")
+# The words before the table of a module, in decimal, and words in hexadecimal.
+HEAD = re.compile(r"\.?(?:XROM|FCNS)\s+([0-9]{1,2})", re.I)
+WORD_ALONE = re.compile(r"(?:\.?HEX\s+|\.)([0-9A-F]{1,3})", re.I)
+ORIGIN = re.compile(r"\.?ORG\s+(?:0x|\$)?([4-9A-F])000H?", re.I)
 JUMP = re.compile(rf".*\bGO\s*TO\s+({NAME})", re.A | re.I)
-PAIR = re.compile(r"(?:\.?CON:?)?\s*([$0-9A-Z]+)", re.I)
+PAIR = re.compile(r"(?:\.?(?:CON|HEX):?)?\s*([$.0-9A-Z]+)", re.I)
 # Lines of other assemblers that give no word.
 WITHOUT_WORDS = re.compile(r"""LEGAL|EJECT|LIST|UNLIST|TITLE\s*["'].*|\.(?:TITLE|EJECT|LIST|UNLIST|HP|JDA|ZENCODE)(?:\s.*)?""",
                            re.I)
@@ -102,7 +111,8 @@ class Names:
         # Functions that read the operand of a name.
         self.kinds = {**dict.fromkeys(LONG, self.addresses), **dict.fromkeys(SHORT, self.distances),
                       **dict.fromkeys(OF_NUMBERS, self.numbers), **dict.fromkeys(OF_LABELS, self.references),
-                      "CON": self.words, "LDI": self.marked}
+                      "CON": self.words, "LDI": self.words}
+        self.entries = entries()
         operations = {name for table in tables_of(section_of("PROCESSOR.md", "Arithmetic on a field")) for row in table
                       for name in codes_of(row[1])}
         self.kinds.update(dict.fromkeys(operations, self.of_fields))
@@ -158,16 +168,24 @@ class Names:
         return [(str(number), ""), ("DATA", "the word for 0 reads the selected register")][:1 + (number == 0)]
 
     def references(self, operand):
+        operand = LEADS.sub("", operand)
         found = REFERENCE.fullmatch(operand)
         return [(f":{found[1]}", "")] if found else []
 
     def addresses(self, operand):
+        operand = LEADS.sub("", operand)
+        address = self.entries.get(operand.upper())
+        if address and operand not in self.labels:
+            return [(address, f"{operand.upper()} of tools/entries.toml")]
         found = ADDRESS.fullmatch(operand)
         if found and operand in self.labels:
             return [(f":{operand}", f"the label {operand}, not the address")]
         return [(found[1], "")] if found else self.references(operand)
 
     def distances(self, operand):
+        found = DECIMAL_DISTANCE.fullmatch(operand)
+        if found:
+            return [(f"{found[1]}{int(found[2]):02X}", "read as decimal" if int(found[2]) > 9 else "")]
         found = DISTANCE.fullmatch(operand)
         if not found:
             return self.references(operand)
@@ -175,12 +193,8 @@ class Names:
         return [(f"{found[1]}{number}", remark)]
 
     def words(self, operand):
-        found = WORD.fullmatch(operand)
+        found = WORD.fullmatch(operand.removeprefix("."))
         return [self.number(found[1] or found[3], found[2], 3)] if found else []
-
-    def marked(self, operand):
-        found = WORD.fullmatch(operand)
-        return self.words(operand) if found and (found[1] or found[3]) else []
 
     def number(self, mark, digits, width):
         """Reads a number in hexadecimal digits. Returns it with a remark: without a prefix or suffix it may be decimal."""
@@ -216,7 +230,14 @@ class Dialect:
         is_read = refused(block(b"asm 8", lines))[0] == 0
         if is_read and not is_decimal:
             return
-        self.texts = [text.decode("utf-8", "surrogateescape") for text in lines]
+        texts, has_columns = without_columns([text.decode("utf-8", "surrogateescape") for text in lines])
+        self.texts, renamed = with_letters(texts)
+        if has_columns or renamed:
+            self.lines = lines = [text.encode("utf-8", "surrogateescape") for text in self.texts]
+        if has_columns:
+            self.notes.append("a listing: the addresses and words before its lines are removed")
+        if renamed:
+            self.notes.append(f"names that begin with # or * have new names: {', '.join(f'{old} is {new}' for old, new in renamed.items())}")
         self.codes = [CODE.match(text)[0].rstrip() if not text.startswith("#") else "" for text in self.texts]
         self.names = Names()
         self.names.labels, self.names.is_decimal = self.labels(), is_decimal
@@ -254,6 +275,8 @@ class Dialect:
         code = "".join(SIGNS.get(letter, letter) for letter in self.codes[at])
         if code.lstrip().startswith(("*", "//")):
             self.comments.append(at)
+            return [None]
+        if ORIGIN.fullmatch(code.strip()) and not any(one.strip() for one in self.codes[:at]):
             return [None]
         if WITHOUT_WORDS.fullmatch(code.strip()) or END.fullmatch(code.strip()) and self.is_last(at):
             return [None]
@@ -297,8 +320,14 @@ class Dialect:
     def codes_of(self, code):
         """Yields the readings of an instruction or directive."""
         named = re.fullmatch(r'\.?NAME\s*(".*")', code, re.I)
+        head, alone = HEAD.fullmatch(code), WORD_ALONE.fullmatch(code)
         if named:
             yield f"NAME {named[1]}", "", False
+        elif head:
+            yield f"CON {int(head[1]):03X}", "read as decimal" if int(head[1]) > 9 else "", False
+        elif alone:
+            number, remark = self.names.number("" if code.startswith(".") and not code.upper().startswith(".HEX") else "0x", alone[1], 3)
+            yield f"CON {number}", remark, False
         elif '"' not in code:
             yield from self.names.codes(code.lstrip(".") if re.match(r"\.CON\b", code, re.I) else code)
 

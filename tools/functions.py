@@ -6,7 +6,7 @@ from decks import answered, bytes_of
 
 TABLE = os.path.join(os.path.dirname(os.path.realpath(__file__)), "functions.txt")
 
-MODULE = re.compile(r"XROM ([0-9]{1,2}), ([^(]*?)(?: \(.*\))?")
+HEAD = re.compile(r"XROM ([0-9]{1,2}(?: and [0-9]{1,2})?), ([^(]*?)(?: \(.*\))?")
 NAMED = re.compile(r"XROM ([0-9]{2},[0-9]{2}) (\S+)")
 
 
@@ -14,13 +14,24 @@ def table():
     """Yields the functions of the table: a program line, the name, and the module."""
     number, module = None, None
     for line in bytes_of(TABLE).decode("utf-8").splitlines():
-        head = MODULE.fullmatch(line)
+        head = HEAD.fullmatch(line)
         if head:
-            number, module = int(head[1]), head[2]
-        elif line and not line.startswith("#"):
+            number, module = int(head[1][:2]), head[2]
+        elif line and not line.startswith(("#", "?")):
             first, *names = line.split()
             for at, name in enumerate(names, int(first)):
                 yield f"XROM {number:02},{at:02}", name, module
+
+
+def without_numbers():
+    """Yields the functions of the table whose numbers are not known: the name, and the module with its number."""
+    head = None
+    for line in bytes_of(TABLE).decode("utf-8").splitlines():
+        found = HEAD.fullmatch(line)
+        if found:
+            head = f"{found[2]}, XROM {found[1]}"
+        elif line.startswith("? "):
+            yield from ((name, head) for name in line.split()[1:])
 
 
 def functions_of(pages):
@@ -38,6 +49,7 @@ class Functions:
 
     def __init__(self, tables, given=()):
         self.by_name, self.names = {}, {}
+        self.unnumbered = {tables.key(name): module for name, module in without_numbers()}
         numbers = {line[5:7] for line, _ in given}
         named = [(NAMED.fullmatch(line), path) for line, path in given]
         found = [(f"XROM {name[1]}", name[2], path) for name, path in named if name and name[2] != "-"]
@@ -52,6 +64,10 @@ class Functions:
         """Returns the line of a function with this name, with a remark; an empty list if the name is unknown or ambiguous."""
         found = list(dict.fromkeys(self.by_name.get(key, [])))
         return found if len({line for line, _ in found}) == 1 else []
+
+    def without_number(self, key):
+        """Returns the module of a function whose number is not known, with the number of the module; None if there is none."""
+        return self.unnumbered.get(key)
 
     def lines(self, key):
         """Returns all lines that are functions with this name."""

@@ -1,6 +1,8 @@
 """Links the pages and banks of a project: their labels are one name space. The bench assembles each source once.
 
 The tool counts the words of each line to find the labels, and compares every long jump to a label with the words of the bench."""
+from __future__ import annotations
+
 import os
 import re
 from bisect import bisect_right
@@ -9,8 +11,8 @@ from typing import NamedTuple
 
 from decks import Failure, block, run, shown, words_of
 from projects import Page, Project
-from sources import (BLANKS, NAME, OF_THE_END, Assembled, Faulty, Line, Source, Whole, checksum_of, constant, directive_of, text_in,
-                     without_comments)
+from sources import (BLANKS, NAME, OF_THE_END, Assembled, Faulty, Line, Source, Whole, checksum_of, constant, directive_of, source_in,
+                     text_in, without_comments)
 
 TARGET = re.compile(rb":(?:(" + NAME + rb")\.)?(" + NAME + rb")\Z")
 LONG = re.compile(rb"\?N?C[ \t]+(?:XQ|GO)[ \t]")
@@ -50,7 +52,7 @@ class Unit(Assembled):
     assembled source of tools/list and tools/lint."""
 
     def __init__(self, bank: Page) -> None:
-        self.bank, self.name, self.page, self.faults = bank, bank.name, bank.at, []
+        self.bank, self.name, self.page, self.number, self.faults = bank, bank.name, bank.at, bank.bank, []
         self.whole = text_of_bank(bank)
         self.texts = list(self.whole.lines)
         # The lines that fill the page are thousands of the same line.
@@ -102,7 +104,7 @@ class Unit(Assembled):
 def text_of_bank(bank: Page) -> Whole:
     """Returns the lines of a bank: of its source, or those made of its keystroke programs."""
     if bank.source:
-        return Text(bank.source, text_in(bank.source), bank.end)
+        return Text(bank.source, source_in(bank.source), bank.end)
     from modules import Module, lines_of_texts, programs_of
     lines = []
     for path in bank.programs:
@@ -141,7 +143,7 @@ class Linked:
     def equates_twice(self) -> list[str]:
         """Returns an error for each equate that is also a label."""
         return [f"{self.project.path}: [equates] {name}: {self.where(self.labels[name][0])} is a label of this name: rename one of them"
-                for name in self.project.equates if name in self.labels]
+                for name in self.project.equates if name in self.labels and name not in self.project.included]
 
     @staticmethod
     def where(label: Label) -> str:
@@ -189,7 +191,7 @@ class Linked:
             if not found:
                 continue
             page, name = found[1] and found[1].decode(), found[2].decode()
-            if page is None and name in self.project.equates:
+            if page is None and name in self.project.equates and name not in self.labels:
                 self.put(unit, at, self.project.equates[name].encode())
                 continue
             label = self.find(page, name, unit)
@@ -225,6 +227,13 @@ class Linked:
         code = line.code.removesuffix(words_of(line.code)[-1]) + operand
         label = f"{line.label}:".encode() if line.label else b""
         unit.linked[at] = (label.ljust(8) if len(label) < 8 else label + b" ") + code + (b" " + line.comment.encode() if line.comment else b"")
+
+    def share(self) -> None:
+        """Gives each bank the labels of other banks that its table names, at their places in the page."""
+        for unit in self.units:
+            for at, label in unit.entered.items():
+                unit.lines[at].reference = label.name
+                unit.labels.setdefault(label.name, label.address & 0xFFF)
 
     # The bench's words.
 

@@ -2,10 +2,13 @@
 import re
 from bisect import bisect_left
 
+import causes
+from comments import heads_in, is_whole, kept, split
 from decks import LONGEST_LINE, Failure, block, ended, refused, shown, words_of
 from documents import codes_of, section_of, tables_of
+from doubts import COMMENT, LINE_NUMBER, SIGMA, Doubt, Doubtful, of_line, of_listed
 from programs import fates
-from spellings import DOCUMENT, Speller, read_tables
+from spellings import DOCUMENT, Speller, read_tables, replaced
 
 # A line number, and the rest of the line.
 NUMBERED = re.compile(r"([0-9]{1,4})(?:[.:)]?\s+|(?=[*♦◆▸▶►•●>]\s*LBL\b))(\S.*)", re.I)
@@ -50,22 +53,64 @@ def is_comment(line):
 
 
 class Listing:
-    """The lines of a listing, which may have line numbers: their texts for the bench, messages for lines and for the whole listing, and
-    the lines that cannot be read."""
+    """The lines of a listing, which may have line numbers: their texts for the bench, messages for lines and for the whole listing, the
+    doubts about it, and the lines that cannot be read."""
 
     def __init__(self, lines, has_numbers=True, functions=None):
-        self.notes, self.told, self.bad, self.texts = [], [], [], []
+        self.notes, self.told, self.bad, self.texts, self.doubts = [], [], [], [], []
         # The lines whose numbers are removed, and those whose numbers are kept, counted from 0. And the number of lines that cannot be
         # read.
         self.off, self.on, self.unread = set(), set(), 0
-        self.functions = functions
-        stripped = [line.strip() for line in lines]
-        self.lines = self.without_numbers(stripped) if has_numbers else stripped
+        # The comments that are lines of their own, and those after a program line, with their signs, by their lines, counted from 1.
+        self.comments, self.beside = {}, {}
+        self.functions, self.raw = functions, lines
+        self.tables = read_tables()
+        stripped = self.without_heads([line.strip() for line in lines])
+        self.lines = self.without_comments(self.without_numbers(stripped) if has_numbers else stripped)
         self.read()
+
+    def doubt(self, name, number, text, part=""):
+        """Adds a doubt about a line. Its column is that of a part of the line, or of the line's first character."""
+        raw = self.raw[number - 1]
+        at = raw.find(part) if part else -1
+        self.doubts.append(Doubt(name, number, (at if at >= 0 else len(raw) - len(raw.lstrip())) + 1, text))
+
+    def without_heads(self, lines):
+        """Returns the lines without comments that are lines of their own, and without heads: each becomes a comment."""
+        heads = heads_in(lines, lambda texts: self.lines_among(texts))
+        for at, line in enumerate(lines):
+            if at in heads or is_whole(line) and not line.startswith("#"):
+                self.comments[at + 1] = f"{'# ' if at in heads else ''}{line}"
+        if heads:
+            of = f"line {heads[0] + 1}" if not heads[1:] else f"lines {heads[0] + 1} to {heads[-1] + 1}"
+            self.notes.append(f"{of}, above the program, {'are kept as comments' if heads[1:] else 'is kept as a comment'}")
+        return ["" if at + 1 in self.comments else line for at, line in enumerate(lines)]
+
+    def lines_among(self, texts):
+        """Returns those of some texts that are program lines in some spelling."""
+        speller = Speller(self.tables, texts, self.functions)
+        tried = {text: [found for found, _ in speller.spellings(text) or []] + [text] for text in texts}
+        good = readable([found for some in tried.values() for found in some])
+        return {text for text, some in tried.items() if good.intersection(some)}
+
+    def without_comments(self, lines):
+        """Returns the lines without the comments after program lines, which are kept."""
+        found = []
+        for number, line in enumerate(lines, 1):
+            code, comment = split(line, replaced(line, self.tables.everywhere))
+            if not comment and number - 1 in self.off and line.startswith((";", "//")):
+                self.comments[number], code = line, ""
+            elif comment and kept(comment, True) is None:
+                self.doubt(COMMENT, number, f"the comment has {len(comment.encode())} bytes, which do not fit into a line of a deck: it is "
+                           "dropped", comment)
+            elif comment:
+                self.beside[number] = comment
+            found.append(code)
+        return found
 
     def without_numbers(self, lines):
         """Returns the lines without line numbers, if every line has one. A few exceptions are allowed and reported."""
-        places = [at for at, line in enumerate(lines) if not is_comment(line) and not line.startswith(";")]
+        places = [at for at, line in enumerate(lines) if not is_comment(line)]
         found = {at: NUMBERED.fullmatch(lines[at]) for at in places}
         if not all(found.values()):
             found = dict(zip(places, counted([lines[at] for at in places]))) or found
@@ -88,23 +133,36 @@ class Listing:
                               f"{shown(lines[falls[0] if missing is None else missing])}")
             self.on = set(numbered)
             return lines
-        speller = Speller(read_tables(), [])
+        speller = Speller(self.tables, [])
         if all(speller.number(speller.plain(lines[at])) for at in places):
-            self.notes.append("every line is a number, so no line numbers are removed")
+            self.doubt(LINE_NUMBER, places[0] + 1, "every line is a number, so no line numbers are removed")
             return lines
-        numbers = [int(found[at][1]) for at in numbered if at in rising]
-        gaps = [(last, number) for last, number in zip(numbers, numbers[1:]) if number > last + 1] if not wrong else []
-        missing = f"; {gaps[0][1]} follows {gaps[0][0]}" if gaps else ""
-        missing += f", and there are {len(gaps)} such gaps" if gaps[1:] else ""
+        rising = [at for at in numbered if at in rising]
         but = f"; {len(wrong)} line{' has' if len(wrong) == 1 else 's have'} no number or a wrong one" if wrong else ""
         last = max((found[at][1] for at in rising), key=int)
-        self.notes.append(f"the line numbers {found[numbered[0]][1]} to {last} are removed{but}{missing}")
-        self.notes += [f"the line numbers start again at line {at + 1}: is an END missing before it?" for at in sorted(anew)]
+        self.notes.append(f"the line numbers {found[numbered[0]][1]} to {last} are removed{but}")
+        self.doubt_numbers([(int(found[at][1]), at) for at in rising], wrong, begins, found)
+        for at in sorted(anew):
+            self.doubt(LINE_NUMBER, at + 1, f"the line numbers start again at line {at + 1}: is an END missing before it?")
         for at in wrong:
-            self.told.append((at + 1, f"{shown(lines[at])} (its line number does not ascend; it is removed too)" if found[at] else
-                              f"{shown(lines[at])} (it has no line number; the line is kept as it is)"))
+            self.doubt(LINE_NUMBER, at + 1, f"{shown(lines[at])} (its line number does not ascend; it is removed too)" if found[at] else
+                       f"{shown(lines[at])} (it has no line number; the line is kept as it is)")
         self.off = set(numbered)
         return [found[at][2] if at in self.off else line for at, line in enumerate(lines)]
+
+    def doubt_numbers(self, numbers, wrong, begins, found):
+        """Adds a doubt about the first gap in the line numbers, each with its place. There is none at a line with a wrong number or none,
+        at an END, and in a list of positions in memory, which begins with 0000."""
+        if len(found[numbers[0][1]][1]) == 4 and numbers[0][0] == 0:
+            return
+        before = [(0, -1), *numbers]
+        gaps = [(last, number, at) for (last, above), (number, at) in zip(before, numbers)
+                if at not in begins and number > last + 1 + sum(above < one < at for one in wrong)]
+        if gaps:
+            last, number, at = gaps[0]
+            more = f", and there are {len(gaps)} such gaps" if gaps[1:] else ""
+            follows = f"{number} follows {last}" if last else f"the first one is {number}"
+            self.doubt(LINE_NUMBER, at + 1, f"a line number is missing: {follows}{more}; are lines missing before this one?")
 
     def is_comment(self, number, line):
         """Returns whether a line is a comment of the block. After a line number, `#` does not begin a comment."""
@@ -112,17 +170,16 @@ class Listing:
 
     def read(self):
         """Reads the lines: first those that the bench reads as they are, then the spellings of the others."""
-        tables = read_tables()
-        speller = Speller(tables, self.lines, self.functions)
+        speller = Speller(self.tables, self.lines, self.functions)
         good = readable(self.lines)
         others = {line: speller.spellings(line) for number, line in enumerate(self.lines, 1)
-                  if line not in good and not self.is_comment(number, line)}
+                  if line not in good and number not in self.comments and not self.is_comment(number, line)}
         tried = [text for found in others.values() for text, _ in found or []]
         good |= readable(tried + [function for function in map(speller.function_called, tried) if function])
         calls = []
         for number, line in enumerate(self.lines, 1):
-            if self.is_comment(number, line):
-                self.texts.append(line)
+            if number in self.comments or self.is_comment(number, line):
+                self.texts.append(self.comment_for(number, line))
             elif line in others:
                 self.texts.append(self.spelled(number, line, speller, others[line], good))
                 function = speller.function_called(self.texts[-1])
@@ -132,9 +189,33 @@ class Listing:
                 self.texts.append(line)
                 if speller.remark_on(line):
                     self.told.append((number, f"{line} ({speller.remark_on(line)})"))
+            self.doubt_line(number, line, speller)
         self.tell_calls(speller, calls)
         self.told.sort(key=lambda told: told[0])
         self.give_reasons(speller, others)
+
+    def is_foreign(self):
+        """Returns whether less than half of the lines can be read: the text is probably a letter or a manual."""
+        lines = [number for number, line in enumerate(self.lines, 1) if line and not self.is_comment(number, line)]
+        return 2 * self.unread > len(lines)
+
+    def comment_for(self, number, line):
+        """Returns the line of a block for a comment, or for an empty line."""
+        text = kept(self.comments.get(number, line)) if self.comments.get(number, line) else line
+        if text is None:
+            size = len(self.comments.get(number, line).encode())
+            self.doubt(COMMENT, number, f"the comment has {size} bytes, which do not fit into a line of a deck: it is dropped")
+        return text or ""
+
+    def doubt_line(self, number, line, speller):
+        """Adds the doubts about the line that was read last."""
+        text = self.texts[-1]
+        if not text or text.startswith("#"):
+            return
+        for name, why in of_line(text, speller.comma_is_point and "," not in line):
+            self.doubt(name, number, f"{text} ({why})", line)
+        for name, part, why in of_listed(line, text):
+            self.doubt(name, number, f"{line if name == SIGMA else text} ({why})", part)
 
     def tell_calls(self, speller, calls):
         """Adds messages about calls by a name without quotes, if a function has this name. Each call has the number of its line, its
@@ -160,6 +241,9 @@ class Listing:
         if text is None:
             self.bad.append((number, line))
             return ""
+        if isinstance(remark, Doubtful):
+            self.doubt(remark.name, number, f"{shown(line)} -> {text} ({remark})", line)
+            return text
         remark = remark or speller.remark_on(text)
         self.told.append((number, f"{shown(line)} -> {text}{f' ({remark})' if remark else ''}"))
         return text
@@ -168,68 +252,81 @@ class Listing:
         """Adds the reason to each line that cannot be read. Lines whose only problem is their line number are reported once."""
         self.unread = len(self.bad)
         kept = [(number, line) for number, line in self.bad if number - 1 in self.on]
-        causes = {line: list(self.causes(number, line, speller, others[line])) for number, line in self.bad
-                  if (number, line) not in kept[1:]}
-        good = readable([text for found in causes.values() for text, _ in found if text])
-        reasons = {line: next((why for text, why in found if text is None or text in good), "")
-                   for line, found in causes.items()}
+        found = {line: list(self.causes(number, line, speller, others[line])) for number, line in self.bad
+                 if (number, line) not in kept[1:]}
+        good = readable([text for some in found.values() for texts, _ in some for text in texts])
+        reasons = {line: next((why for texts, why in some if good.issuperset(texts)), "") for line, some in found.items()}
         if kept:
             more = f"; the same holds for {len(kept) - 1} more line{'s' if kept[2:] else ''}" if kept[1:] else ""
             reasons[kept[0][1]] = f"its line number was not removed{more}"
         self.bad = [(number, line, reasons[line]) for number, line in self.bad if (number, line) not in kept[1:]]
 
     def causes(self, number, line, speller, spellings):
-        """Yields reasons why a line cannot be read, the likeliest first. Each has a text that the bench reads if this is the reason, or
-        None if it is certain."""
+        """Yields reasons why a line cannot be read, the likeliest first. Each has texts that the bench reads if this is the reason; none if
+        it is certain."""
         if line.startswith("#"):
-            yield None, "# does not begin a comment after a line number"
+            yield (), "# does not begin a comment after a line number"
         text = speller.plain(line)
+        yield from self.of_quotes(text, speller, spellings)
+        yield from causes.of_texts(text, speller)
+        found = re.match(r"GTO ?\.|[A-Z]+", text.upper())
+        command = re.sub(r" ?\.", " .", found[0]) if found else ""
+        if command in commands():
+            yield (), f"a command of the calculator, not a program line{commands()[command]}"
+        if not line.startswith("0") or "x" in line.lower():
+            yield from causes.of_numbers(text, speller)
+        counted_line = COUNTED.fullmatch(line)
+        if counted_line:
+            apart = f"write a space after the line number: {shown(f'{counted_line[1]} {counted_line[2]}')}"
+            yield from (((found,), apart) for found, _ in speller.spellings(counted_line[2]) or [])
+        yield from causes.causes(text, speller)
+        touching = TOUCHING.fullmatch(text)
+        if touching:
+            apart = f"{speller.tables.name(touching[1])} {int(touching[2]):02}"
+            yield (apart,), f"write a space before the operand: {apart}"
+        yield from self.of_words(text, speller, spellings)
+
+    @staticmethod
+    def of_quotes(text, speller, spellings):
+        """Yields reasons that depend on the quotes of a line."""
         for quoted in filter(None, (IN_QUOTES.fullmatch(found) for found, _ in spellings)):
             characters = CHARACTER.findall(quoted[2])
             for most in (15, 14):
                 if len(characters) > most:
                     cut = f'{quoted[1]}"{"".join(characters[:most])}"'
-                    yield cut, f"found {len(characters)} characters, expected at most {most}"
-            yield from ((f'{quoted[1]}"{quoted[2].replace(sign, "")}"', f"inside quotes, write {sign} as {code}")
+                    yield (cut,), f"found {len(characters)} characters, expected at most {most}"
+            yield from (((f'{quoted[1]}"{quoted[2].replace(sign, "")}"',), f"inside quotes, write {sign} as {code}")
                         for sign, code in (('"', "\\22"), ("\\", "\\5C")) if sign in quoted[2])
             if not quoted[2].isascii():
-                kept = re.sub(r"[^ -~]", "", quoted[2])
+                kept_signs = re.sub(r"[^ -~]", "", quoted[2])
                 signs = " ".join(dict.fromkeys(re.findall(r"[^ -~]", quoted[2])))
-                yield f'{quoted[1]}"{kept}"', f"{signs} is in none of the tables; write any character as \\ and two hexadecimal digits"
+                yield (f'{quoted[1]}"{kept_signs}"',), (f"{signs} is in none of the tables; write any character as \\ and two hexadecimal "
+                                                        "digits")
         if text.count('"') % 2:
             for whole in (f'{text}"', re.sub(r"\A((?:LBL|GTO|XEQ) )?", r'\1"', text, flags=re.I)):
-                yield from ((found, "a quote is missing") for found, _ in speller.spellings(whole) or [])
-        found = re.match(r"GTO ?\.|[A-Z]+", text.upper())
-        command = re.sub(r" ?\.", " .", found[0]) if found else ""
-        if command in commands():
-            yield None, f"a command of the calculator, not a program line{commands()[command]}"
-        counted_line = COUNTED.fullmatch(line)
-        if counted_line:
-            apart = f"write a space after the line number: {shown(f'{counted_line[1]} {counted_line[2]}')}"
-            yield from ((found, apart) for found, _ in speller.spellings(counted_line[2]) or [])
-        touching = TOUCHING.fullmatch(text)
-        if touching:
-            apart = f"{speller.tables.name(touching[1])} {int(touching[2]):02}"
-            yield apart, f"write a space before the operand: {apart}"
+                yield from (((found,), "a quote is missing") for found, _ in speller.spellings(whole) or [])
+
+    def of_words(self, text, speller, spellings):
+        """Yields reasons that depend on the words of a line."""
         steps = text.split()
         if len(steps) > 1:
-            yield " ".join(steps).replace(" ", ""), "a number cannot contain spaces"
-        yield from ((found[:16], f"the number has {len(found)} characters, expected at most 16")
+            yield (" ".join(steps).replace(" ", ""),), "a number cannot contain spaces"
+        yield from (((found[:16],), f"the number has {len(found)} characters, expected at most 16")
                     for found, _ in speller.number(text) if len(found) > 16)
         name = speller.tables.name(text)
-        yield f"{name} 00", "the operand is missing"
+        yield (f"{name} 00",), "the operand is missing"
         for found, _ in spellings:
             operated = WITH_NUMBER.fullmatch(found)
             if operated:
-                yield f"{operated[1]}00", f"{operated[2]} is not a valid operand here"
+                yield (f"{operated[1]}00",), f"{operated[2]} is not a valid operand here"
         yield from self.parts(text, speller)
         several = speller.functions.lines(name) if speller.functions else []
         if several:
-            yield None, f"several modules have a function of this name: write {' or '.join(several)}"
+            yield (), f"several modules have a function of this name: write {' or '.join(several)}"
         if FUNCTION.fullmatch(speller.tables.name(steps[0])) and (not steps[1:] or speller.function(text)):
             called = f', and call a label by XEQ "{name}"' if CALLED.fullmatch(name) and not steps[1:] else ""
-            yield None, ("not a function of the calculator or of a known module; write a function of another module by its "
-                         f"numbers, for example XROM 05,01{called}")
+            yield (), ("not a function of the calculator or of a known module; write a function of another module by its "
+                       f"numbers, for example XROM 05,01{called}")
 
     @staticmethod
     def parts(text, speller):
@@ -239,8 +336,8 @@ class Listing:
             return
         name = speller.tables.name(first)
         quotes = f'; write a name in quotes, for example {name} "SUB"' if name in ("LBL", "GTO", "XEQ") else ""
-        yield f"{name} 00", f"{behind[0]} is not a valid operand here{quotes}"
-        yield from ((found, f"{first} takes no operand") for found, _ in speller.spellings(first) or [])
+        yield (f"{name} 00",), f"{behind[0]} is not a valid operand here{quotes}"
+        yield from (((found,), f"{first} takes no operand") for found, _ in speller.spellings(first) or [])
 
 
 def counted(lines):
@@ -288,5 +385,5 @@ def ascending(numbers, begins):
 
 def commands():
     """Returns the commands that are not program lines, each with its replacement, from the table of the document."""
-    return {name: f"; use {here}" if here else "" for names, here in tables_of(section_of(DOCUMENT, "Commands"))[0]
+    return {name: f"; {here}" if here else "" for names, here in tables_of(section_of(DOCUMENT, "Commands"))[0]
             for name in codes_of(names)}

@@ -3,6 +3,8 @@ are lines, and how many data registers leave enough room. The bench decides all 
 import re
 
 from decks import MEMORY, Failure, answered, block, ended, hexadecimal, refused, run
+from doubts import CALL as NOWHERE
+from doubts import MODULE, PAGE
 from typed import LONGEST_NAME, why_no_name
 
 LEFT_OUT = "not supported, so these lines are refused when they are executed: "
@@ -74,21 +76,45 @@ def names_in(lines):
     return {found[0].partition(" ")[2] for found in map(LABEL.fullmatch, (text for _, text in lines)) if found}
 
 
-def left_out_of(lines, labels, front, functions):
-    """Yields the notes about the lines of a file. `labels` are all labels with names that memory will have. Functions of modules are
-    printed with their names."""
+class Judged:
+    """What is noted about the lines of a file, and which of them lead nowhere."""
+
+    def __init__(self, notes, lost, called):
+        # Notes; the lines that lead nowhere, each with its place; and the names that GTO does not find, but XEQ does: functions of pages.
+        self.notes, self.lost, self.called = notes, lost, called
+
+
+def judged(lines, labels, front, functions):
+    """Returns what is noted about the lines of a file. `labels` are all labels with names that memory will have, and the deck `front` plugs
+    pages. Functions of modules are printed with their names."""
     asked = [text for _, text in lines if not text.startswith(('"', '>"', "LBL")) and not LOCAL.fullmatch(text)
              and (not NAMED.fullmatch(text) or NAMED.fullmatch(text)[1] not in labels)]
     left_out, nowhere = fates(asked, front)
-    calls = [line for program in parted(lines) for line in program if is_lost(line[1], program) or line[1] in nowhere]
+    lost = [line for program in parted(lines) for line in program if is_lost(line[1], program) or line[1] in nowhere]
+    jumps = {f"XEQ {text[4:]}" for _, text in lost if text.startswith('GTO "')}
+    called = {text[4:] for text in jumps - fates(jumps, front)[1]} if jumps else set()
+    notes = []
     if left_out:
-        yield LEFT_OUT + told((place, functions.told(text)) for place, text in lines if text in left_out)
-    if calls:
-        yield "called, but not found: " + told((place, functions.told(text)) for place, text in calls)
+        notes.append(LEFT_OUT + told((place, functions.told(text)) for place, text in lines if text in left_out))
     names = [(place, LABEL.fullmatch(text)[1]) for place, text in lines if LABEL.fullmatch(text)]
     names = [(place, f'"{name}", {why_no_name(name)}') for place, name in names if why_no_name(name)]
     if names:
-        yield f"labels that no keys can call (keys type at most {LONGEST_NAME} letters): {told(names)}"
+        notes.append(f"labels that no keys can call (keys type at most {LONGEST_NAME} letters): {told(names)}")
+    return Judged(notes, lost, called)
+
+
+def why_lost(text, program, called, functions):
+    """Returns the name of the doubt about a line that leads nowhere, and what it is about. `program` has the lines of its program."""
+    if text.startswith("XROM "):
+        return MODULE, f"{functions.told(text)} (a function of a module that is not given with this file)"
+    if not text.startswith('GTO "') or text[4:] not in called:
+        own = " of its program" if LOCAL.fullmatch(text) else ""
+        return NOWHERE, f"{text} (leads nowhere: no line{own} is LBL {text[4:]})"
+    if f"LBL {text[4:]}" not in program:
+        return PAGE, f"{text} (in a page, GTO finds no label with a name: write XEQ {text[4:]} and RTN, or put both programs into one and " \
+                     "use a local label)"
+    free = next(f"{number:02}" for number in range(1, 100) if f"LBL {number:02}" not in program)
+    return PAGE, f"{text} (in a page, GTO finds no label with a name: write LBL {free} after LBL {text[4:]}, and GTO {free} here)"
 
 
 def is_lost(text, program):

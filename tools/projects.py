@@ -1,7 +1,8 @@
 """Project files of tools/module: a file in TOML names the pages and banks of a module, their sources, equates, programs and tests."""
+from __future__ import annotations
+
 import os
 import re
-import tomllib
 from typing import Any, NamedTuple
 
 from decks import MEMORIES, Failure, bytes_of
@@ -42,6 +43,8 @@ class Project(NamedTuple):
     programs: list[str]
     tests: list[str]
     before: str
+    # The names of equates that files of `include` have.
+    included: frozenset[str] = frozenset()
 
     def free_page(self) -> str:
         """Returns the highest page that the module does not use."""
@@ -56,6 +59,8 @@ class Reader:
     """Reads a project file. An error names the file, the line of the key, and what was expected."""
 
     def __init__(self, path: str) -> None:
+        # Python has it from version 3.11 on.
+        import tomllib
         self.path = os.path.normpath(os.path.join(path, IN_A_FOLDER) if os.path.isdir(path) else path)
         data = bytes_of(self.path)
         try:
@@ -92,9 +97,11 @@ class Reader:
             raise self.fail(section, key, f"found {shown(found)}, expected {wanted}")
         return found
 
-    def known(self, section: str, table: dict[str, Any], keys: tuple[str, ...]) -> None:
-        """Refuses keys that have no meaning."""
+    def known(self, section: str, table: dict[str, Any], keys: tuple[str, ...], others: tuple[str, ...] = ()) -> None:
+        """Refuses keys that have no meaning. `others` are the keys that come first in the file."""
         for key in table:
+            if key in others:
+                raise self.fail(section, key, f"unknown key of [{section}], because it follows this line: write it before the first [..]")
             if key not in keys:
                 raise self.fail(section, key, f"unknown key, expected one of {', '.join(keys)}")
 
@@ -119,7 +126,7 @@ def shown(value: Any) -> str:
 
 def equates_of(reader: Reader) -> dict[str, str]:
     """Returns the equates: for each name the text that replaces it."""
-    found = {}
+    found = included_by(reader)
     table = reader.value("", reader.table, "equates", dict, {}, "a table [equates]")
     for name, value in table.items():
         if not NAME.fullmatch(name):
@@ -133,12 +140,22 @@ def equates_of(reader: Reader) -> dict[str, str]:
     return found
 
 
+def included_by(reader: Reader) -> dict[str, str]:
+    """Returns the equates of the files that a project includes."""
+    found: dict[str, str] = {}
+    for path in reader.files("", reader.table, "include"):
+        other = Reader(path)
+        other.known("", other.table, ("equates",))
+        found.update(equates_of(other))
+    return found
+
+
 def page_of(reader: Reader, name: str, table: Any) -> Page:
     """Returns a page or bank from its table."""
     section = f"page.{name}"
     if not NAME.fullmatch(name) or not isinstance(table, dict):
         raise reader.fail(section, name, "expected a table such as [page.MAIN], named by a letter and up to eleven letters, digits or _")
-    reader.known(section, table, ("at", "bank", "source", "end", "writable", "module", "programs"))
+    reader.known(section, table, ("at", "bank", "source", "end", "writable", "module", "programs"), ("name", "tests", "memory", "size", "before", "include"))
     at = reader.value(section, table, "at", str, "", 'a page from "4" to "F"').upper()
     bank = reader.value(section, table, "bank", int, 1, "a bank from 1 to 4")
     module = reader.value(section, table, "module", int, None, "a module number from 1 to 31")
@@ -161,7 +178,7 @@ def project_in(path: str) -> Project:
     """Returns the project in a file, or in the file module.toml of a folder."""
     reader = Reader(path)
     table = reader.table
-    reader.known("", table, ("name", "memory", "size", "programs", "tests", "before", "equates", "page"))
+    reader.known("", table, ("name", "memory", "size", "programs", "tests", "before", "include", "equates", "page"))
     tables = reader.value("", table, "page", dict, {}, "tables such as [page.MAIN]")
     pages = [page_of(reader, name, one) for name, one in tables.items()]
     if not pages:
@@ -180,4 +197,5 @@ def project_in(path: str) -> Project:
     folder = os.path.basename(os.path.dirname(os.path.realpath(reader.path)))
     return Project(reader.path, reader.value("", table, "name", str, folder, "a text"), memory, size, pages, equates_of(reader),
                    reader.files("", table, "programs"), reader.files("", table, "tests"),
-                   reader.value("", table, "before", str, "", 'settings such as "RAM=000"'))
+                   reader.value("", table, "before", str, "", 'settings such as "RAM=000"'),
+                   frozenset(included_by(reader)) - table.get("equates", {}).keys())

@@ -1,8 +1,8 @@
 """The refusals of a deck: the place of each, and the refused line of a block."""
 import re
 
-from decks import (LONGEST_LINE, MARK_OF_UTF8, MARKS_OF_UTF16, MEMORY, Failure, block, is_skipped, lines_of, refused, refused_key,
-                   shown, text_of, words_of)
+from decks import (KEY_NOT_HELD, LONGEST_LINE, MARK_OF_UTF8, MARKS_OF_UTF16, MEMORY, Failure, block, is_skipped, lines_of, refused,
+                   refused_key, shown, text_of, words_of)
 from programs import broken, whole_lines
 
 BLANKS = b" \t"
@@ -97,7 +97,8 @@ class Refused:
         line, sign = self.line(), self.sign()
         if sign and sign[0] == "in UTF-16":
             line = line.replace(b"\0", b"")
-        known = ", ".join(self.told + ([sign[0]] if sign else []))
+        key = refused_key(self.lines, self.first, self.memory) if self.refusal == KEY_NOT_HELD.decode() else ""
+        known = ", ".join(self.told + ([sign[0]] if sign else []) + ([key] if key else []))
         return f"`{shown(line.strip(BLANKS))}`: {self.refusal}{f': {known}' if known else ''}"
 
     def key(self):

@@ -1,4 +1,6 @@
 """Settings of tests such as `X=5` or `C=00F`: their names, and their values as the digits that the bench prints."""
+from __future__ import annotations
+
 import re
 from collections.abc import Callable
 from typing import NamedTuple

@@ -1,9 +1,7 @@
 """Sources for the assembler: finds their errors, and the addresses and words of their lines and labels, as the bench determines them.
 Adds the lines of a description of the end of a page."""
-import argparse
 import re
 import subprocess
-import sys
 from bisect import bisect
 from itertools import product
 from string import ascii_letters
@@ -63,6 +61,25 @@ def text_in(path):
     if data.startswith(MARKS_OF_UTF16):
         raise Faulty(f"{path}: the text is in UTF-16: save it as UTF-8")
     return with_ends(data)
+
+
+def source_in(path):
+    """Returns the text of a file that is a source. Other files are refused with what they may be."""
+    data = text_in(path)
+    commands = [words_of(line)[:2] for line in data.split(b"\n") if words_of(line) and not line.startswith(b"#")]
+    why = ("the file is empty: expected a source" if not data.strip() else
+           "this is an image of a page, expected a source: plug it with tools/import, and write a source with tools/export source"
+           if path.lower().endswith(".rom") or b"\0" in data else
+           "this is a deck, expected a source: run it with ./bench run" if path.lower().endswith(".deck") or is_deck(commands) else
+           "this is a project file, expected a source: use tools/module" if path.lower().endswith(".toml") else None)
+    if why:
+        raise Faulty(f"{path}: {why}")
+    return data
+
+
+def is_deck(commands):
+    """Returns whether the first words of lines are those of a deck that opens a block of a page."""
+    return bool(commands) and commands[0][0] in (b"asm", b"words", b"image") and len(commands[0]) == 2 and [b"end"] in commands
 
 
 def source_lines(data):
@@ -217,8 +234,10 @@ class Source:
             return [f"line {self.line_of(line.label) + 1} has the label {line.label} already"]
         if fault.refusal == "! 33 NoLabel" and line.reference:
             other = next((name for name in self.labels if name.lower() == line.reference.lower()), None)
+            is_long = line.code.startswith(b"?") and not other
             return [f"no line has the label {line.reference}"
-                    + (f"; line {self.line_of(other) + 1} has {other}" if other else "")]
+                    + (f"; line {self.line_of(other) + 1} has {other}" if other else "")
+                    + ("; if it is in another page, name both sources, or use a project of tools/module" if is_long else "")]
         if fault.refusal == "! 34 TooFar" and line.reference:
             distance = places[line.reference] - self.places[fault.at]
             least = "at least " if any(other.refusal in OF_THE_LINE for other in self.faults) else ""
@@ -372,13 +391,13 @@ def checksum_of(words):
 
 
 class Assembled(Source):
-    """A source without errors at a page: its words, and the end of the page from a description. A source with errors is refused with all
-    of them."""
+    """A source without errors at a page, in the bank with a number: its words, and the end of the page from a description. A source with
+    errors is refused with all of them."""
 
-    def __init__(self, path, page, end=None):
-        whole = Whole(path, text_in(path), end)
+    def __init__(self, path, page, end=None, number=1):
+        whole = Whole(path, source_in(path), end)
         super().__init__(whole.data())
-        self.page, self.whole = page, whole
+        self.page, self.number, self.whole = page, number, whole
         faults = whole.faults_of_lines(self)
         if faults:
             raise Faulty("\n".join(faults))
@@ -397,26 +416,6 @@ class Assembled(Source):
     def words_of_line(self, at):
         """Returns the words of a line."""
         return self.words[self.places[at]:self.places[at + 1]]
-
-
-def run_tool(name, usage, tell, words):
-    """Runs a tool that takes a source and a page. Returns the status of the tool."""
-    if words in (["-h"], ["--help"]):
-        print(usage.strip())
-        return 0
-    parser = argparse.ArgumentParser(prog=name, add_help=False, allow_abbrev=False, usage=f"tools/{name} [--page P] FILE.asm [FILE.page]")
-    parser.add_argument("--page", default="8", type=str.upper)
-    parser.add_argument("file", metavar="FILE.asm")
-    parser.add_argument("end", metavar="FILE.page", nargs="?")
-    options = parser.parse_args(words)
-    if len(options.page) != 1 or options.page not in PAGES:
-        parser.error(f"--page {options.page}: expected a page from 4 to F")
-    sys.stdout.reconfigure(errors="backslashreplace")
-    try:
-        return tell(Assembled(options.file, options.page, options.end))
-    except Faulty as why:
-        print(*(f"{name}: {line}" for line in str(why).splitlines()), sep="\n", file=sys.stderr)
-        return why.status
 
 
 class Labels:
@@ -565,6 +564,19 @@ def of_another_dialect(own):
     return "a line of another dialect, which tools/import " + ("removes" if own.startswith(";") else f"reads as `{own}`")
 
 
+def shown_causes(asked, others):
+    """Returns the cause, with its column, that each line with an error shows; None for a line of another dialect."""
+    from source_causes import Mistake
+    from dialects import as_own
+    found = {fault: Mistake(fault.text, one.line.code).cause(fault.refusal == OF_THE_LINE[0]) for one, fault in asked
+             if fault.refusal in OF_THE_LINE and one.first not in others}
+    # Characters that look like others are named even if tools/import reads them.
+    readings = [fault for fault, cause in found.items() if cause and "U+" not in cause[1]]
+    for fault, own in zip(readings, as_own([fault.text for fault in readings]) if readings else []):
+        found[fault] = None if own else found[fault]
+    return found
+
+
 def tell_causes(faults):
     """Adds the usual cause to each error: of the rows of docs/ASSEMBLER.md with the same refusal and kind, the cause of the most similar
     line."""
@@ -581,7 +593,11 @@ def tell_causes(faults):
         name, number = codes_of(refusal)[0].rsplit(" ", 1)
         rows.append((Asked(lines[int(number)].encode(), name), plain(why)))
     classes, unknown = classes_of({name for one, _ in rows + asked for name in one.instructions()}), []
+    found = shown_causes(asked, others)
     for one, fault in asked:
+        if found.get(fault):
+            fault.told.append("column {}: {}".format(*found[fault]))
+            continue
         kind = one.kind(classes, others)
         like = [(row.first == one.first, SequenceMatcher(None, row.shape, one.shape).ratio(), why) for row, why in rows
                 if row.refusal == one.refusal and (kind and row.kind(classes, others) == kind or row.first == one.first)

@@ -6,6 +6,7 @@ import re
 from dataclasses import dataclass, field
 
 from documents import codes_of, section_of, tables_of
+from doubts import COMMA, doubtful
 
 DOCUMENT = "PROGRAMS.md"
 
@@ -39,7 +40,6 @@ HEAD = re.compile(r"\{.*\}")
 NUMBER = re.compile(r"([+-]?)([0-9.,]*)(?:\s*[Eeᴇ]\s*([+-]?)\s*([0-9]*))?")
 GROUPS = re.compile(r"[1-9][0-9]{0,2}(?:,[0-9]{3})+(?:\.[0-9]*)?")
 GROUPS_OF_POINTS = re.compile(r"[1-9][0-9]{0,2}(?:\.[0-9]{3})+,[0-9]*")
-THOUSAND_OF_POINT = re.compile(r"[1-9][0-9]{0,2}\.[0-9]{3}")
 DECIMAL_COMMA = re.compile(r"[0-9]*,[0-9]*")
 
 
@@ -155,8 +155,8 @@ class Speller:
         thousands, point = mantissa.replace(",", ""), mantissa.replace(",", ".")
         if self.is_ambiguous(mantissa):
             if self.comma_is_point:
-                return point, "the comma is read as the decimal point, as in other numbers of this listing"
-            return thousands, f"the comma is read as separating thousands; if it is the decimal point, write {point}"
+                return point, doubtful(COMMA, "the comma is read as the decimal point, as in other numbers of this listing")
+            return thousands, doubtful(COMMA, f"the comma is read as separating thousands; if it is the decimal point, write {point}")
         if GROUPS.fullmatch(mantissa):
             return thousands, "the commas separate thousands"
         if GROUPS_OF_POINTS.fullmatch(mantissa):
@@ -234,22 +234,12 @@ class Speller:
         found = [(self.tables.name(line), "")]
         return found + [(self.tables.name(f"{line}?"), "a test without its question mark")] if TEST.fullmatch(line) else found
 
-    def remark_on(self, line):
+    @staticmethod
+    def remark_on(line):
         """Returns a remark if a line that the bench reads may be meant differently; otherwise an empty text."""
         found = ONE_LETTER.fullmatch(line)
         if found:
             return f'the label {found[1]} of one letter; for a name write it in quotes, "{found[1]}"'
-        if line.startswith('"|-'):
-            return f'a text that begins with |-; to append, write >"{line[3:]}'
-        found = NUMBER.fullmatch(line)
-        if not found:
-            return ""
-        if line.count(".") > 1:
-            return "a number with two points, kept as it is"
-        if len(found[4] or "") > 2:
-            return f"an exponent has two digits, so this is {line[:-len(found[4])]}{found[4][:2]}"
-        if self.comma_is_point and THOUSAND_OF_POINT.fullmatch(found[2]):
-            return f"the point is read as the decimal point; if it separates thousands, write {line.replace('.', '')}"
         return ""
 
 

@@ -1,5 +1,7 @@
 """Words that set registers before a test calls its function. They are put into a free page and end with a jump to the function, so that
 memory, the processor's registers and the pointers have given values, or junk."""
+from __future__ import annotations
+
 from functools import lru_cache
 from typing import NamedTuple
 

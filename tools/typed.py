@@ -2,7 +2,7 @@
 line.
 
 If words name keys, a text in quotes means ALPHA, the keys of its letters and ALPHA again, and a number means its keys: `XEQ "QUAD"`,
-`-1.5E-3 ENTER`."""
+`-1.5E-3 ENTER`. If ALPHA is on already, or a name is being typed, a text means its letters alone: see alpha.py."""
 import re
 
 from keyboard import KEYS
@@ -26,6 +26,8 @@ LABELLED = re.compile(r'(XEQ|GTO|LBL) "(.*)"')
 LOCAL = re.compile(r"(XEQ|GTO|LBL) ([A-J])")
 
 NUMBER = re.compile(r"(-?)([0-9]*\.?[0-9]*)(?:E(-?)([0-9]{1,2}))?")
+# A number as other programs and people write it: with a comma, a small e, or a plus.
+OTHER_NUMBER = re.compile(r"([+-]?)([0-9]*[.,]?[0-9]*)(?:[eE]([+-]?)([0-9]+))?")
 WORD = re.compile(r'"[^"]*"?|[^ \t"]+')
 
 
@@ -50,11 +52,20 @@ def untyped(text):
     return list(dict.fromkeys(letter for letter in characters(text) if not letter_keys(letter)))
 
 
-def text_keys(text):
-    """Returns the keys of a text, between two ALPHA."""
+class Text(str):
+    """A text in quotes among keys, without its quotes."""
+
+
+def letters_of(text):
+    """Returns the keys of the letters of a text."""
     if untyped(text):
         raise NoKeys(f"no key writes {' '.join(untyped(text))}")
-    return ["ALPHA", *(key for letter in text for key in letter_keys(letter)), "ALPHA"]
+    return [key for letter in text for key in letter_keys(letter)]
+
+
+def text_keys(text):
+    """Returns the keys of a text, between two ALPHA."""
+    return ["ALPHA", *letters_of(text), "ALPHA"]
 
 
 def why_no_name(name):
@@ -81,24 +92,63 @@ def is_number(word):
     return found is not None and re.search("[0-9]", found[2]) is not None
 
 
-def keys_of(text):
-    """Returns the names of the keys for some words. A word that is neither a text nor a number is not changed."""
-    keys = []
+def is_other_number(word):
+    """Returns whether a word is a number that no keys type as it is, such as 1,5 or 1e5."""
+    found = OTHER_NUMBER.fullmatch(word)
+    return not is_number(word) and found is not None and re.search("[0-9]", found[2]) is not None
+
+
+def why_no_number(word):
+    """Returns what to type for a number that no keys type as it is."""
+    sign, mantissa, exponent_sign, exponent = OTHER_NUMBER.fullmatch(word).groups()
+    end = "" if exponent is None else f"E{exponent_sign.replace('+', '')}{exponent}"
+    typed = f"{sign.replace('+', '')}{mantissa.replace(',', '.')}{end}"
+    if not is_number(typed):
+        return f"no keys type the number {word}: an exponent has two digits"
+    return f"no keys type the number {word}: write {typed}"
+
+
+def is_label_next(keys):
+    """Returns whether keys end with one that asks for a label: XEQ, GTO or LBL."""
+    return keys[-1:] == ["XEQ"] and keys[-2:-1] != ["SHIFT"] or \
+        keys[-2:-1] == ["SHIFT"] and keys[-1] in KEYS and KEYS[keys[-1]].shifted in ("GTO", "LBL")
+
+
+def check_name(name):
+    """Raises NoKeys if the name of a label has too many letters for the keys."""
+    if len(characters(name)) > LONGEST_NAME:
+        raise NoKeys(f'"{name}" has {len(characters(name))} letters: a label has at most seven letters')
+
+
+def pieces_of(text):
+    """Returns the names of the keys for some words, with each text as one piece. A word that is neither a text nor a number is not
+    changed."""
+    pieces = []
     for word in WORD.findall(text):
         if word.startswith('"'):
             if len(word) < 2 or not word.endswith('"'):
                 raise NoKeys(f"the closing quote is missing: {word}")
-            keys += text_keys(word[1:-1])
+            if is_label_next(pieces):
+                check_name(word[1:-1])
+            letters_of(word[1:-1])
+            pieces.append(Text(word[1:-1]))
         elif word not in KEYS and is_number(word):
-            keys += number_keys(word)
+            pieces += number_keys(word)
+        elif word not in KEYS and is_other_number(word):
+            raise NoKeys(why_no_number(word))
         else:
-            keys.append(word)
-    return keys
+            pieces.append(word)
+    return pieces
+
+
+def keys_of(text):
+    """Returns the names of the keys for some words, if ALPHA is off before each text. alpha.py has those for any state."""
+    return [key for piece in pieces_of(text) for key in (text_keys(piece) if isinstance(piece, Text) else [piece])]
 
 
 def is_spelled(word):
     """Returns whether a word is not the name of a key, but a number or the beginning of a text."""
-    return word not in KEYS and (word.startswith('"') or is_number(word))
+    return word not in KEYS and (word.startswith('"') or is_number(word) or is_other_number(word))
 
 
 # Lines.
@@ -136,6 +186,7 @@ def line_keys(text):
         return text_keys(text[1:-1])
     labelled = LABELLED.fullmatch(text) or LOCAL.fullmatch(text)
     if labelled:
+        check_name(labelled[2])
         return [*function_keys(labelled[1]), *text_keys(labelled[2])]
     operated = OPERATED.fullmatch(text)
     name = operated[1] if operated else text

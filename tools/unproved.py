@@ -139,7 +139,7 @@ def answers(decks, memory=MEMORY):
             with open(f"{room}/{name}", "w+b") as file:
                 is_whole = copied(deck, file)
                 # In key lines, the bench gets the names of keys for texts and numbers.
-                named = with_keys(file.read())
+                named = with_keys(file.read(), memory)
                 file.seek(0)
                 file.truncate()
                 file.write(named)

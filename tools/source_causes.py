@@ -1,0 +1,219 @@
+"""Causes of mistakes in a source line that the line itself shows: a number that is too large, an operation that the processor does not
+have, the name of a register in place of its number. Each cause has the column of the text that is meant.
+
+Only errors need this module."""
+import re
+import unicodedata
+from difflib import get_close_matches
+
+from dialects import FIELDS, LONG, OF_NUMBERS, REGISTERS, own_names
+from documents import codes_of, section_of, tables_of
+
+GREATEST_WORD = 0x3FF
+
+# Instructions with a status bit, and with a place.
+OF_BITS, OF_PLACES = ("CLRF", "SETF", "?FSET"), ("R=", "?R=", "RCR")
+
+# Instructions of other processors, and what is written here.
+ELSEWHERE = {"CALL": "?NC XQ", "JSR": "?NC XQ", "BSR": "?NC XQ", "XEQ": "?NC XQ", "JMP": "?NC GO", "BRA": "?NC GO", "GO": "?NC GO",
+             "RET": "RTN", "RTS": "RTN", "RETURN": "RTN", "JZ": "JNC after ?C#0", "JNZ": "JC after ?C#0", "DB": "CON", "DW": "CON",
+             "BYTE": "CON", "WORD": "CON", "DEC": "SETDEC", "HEX": "SETHEX", "CLC": "NOP, which clears the carry", "PUSH": "PUSH ADR",
+             "POP": "POP ADR", "HALT": "RTN", "CLR": "C=0"}
+OF_MOVES = ("MOV", "LD", "LDA", "STA", "LOAD", "STORE")
+
+# Operations that the processor does not have, and what comes near.
+NEAREST = {
+    "A=B": "B=A copies the other way, and A<>B exchanges", "C=A": "A=C copies the other way, and A<>C exchanges",
+    "B=C": "C=B copies the other way, and B<>C exchanges", "C=C-A": "C=A-C, and then C=0-C changes the sign",
+    "A=C-A": "A=A-C, or C=A-C and then C=0-C", "A=B-A": "A=A-B",
+    "LSHFC": "RCR 13 rotates C to the left, LSHFA shifts A, and RSHFC shifts C to the right",
+    "LSHFB": "LSHFA shifts A, and RSHFB shifts B to the right",
+    "A=A+A": "C=C+C", "B=B+B": "C=C+C", "?A=0": "?A#0, and then JNC in place of JC", "?B=0": "?B#0, and then JNC in place of JC",
+    "?C=0": "?C#0, and then JNC in place of JC", "?A=C": "?A#C, and then JNC in place of JC", "?A=B": "C=B, then ?A#C, and then JNC in place of JC",
+    "?A#B": "C=B, and then ?A#C", "?B#C": "A<>B, and then ?A#C", "?A>C": "A<>C, and then ?A<C", "?A>B": "A<>B, and then ?A<B",
+    "?C<A": "A<>C, and then ?A<C", "?B<A": "A<>B, and then ?A<B", "?A<=C": "A<>C and ?A<C, and then JNC in place of JC",
+    "?A>=C": "?A<C, and then JNC in place of JC", "?A>=B": "?A<B, and then JNC in place of JC",
+    "A=-A": "A<>C, C=0-C and A<>C", "C=-C": "C=0-C", "A=NOTA": "A<>C, C=-C-1 and A<>C", "C=NOTC": "C=-C-1",
+}
+OPERATION = re.compile(r"\??[ABC](?:=|<>|#|<=|>=|<|>)\S*|[LR]SH?F?[ABC]|(?:SHL|SHR|ROL|ROR)\S*")
+OF_A_CONSTANT = re.compile(r"([ABC])=(\d+)")
+ADDED = re.compile(r"([ABC])=\1([+-])(\d+)")
+OF_B = re.compile(r"B=B[+-]\S+")
+
+SIGNS = {"“": "a curly quote: write \"", "”": "a curly quote: write \"", "‘": "a curly quote: write '", "’": "a curly quote: write '",
+         "\xa0": "a no-break space: write a space", "\u2007": "a no-break space: write a space",
+         "\u202f": "a no-break space: write a space", "\u200b": "a space without a width: remove it", "\ufeff": "a byte order mark: remove it",
+         "−": "a minus sign: write -", "–": "a dash: write -", "—": "a dash: write -", "≠": "an unequal sign: write #",
+         "；": "a wide semicolon: write ;"}
+
+
+def operations():
+    """Returns the 32 operations on a field."""
+    return [name for table in tables_of(section_of("PROCESSOR.md", "Arithmetic on a field")) for row in table for name in codes_of(row[1])]
+
+
+def named(sign):
+    """Returns a sign with its number."""
+    return f"{sign} (U+{ord(sign):04X})" if sign.isprintable() and not unicodedata.combining(sign) else f"U+{ord(sign):04X}"
+
+
+class Mistake:
+    """A source line with an error, for which a cause is wanted."""
+
+    def __init__(self, text, code):
+        self.text = text.decode("utf-8", "replace")
+        code = code.decode("utf-8", "replace")
+        # Where the code begins in the line, and its words, each with its column.
+        start = self.text.find(code) if code else 0
+        self.code = code
+        self.words = [(start + found.start() + 1, found[0]) for found in re.finditer(r"[^ \t]+", code)]
+
+    def name(self):
+        """Returns the instruction, which may have two words, and the words after it."""
+        texts = [word for _, word in self.words]
+        size = 2 if " ".join(texts[:2]) in self.names or " ".join(texts[:2]) in LONG else 1
+        return " ".join(texts[:size]), self.words[size:]
+
+    names = ()
+
+    def cause(self, is_bad_line):
+        """Returns the column and the cause; None if the line does not show one."""
+        if not self.words:
+            return None
+        Mistake.names = Mistake.names or own_names()
+        for reading in (self.signs, self.quotes, self.operation, self.elsewhere, self.two, self.label, self.number, self.register, self.bit,
+                        self.field, self.page_label):
+            found = reading()
+            if found:
+                return found
+        return self.likely() if is_bad_line else None
+
+    def signs(self):
+        """Finds characters that look like others."""
+        for at, sign in enumerate(self.text.split(";")[0] if '"' not in self.text else self.code):
+            column = at + 1 + (0 if '"' not in self.text else self.text.find(self.code))
+            if sign in SIGNS:
+                return column, f"{named(sign)} is {SIGNS[sign]}"
+            if not sign.isascii():
+                return column, f"{named(sign)} is not a character of sources, which are in ASCII before the comment"
+        return None
+
+    def quotes(self):
+        """Finds a quote without its other one."""
+        if self.code.count('"') % 2:
+            return self.text.rfind('"') + 1, "the other quote is missing"
+        if re.match(r"NAME[ \t]+'[^']*'", self.code):
+            return self.words[1][0], "a name is in double quotes: NAME \"KIT\""
+        return None
+
+    def operation(self):
+        """Finds an operation that the processor does not have."""
+        column, first = self.words[0]
+        flat = "".join(word for _, word in self.words) if len(self.words) > 2 and self.words[1][1] == "=" else first
+        if first in self.names or not OPERATION.fullmatch(flat) or flat in operations():
+            return None
+        added, constant = ADDED.fullmatch(flat), OF_A_CONSTANT.fullmatch(flat)
+        if flat in NEAREST:
+            return column, f"the processor has no {flat}: {NEAREST[flat]}"
+        if added and added[3] not in "01":
+            return column, f"the processor has no {flat}: it adds and subtracts only 1; or put the number into C with LDI or LD@R"
+        if constant:
+            return column, f"the processor has no {flat}: LDI puts a word into C, and LD@R a digit"
+        if OF_B.fullmatch(flat):
+            return column, f"the processor has no {flat}, because B takes part only as the second operand: use A<>B, A=A.. and A<>B"
+        near = get_close_matches(flat, operations(), 3, 0.5)
+        return column, f"the processor has no {flat}{f': the nearest are {chr(32).join(near)}' if near else ''}"
+
+    def elsewhere(self):
+        """Finds an instruction of another processor."""
+        column, first = self.words[0]
+        if first.upper() in ELSEWHERE and first.upper() not in self.names:
+            return column, f"{first} is an instruction of another processor: here it is {ELSEWHERE[first.upper()]}"
+        if first.upper() in OF_MOVES:
+            return column, f"{first} is an instruction of another processor: here a copy is written as A=C, LDI puts a word into C, and READ a register"
+        return None
+
+    def two(self):
+        """Finds two instructions in one line."""
+        name, rest = self.name()
+        if name not in self.names and name not in operations():
+            return None
+        for at in range(len(rest)):
+            column, word = rest[at]
+            two = f"{word} {rest[at + 1][1]}" if rest[at + 1:] else ""
+            if (word in self.names or word in operations() or two in self.names) and word not in FIELDS:
+                return column, f"a line has one instruction: write {two if two in self.names else word} in a line of its own"
+        return None
+
+    def label(self):
+        """Finds a name in place of a reference after a short or long jump, and a number in place of a displacement."""
+        name, rest = self.name()
+        if name in ("JNC", "JC") and len(rest) == 1 and re.fullmatch("[0-9A-F]{4}", rest[0][1]):
+            return rest[0][0], f"a short jump takes a label or a displacement; to jump to the address {rest[0][1]} write ?{name[1:]} GO {rest[0][1]}"
+        return None
+
+    def number(self):
+        """Finds a number that is too large, or written in another base."""
+        name, rest = self.name()
+        if len(rest) != 1:
+            return None
+        column, text = rest[0]
+        if name in ("LDI", "CON") and re.fullmatch("[0-9A-Fa-f]{3,}", text) and int(text, 16) > GREATEST_WORD:
+            return column, f"{text} is above 3FF, the greatest word of ten bits"
+        if name in OF_NUMBERS and re.fullmatch(r"\$\w+|0x\w+|#\w+|[0-9A-F]+H|0\d+", text) and name not in OF_PLACES and name != "LD@R":
+            return column, f"{text} is not decimal without leading zeros: {name} takes a number such as 5"
+        if name in LONG and re.fullmatch("[0-9A-Fa-f]{1,3}|[0-9A-Fa-f]{5,}", text):
+            return column, f"{text} has {len(text)} {'digit' if len(text) == 1 else 'digits'}: an address has four, for example 8010"
+        return None
+
+    def register(self):
+        """Finds the name of a register of the stack, or of memory, in place of its number."""
+        name, rest = self.name()
+        if name not in ("READ", "WRIT") or len(rest) != 1 or rest[0][1] not in REGISTERS or rest[0][1] == "A":
+            return None
+        number = REGISTERS.index(rest[0][1])
+        own = "READ DATA" if name == "READ" and number == 0 else f"{name} {number}"
+        return rest[0][0], f"{rest[0][1]} is register {number}: write {own}"
+
+    def bit(self):
+        """Finds the number of a flag in place of that of a status bit."""
+        name, rest = self.name()
+        if name not in OF_BITS or len(rest) != 1 or not rest[0][1].isdecimal() or int(rest[0][1]) < 14:
+            return None
+        return rest[0][0], f"the status bits are 0 to 13; flag {int(rest[0][1])} of programs is in register d: READ 14"
+
+    def field(self):
+        """Finds a field that does not exist, and gives the nearest name."""
+        name, rest = self.name()
+        if name not in operations() or len(rest) != 1 or rest[0][1] in FIELDS or rest[0][1].startswith(":"):
+            return None
+        if rest[0][1].upper() in FIELDS or rest[0][1] in ("X", "S", "W", "WPT", "PT", "PQ", "@PT"):
+            return None
+        return rest[0][0], f"no field is named {rest[0][1]}: expected one of {' '.join(FIELDS)}"
+
+    def page_label(self):
+        """Finds a label of another page."""
+        for column, word in self.words[1:]:
+            if re.fullmatch(r":[A-Za-z]\w{0,11}\.[A-Za-z]\w{0,11}", word):
+                return column, f"{word[1:]} is a label of another page, which only a project of tools/module has"
+            if re.fullmatch(r":[A-Za-z_]\w{12,}", word):
+                return column, f"{word[1:]} has {len(word) - 1} characters: a name has at most 12"
+        return None
+
+    def likely(self):
+        """Returns what a word that is no instruction may be."""
+        column, first = self.words[0]
+        if not re.match(r"[A-Za-z?0-9]", first):
+            return None
+        found = re.fullmatch(r"(\w{13,}):", first)
+        if found:
+            return column, f"{found[1]} has {len(found[1])} characters: a name has at most 12"
+        if re.fullmatch(r"\d\w*:", first):
+            return column, f"{first[:-1]} begins with a digit: a name begins with a letter"
+        if ":" in first:
+            return None
+        if len(self.words) > 2 and sum(word.isalpha() and not word.isupper() for _, word in self.words) > 1:
+            return column, "no instruction; if this is a comment, begin it with ;"
+        two = " ".join(word for _, word in self.words[:2])
+        near = get_close_matches(first.upper(), [*self.names, *operations()], 1, 0.7) or get_close_matches(two.upper(), self.names, 1, 0.8)
+        return (column, f"no instruction {first}; the nearest is {near[0]}") if near and near[0] != first.upper() else None

@@ -25,7 +25,8 @@ def build(linked: Linked, out: str, images: str | None) -> int:
         programs = "".join(map(program_block, project.programs))
         memory = "" if project.memory == MEMORY else f" --memory {project.memory}"
         head = f"# {project.name}: made by tools/module build. Run it with ./bench run{memory}\n"
-        put(head.encode() + linked.deck() + (size + programs).encode("latin-1"), out)
+        blocks = b"".join(f"# {unit.name}\n".encode() + unit.block() for unit in linked.units)
+        put(head.encode() + blocks + (size + programs).encode("latin-1"), out)
         return 0
     if not os.path.isdir(images):
         raise Failure(f"{images}: no such folder: create it first", 3)

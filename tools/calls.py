@@ -84,7 +84,7 @@ class Call:
         self.limit = min((LIMIT if limit is None else max(LIMIT, limit)) + self.before, MOST_STEPS)
         self.deck = f"unplug {caller.page}\nwords {caller.page}\n{stub.text}end\n{caller.start}{caller.keys(case)}call {caller.page}000\n"
         if target is None:
-            self.deck += f"step {stub.steps}\nkey {' '.join(keys_of(f'XEQ {case.target}'))}\n"
+            self.deck += f"step {stub.steps}\n{caller.key_line(case, 'call', f'XEQ {case.target}')}"
 
 
 class Caller:
@@ -119,12 +119,16 @@ class Caller:
     def keys(self, case: Case) -> str:
         """Returns the line that presses the keys before a call."""
         asked = next((one.value for one in case.before if one.name == "keys"), None)
+        return self.key_line(case, "keys", asked) if asked else ""
+
+    def key_line(self, case: Case, what: str, asked: str) -> str:
+        """Returns the line that presses keys, which a setting or a quoted name asks for."""
         try:
-            pieces = pieces_of(asked or "")
+            pieces = pieces_of(asked)
         except NoKeys as why:
-            raise Failure(f"{case.path}:{case.number}: keys={asked}: {why}") from why
+            raise Failure(f"{case.path}:{case.number}: {what}={asked}: {why}") from why
         if "ALPHA" not in pieces and sum(isinstance(piece, Text) for piece in pieces) < 2:
-            return f"key {' '.join(keys_of(asked))}\n" if asked else ""
+            return f"key {' '.join(keys_of(asked))}\n"
         # ALPHA may be on before a text.
         deck = self.linked.deck() + self.start.encode("latin-1") + f"key {asked}\n".encode("latin-1")
         return lines_of(with_keys(deck, self.linked.project.memory))[-1].decode("latin-1")

@@ -10,14 +10,15 @@ from decks import MARK_OF_UTF8, Failure, bytes_of
 from functions import Functions
 from lif import is_headed, is_image, read_headed, read_image, write_headed, write_image
 from listings import Listing
+from mods import FIXED, FORMAT, PAGES, Image, read_mod
 from modules import lines_of_texts
-from records import LISTING, PROGRAM, Damaged, Part, ends_of, sum_of, without_sum
+from records import IMAGE, LISTING, OTHER, PROGRAM, Damaged, Part, ends_of, sum_of, without_sum
 from spellings import read_tables
 
-LIF, P41, HEX, BARS, RAW, FREE42 = "lif", "p41", "hex", "bars", "raw", "free42"
-BY_NAME = {".lif": LIF, ".dat": LIF, ".p41": P41, ".hex": HEX, ".bars": BARS}
+LIF, P41, HEX, BARS, RAW, FREE42, MOD = "lif", "p41", "hex", "bars", "raw", "free42", "mod"
+BY_NAME = {".lif": LIF, ".dat": LIF, ".p41": P41, ".hex": HEX, ".bars": BARS, ".mod": MOD}
 LISTINGS = tuple(exchange.READERS)
-KINDS = (LIF, P41, HEX, BARS, *LISTINGS)
+KINDS = (LIF, P41, HEX, BARS, MOD, *LISTINGS)
 
 # The least number of bytes of hexadecimal digits by which a text without a known name is taken for them.
 FEW_DIGITS = 8
@@ -25,7 +26,10 @@ DIGITS = re.compile(rb"[0-9A-Fa-f]{2}(?:[\s,]*[0-9A-Fa-f]{2})*\s*")
 
 
 class Member:
-    """A file, or a part of a container: its path for messages, its bytes, its kind if that is known, notes, and its listing's kind."""
+    """A file, or a part of a container: its path for messages, its bytes, its kind if that is known, notes, its listing's kind, and the
+    image of a page in a file .mod."""
+
+    image: Optional[Image] = None
 
     def __init__(self, path: str, data: bytes, kind: Optional[str] = None, notes: Optional[List[str]] = None,
                  container: Optional[str] = None) -> None:
@@ -39,6 +43,8 @@ def container_of(path: str, data: bytes, kind: Optional[str]) -> Optional[str]:
     if kind in KINDS:
         return kind
     suffix = os.path.splitext(path)[1].lower()
+    if re.match(rb"MOD[12]", data):
+        return MOD
     if is_image(data):
         return LIF
     if is_headed(data):
@@ -62,6 +68,8 @@ def members_of(path: str, kind: Optional[str] = None) -> List[Member]:
     if container is None:
         return [Member(path, data)]
     try:
+        if container == MOD:
+            return members_of_mod(path, data)
         parts = READERS[container](data)
     except Damaged as damaged:
         raise Failure(f"{path}: {damaged}") from damaged
@@ -73,9 +81,20 @@ def members_of(path: str, kind: Optional[str] = None) -> List[Member]:
                    container) for part in parts]
 
 
+def members_of_mod(path: str, data: bytes) -> List[Member]:
+    """Returns the images of the pages in a file .mod. Pages of the calculator itself are no images, because they cannot be plugged."""
+    members = []
+    for number, image in enumerate(read_mod(data), 1):
+        is_own = image.position in FIXED and f"{image.position:X}" not in PAGES
+        notes = [f"page {image.position:X} is the calculator's own and cannot be plugged: skipped"] if is_own else image.remarks()
+        members.append(Member(f"{path}:{image.name or number}", image.bytes(), OTHER if is_own else IMAGE, notes, MOD))
+        members[-1].image = image
+    return members
+
+
 def only(members: List[Member], names: Optional[List[str]]) -> List[Member]:
-    """Returns the members with these names in a LIF image, or all if there are no names. Raises Failure if there is none."""
-    if not names or members[0].container != LIF:
+    """Returns the members with these names in a LIF image or a file .mod, or all if there are no names. Raises Failure if there is none."""
+    if not names or members[0].container not in (LIF, MOD):
         return members
     found = [member for member in members if member.path.rsplit(":", 1)[1] in names]
     if not found:

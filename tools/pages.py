@@ -1,6 +1,7 @@
 """Makes readable sources from the words of a page: with the table of a module, its names, labels and data."""
 import re
 
+from decks import Failure
 from sources import ASKS_FOR_SET, CHECKSUM_PLACE, ENDS, FIRST_POLLED, GOES, ID_PLACE, SUM, TEST, checksum_of
 
 PAGE_SIZE = 4096
@@ -22,19 +23,21 @@ LONG = re.compile(r"(\?N?C (?:XQ|GO)) ([0-9A-F])([0-9A-F]{3})")
 class Page:
     """The words of a page, and the source lines made from them."""
 
-    def __init__(self, page, words, list_words):
-        """`list_words` takes pairs of an address and a count of words, and returns the lines that the bench lists for them."""
-        self.page, self.words = page, words
+    def __init__(self, page, words, list_words, named=None):
+        """`list_words` takes pairs of an address and a count of words, and returns the lines that the bench lists for them. `named` are
+        further entries: for each place the name of its label, or None."""
+        self.page, self.words, self.named = page, words, named or {}
         self.end = max((place + 1 for place, word in enumerate(words) if word), default=1)
         self.instructions = self.read(list_words)
         # The lines of data: for each place the count of words and the text.
-        self.data, self.labels = {}, {}
+        self.data, self.labels = {}, {place: name for place, name in self.named.items() if name}
         self.is_module = 1 <= words[0] <= 31 and 1 <= words[1] <= 64
         self.entries = self.table() if self.is_module else []
+        self.enter()
         if self.is_module:
             self.entries += [place for place in range(FIRST_POLLED, min(ID_PLACE, self.end)) if words[place]]
             self.data.update((place, (1, f"CON {words[place]:03X}")) for place in range(ID_PLACE, self.end))
-        self.reached = self.follow() if self.is_module else self.sweep()
+        self.reached = self.follow() if self.is_module or self.named else self.sweep()
         self.label_targets()
 
     def read(self, list_words):
@@ -45,6 +48,16 @@ class Page:
             # Only the first line of each listing counts: the second one is the first line of the next listing, which overwrites it.
             found[int(line[1:4], 16)] = (len(line[6:13].split()), line[15:])
         return found
+
+    def enter(self):
+        """Adds the further entries, which must be at words of the page."""
+        for place, name in self.named.items():
+            if place >= self.end or self.is_data(place):
+                raise Failure(f"--entry {self.page}{place:03X}: " + (f"the last word that is not 000 is at {self.page}{self.end - 1:03X}"
+                              if place >= self.end else "the table or a name of the module is there"))
+            if not name:
+                self.labels.setdefault(place, self.unused(f"E{place:03X}"))
+            self.entries.append(place)
 
     # The table.
 

@@ -109,6 +109,16 @@ class Places:
         return found
 
 
+    def fixed(self, path, page, image, first):
+        """Returns the page, the bank and whether it is writable for an image that has its own place. Later files get the pages after it."""
+        if not page:
+            raise Failure(f"{path}: no page is free for it from page {first} on: choose an earlier one with --page")
+        if self.bank is None and self.page is not None and PAGES.index(self.page) <= PAGES.index(page):
+            self.page = PAGES[PAGES.index(page) + 1] if page != PAGES[-1] else None
+        return page, image.bank if image.bank_group or image.bank != 1 else None, \
+            self.writable or image.is_ram and not image.is_protected
+
+
 class Given(NamedTuple):
     """A source of the command line: its file, the description of its page's end, its page and its bank."""
     path: str

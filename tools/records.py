@@ -4,7 +4,7 @@ from dataclasses import dataclass, field
 from typing import List, Optional, Tuple
 
 # What a part of a container is. The value of a part of kind DATA is its bytes, eight for each register.
-PROGRAM, LISTING, DATA, OTHER = "raw", "listing", "data", "other"
+PROGRAM, LISTING, DATA, OTHER, IMAGE = "raw", "listing", "data", "other", "image"
 
 END = bytes.fromhex("C0000D")
 LETTERS = re.compile(rb"[\x20-\x7e]*")

@@ -44,3 +44,19 @@ def call(linked: Linked, target: str, words: list[str], is_traced: bool) -> int:
             print(f"{name}={number}" + (f"  {value}" if name in STACK and number[:1] != "=" else ""))
     print(f"ran {result.steps} {result.reason}" + (f" ! {result.refusal}" if result.refusal else ""))
     return 0 if ended_well(case.after, result) else 1
+
+
+def debug(linked: Linked, target: str, words: list[str]) -> int:
+    """Debugs a call from the first instruction of what it calls. Returns the status."""
+    from debugger import Debugger, loop
+    from debugging import Machine, banked
+    from decks import items_of, lines_of
+    from sourcing import Places, parts_of_project
+    linked.assemble()
+    caller = Caller(linked)
+    one = Call(caller, case_of(linked, target, words))
+    deck = linked.deck() + f"words {caller.page}\n3E0\nend\n{one.deck}{f'step {one.before}' if one.before else ''}\n".encode("latin-1")
+    lines = lines_of(deck)
+    commands = [b"".join(lines[first:last + 1]) for first, last in items_of(lines)]
+    machine = Machine(commands, linked.project.memory, banked(commands))
+    return loop(Debugger(machine, Places(parts_of_project(linked)), []))

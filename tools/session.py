@@ -32,10 +32,12 @@ def want_program():
 
 
 class Session:
-    """A bench with so many registers of memory that runs until it is closed. It starts empty, and keeps the effects of its commands."""
+    """A bench with so many registers of memory that runs until it is closed. It starts empty, and keeps the effects of its commands.
+    `is_known` is set if the program is known to be built."""
 
-    def __init__(self, memory=MEMORY):
-        want_program()
+    def __init__(self, memory=MEMORY, is_known=False):
+        if not is_known:
+            want_program()
         self.bench = subprocess.Popen([BENCH, *running(memory)], stdin=subprocess.PIPE, stdout=subprocess.PIPE)
 
     def ask(self, command):
@@ -44,9 +46,14 @@ class Session:
         if not is_whole(command):
             first = command.decode(errors="replace").split("\n")[0]
             raise Failure(f"`{first}`: expected one command, or one block with its line `end`", 2)
+        return self.ask_all(command)
+
+    def ask_all(self, commands):
+        """Returns the lines that some commands print. They and their marker must fit into a pipe, so they have at most 50,000 bytes if
+        they print more than a pipe holds."""
         lines = []
         try:
-            self.bench.stdin.write(command + b"\n" + MARK)
+            self.bench.stdin.write(commands.rstrip(b"\n") + b"\n" + MARK)
             self.bench.stdin.flush()
             while lines[-2:] != MARK_ANSWER:
                 line = self.bench.stdout.readline()

@@ -10,6 +10,7 @@ from typing import Any, NamedTuple
 from calls import Call, Caller
 from decks import NO_ANSWER, TOP, Failure, ended
 from linking import Linked
+from values import lost_of
 
 MICRO = re.compile(r"Micro ([0-9A-F]{4}) (.*)")
 LONG = re.compile(r"\?N?C (?:XQ|GO) ([0-9A-F]{4})")
@@ -41,6 +42,17 @@ class Step(NamedTuple):
     before: dict[str, Any]
     after: dict[str, Any]
     refusal: str
+
+
+def lost_by(step: Step) -> str:
+    """Returns the return address that a step has dropped because it pushed a fifth one; an empty text for other steps."""
+    return "" if step.refusal or step.address is None else lost_of(step.before["RTN"], step.after["RTN"])
+
+
+def losses_in(linked: Linked, steps: list[Step]) -> list[str]:
+    """Returns a line about the first return address that some steps have lost; none if they have lost none."""
+    lost = next((step for step in steps if lost_by(step)), None)
+    return [f"the fourth return address was lost at {place_of(linked, lost)}: it was {lost_by(lost)}"] if lost else []
 
 
 class Banks:

@@ -12,6 +12,9 @@ from values import text_of
 
 SEEDS = (1, 2, 3)
 
+# So many failed cases are executed again, to report more about them.
+MOST_EXAMINED = 20
+
 
 class Report(NamedTuple):
     """The report of a case: whether it passed, its lines, and the call and result that it describes."""
@@ -81,21 +84,26 @@ class Tests:
 
 
 def completed(caller: Caller, reports: list[Report], is_traced: bool) -> None:
-    """Adds to the reports of failed cases where they ended, which register was never set, and their steps."""
+    """Adds to the reports of failed cases where they ended, which register was never set, and their steps. A bug may fail every case, so
+    only the first failed cases are executed again."""
     failed = [report for report in reports if not report.passed]
     if not failed:
         return
     from finding import causes_of
-    from stepping import MOST_TRACED, place_of, rows_of, traced
-    for report in failed:
+    from stepping import MOST_TRACED, losses_in, place_of, rows_of, traced
+    for number, report in enumerate(failed):
         if report.call.junked and not report.lines:
-            report.lines.extend(causes_of(caller, report.case, report.call))
-    steps = traced(caller, [(report.call, report.result.steps + (report.result.reason == "Refused")) for report in failed])
+            report.lines.extend(causes_of(caller, report.case, report.call) if number < MOST_EXAMINED else
+                                ["depends on a register that was never set: the reports of earlier cases name registers"])
+    counts = [report.result.steps + (report.result.reason == "Refused") for report in failed]
+    examined = [number < MOST_EXAMINED and (is_traced or count <= MOST_TRACED) for number, count in enumerate(counts)]
+    steps = traced(caller, [(report.call, count if is_wanted else 0) for report, count, is_wanted in zip(failed, counts, examined)])
     for report, own in zip(failed, steps):
         if own and report.result.steps <= MOST_TRACED:
             report.lines.append(f"ended at {place_of(caller.linked, own[-1])} after {report.result.steps} steps")
         elif report.result.steps:
             report.lines.append(f"ended after {report.result.steps:,} steps")
+        report.lines.extend(losses_in(caller.linked, own))
         if is_traced:
             report.lines.extend(rows_of(caller.linked, own))
 

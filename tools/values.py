@@ -39,3 +39,9 @@ def text_of(digits):
 def character(code):
     """Returns a character as texts of program lines have it."""
     return chr(code) if 0x20 <= code <= 0x7E and chr(code) not in '"\\' else f"\\{code:02X}"
+
+
+def lost_of(before, after):
+    """Returns the return address that a step has dropped because it pushed a fifth one; an empty text for other steps."""
+    old, new = before.split(), after.split()
+    return old[3] if old[3] != "0000" and new != old and new[1:] == old[:3] else ""

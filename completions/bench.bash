@@ -14,18 +14,19 @@ _bench_options() {
         dis) echo '--origin' ;;
         prove) echo '--all --check' ;;
         bench-calculator) echo '--port --memory --lesson --no-browser --help' ;;
-        bench-catalogue) echo '--format --workers --out --help' ;;
-        bench-check) echo '--memory --help' ;;
-        bench-export) echo '--page --bank --end --label --numbers --symbols --for --help' ;;
+        bench-catalogue) echo '--format --workers --out --shard --join --help' ;;
+        bench-check) echo '--memory --workers --shard --join --help' ;;
+        bench-debug) echo '--memory --help' ;;
+        bench-export) echo '--page --bank --title --end --entry --label --numbers --symbols --for --help' ;;
         bench-help) echo '--nearest --refused --help' ;;
-        bench-import) echo '--page --bank --rw --swap --size --memory --as --decimal --quiet --out --module --source --only --all --into --help' ;;
+        bench-import) echo '--page --bank --rw --swap --size --memory --as --decimal --quiet --out --module --accept --source --only --all --into --help' ;;
         bench-keyboard) echo '--help' ;;
         bench-keys) echo '--help' ;;
-        bench-labels) echo '--page --help' ;;
-        bench-lint) echo '--page --help' ;;
-        bench-list) echo '--page --help' ;;
+        bench-labels) echo '--page --bank --help' ;;
+        bench-lint) echo '--page --bank --rules --help' ;;
+        bench-list) echo '--page --bank --help' ;;
         bench-module) echo '--out --images --junk --no-junk --trace --junit --table --call --write --values --help' ;;
-        bench-play) echo '--size --memory --steps --help' ;;
+        bench-play) echo '--size --memory --steps --skip --tone --workers --script --shard --join --help' ;;
         bench-registers) echo '--memory --all --deck --page --help' ;;
         bench-trace) echo '--memory --labels --function --watch --help' ;;
         bench-where) echo '--memory --brief --labels --help' ;;
@@ -57,4 +58,4 @@ _bench() {
     [[ -n $words ]] || mapfile -t COMPREPLY < <(compgen -f -- "$word")
 }
 
-complete -o filenames -F _bench bench bench-calculator tools/calculator bench-catalogue tools/catalogue bench-check tools/check bench-export tools/export bench-help tools/help bench-import tools/import bench-keyboard tools/keyboard bench-keys tools/keys bench-labels tools/labels bench-lint tools/lint bench-list tools/list bench-module tools/module bench-play tools/play bench-registers tools/registers bench-trace tools/trace bench-where tools/where
+complete -o filenames -F _bench bench bench-calculator tools/calculator bench-catalogue tools/catalogue bench-check tools/check bench-debug tools/debug bench-export tools/export bench-help tools/help bench-import tools/import bench-keyboard tools/keyboard bench-keys tools/keys bench-labels tools/labels bench-lint tools/lint bench-list tools/list bench-module tools/module bench-play tools/play bench-registers tools/registers bench-trace tools/trace bench-where tools/where

@@ -23,12 +23,21 @@ complete -c bench-calculator -l help
 complete -c bench-catalogue -l format
 complete -c bench-catalogue -l workers
 complete -c bench-catalogue -l out
+complete -c bench-catalogue -l shard
+complete -c bench-catalogue -l join
 complete -c bench-catalogue -l help
 complete -c bench-check -l memory -x -a '64 128 192 256 320'
+complete -c bench-check -l workers
+complete -c bench-check -l shard
+complete -c bench-check -l join
 complete -c bench-check -l help
+complete -c bench-debug -l memory -x -a '64 128 192 256 320'
+complete -c bench-debug -l help
 complete -c bench-export -l page -x -a '4 5 6 7 8 9 A B C D E F'
 complete -c bench-export -l bank -x -a '1 2 3 4'
+complete -c bench-export -l title
 complete -c bench-export -l end
+complete -c bench-export -l entry
 complete -c bench-export -l label
 complete -c bench-export -l numbers
 complete -c bench-export -l symbols
@@ -48,6 +57,7 @@ complete -c bench-import -l decimal
 complete -c bench-import -l quiet
 complete -c bench-import -l out
 complete -c bench-import -l module
+complete -c bench-import -l accept
 complete -c bench-import -l source
 complete -c bench-import -l only
 complete -c bench-import -l all
@@ -56,10 +66,14 @@ complete -c bench-import -l help
 complete -c bench-keyboard -l help
 complete -c bench-keys -l help
 complete -c bench-labels -l page -x -a '4 5 6 7 8 9 A B C D E F'
+complete -c bench-labels -l bank -x -a '1 2 3 4'
 complete -c bench-labels -l help
 complete -c bench-lint -l page -x -a '4 5 6 7 8 9 A B C D E F'
+complete -c bench-lint -l bank -x -a '1 2 3 4'
+complete -c bench-lint -l rules
 complete -c bench-lint -l help
 complete -c bench-list -l page -x -a '4 5 6 7 8 9 A B C D E F'
+complete -c bench-list -l bank -x -a '1 2 3 4'
 complete -c bench-list -l help
 complete -c bench-module -l out
 complete -c bench-module -l images
@@ -75,6 +89,12 @@ complete -c bench-module -l help
 complete -c bench-play -l size
 complete -c bench-play -l memory -x -a '64 128 192 256 320'
 complete -c bench-play -l steps
+complete -c bench-play -l skip
+complete -c bench-play -l tone
+complete -c bench-play -l workers
+complete -c bench-play -l script
+complete -c bench-play -l shard
+complete -c bench-play -l join
 complete -c bench-play -l help
 complete -c bench-registers -l memory -x -a '64 128 192 256 320'
 complete -c bench-registers -l all

@@ -22,32 +22,32 @@
 
         NAME "AND"
 AND:    ENBANK2
-        NOP             ; bank 2 has a jump here, and in each of the next six functions
-        RTN
+        CON 000         ; bank 2 has a jump here, and in each of the next six functions
+        CON 000
         NAME "OR"
 OR:     ENBANK2
-        NOP
-        RTN
+        CON 000
+        CON 000
         NAME "XOR"
 XOR:    ENBANK2
-        NOP
-        RTN
+        CON 000
+        CON 000
         NAME "NOT"
 NOT:    ENBANK2
-        NOP
-        RTN
+        CON 000
+        CON 000
         NAME "SHL"
 SHL:    ENBANK2
-        NOP
-        RTN
+        CON 000
+        CON 000
         NAME "SHR"
 SHR:    ENBANK2
-        NOP
-        RTN
+        CON 000
+        CON 000
         NAME "BITS"
 BITS:   ENBANK2
-        NOP
-        RTN
+        CON 000
+        CON 000
         NAME "HEX"
 HEX:    ENBANK1
         ?NC GO :DOHEX

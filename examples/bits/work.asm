@@ -41,30 +41,30 @@ BITS:   ENBANK2
         ?NC GO :DOBITS
         NAME "HEX"
 HEX:    ENBANK1
-        NOP
-        RTN
+        CON 000
+        CON 000
         NAME "HTOX"
 HTOX:   ENBANK1
-        NOP
-        RTN
+        CON 000
+        CON 000
         NAME "DECODE"
 DECODE: ENBANK1
-        NOP
-        RTN
+        CON 000
+        CON 000
         NAME "MANT"
 MANT:   ENBANK1
-        NOP
-        RTN
+        CON 000
+        CON 000
         NAME "EXPO"
 EXPO:   ENBANK1
-        NOP
-        RTN
+        CON 000
+        CON 000
         NAME "ALEN"
 ALEN:   ENBANK1
-        NOP
-        RTN
+        CON 000
+        CON 000
 BACK:   ENBANK1         ; the next word, RTN, is read in bank 1
-        RTN
+        CON 000
 
 DOAND:  ?NC XQ :PAIR
         C=C AND A

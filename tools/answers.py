@@ -12,9 +12,11 @@ from importlib.machinery import SourceFileLoader
 from importlib.util import module_from_spec, spec_from_loader
 
 from decks import NO_ANSWER, TOP, Failure, bytes_of, lines_of
-from desk import PAGES, Desk, parts_of, refusal_of
+from desk import PAGES, Desk
 from keyboard import ROWS, places
+from parts import parts_of, refusal_of
 from refusals import Refused, look_into_blocks
+from unsupported import unsupported
 
 TOOLS = os.path.join(TOP, "tools")
 LESSONS = os.path.join(TOP, "examples")
@@ -67,9 +69,9 @@ class Answers:
 
     def __init__(self, memory):
         self.lock, self.causes, self.lessons = threading.RLock(), Causes(), lessons()
-        self.number, self.seen, self.ended = 0, None, None
+        self.number, self.ended = 0, None
         self.desk = Desk(memory)
-        self.seen = self.desk.look()
+        self.unsupported = unsupported()
 
     def close(self):
         """Ends the bench, after the thread that reads the tables: its own run of the bench would otherwise report a closed pipe."""
@@ -104,13 +106,15 @@ class Answers:
         with self.lock:
             return self.told(asked)
 
-    def told(self, asked, states=()):
-        """Returns the answer to a request: the state, the entries after those that the page has, and the states after the steps of a
-        trace."""
+    def told(self, asked):
+        """Returns the answer to a request: the states and the entries after those that the page has."""
         desk = self.desk
         is_known = asked.get("session") in (desk.number, str(desk.number))
         since = max(0, int(asked.get("since", 0)) - 1) if is_known else 0
-        answer = {"version": self.number, "session": desk.number, "state": self.seen, "states": list(states),
+        known = int(asked["at"]) if is_known and "at" in asked else None
+        doing = desk.doing()
+        answer = {"version": self.number, "session": desk.number, "states": desk.history.told(known), "plugs": desk.plugs,
+                  "doing": doing.decode("latin-1") if doing else None,
                   "entries": [[number, *entry.told()] for number, entry in enumerate(desk.log[since:], since)],
                   "waits": len(desk.queue), "ended": self.ended, "lesson": self.lesson_told(is_known)}
         if desk.queue and desk.queue[0].kind:
@@ -118,6 +122,7 @@ class Answers:
         if not is_known:
             answer["keys"] = [[list(key) + [place] for key, place in zip(row, places(row))] for row in ROWS]
             answer["lessons"] = self.lessons
+            answer["unsupported"] = self.unsupported
         return answer
 
     def lesson_told(self, is_known):
@@ -136,7 +141,8 @@ class Answers:
         """Executes a request of the page, and returns the answer."""
         name = asked["do"]
         call = {"give": self.give, "go": self.go, "stop": self.stop, "next": self.next, "lesson": self.open_lesson,
-                "open": self.open, "again": self.again, "begin": self.begin, "causes": self.causes_of}.get(name)
+                "open": self.open, "again": self.again, "begin": self.begin, "causes": self.causes_of, "list": self.listed,
+                "pages": self.pages}.get(name)
         if call is None:
             raise ValueError(name)
         seconds, steps, _ = asked.get("seconds", 0.05), asked.get("steps"), int(asked.get("since", 0))
@@ -151,9 +157,7 @@ class Answers:
                 if failure.status != NO_ANSWER:
                     raise
                 return self.end(asked)
-            if name == "causes":
-                return answer
-            return self.told(asked, answer or ())
+            return self.told(asked) if answer is None else answer
 
     def end(self, asked):
         """Records that the bench has ended, drops the commands that wait, and returns the answer."""
@@ -165,27 +169,23 @@ class Answers:
 
     def look(self):
         """Reads the state of the bench again."""
-        self.seen = self.desk.look()
+        self.desk.look()
         self.number += 1
 
     def give(self, asked):
         """Adds commands and blocks after those that wait, or before them if the request says so, and starts executing."""
         is_first, waited = asked.get("first") is True, len(self.desk.queue)
-        self.desk.give(asked["deck"].encode(), is_first)
-        return self.go(asked, len(self.desk.queue) - waited if is_first else None)
+        self.desk.give(asked["deck"].encode(), is_first, asked.get("on") is True)
+        self.go(asked, len(self.desk.queue) - waited if is_first else None)
 
     def go(self, asked, parts=None):
-        """Executes commands that wait, for a limited time, or only the first parts of them. Returns the states after the steps of a
-        trace."""
+        """Executes commands that wait, for a limited time, or only the first parts of them."""
         if self.desk.queue:
-            states = self.desk.go(min(max(asked.get("seconds", 0.05), 0.001), LONGEST_GO), asked.get("steps"), parts)
-            if states and self.desk.is_seen:
-                self.seen = states.pop()
+            self.desk.go(min(max(asked.get("seconds", 0.05), 0.001), LONGEST_GO), asked.get("steps"), parts)
+            if self.desk.is_seen:
                 self.number += 1
             else:
                 self.look()
-            return states
-        return ()
 
     def stop(self, _):
         """Drops the commands that wait. Those of a lesson that have not been started go back to the lesson."""
@@ -227,7 +227,7 @@ class Answers:
         """Executes the next step or the next command of the lesson, or all the rest of it."""
         lesson, how = self.desk.lesson, asked["how"]
         if lesson is None:
-            return ()
+            return
         if not self.desk.queue:
             while lesson["left"]:
                 part = lesson["left"].pop(0)
@@ -239,7 +239,20 @@ class Answers:
             lesson["left"] = []
         command = next((part for part in self.desk.queue if part.is_command), None)
         is_stepped = how == "step" and command is not None and command.kind in ("step", "trace")
-        return self.go({**asked, "steps": 1} if is_stepped else asked)
+        self.go({**asked, "steps": 1} if is_stepped else asked)
+
+    # What is listed.
+
+    def pages(self, _):
+        """Returns the plugged banks."""
+        return {"pages": self.desk.plugged()}
+
+    def listed(self, asked):
+        """Returns the instructions of a bank, or the lines of the programs in a page."""
+        page, bank, kind = asked["page"], asked["bank"], asked["kind"]
+        if page not in list(PAGES) or bank not in list("1234") or kind not in ("words", "lines"):
+            raise ValueError(page)
+        return {"rows": self.desk.listed(page, bank, kind == "words")}
 
     def causes_of(self, asked):
         """Returns the usual causes for the refusal of an entry of the session."""
@@ -265,11 +278,10 @@ class Answers:
         if twice is not None:
             raise Failure(f"two files are named '{twice}': rename one of them")
         with self.lock:
-            free = [page for page in PAGES[4:] + PAGES[:4] if page not in self.seen["pages"]] or ["8"]
+            free = [page for page in PAGES[4:] + PAGES[:4] if page not in self.desk.views["pages"]] or ["8"]
         with tempfile.TemporaryDirectory() as room:
             for name, data in files:
-                with open(os.path.join(room, name), "wb") as file:
-                    file.write(data)
+                write_file(os.path.join(room, name), data)
             page = asked.get("page") if asked.get("page") in list(PAGES) else free[0]
             ran = tool("import", [*self.desk.words, "--page", page, *(name for name, _ in files)], room)
         told = ran.stderr.decode(errors="replace")
@@ -287,7 +299,7 @@ class Answers:
             raise ValueError(kind)
         with self.lock:
             if kind in ("rom", "source") and not page:
-                page = next(iter(self.seen["pages"]), "8")
+                page = next(iter(self.desk.views["pages"]), "8")
             deck = self.desk.leaves(kind, page)
         words = ["--page", page] if kind in ("rom", "source") else [f"--label={label}"] if label else []
         ran = tool("export", [kind, *words, "-", "-"], None, deck)
@@ -300,6 +312,15 @@ class Answers:
 def file_name(name):
     """Returns a safe name for a file: without its folder, and with only letters, digits, `.`, `_` and `-`."""
     return re.sub(r"[^A-Za-z0-9._-]", "_", os.path.basename(name.replace("\\", "/")))[-100:].lstrip(".-")
+
+
+def write_file(path, data):
+    """Writes a file of an import. If the disk is full, that is reported."""
+    try:
+        with open(path, "wb") as file:
+            file.write(data)
+    except OSError as error:
+        raise Failure(f"{os.path.basename(path)} cannot be written for the import: {error.strerror}") from error
 
 
 def tool(name, words, folder, given=b""):

@@ -69,13 +69,14 @@ class Answers:
 
     def __init__(self, memory):
         self.lock, self.causes, self.lessons = threading.RLock(), Causes(), lessons()
-        self.number, self.ended = 0, None
+        self.number, self.ended, self.last_id = 0, None, None
         self.desk = Desk(memory)
         self.unsupported = unsupported()
 
     def close(self):
         """Ends the bench, after the thread that reads the tables: its own run of the bench would otherwise report a closed pipe."""
         self.causes.reader.join()
+        self.desk.beside.close()
         self.desk.bench.close()
 
     def calls(self):
@@ -149,6 +150,10 @@ class Answers:
         if not isinstance(seconds, (int, float)) or not (steps is None or isinstance(steps, int) and steps > 0):
             raise ValueError(seconds)
         with self.lock:
+            if asked.get("id") is not None and asked["id"] == self.last_id:
+                # The answer to this request was lost.
+                return self.told(asked)
+            self.last_id = asked.get("id")
             if self.ended and name not in ("again", "begin", "open", "lesson"):
                 return self.told(asked)
             try:

@@ -8,8 +8,10 @@ import tempfile
 import threading
 import time
 
+from beside import Beside
 from decks import BENCH, MARK, MARK_ANSWER, NO_ANSWER, Failure, lines_of
 from keyboard import KEYS
+from explaining import is_carrying, of_line, of_word
 from history import History
 from lights import AFTER, BEFORE, PROMPT, Lights, Seen
 from paging import Pages
@@ -109,6 +111,7 @@ class Desk:
         self.words = [] if memory is None else ["--memory", memory]
         self.top = BOTTOM_OF_MEMORY + (int(memory) if memory and memory.isdigit() else MOST_REGISTERS)
         self.number, self.bench, self.pages = 0, None, Pages()
+        self.beside = Beside(lambda: Bench([]))
         self.begin()
 
     def begin(self):
@@ -313,7 +316,19 @@ class Desk:
         return {**self.views, "shift": self.lights.shift, "program": self.lights.program, "breaks": sorted(map(list, self.breaks)),
                 "spells": spells,
                 "label": self.labels.of(self.views["pos"][0].split()[1]) if self.views["listing"] else "",
-                "last": self.log[-1].told() if self.log else ["", []], "entries": len(self.log), "next": ""}
+                "last": self.log[-1].told() if self.log else ["", []], "entries": len(self.log), "next": self.explained()}
+
+    def explained(self):
+        """Returns what the next instruction or line does, in a sentence; an empty text if it cannot be read."""
+        views, (mode, place) = self.views, self.views["pos"][0].split()
+        if mode == "Micro":
+            words, text = next(((text[:9].strip(), text[9:]) for at, _, text in views["listing"] if at == place), ("", ""))
+            after = self.beside.after(words, views["cpu"]) if is_carrying(text) else None
+            return f"{text}: {of_word(text, views['cpu'], after)}" if text else ""
+        lines = [(f"P{at}", text) for at, text in views["paged"]] if place[0] == "P" else [(line[:4], line[5:]) for line in views["lines"]]
+        text = next((text for at, text in lines if at == place), "")
+        sentence = of_line(text, views["numbers"], views["values"], views["alpha"][0], views["flags"][0])
+        return f"{text}: {sentence}" if sentence else text
 
     def plugged(self):
         """Returns the plugged banks: pairs of a page and a bank."""

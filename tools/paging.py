@@ -13,6 +13,9 @@ MOST_BYTES = 2000
 # The first word of a table entry for a keystroke program, without the digit of its page.
 KEYSTROKES = 0x200
 
+# The bytes of a program with one label.
+NEXT = bytes.fromhex("02C0000D")
+
 
 def words_of(image):
     """Returns the words in the lines of `show image`."""
@@ -54,11 +57,11 @@ def answers_to(programs):
 def listed(page, programs):
     """Returns the lines of programs, as pairs of an address and a text. The texts are those that the bench lists."""
     starts, parts = [start for start, _ in programs], [data[:MOST_BYTES] for _, data in programs]
+    # The bench replaces the last END by `.END.`, and so another program follows.
     # Bytes that are no line end a program.
     parts = [data[:whole_lines(data)] if refusal else data for data, (refusal, _) in zip(parts, answers_to(parts))]
     lines = []
-    for start, data, (_, answer) in zip(starts, parts, answers_to(parts)):
-        # The bench adds an `.END.` to what it has loaded.
+    for start, data, (_, answer) in zip(starts, parts, answers_to([data + NEXT for data in parts])):
         texts = [(int(line[:4]), line[5:].decode("latin-1")) for line in answer]
         lines += [[f"{page}{start + place:03X}", text] for place, text in texts if place < len(data)]
     return lines

@@ -11,7 +11,7 @@ import threading
 from importlib.machinery import SourceFileLoader
 from importlib.util import module_from_spec, spec_from_loader
 
-from decks import NO_ANSWER, TOP, Failure, bytes_of, lines_of
+from decks import MARKS_OF_UTF16, NO_ANSWER, TOP, Failure, bytes_of, lines_of
 from desk import PAGES, Desk
 from keyboard import ROWS, places
 from parts import parts_of, refusal_of
@@ -28,6 +28,9 @@ WALKS = {"trace": "A carry on its way", "key-to-byte": "A program, from key to b
 # The longest time in seconds for an import or an export, and for one request that executes commands.
 LONGEST_TOOL, LONGEST_GO = 120, 0.25
 MOST_FILES = 16
+
+# Quotes that a word processor writes, and that the bench does not read.
+QUOTES = re.compile("[“”„‘’«»]")
 
 
 def lessons():
@@ -61,7 +64,9 @@ class Causes:
         one = Refused(lines, 0, len(lines) - 1, refusal)
         look_into_blocks([one])
         line = "" if one.inner is None else f"line {one.inner + 1}: {one.shown()}"
-        return line, [[head.replace("`", ""), (why or "").replace("`", "")] for head, why in self.documents.causes_of(one).items()]
+        causes = [[head.replace("`", ""), (why or "").replace("`", "")] for head, why in self.documents.causes_of(one).items()]
+        quotes = QUOTES.findall(text.decode("utf-8", "replace"))
+        return line, [[" ".join(quotes), 'typographic quotes: write straight ones, as in key "HI"'], *causes] if quotes else causes
 
 
 class Answers:
@@ -209,6 +214,8 @@ class Answers:
     def open(self, asked):
         """Opens a deck on an empty bench. Its commands wait until the page asks for them."""
         deck = base64.b64decode(asked["data"], validate=True)
+        if deck.startswith(MARKS_OF_UTF16):
+            raise Failure("the deck is in UTF-16: save it in UTF-8, without a byte order mark")
         parts = parts_of(deck, True)
         self.begin(asked)
         self.desk.queue = parts

@@ -58,7 +58,7 @@ class Explained:
             return ""
         # A value after a comma is followed by a comma if the sentence goes on.
         text = re.sub(r"\{(value|indirect|flag)\}(?= )", r"{\1},", self.row.sentence)
-        return re.sub(r",+(?=[,.;])", "", PLACEHOLDER.sub(lambda one: self.part(one[1]), text))
+        return re.sub(r",+(?=[,.;])|(?<=names),(?= is)", "", PLACEHOLDER.sub(lambda one: self.part(one[1]), text))
 
     def part(self, name):
         """Returns what a placeholder stands for."""

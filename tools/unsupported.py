@@ -34,5 +34,5 @@ def unsupported():
             kind = kinds.get(function)
             found[keys] = f"{function} is not supported{f': the bench has no {kind}' if kind else ''}. In program mode the line is stored."
         elif refusal == KEY_NOT_HELD:
-            found[keys] = f"{function} is not supported. Use {instead[function]}" if function in instead else f"{function} is not supported"
+            found[keys] = f"{function} is not supported. Instead: {instead[function]}" if function in instead else f"{function} is not supported"
     return found

@@ -242,7 +242,8 @@ class Desk:
         for name in names:
             asked = [*BEFORE, b"key " + name.encode(), *AFTER]
             replies = self.bench.ask_all(asked)
-            views = [reply[0] for at, reply in enumerate(replies) if at != len(BEFORE)]
+            # X is in the fourth line of the stack.
+            views = [reply[3 if asked[at] == b"show stack" else 0] for at, reply in enumerate(replies) if at != len(BEFORE)]
             if replies[len(BEFORE)]:
                 entry.reply, entry.key = replies[len(BEFORE)], name
                 return

@@ -5,14 +5,16 @@ program line at the position, and a prompt shows IND if SHIFT was pressed in it.
 import re
 from typing import NamedTuple
 
+from values import text_of
+
 # A prompt on the display, in which SHIFT adds IND. While a name is typed there is no prompt.
 PROMPT = re.compile(r"(?:RCL|STO|ISG|VIEW|ASTO|ARCL|ST[-+*/]|SF|CF|FS\?|FIX|SCI|ENG|GTO|XEQ|LBL)(?: IND)?(?: ST)? [.0-9]?_{1,2}")
 
-# A program line on the display, with its number. No number in X looks like this.
-PROGRAM_LINE = re.compile(r"[0-9]{2,4} .*")
+# A program line on the display, with its number, or the sign for a line that cannot be read. No number in X looks like this.
+PROGRAM_LINE = re.compile(r"[0-9]{2,4} .*|\?")
 
 # What is asked before and after each key.
-BEFORE, AFTER = (b"show pos", b"show display"), (b"show pos", b"show display", b"show alpha", b"show flags")
+BEFORE, AFTER = (b"show pos", b"show display"), (b"show pos", b"show display", b"show alpha", b"show flags", b"show stack")
 
 
 class Seen(NamedTuple):
@@ -21,6 +23,7 @@ class Seen(NamedTuple):
     display: str
     alpha: str = ""
     flags: str = ""
+    x: str = ""
 
     @property
     def is_idle(self):
@@ -29,8 +32,9 @@ class Seen(NamedTuple):
 
     @property
     def is_alpha(self):
-        """Whether the display may show ALPHA: flag 48 is set, and the display has its text."""
-        return "48" in self.flags.split() and self.display == self.alpha
+        """Whether the display may show a text: that of ALPHA, if flag 48 is set, or that of X."""
+        is_x = text_of(self.x[2:]) == f'"{self.display}"'
+        return is_x or "48" in self.flags.split() and self.display == self.alpha
 
 
 class Lights:

@@ -38,7 +38,8 @@ class Session:
     def __init__(self, memory=MEMORY, is_known=False):
         if not is_known:
             want_program()
-        self.bench = subprocess.Popen([BENCH, *running(memory)], stdin=subprocess.PIPE, stdout=subprocess.PIPE)
+        # In a session of its own, so that an interrupt at a terminal reaches only this tool.
+        self.bench = subprocess.Popen([BENCH, *running(memory)], stdin=subprocess.PIPE, stdout=subprocess.PIPE, start_new_session=True)
 
     def ask(self, command):
         """Returns the lines that a command or a whole block prints."""

@@ -27,6 +27,6 @@ is_only_end [] = false
 is_only_end (name ∷ []) = bytes_eq name (codes "end")
 is_only_end (name ∷ other ∷ others) = false
 
--- A line that ends a block, and is not too long.
+-- The line that ends a block: its only word is `end`, and it is not too long.
 abbrev pub is_end : List ℕ → Bool
 is_end line = not (is_long line) && is_only_end (words_of line)

@@ -29,17 +29,17 @@ impl Exponent {
     }
 }
 
-/// The absolute value of a decimal that is not zero: ten digits and an exponent.
+/// The size of a decimal that is not zero, without its sign: `mantissa` * 10^(`exponent` - 9).
 #[derive(Clone, Copy, Debug, PartialEq, Eq)]
 pub struct Magnitude {
     /// The ten digits, of which the first is not zero.
     pub mantissa: Mantissa,
-    /// The exponent, -99 to 99, which is the power of ten of the first digit.
+    /// The power of ten of the first digit, -99 to 99.
     pub exponent: Exponent,
 }
 
 impl Magnitude {
-    /// Returns the exponent of the magnitude plus 99, 0 to 198.
+    /// Returns the exponent plus 99, 0 to 198, so that magnitudes are compared without negative numbers.
     pub fn steps(self) -> u32
         ensures { result ≡ self.exponent.biased }
     {

@@ -186,7 +186,8 @@ pub fn subtract(sign: Sign, x: Magnitude, y: Magnitude) -> Result<Ten, DecimalFa
     }
 }
 
-/// Compares two magnitudes: first their exponents, and if these are equal their digits.
+/// Returns whether `x` is less than, equal to or greater than `y`: the greater exponent decides, or, if the exponents
+/// are equal, the greater ten digits.
 pub fn compare(x: Magnitude, y: Magnitude) -> Ordering
     ensures { result ≡ int_cmp (pos (size x)) (pos (size y)) }
 {

@@ -137,7 +137,11 @@ impl Ten {
         register::write(self)
     }
 
-    /// Returns `self` + `other`, rounded to ten digits. The only error is `Range`.
+    /// Returns `self` + `other`, rounded to ten digits.
+    ///
+    /// # Errors
+    ///
+    /// `Range`, and no other: the absolute value of the sum is too large for ten digits and an exponent of 99.
     #[inline(always)]
     pub fn add(self, other: Self) -> Result<Self, DecimalFault>
         ensures { Nearest (units self +ℤ units other) 1 result }

@@ -72,7 +72,8 @@ impl<W> ToWrite<W> {
         }
     }
 
-    /// Returns the `Write` that the sink writes to. The two flags are dropped.
+    /// Returns the `Write` that the sink wrote to. Whether a write failed, and whether all bytes were flushed, is not known
+    /// afterwards.
     pub fn into_inner(self) -> W
         ensures { result ≡ writer_of self }
     {

@@ -1,4 +1,10 @@
+pub mod CommandLemmas
+pub mod CommandWalks
+pub mod EndingLemmas
 pub mod InputLemmas
 pub mod OneText
 pub mod PrintedWords
+pub mod TwiceGiven
 pub mod WordLemmas
+pub mod WordTurns
+pub mod WrongValues

@@ -1,6 +1,10 @@
-pub mod Endings
+pub mod BenchCommand
+pub mod CommandLine
+pub mod Ending
+pub mod EndingTexts
 pub mod Inputs
 pub mod JobLaws
+pub mod MemorySizes
 pub mod Outputs
 pub mod Texts
 pub mod WordTexts

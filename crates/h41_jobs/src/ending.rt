@@ -1,9 +1,9 @@
 //! What the program prints if its command line asks for no task.
 
 ghost use Rattle.std.specs.Prelude.{◌≡◌};
-ghost use Rattle.h41_jobs.specs.Endings.{text_of};
+ghost use Rattle.h41_jobs.specs.EndingTexts.{text_of};
 
-use h41_arguments::Ending;
+use crate::arguments::Ending;
 use h41_refusals::Refusal;
 
 /// Returns the text that the program prints if its command line asks for help or the version, is wrong, or cannot be

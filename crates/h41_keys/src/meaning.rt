@@ -45,7 +45,8 @@ pub enum Meaning {
     Append,
 }
 
-/// Returns the meaning of a key if ALPHA mode is on (`letters`) or off and SHIFT was or was not pressed before it.
+/// Returns what a key does. `letters` is whether ALPHA mode is on, `shift` whether SHIFT was pressed directly before the
+/// key.
 pub(crate) fn meaning_of(key: Key, letters: bool, shift: bool) -> Meaning
     ensures { result ≡ spec.meaning_of key letters shift }
 {

@@ -1,7 +1,7 @@
 -- Answers that exist, by a test or without one.
 use Rattle.std.proofs.Common.{◌≡◌, Bool, true, false, MatchBool, refl}
-use Rattle.h41_laws_numbers.specs.HasOne.{HasOne}
-use Rattle.h41_laws_numbers.proofs.Answering.{Has}
+use Rattle.h41_laws_words.specs.HasOne.{HasOne}
+use Rattle.h41_laws_words.proofs.Answering.{Has}
 
 pub one_there : {A : Type 0} {IsRight : A → Type 0} → HasOne IsRight → Has IsRight
 one_there found = record { answer = found.answer; right = found.right }

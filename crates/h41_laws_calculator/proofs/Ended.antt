@@ -19,9 +19,9 @@ use Rattle.h41_xrom.specs.Lines.{CarriesNamed, Ended, EntersFrom, Fails, FailsFr
 use Rattle.h41_xrom.specs.Lines.{GoesOn, GoesOnFrom, PassesFrom, begun_at, end_of_answer, end_of_entering}
 use Rattle.h41_xrom.specs.declared.lines.LineSource.{LineSource}
 use Rattle.h41_xrom.specs.declared.lines.LineSource.TheVariants as sources
-use Rattle.h41_laws_numbers.proofs.Answering.{Has}
-use Rattle.h41_laws_lines.specs.LineOutcomes.{EnteringHasOneOutcome, FailureHasOneOutcome, PassingHasOneOutcome, StepHasOneOutcome}
-use Rattle.h41_laws_lines.specs.LineOutcomes.{TypedFailureHasOneOutcome, TypedHasOneOutcome}
+use Rattle.h41_laws_words.proofs.Answering.{Has}
+use Rattle.h41_laws_calculator.specs.LineOutcomes.{EnteringHasOneOutcome, FailureHasOneOutcome, PassingHasOneOutcome, StepHasOneOutcome}
+use Rattle.h41_laws_calculator.specs.LineOutcomes.{TypedFailureHasOneOutcome, TypedHasOneOutcome}
 use Rattle.h41_laws_calculator.specs.LineEnds.{LineHasOneEnd, NameHasOneFunction}
 use Rattle.h41_laws_calculator.proofs.Chosen.{alone, either, one_there}
 

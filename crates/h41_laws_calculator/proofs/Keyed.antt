@@ -52,10 +52,10 @@ use Rattle.h41_xrom.specs.declared.lines.LineSource.{LineSource}
 use Rattle.h41_xrom.specs.declared.lines.LineSource.TheVariants as sources
 use Rattle.h41_xrom.specs.declared.refusal.CalculatorRefusal.{CalculatorRefusal}
 use Rattle.h41_xrom.specs.declared.refusal.CalculatorRefusal.TheVariants.{KeyNotHeld, MemoryLost}
-use Rattle.h41_laws_numbers.specs.HasOne.{HasOne}
-use Rattle.h41_laws_numbers.proofs.Answering.{Has}
-use Rattle.h41_laws_programs.specs.ProgramAnswers.{MemoryHasOneAnswer, PositionHasOne}
-use Rattle.h41_laws_values.specs.LineValues.{ValueHasOneRegister}
+use Rattle.h41_laws_words.specs.HasOne.{HasOne}
+use Rattle.h41_laws_words.proofs.Answering.{Has}
+use Rattle.h41_laws_calculator.specs.ProgramAnswers.{MemoryHasOneAnswer, PositionHasOne}
+use Rattle.h41_laws_calculator.specs.LineValues.{ValueHasOneRegister}
 use Rattle.h41_laws_calculator.specs.Keys.{KeyHasOneOutcome, KeyLeaves, PressStoresInner, StoresInner}
 use Rattle.h41_laws_calculator.specs.LineEnds.{LineHasOneEnd, NameHasOneFunction}
 use Rattle.h41_laws_calculator.specs.ProgramMode.{ChangeHasOneOutcome, MoveHasOneOutcome}

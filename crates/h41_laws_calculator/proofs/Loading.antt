@@ -16,8 +16,8 @@ use Rattle.h41_xrom.specs.CalculatorLaws.{DisplayIsDetermined, LoadIsDetermined}
 use Rattle.h41_xrom.specs.Display.{ShowsDisplay, ShowsEntry, ShowsMessage, ShowsPrompt, ShowsShownLine, cursor_of, entry_text, shown_prompt}
 use Rattle.h41_xrom.specs.Programs.{Becomes, LoadMakes, after_load, change_refusal, size_makes}
 use Rattle.h41_xrom.specs.declared.refusal.CalculatorRefusal.{CalculatorRefusal}
-use Rattle.h41_laws_numbers.proofs.Answering.{Has}
-use Rattle.h41_laws_programs.specs.ProgramChanges.{LoadHasOneOutcome}
+use Rattle.h41_laws_words.proofs.Answering.{Has}
+use Rattle.h41_laws_calculator.specs.ProgramChanges.{LoadHasOneOutcome}
 use Rattle.h41_laws_calculator.specs.CalculatorAnswers as answers
 use Rattle.h41_laws_calculator.specs.CalculatorAnswers.{DisplayHasOneText, SizeHasOneOutcome}
 use Rattle.h41_laws_calculator.proofs.Chosen.{alone, either}

@@ -25,9 +25,9 @@ use Rattle.h41_program.specs.declared.listed_line.ListedLine.{ListedLine}
 use Rattle.h41_program.specs.declared.refusal.ProgramRefusal.{ProgramRefusal}
 use Rattle.h41_program.specs.declared.refusal.ProgramRefusal.TheVariants.{BrokenProgram}
 use Rattle.h41_ram.specs.RegisterMap.{RegisterMap, is_sound}
-use Rattle.h41_laws_numbers.proofs.Answering.{Has}
-use Rattle.h41_laws_programs.specs.ProgramAnswers.{PositionHasOne}
-use Rattle.h41_laws_programs.specs.ProgramChanges.{ChangeHasOneAnswer, EditHasOneOutcome}
+use Rattle.h41_laws_words.proofs.Answering.{Has}
+use Rattle.h41_laws_calculator.specs.ProgramAnswers.{PositionHasOne}
+use Rattle.h41_laws_calculator.specs.ProgramChanges.{ChangeHasOneAnswer, EditHasOneOutcome}
 use Rattle.h41_laws_calculator.specs.ProgramMode.{MoveHasOneOutcome}
 use Rattle.h41_laws_calculator.proofs.Chosen.{alone, either}
 

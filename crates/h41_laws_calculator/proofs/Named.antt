@@ -11,7 +11,7 @@ use Rattle.h41_xrom.specs.Lines.{IsNamed}
 use Rattle.h41_focal.specs.LineLaws.{EnteringIsDetermined, FailureIsDetermined, PassingIsDetermined, StepIsDetermined}
 use Rattle.h41_focal.specs.LineLaws.{TypedIsDetermined}
 use Rattle.h41_xrom.proofs.StepLaws.{same_function}
-use Rattle.h41_laws_numbers.proofs.Answering.{Has}
+use Rattle.h41_laws_words.proofs.Answering.{Has}
 use Rattle.h41_laws_calculator.specs.LineEnds.{NameHasOneFunction}
 
 -- All functions, ten in a row.

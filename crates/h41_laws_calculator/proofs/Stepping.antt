@@ -14,8 +14,8 @@ use Rattle.h41_xrom.specs.declared.calculator.Mode.TheVariants as modes
 use Rattle.h41_xrom.specs.declared.lines.LineSource.TheVariants as sources
 use Rattle.h41_xrom.specs.declared.refusal.CalculatorRefusal.{CalculatorRefusal}
 use Rattle.h41_xrom.specs.declared.refusal.CalculatorRefusal.TheVariants.{Word}
-use Rattle.h41_laws_numbers.specs.HasOne.{HasOne}
-use Rattle.h41_laws_numbers.proofs.Answering.{Has}
+use Rattle.h41_laws_words.specs.HasOne.{HasOne}
+use Rattle.h41_laws_words.proofs.Answering.{Has}
 use Rattle.h41_laws_words.specs.WordAnswers.{AcceptedWordHasOneChange, HasRegisters}
 use Rattle.h41_laws_calculator.specs.CalculatorAnswers.{AcceptedStepHasOneState, StepHasOneOutcome, StepHasOneRefusal, StepLeaves}
 use Rattle.h41_laws_calculator.specs.LineEnds.{LineHasOneEnd}

@@ -4,7 +4,7 @@ use Rattle.h41_xrom.specs.Calculator.{CalculatorState, RefusesStep, Step}
 use Rattle.h41_xrom.specs.Display.{ShowsDisplay}
 use Rattle.h41_xrom.specs.Programs.{Becomes, Loads, size_makes}
 use Rattle.h41_xrom.specs.declared.refusal.CalculatorRefusal.{CalculatorRefusal}
-use Rattle.h41_laws_numbers.specs.HasOne.{HasOne}
+use Rattle.h41_laws_words.specs.HasOne.{HasOne}
 use Rattle.h41_laws_words.specs.WordAnswers.{HasRegisters}
 
 -- A step has exactly one refusal, or none, from any state.

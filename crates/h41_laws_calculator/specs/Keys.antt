@@ -9,7 +9,7 @@ use Rattle.h41_program.specs.ProgramLaws.{IsInner}
 use Rattle.h41_xrom.specs.Calculator.{CalculatorState}
 use Rattle.h41_xrom.specs.KeyActions.{HasFlags, Presses, press_of}
 use Rattle.h41_xrom.specs.declared.refusal.CalculatorRefusal.{CalculatorRefusal}
-use Rattle.h41_laws_numbers.specs.HasOne.{HasOne}
+use Rattle.h41_laws_words.specs.HasOne.{HasOne}
 
 -- The line that an action stores, if it stores one, can be encoded in bytes, and is one that
 -- programs can contain.

@@ -1,4 +1,13 @@
+pub mod LineValues
+pub mod RegisterPlaces
+pub mod ProgramAnswers
+pub mod ProgramChanges
+pub mod LineOutcomes
 pub mod LineEnds
 pub mod ProgramMode
 pub mod CalculatorAnswers
 pub mod Keys
+pub mod WholeMemory
+pub mod WholeInputs
+pub mod WholeCalculators
+pub mod BenchOutcomes

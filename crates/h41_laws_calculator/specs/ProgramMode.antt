@@ -5,7 +5,7 @@ use Rattle.h41_positions.specs.FocalState.{Machine}
 use Rattle.h41_program.specs.ProgramLaws.{IsInner}
 use Rattle.h41_program.specs.declared.refusal.ProgramRefusal.{ProgramRefusal}
 use Rattle.h41_ram.specs.RegisterMap.{is_sound}
-use Rattle.h41_laws_numbers.specs.HasOne.{HasOne}
+use Rattle.h41_laws_words.specs.HasOne.{HasOne}
 
 -- A move of the position, and BACK, have exactly one outcome, for any machine.
 abbrev pub MoveHasOneOutcome : (Machine → Result Machine ProgramRefusal → Type 0) → Type 0

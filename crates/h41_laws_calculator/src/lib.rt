@@ -1,5 +1,10 @@
-//! Laws of existence for the calculator: the end of a program line, a step, a key, loading a program, a new number of
-//! data registers and the text of the display each have exactly one result.
+//! Laws about the calculator: values, program memory, program lines, steps, keys and runs each have exactly one result, in every
+//! state that a calculator can reach.
 #![tactic(auto)]
 
-pub mod laws;
+pub mod calculator;
+pub mod lines;
+pub mod programs;
+pub mod runs;
+pub mod states;
+pub mod values;

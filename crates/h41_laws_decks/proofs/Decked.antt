@@ -6,7 +6,7 @@ use Rattle.h41_deck.specs.Answers.{Answer, printed_text}
 use Rattle.h41_deck.specs.Deck.{AnswersDeck, AnswersInTurn, outcome_of}
 use Rattle.h41_deck.specs.Replies.{ItemReply}
 use Rattle.h41_lines.specs.Lines.{lines}
-use Rattle.h41_laws_numbers.specs.HasOne.{HasOne}
+use Rattle.h41_laws_words.specs.HasOne.{HasOne}
 use Rattle.h41_laws_decks.specs.DeckAnswers.{ReplyHasOneAnswer}
 use Rattle.h41_laws_decks.specs.DeckTexts.{AnswersHaveOneList, DeckHasOneText, ItemRestsOn}
 use Rattle.h41_laws_decks.proofs.Replied.{both_given}

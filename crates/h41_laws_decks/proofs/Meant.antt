@@ -23,7 +23,7 @@ use Rattle.h41_text.specs.LineReading.{HasText, IsTextOf}
 use Rattle.h41_text.specs.LineText.{line_text}
 use Rattle.h41_text.specs.TextLaws.{OneLineOfText}
 use Rattle.h41_text.specs.private.TextParts.{candidate_line}
-use Rattle.h41_laws_numbers.specs.HasOne.{HasOne}
+use Rattle.h41_laws_words.specs.HasOne.{HasOne}
 use Rattle.h41_laws_decks.specs.DeckAnswers.{ProgramBlockMeansOne}
 use Rattle.h41_laws_decks.proofs.Said.{given}
 

@@ -26,11 +26,12 @@ use Rattle.h41_laws_decks.specs.DeckAnswers.{LoadRestsOn, ProgramBlockMeansOne, 
 use Rattle.h41_laws_decks.specs.DeckTexts.{AnswersHaveOneList, DeckHasOneText, InTurnRestsOn}
 use Rattle.h41_laws_decks.specs.WholeBenches.{EachDeckHasOneText, EachFrontHasOneText, FirstTextHasRest, IsWholeBench, ReplyLeavesWhole}
 use Rattle.h41_laws_decks.specs.WholeBenches.{WholeBenchRests}
-use Rattle.h41_laws_numbers.proofs.Answering.{Has}
-use Rattle.h41_laws_numbers.specs.HasOne.{HasOne}
-use Rattle.h41_laws_runs.specs.BenchOutcomes.{KeysLeave, LeadsToRegisters}
-use Rattle.h41_laws_states.specs.WholeCalculators.{CallLeavesWhole, LoadLeavesWhole, PlugLeavesWhole, PressLeavesWhole, ResetLeavesWhole}
-use Rattle.h41_laws_states.specs.WholeCalculators.{SizeLeavesWhole, StartIsWhole, StepLeavesWhole, UnplugLeavesWhole, WholeKeyHasOneOutcome}
+use Rattle.h41_laws_words.proofs.Answering.{Has}
+use Rattle.h41_laws_words.specs.HasOne.{HasOne}
+use Rattle.h41_laws_calculator.specs.BenchOutcomes.{KeysLeave, LeadsToRegisters}
+use Rattle.h41_laws_calculator.specs.WholeCalculators.{CallLeavesWhole, LoadLeavesWhole, PlugLeavesWhole, PressLeavesWhole}
+use Rattle.h41_laws_calculator.specs.WholeCalculators.{ResetLeavesWhole, SizeLeavesWhole, StartIsWhole, StepLeavesWhole, UnplugLeavesWhole}
+use Rattle.h41_laws_calculator.specs.WholeCalculators.{WholeKeyHasOneOutcome}
 
 -- A change that is made unless there is a refusal.
 unless_whole : (refusal : Option Refusal) (changed s : BenchState) → IsWholeBench s → (refusal ≡ None → IsWholeBench changed)

@@ -16,9 +16,9 @@ use Rattle.h41_deck.specs.Answers.{Answer, ends_by, says_and_ends, says_or_ends}
 use Rattle.h41_deck.specs.Replies.{Calls, LoadsBytes, PlugsWords}
 use Rattle.h41_deck.specs.Runs.{run_answer}
 use Rattle.h41_refusals.specs.declared.refusal.Refusal.TheVariants.{Calculator}
-use Rattle.h41_laws_numbers.specs.HasOne.{HasOne}
+use Rattle.h41_laws_words.specs.HasOne.{HasOne}
 use Rattle.h41_laws_calculator.specs.CalculatorAnswers.{LoadHasOneOutcome, SizeHasOneOutcome}
-use Rattle.h41_laws_runs.specs.BenchOutcomes.{RunHasOneOutcome, StepsHaveOneOutcome, TraceHasOneOutcome}
+use Rattle.h41_laws_calculator.specs.BenchOutcomes.{RunHasOneOutcome, StepsHaveOneOutcome, TraceHasOneOutcome}
 use Rattle.h41_laws_decks.specs.DeckAnswers.{LoadRestsOn, PageBlockSaysOne, ReplyHasOneAnswer, ViewHasOneText}
 use Rattle.h41_laws_decks.proofs.Said.{given}
 

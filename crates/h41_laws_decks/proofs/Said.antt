@@ -16,7 +16,7 @@ use Rattle.h41_commands.specs.declared.refusal.LineRefusal.TheVariants.{Source}
 use Rattle.h41_program.specs.ProgramLaws.{ListsAreDetermined, OneList}
 use Rattle.h41_views.specs.ProgramListing.{listed_line}
 use Rattle.h41_deck.specs.Views.{line_of}
-use Rattle.h41_laws_numbers.specs.HasOne.{HasOne}
+use Rattle.h41_laws_words.specs.HasOne.{HasOne}
 use Rattle.h41_laws_calculator.specs.CalculatorAnswers.{DisplayHasOneText}
 use Rattle.h41_laws_decks.specs.DeckAnswers.{PageBlockSaysOne, ViewHasOneText}
 

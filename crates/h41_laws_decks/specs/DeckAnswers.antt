@@ -12,8 +12,8 @@ use Rattle.h41_debug.specs.Bench.{BenchState}
 use Rattle.h41_deck.specs.Answers.{Answer}
 use Rattle.h41_deck.specs.Replies.{Reply}
 use Rattle.h41_deck.specs.Views.{Shows}
-use Rattle.h41_laws_numbers.specs.HasOne.{HasOne}
-use Rattle.h41_laws_runs.specs.BenchOutcomes.{KeysLeave, LeadsToRegisters}
+use Rattle.h41_laws_words.specs.HasOne.{HasOne}
+use Rattle.h41_laws_calculator.specs.BenchOutcomes.{KeysLeave, LeadsToRegisters}
 
 -- Each view has exactly one text, or one refusal, in any state.
 abbrev pub ViewHasOneText : Type 0

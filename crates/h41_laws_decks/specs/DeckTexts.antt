@@ -8,7 +8,7 @@ use Rattle.h41_deck.specs.Replies.{ItemReply}
 use Rattle.h41_ends.specs.Ends.{most_bytes}
 use Rattle.h41_lines.specs.Lines.{lines}
 use Rattle.h41_laws_decks.specs.DeckAnswers.{RestsOn}
-use Rattle.h41_laws_numbers.specs.HasOne.{HasOne}
+use Rattle.h41_laws_words.specs.HasOne.{HasOne}
 
 -- The results that a command depends on exist. Lines that are refused depend on nothing.
 abbrev pub ItemRestsOn : Spelled → BenchState → Type 0

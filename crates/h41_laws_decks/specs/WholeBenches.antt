@@ -7,9 +7,9 @@ use Rattle.h41_deck.specs.Deck.{Deck, DeckEnds, EndedText, FirstText}
 use Rattle.h41_deck.specs.Replies.{ItemReply}
 use Rattle.h41_ends.specs.Ends.{most_bytes}
 use Rattle.h41_laws_decks.specs.DeckTexts.{ItemRestsOn}
-use Rattle.h41_laws_numbers.specs.HasOne.{HasOne}
-use Rattle.h41_laws_states.specs.WholeCalculators.{IsWholeCalculator}
-use Rattle.h41_laws_states.specs.WholeMemory.{most_main}
+use Rattle.h41_laws_words.specs.HasOne.{HasOne}
+use Rattle.h41_laws_calculator.specs.WholeCalculators.{IsWholeCalculator}
+use Rattle.h41_laws_calculator.specs.WholeMemory.{most_main}
 
 -- The calculator of the bench is well-formed.
 abbrev pub IsWholeBench : BenchState → Type 0

@@ -2,8 +2,7 @@
 //! on.
 
 ghost use Rattle.h41_laws_decks.specs.DeckAnswers.{PageBlockSaysOne, ReplyHasOneAnswer};
-ghost use Rattle.h41_laws_decks.specs.DeckAnswers.{ViewHasOneText};
-ghost use Rattle.h41_laws_decks.specs.DeckAnswers.{ProgramBlockMeansOne};
+ghost use Rattle.h41_laws_decks.specs.DeckAnswers.{ViewHasOneText, ProgramBlockMeansOne};
 ghost use Rattle.h41_laws_decks.specs.DeckTexts.{AnswersHaveOneList, DeckHasOneText};
 ghost use Rattle.h41_laws_decks.specs.WholeBenches.{EachDeckHasOneText, EachFrontHasOneText};
 ghost use Rattle.h41_laws_decks.specs.WholeBenches.{FirstTextHasRest, ReplyLeavesWhole};
@@ -13,9 +12,9 @@ use h41_asm::laws::{words_are_determined, words_or_fault};
 use h41_codes::laws::canonical_is_shortest;
 use h41_debug::laws::{presses_are_determined, traces_are_steps};
 use h41_deck::laws::deck_is_determined;
-use h41_laws_calculator::laws::{display_has_one_text, load_has_one_outcome};
-use h41_laws_runs::laws::runs_have_one_outcome;
-use h41_laws_states::laws::{
+use h41_laws_calculator::calculator::{display_has_one_text, load_has_one_outcome};
+use h41_laws_calculator::runs::runs_have_one_outcome;
+use h41_laws_calculator::states::{
     pages_leave_whole, press_leaves_whole, programs_leave_whole, start_is_whole, step_leaves_whole,
 };
 use h41_program::laws::{lists_are_determined, one_list};

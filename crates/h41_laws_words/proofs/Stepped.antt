@@ -1,11 +1,9 @@
 -- The change that a word makes, if its sums and differences exist.
 use Rattle.std.proofs.Common.{◌≡◌, ℕ, ◌<◌, ◌≤◌, Bool, true, false, List, Option, Some, None, Result, Ok, Err, refl, ap, ◌∙◌, arith}
-use Rattle.std.specs.Result.{result_err}
 use Rattle.std.proofs.lemmas.List.Elements.{All-replicate}
 use Rattle.h41_digits.specs.Register.{IsRegister}
 use Rattle.h41_fields.specs.Field.{first_place, last_place}
 use Rattle.h41_fields.specs.FieldLaws.{PlacesAreOrdered}
-use Rattle.h41_fields.specs.declared.field.Field.{Field}
 use Rattle.h41_arith.specs.DigitRule.{DifferenceInto, SumInto, zeros, Sum, Difference}
 use Rattle.h41_words.specs.declared.operation.Operation.{Operation}
 use Rattle.h41_words.specs.declared.operation.Operation.TheVariants.{AddBToA, AddCToA, IncrementA, SubtractBFromA, DecrementA}
@@ -18,13 +16,13 @@ use Rattle.h41_nut.specs.Arithmetic.{IntoA, IntoC, Operates, base_number}
 use Rattle.h41_nut.specs.Arrivals.{gone_on}
 use Rattle.h41_nut.specs.Processor.{Processor}
 use Rattle.h41_nut.specs.ProcessorLaws.{MicroIsDetermined}
-use Rattle.h41_nut.specs.WordStep.{Micro, Nut, RefusesOr, WordEffect, refused, word_of, state_after}
+use Rattle.h41_nut.specs.WordStep.{Micro, Nut, RefusesOr, WordEffect, refused, word_of}
 use Rattle.h41_nut.specs.declared.base.Base.{Base}
 use Rattle.h41_nut.specs.declared.base.Base.TheVariants.{Hexadecimal, Decimal}
 use Rattle.h41_nut.specs.declared.refusal.WordRefusal.{WordRefusal}
-use Rattle.h41_laws_numbers.specs.DigitAnswers.{DifferenceHasOneResult, HasOneResult, SumHasOneResult}
-use Rattle.h41_laws_numbers.specs.HasOne.{HasOne}
-use Rattle.h41_laws_numbers.proofs.Answering.{Has}
+use Rattle.h41_laws_words.specs.DigitAnswers.{DifferenceHasOneResult, HasOneResult, SumHasOneResult}
+use Rattle.h41_laws_words.specs.HasOne.{HasOne}
+use Rattle.h41_laws_words.proofs.Answering.{Has}
 use Rattle.h41_laws_words.specs.WordAnswers.{AcceptedWordHasOneChange, HasRegisters, WordHasOneAnswer}
 use Rattle.h41_laws_words.proofs.Spans.{last_inside}
 

@@ -4,7 +4,7 @@ use Rattle.h41_digits.specs.Register.{IsRegister}
 use Rattle.h41_nut.specs.Processor.{Processor}
 use Rattle.h41_nut.specs.WordStep.{Micro, Nut, RefusesOr, refused}
 use Rattle.h41_nut.specs.declared.refusal.WordRefusal.{WordRefusal}
-use Rattle.h41_laws_numbers.specs.HasOne.{HasOne}
+use Rattle.h41_laws_words.specs.HasOne.{HasOne}
 
 -- A, B and C are registers of 14 digits, as in each processor that can exist.
 pub record HasRegisters (s : Processor) : Type 0 where

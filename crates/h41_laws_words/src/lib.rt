@@ -1,4 +1,8 @@
-//! Laws of existence for the processor: a microcode word makes exactly one change, or is refused.
+//! Laws of existence for digits, decimals and microcode words, and laws about listings and table entries: each question about them
+//! has exactly one answer.
 #![tactic(auto)]
 
-pub mod laws;
+pub mod entries;
+pub mod listings;
+pub mod numbers;
+pub mod words;

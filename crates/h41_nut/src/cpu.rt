@@ -237,7 +237,7 @@ impl Cpu {
         self.base
     }
 
-    /// Returns the address of the selected memory register, which has ten bits.
+    /// Returns the address of the memory register that `RAM SLCT` selected, 0 to 3FF, whether a register exists there or not.
     pub fn selected(&self) -> u16
         ensures value { result ≡ self.now.selected }
         ensures bound { result < 2 ^ 10 }

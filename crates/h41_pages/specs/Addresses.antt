@@ -19,7 +19,7 @@ first_page = 4
 abbrev pub last_page : ℕ
 last_page = 15
 
--- Whether a page can be plugged.
+-- A module's page can be plugged here: in pages 4 to F. Pages 0 to 3 are the calculator's own.
 abbrev pub is_pluggable : ℕ → Bool
 is_pluggable page = nat_le first_page page && nat_le page last_page
 

@@ -120,8 +120,9 @@ impl Pages {
         Ok(())
     }
 
-    /// Activates a bank of a page, 0 to F, if it is plugged; otherwise nothing changes (this project's choice). It is a
-    /// cold function of its own, so that microcode words that activate no bank are faster.
+    /// Activates a bank of a page, 0 to F: from now on, the words of this bank are read at the page's addresses. If the
+    /// bank is not plugged, nothing changes (this project's choice). It is a cold function of its own, so that microcode
+    /// words that activate no bank are faster.
     #[cold]
     #[inline(never)]
     pub fn choose(&mut self, page: u8, bank: Bank)

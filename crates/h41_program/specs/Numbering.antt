@@ -16,7 +16,7 @@ numbered_in number [] = None
 numbered_in number (first ∷ rest) =
     if number == 1 then Some first.position else numbered_in (number - 1) rest
 
--- The position of the line with the number before this one.
+-- The position of the line whose number is one less than the given one. Line 1 has none before it.
 abbrev pub before_number : List ListedLine → Option ℕ → Option ℕ
 before_number lines None = None
 before_number lines (Some number) = numbered_in (number - 1) lines

@@ -48,8 +48,8 @@ fn new_register<const REGS: usize>(ram: &Ram<REGS>, bytes: &[u8], end: u16, addr
     }
 }
 
-/// Returns what a register below the new register of `.END.` contains after the programs are moved: unchanged if it was
-/// below the old register of `.END.`, otherwise zero.
+/// Returns what the register at `address`, which is below the new place of `.END.`, contains after the programs are moved:
+/// its old contents if it was also below the old place of `.END.`, otherwise zero, because it contained program lines.
 pub fn free_register<const REGS: usize>(ram: &Ram<REGS>, address: u16) -> Reg
     ensures { result ≡ spec.free_register ram.now.registers address }
 {

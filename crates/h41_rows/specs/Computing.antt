@@ -132,7 +132,8 @@ Stores old new address =
 abbrev pub Moved : (old new : RegisterMap) → List Takes → Type 0
 Moved old new takes = (register : List ℕ) → Took old new register takes
 
--- ALPHA is changed, whatever register the line names.
+-- The only change of memory is this change of ALPHA. It is the same for each register that a line
+-- may name.
 abbrev pub ChangesAlpha : (old new : RegisterMap) → AlphaChange → Type 0
 ChangesAlpha old new change = (named : ℕ) → new ≡ with_alpha_change old named (Some change) old
 

@@ -3,7 +3,7 @@ use Rattle.std.proofs.Common.{◌≡◌, ◌≤◌, ℕ, true, false, List, [], 
 use Rattle.std.proofs.lemmas.List.{append-nil}
 use Rattle.h41_ends.specs.declared.sink.Sink as sinks
 use Rattle.h41_ends.specs.declared.source.Source as sources
-use Rattle.h41_arguments.specs.declared.arguments.Job.{Job}
+use Rattle.h41_jobs.specs.declared.arguments.Job.{Job}
 use Rattle.h41_serving.specs.Causes.{SaysCause, cause_line}
 use Rattle.h41_serving.specs.Program.{TellsFaultOf}
 use Rattle.h41_serving.specs.Statuses.{IsTold, fault_line}

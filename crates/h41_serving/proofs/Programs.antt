@@ -10,18 +10,17 @@ use Rattle.clap.specs.declared.error.kind.ErrorKind.TheVariants as kind
 use Rattle.h41_ends.specs.declared.sink.Sink as sinks
 use Rattle.h41_ends.specs.declared.source.FromRead.{FromRead}
 use Rattle.h41_ends.specs.declared.source.Source as sources
-use Rattle.h41_arguments.specs.BenchCommand.{bench_app, command_asked, job_asked}
-use Rattle.h41_arguments.specs.CommandLine.{file_for}
-use Rattle.h41_arguments.specs.Ending.{GivesJob, GivesJobOf, RefusedByKind, SaysMistake, SaysWrongOption, kind_status}
-use Rattle.h41_arguments.specs.Ending.{option_mistake}
-use Rattle.h41_arguments.specs.declared.arguments.Ending.{Ending}
-use Rattle.h41_arguments.specs.declared.arguments.Ending.TheVariants as endings
-use Rattle.h41_arguments.specs.declared.arguments.Job.{Job}
-use Rattle.h41_arguments.specs.declared.arguments.Task.{Task}
-use Rattle.h41_arguments.proofs.CommandLemmas.{helps, if_none, if_some, mistakes, versions}
-use Rattle.h41_arguments.proofs.CommandWalks.{CommandName, asm_name, dis_name, file_meets, name_text, run_name, task_named}
-use Rattle.h41_arguments.proofs.TwiceGiven.{twice_refused}
-use Rattle.h41_arguments.proofs.WrongValues.{wrong_value}
+use Rattle.h41_jobs.specs.BenchCommand.{bench_app, command_asked, job_asked}
+use Rattle.h41_jobs.specs.CommandLine.{file_for}
+use Rattle.h41_jobs.specs.Ending.{GivesJob, GivesJobOf, RefusedByKind, SaysMistake, SaysWrongOption, kind_status, option_mistake}
+use Rattle.h41_jobs.specs.declared.arguments.Ending.{Ending}
+use Rattle.h41_jobs.specs.declared.arguments.Ending.TheVariants as endings
+use Rattle.h41_jobs.specs.declared.arguments.Job.{Job}
+use Rattle.h41_jobs.specs.declared.arguments.Task.{Task}
+use Rattle.h41_jobs.proofs.CommandLemmas.{helps, if_none, if_some, mistakes, versions}
+use Rattle.h41_jobs.proofs.CommandWalks.{CommandName, asm_name, dis_name, file_meets, name_text, run_name, task_named}
+use Rattle.h41_jobs.proofs.TwiceGiven.{twice_refused}
+use Rattle.h41_jobs.proofs.WrongValues.{wrong_value}
 use Rattle.h41_serving.specs.Program.{AnswersPlainly, AnswersWords, DoesJob, DoesJobOf, EndsAtOnce, EndsMistaken, EndsPrinted}
 use Rattle.h41_serving.specs.Program.{EndsRefused, LeavesInputs, RunsOut}
 

@@ -1,6 +1,6 @@
 -- What the end of a task says of the job's status.
 use Rattle.std.proofs.Common.{◌≡◌, ◌≢◌, Bool, true, false, List, ℕ, Option, Some, None, Result, Err, IfSome, refl}
-use Rattle.h41_arguments.specs.declared.arguments.Task.{Task}
+use Rattle.h41_jobs.specs.declared.arguments.Task.{Task}
 use Rattle.h41_refusals.specs.declared.fault.Fault.{Fault}
 use Rattle.h41_refusals.specs.declared.fault.Fault.TheVariants.{OutOfMemory, ReadFault, WriteFault}
 use Rattle.h41_jobs.specs.declared.ended.Ended.{Ended}

@@ -1,9 +1,9 @@
 -- What performing a deck leaves.
 use Rattle.std.proofs.Common.{inl, inr, ◌≡◌, ◌≢◌, ◌⊎◌, ℕ, true, false, List, Option, Some, None, Result, Ok, Err}
 use Rattle.std.proofs.Common.{IfSome, ap, refl, sym, ◌∙◌}
-use Rattle.h41_arguments.specs.declared.memory.MemorySize.{MemorySize}
-use Rattle.h41_arguments.specs.declared.arguments.Task.TheVariants as tasks
-use Rattle.h41_arguments.specs.MemorySizes.{registers_of}
+use Rattle.h41_jobs.specs.declared.memory.MemorySize.{MemorySize}
+use Rattle.h41_jobs.specs.declared.arguments.Task.TheVariants as tasks
+use Rattle.h41_jobs.specs.MemorySizes.{registers_of}
 use Rattle.h41_deck.specs.Deck as decks
 use Rattle.h41_deck.specs.declared.replies.Outcome.{Outcome}
 use Rattle.h41_deck.specs.declared.replies.Outcome.TheVariants as outcomes

@@ -3,7 +3,7 @@ use Rattle.std.proofs.Common.{inl, inr, ◌≡◌, ◌≢◌, ◌⊎◌, ℕ, �
 use Rattle.std.proofs.Common.{None, Result, Err, Ok, IfErr, IfSome, refl, sym, subst, ◌∙◌}
 use Rattle.std.proofs.lemmas.List.{append-nil}
 use Rattle.std.specs.Io.KnownBytes.{Appends, Keeps}
-use Rattle.h41_arguments.specs.declared.arguments.Task.TheVariants as tasks
+use Rattle.h41_jobs.specs.declared.arguments.Task.TheVariants as tasks
 use Rattle.h41_ends.specs.declared.sink.Sink as sinks
 use Rattle.h41_ends.specs.declared.source.Source as sources
 use Rattle.h41_ends.specs.Ends.{GivesWithin, most_bytes}
@@ -11,8 +11,7 @@ use Rattle.h41_refusals.specs.declared.fault.Fault.{Fault}
 use Rattle.h41_refusals.specs.declared.fault.Fault.TheVariants.{OutOfMemory, ReadFault, WriteFault}
 use Rattle.h41_jobs.specs.declared.ended.Ended.{Ended}
 use Rattle.h41_jobs.specs.Inputs.{IsWhole}
-use Rattle.h41_jobs.specs.Texts.{AssemblyEnds, AssemblyText, HasNoWrongWord, IsNotRefused}
-use Rattle.h41_jobs.specs.Texts.{ListingEnds, ListingText}
+use Rattle.h41_jobs.specs.Texts.{AssemblyEnds, AssemblyText, HasNoWrongWord, IsNotRefused, ListingEnds, ListingText}
 use Rattle.h41_serving.specs.Tasks.{IsTooLong, WritesFrontOf, WritesTextOf}
 use Rattle.h41_serving.specs.private.CarriedOut.{CarriesOut, CarriesOutWhole}
 

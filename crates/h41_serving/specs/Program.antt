@@ -14,16 +14,16 @@ use Rattle.h41_ends.specs.declared.source.Source as sources
 use Rattle.h41_ends.specs.Ends.{GivesWithin, has_read_failed, read_given, reader_of}
 use Rattle.h41_refusals.specs.declared.fault.Fault.{Fault}
 use Rattle.h41_refusals.specs.declared.fault.Fault.TheVariants.{OutOfMemory, ReadFault, WriteFault}
-use Rattle.h41_arguments.specs.BenchCommand.{bench_app, command_asked, job_asked}
-use Rattle.h41_arguments.specs.CommandLine.{asks_help, asks_version, file_for, gives_twice}
-use Rattle.h41_arguments.specs.CommandLine.{gives_wrong_value, is_mistake}
-use Rattle.h41_arguments.specs.Ending.{kind_status, option_mistake, parts_of}
-use Rattle.h41_arguments.specs.declared.arguments.Ending.{Ending}
-use Rattle.h41_arguments.specs.declared.arguments.Ending.TheVariants as endings
-use Rattle.h41_arguments.specs.declared.arguments.Job.{Job}
-use Rattle.h41_arguments.specs.declared.arguments.Task.{Task}
-use Rattle.h41_arguments.specs.declared.arguments.Task.TheVariants as tasks
-use Rattle.h41_arguments.specs.declared.memory.MemorySize.TheVariants as sizes
+use Rattle.h41_jobs.specs.BenchCommand.{bench_app, command_asked, job_asked}
+use Rattle.h41_jobs.specs.CommandLine.{asks_help, asks_version, file_for, gives_twice}
+use Rattle.h41_jobs.specs.CommandLine.{gives_wrong_value, is_mistake}
+use Rattle.h41_jobs.specs.Ending.{kind_status, option_mistake, parts_of}
+use Rattle.h41_jobs.specs.declared.arguments.Ending.{Ending}
+use Rattle.h41_jobs.specs.declared.arguments.Ending.TheVariants as endings
+use Rattle.h41_jobs.specs.declared.arguments.Job.{Job}
+use Rattle.h41_jobs.specs.declared.arguments.Task.{Task}
+use Rattle.h41_jobs.specs.declared.arguments.Task.TheVariants as tasks
+use Rattle.h41_jobs.specs.declared.memory.MemorySize.TheVariants as sizes
 use Rattle.h41_serving.specs.Causes.{IsSaid, cause_line}
 use Rattle.h41_serving.specs.Statuses.{EndsJob, IsCause, IsTaskStatus, TellsMark, fault_line}
 use Rattle.h41_serving.specs.Tasks.{JobBegun, JobLeavesFront, JobLeavesUnread, JobPassedOn}

@@ -5,9 +5,9 @@ use Rattle.h41_ends.specs.declared.source.Source as sources
 use Rattle.h41_refusals.specs.declared.fault.Fault.{Fault}
 use Rattle.h41_refusals.specs.declared.fault.Fault.TheVariants.{OutOfMemory, ReadFault, WriteFault}
 use Rattle.h41_refusals.specs.Refusals.{of_fault, refusal_line}
-use Rattle.h41_arguments.specs.declared.arguments.Job.{Job}
-use Rattle.h41_arguments.specs.declared.arguments.Task.{Task}
-use Rattle.h41_arguments.specs.declared.arguments.Task.TheVariants as tasks
+use Rattle.h41_jobs.specs.declared.arguments.Job.{Job}
+use Rattle.h41_jobs.specs.declared.arguments.Task.{Task}
+use Rattle.h41_jobs.specs.declared.arguments.Task.TheVariants as tasks
 use Rattle.h41_jobs.specs.declared.ended.Ended.{Ended}
 use Rattle.h41_jobs.specs.declared.ended.Ended.TheVariants.{Accepted, Refused, WrongWord}
 use Rattle.h41_serving.specs.Tasks.{FailedOrTooLong, LeavesMemory, TaskEnds, Tells}

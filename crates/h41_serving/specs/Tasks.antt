@@ -11,10 +11,10 @@ use Rattle.h41_deck.specs.Deck as decks
 use Rattle.h41_ends.specs.Ends.{Appended, GivesTooMany, most_bytes}
 use Rattle.h41_ends.specs.InputLines.{bytes_within}
 use Rattle.h41_ends.specs.ReadEvents.{ReadEvent}
-use Rattle.h41_arguments.specs.declared.arguments.Job.{Job}
-use Rattle.h41_arguments.specs.declared.arguments.Task.{Task}
-use Rattle.h41_arguments.specs.declared.arguments.Task.TheVariants as tasks
-use Rattle.h41_arguments.specs.MemorySizes.{registers_of}
+use Rattle.h41_jobs.specs.declared.arguments.Job.{Job}
+use Rattle.h41_jobs.specs.declared.arguments.Task.{Task}
+use Rattle.h41_jobs.specs.declared.arguments.Task.TheVariants as tasks
+use Rattle.h41_jobs.specs.MemorySizes.{registers_of}
 use Rattle.h41_jobs.specs.declared.ended.Ended.{Ended}
 use Rattle.h41_jobs.specs.declared.ended.Ended.TheVariants.{Accepted, Refused, WrongWord}
 use Rattle.h41_jobs.specs.Outputs.{AppendsFront}

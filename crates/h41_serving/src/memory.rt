@@ -3,11 +3,11 @@
 ghost use Rattle.std.specs.Prelude.{◌≡◌, ◌≢◌, true, false, Err, IfOk, OnOk};
 ghost use Rattle.h41_deck.specs.Deck.{EndsKnown, LeavesDeck, PassedOn, ReadsInTurn, WritesDeck};
 ghost use Rattle.h41_ends.specs.Ends.{GivesWithin};
-ghost use Rattle.h41_arguments.specs.MemorySizes.{registers_of};
+ghost use Rattle.h41_jobs.specs.MemorySizes.{registers_of};
 
-use h41_arguments::MemorySize;
 use h41_deck::{Outcome, run_deck};
 use h41_ends::{Sink, Talk};
+use h41_jobs::MemorySize;
 use h41_refusals::Fault;
 use std::alloc::Global;
 

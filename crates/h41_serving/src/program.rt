@@ -11,8 +11,8 @@ ghost use Rattle.h41_serving.specs.Tasks.{Tells};
 
 use crate::causes::{NAME, tell_cause};
 use crate::serving::{ACCEPTED, FAILED, MISTAKEN, serve, tell, tell_text};
-use h41_arguments::{Ending, Job, read_words};
 use h41_ends::{FromRead, Sink, Source};
+use h41_jobs::{Ending, Job, read_words};
 use h41_refusals::Fault;
 use std::alloc::{AllocError, Global};
 use std::io::{self, ErrorKind, Read};

@@ -12,10 +12,9 @@ ghost use Rattle.h41_serving.specs.private.CarriedOut.{CarriesOut};
 
 use crate::inputs::{assemble_source, list_words};
 use crate::memory::run_with;
-use h41_arguments::{Job, Task};
 use h41_deck::Outcome;
 use h41_ends::{Sink, Talk};
-use h41_jobs::{Ended, mistake_line, write_text};
+use h41_jobs::{Ended, Job, Task, mistake_line, write_text};
 use h41_refusals::Fault;
 use std::alloc::Global;
 

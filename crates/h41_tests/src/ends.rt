@@ -154,8 +154,8 @@ pub fn writer(alloc: Global, most: usize, calls: usize) -> Slow
     }
 }
 
-/// An input stream for long inputs: the bytes `before`, then `blanks` spaces, then the bytes `after`. Contracts do not
-/// know its bytes, and no call fails.
+/// An input stream of many bytes that takes little memory: the bytes `before`, then `blanks` spaces, then the bytes
+/// `after`. No read fails. Contracts say nothing about its bytes.
 #[derive(Drop)]
 pub struct Long<'a> {
     /// The bytes before the spaces that are not delivered yet.

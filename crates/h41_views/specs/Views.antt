@@ -51,7 +51,7 @@ modes_line s keys =
     ++ codes " RAM=" ++ hexadecimal_text 3 s.selected ++ codes " KY=" ++ hexadecimal_text 2 keys.ky
     ++ codes " KF=" ++ bit_text keys.flag ++ codes "\n"
 
--- The line of the return addresses, the newest first.
+-- The line `RTN=`, with the four addresses of the return stack in hexadecimal, the newest first.
 unfoldable pub returns_line : Processor → List ℕ
 returns_line s =
     codes "RTN=" ++ hexadecimal_text 4 (slice_index s.returns 0) ++ codes " "

@@ -93,7 +93,8 @@ Carries source pages machine effect =
     × CarriesLine source pages machine ended
     × (effect ≡ line_effect ended)
 
--- PROGRAM MODE: the result of an edit, or of a move, as an effect.
+-- PROGRAM MODE: what a key leaves after an edit of the program, or a move in it: the changed
+-- machine, or the refusal.
 abbrev pub edit_effect : Result Machine ProgramRefusal → Result KeyOutcome CalculatorRefusal
 edit_effect (Ok machine) = Ok (Leaves machine)
 edit_effect (Err refusal) = Err (Program refusal)

@@ -66,9 +66,12 @@ impl SourceText {
         program_bytes(alloc, &self.text)
     }
 
-    /// Returns the words of the source, assembled at the first address of a page, 0 to 15. It is refused with the number (30
-    /// to 35) of its first error, or as BadImage (04) if it has more words than a page. OutOfMemory (21) if allocation
-    /// failed.
+    /// Returns the words of the source, assembled from the first address of a page, 0 to 15.
+    ///
+    /// # Errors
+    ///
+    /// The source is refused with the number (30 to 35) of its first error, or with BadImage (04) if it has more than
+    /// 4,096 words. `AllocError` if memory for the words could not be had (OutOfMemory, 21).
     pub fn into_words(
         self,
         alloc: Global,

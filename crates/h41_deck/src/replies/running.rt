@@ -80,8 +80,8 @@ fn stop_refusal(stop: Stop) -> Option<Refusal>
     }
 }
 
-/// Makes `count` single steps, up to the first that is refused, and returns why that one is refused. Before each step,
-/// the line that shows it is written: where the calculator is, and what it executes next. The error flag of the writer
+/// Makes `count` single steps, or fewer if one is refused; then no further step is made, and its refusal is returned.
+/// Before each step one line is written: where the calculator is, and what it executes next. The error flag of the writer
 /// must be clear.
 ///
 /// # Errors

@@ -70,7 +70,8 @@ BeginsAt memory at limit place =
       ends_memory = is_final_end line;
     })
 
--- The bytes begin with no line.
+-- No line is read at this position, whatever its length: its bytes begin none, or the limit cuts it
+-- off.
 abbrev pub BeginsNothing : RegisterMap → ℕ → ℕ → Type 0
 BeginsNothing memory at limit =
     (line : Line) (size : ℕ) → Begins (bytes_seen memory at limit) line size → ⊥

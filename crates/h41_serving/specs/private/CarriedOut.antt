@@ -7,7 +7,7 @@ use Rattle.h41_ends.specs.declared.source.Source as sources
 use Rattle.h41_ends.specs.Ends.{GivesWithin}
 use Rattle.h41_refusals.specs.declared.fault.Fault.{Fault}
 use Rattle.h41_refusals.specs.declared.fault.Fault.TheVariants.{OutOfMemory, ReadFault, WriteFault}
-use Rattle.h41_arguments.specs.declared.arguments.Task.{Task}
+use Rattle.h41_jobs.specs.declared.arguments.Task.{Task}
 use Rattle.h41_jobs.specs.declared.ended.Ended.{Ended}
 use Rattle.h41_jobs.specs.Inputs.{IsUnread}
 use Rattle.h41_serving.specs.Tasks.{FailedOrTooLong, IsPassedOn, LeavesBegun, LeavesFront}

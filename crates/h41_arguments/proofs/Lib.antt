@@ -1,6 +1,0 @@
-pub mod CommandLemmas
-pub mod CommandWalks
-pub mod EndingLemmas
-pub mod TwiceGiven
-pub mod WordTurns
-pub mod WrongValues

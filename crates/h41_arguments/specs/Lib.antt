@@ -1,4 +1,0 @@
-pub mod BenchCommand
-pub mod CommandLine
-pub mod Ending
-pub mod MemorySizes

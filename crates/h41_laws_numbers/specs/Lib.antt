@@ -1,3 +1,0 @@
-pub mod HasOne
-pub mod DigitAnswers
-pub mod DecimalAnswers

@@ -1,4 +1,0 @@
-pub mod Begun
-pub mod Listed
-pub mod Placed
-pub mod Changed

@@ -1,2 +1,0 @@
-pub mod ProgramAnswers
-pub mod ProgramChanges

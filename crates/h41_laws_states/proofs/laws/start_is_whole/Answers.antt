@@ -1,8 +1,0 @@
-use Rattle.h41_laws_states.proofs.States.{reset_whole, start_whole}
-use Rattle.h41_laws_states.proofs.laws.start_is_whole.Goals as goal
-
-pub returns-clause-start : goal.returns-clause-start
-returns-clause-start c = start_whole
-
-pub returns-clause-reset : goal.returns-clause-reset
-returns-clause-reset c = reset_whole

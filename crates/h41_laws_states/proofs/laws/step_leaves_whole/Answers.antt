@@ -1,5 +1,0 @@
-use Rattle.h41_laws_states.proofs.States.{step_whole}
-use Rattle.h41_laws_states.proofs.laws.step_leaves_whole.Goals as goal
-
-pub returns : goal.returns
-returns c = step_whole c.word_leaves_whole.ensures

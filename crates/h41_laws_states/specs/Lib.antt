@@ -1,3 +1,0 @@
-pub mod WholeMemory
-pub mod WholeInputs
-pub mod WholeCalculators

@@ -1,2 +1,0 @@
-pub mod NumberTexts
-pub mod Computed

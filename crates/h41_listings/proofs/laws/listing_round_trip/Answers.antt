@@ -1,5 +1,0 @@
-use Rattle.h41_listings.proofs.ListingSource.{listing_assembles}
-use Rattle.h41_listings.proofs.laws.listing_round_trip.Goals as goal
-
-pub returns : goal.returns
-returns c = listing_assembles c.word_table_round_trip.ensures.word c.word_table_round_trip.ensures.row c.second_word_round_trip.ensures.word

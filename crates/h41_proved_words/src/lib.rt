@@ -1,0 +1,4 @@
+//! Functions in microcode that are proved for every state.
+#![tactic(auto)]
+
+pub mod functions;

@@ -1,0 +1,10 @@
+pub mod WordRuns
+pub mod Rounds
+pub mod Digits
+pub mod TwoWords
+pub mod OneWord
+pub mod FieldWords
+pub mod Jumps
+pub mod Numbers
+pub mod Calls
+pub mod Banks

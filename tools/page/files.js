@@ -1,0 +1,58 @@
+"use strict";
+// Files that are imported, opened and exported.
+
+/** Returns the bytes of a file in base 64. */
+function base64Of(file) {
+  if (file.size > LONGEST_BODY) throw new Error(TOO_LONG);
+  return !file.size ? "" : new Promise((done, fail) => {
+    const reader = new FileReader();
+    reader.onload = () => done(reader.result.slice(reader.result.indexOf(",") + 1));
+    reader.onerror = () => fail(new Error(`${file.name} cannot be read: ${reader.error.message}`));
+    reader.readAsDataURL(file);
+  });
+}
+
+async function bringIn(files) {
+  const decks = files.filter((file) => /\.deck$/i.test(file.name));
+  if (decks.length && files.length > 1) throw new Error("A deck cannot be opened together with other files: choose it alone.");
+  if (decks.length) return openDeck(decks[0]);
+  by("files-panel").open = true;
+  const given = await Promise.all(files.map(async (file) => ({ name: file.name, data: await base64Of(file) })));
+  tellOfFiles("…", true);
+  const answer = await ask({ files: given, page: by("page-in").value }, "import");
+  tellOfFiles(answer.told || "All files were imported.", answer.good);
+  await ask({ do: "go", ...pieces() });
+  drive();
+}
+
+async function openDeck(file) {
+  if (!await isSure()) return;
+  await ask({ do: "open", data: await base64Of(file) });
+  await drive();
+}
+
+async function takeOut() {
+  const kind = by("kind").value;
+  const ends = { raw: "raw", text: "lines", rom: "rom", source: "asm" };
+  const reply = await fetched("export", { kind, page: by("page-out").value, label: by("label").value });
+  const link = make("a", { href: addressOf(await reply.blob()), download: `bench.${ends[kind]}` });
+  link.click();
+  setTimeout(() => URL.revokeObjectURL(link.href), 10000);
+  tellOfFiles(`bench.${ends[kind]} was saved.`, true);
+}
+
+function tellOfFiles(text, isGood = false) {
+  by("told").textContent = text;
+  by("told").classList.toggle("refusal", !isGood);
+}
+
+/** Asks whether the session may be replaced by another one. An empty session may always be replaced. */
+function isSure() {
+  const dialog = by("sure");
+  return !entries.length || new Promise((done) => {
+    for (const id of ["yes", "no"]) by(id).onclick = () => dialog.close(id);
+    dialog.returnValue = "no";
+    dialog.onclose = () => done(dialog.returnValue === "yes");
+    dialog.showModal();
+  });
+}

@@ -1,0 +1,126 @@
+"use strict";
+// Lessons, and questions about the next value.
+
+let lessonNames = [];       // the names of all lessons, in their order
+let question = null;        // what is asked before a step: the name of the value, and how the step is made
+
+/** Fills the list of lessons, in their groups, with their numbers. */
+function listLessons(groups) {
+  lessonNames = groups.flatMap(([, rows]) => rows.map(([name]) => name));
+  const options = groups.map(([label, rows]) => make("optgroup", { label }, ...rows.map(([value, title]) =>
+    make("option", { value }, `${lessonNames.indexOf(value) + 1}. ${title}`))));
+  by("lessons").replaceChildren(make("option", { value: "" }, "Lessons"), ...options);
+}
+
+async function openLesson(name) {
+  if (!await isSure()) return;
+  await ask({ do: "lesson", name });
+  forget();
+  closeQuestion();
+  for (const id of ["trace-panel", "lesson"]) by(id).open = true;
+  choosePanel("lesson");
+  by("lesson").scrollIntoView({ block: "nearest" });
+}
+
+/** Opens the lesson before the current one, or the one after it. */
+const openBeside = (step) => openLesson(lessonNames[lessonNames.indexOf(lesson.name) + step]);
+
+async function next(how) {
+  if (how !== "all" && by("asking").checked && openQuestion({ kind: how }, currentCommand(), how === "step")) return;
+  closeQuestion();
+  await makeNext(how);
+}
+
+async function makeNext(how) {
+  await ask({ do: "next", how, ...pieces() });
+  if (present().pos[0].startsWith("Micro")) for (const id of ["processor-panel", "listing-panel"]) by(id).open = true;
+  if (how !== "step") await drive();
+}
+
+/** Returns the place of the next command of the lesson, and of its first part that was not executed. */
+function placeInLesson() {
+  const begun = Math.max(0, lesson.at - waits);
+  return [begun, lesson.parts.findIndex(([, isCommand], at) => at >= begun && isCommand)];
+}
+
+/** Returns the text of the next command of the lesson; an empty text at its end. */
+function currentCommand() {
+  const [, current] = placeInLesson();
+  return current < 0 ? "" : lesson.parts[current][0].trim();
+}
+
+function showLesson() {
+  by("lesson").hidden = !lesson;
+  if (!lesson) return;
+  const number = lessonNames.indexOf(lesson.name);
+  by("lesson").querySelector("h2").textContent = `${number + 1} of ${lessonNames.length}: ${lesson.title}`;
+  const [begun, current] = placeInLesson();
+  // The entries of the session that belong to parts of the lesson, in their order.
+  let at = 0;
+  fill("parts", ...lesson.parts.map(([text, isCommand, paragraphs], number) => {
+    const isIts = (entry, place) => place >= at && entry.text === text.replace(/\n$/, "");
+    const found = number < lesson.at ? entries.findIndex(isIts) : -1;
+    const reply = entries[found]?.reply ?? [];
+    if (found >= 0) at = found + 1;
+    const kinds = [!isCommand && "comment", number < begun && "done", number === current && "next"];
+    return make("li", { class: kinds.filter(Boolean).join(" "), "aria-current": number === current ? "step" : null },
+      ...(isCommand ? [make("pre", {}, text.replace(/\n+$/, ""))] : []),
+      ...paragraphs.map((words) => make("p", { class: /^\s/.test(words) ? "set-in" : "" }, words)),
+      ...(reply.length ? [make("pre", { class: "reply" }, reply.join("\n"))] : []));
+  }));
+  reveal(by("parts"), by("parts").querySelector(".next") || by("parts").lastElementChild);
+  for (const id of ["next-step", "next-command", "next-all"]) by(id).disabled = current < 0 || isGone;
+  by("lesson-before").disabled = number <= 0 || isGone;
+  by("lesson-after").disabled = number < 0 || number === lessonNames.length - 1 || isGone;
+}
+
+// ---- Questions
+
+/** Returns the value of a name in a state, as the page shows it. */
+function valueOf(state, name) {
+  if (name === "display") return state.display[0];
+  if (name === "ALPHA") return state.alpha[0];
+  if (state.pos[0].startsWith("Micro") || question?.isWord) return partsOf(state.cpu)[name];
+  const at = ["T", "Z", "Y", "X", "LAST X"].indexOf(name);
+  return at >= 0 ? state.numbers[at] : state.values[Number(name.slice(1))];
+}
+
+/** Asks for the next value before a step or a command is executed. Returns whether there is a question about it. */
+function openQuestion(how, command, isStep) {
+  if (question || isGone) return false;
+  const { asks, word, pos } = present();
+  const isStepped = isStep && /^(step|trace)\b/.test(command) && asks;
+  if (!isStepped && !/^key\s/.test(command)) return false;
+  question = { ...how, name: isStepped ? asks : "display", isWord: isStepped && pos[0].startsWith("Micro") };
+  by("question").hidden = false;
+  by("question-text").textContent = isStepped ? `What is ${asks} after ${word}?` : `What does the display show after ${command}?`;
+  by("answer").value = "";
+  by("verdict").textContent = "";
+  by("answer").focus();
+  return true;
+}
+
+function closeQuestion() {
+  question = null;
+  by("question").hidden = true;
+}
+
+/** Returns whether an answer names a value: numbers may be written in other ways, and digits without the zeros before them. */
+function isSame(answer, value) {
+  const [given, wanted] = [answer, value].map((text) => text.trim().toUpperCase().replace(/^"(.*)"$/, "$1"));
+  if (given === wanted) return true;
+  if (question.isWord) return /^[0-9A-F]+$/.test(given) && given.replace(/^0+(?=.)/, "") === wanted.replace(/^0+(?=.)/, "");
+  return given !== "" && wanted !== "" && Number(given) === Number(wanted);
+}
+
+/** Executes the step that was asked about, and compares the answer with what the bench shows then. */
+async function answerQuestion() {
+  const { name, kind } = question;
+  await makeNext(kind);
+  const value = valueOf(present(), name) ?? "";
+  const shownName = name === "display" ? "the display" : name;
+  const given = by("answer").value;
+  by("verdict").textContent = given.trim() === "" ? `${shownName} is ${value}.` :
+    isSame(given, value) ? `Right: ${shownName} is ${value}.` : `${shownName} is ${value}, and not ${given.trim()}.`;
+  closeQuestion();
+}

@@ -1,0 +1,91 @@
+"use strict";
+// The map of memory: each register is a cell that shows its digits on demand.
+
+const STATUS_NAMES = ["T", "Z", "Y", "X", "L", "M", "N", "O", "P", "Q", "⊢", "a", "b", "c", "d", "e"];
+const [MAIN_START, IN_A_ROW] = [0xC0, 16];
+// What a cell shows of its kind, and how it is called.
+const KINDS = { status: ["", "status register"], data: ["R", "data register"], program: ["p", "program"], end: ["E", "program with .END."],
+  free: ["·", "free"], unknown: ["?", "not divided"] };
+
+let cellShown = null;       // the address of the register whose digits are shown
+
+const hexadecimal = (number) => number.toString(16).toUpperCase().padStart(3, "0");
+
+/** Returns the address of a register by its place in the list of all. */
+const addressAt = (at) => at < STATUS_NAMES.length ? at : MAIN_START + at - STATUS_NAMES.length;
+
+/** Returns what a register is, by what register c says. */
+function kindOf(address, [, , curtain, end, isSound]) {
+  if (address < STATUS_NAMES.length) return "status";
+  if (!isSound) return "unknown";
+  return address >= curtain ? "data" : address > end ? "program" : address === end ? "end" : "free";
+}
+
+/** Returns the name of a register, if it has one. */
+function nameOf(address, kind, curtain) {
+  if (kind === "status") return STATUS_NAMES[address];
+  return kind === "data" ? registerName(address - curtain) : "";
+}
+
+/** Returns the rows of cells, from the highest address down, each with its first address. */
+function rowsOf(count) {
+  const rows = [];
+  for (let first = 0; first < count; first += IN_A_ROW) {
+    const cells = Array.from({ length: Math.min(IN_A_ROW, count - first) }, (_, at) => {
+      const place = first + at;
+      const cell = make("button", { type: "button", class: "cell", tabindex: place ? -1 : 0, "data-at": place });
+      for (const kind of ["click", "focus"]) cell.addEventListener(kind, () => showCell(place));
+      cell.addEventListener("mouseenter", () => showCell(place));
+      return cell;
+    });
+    const place = make("span", { class: "place", "aria-hidden": "true" }, hexadecimal(addressAt(first)));
+    rows.unshift(make("div", { class: "cells" }, place, ...cells));
+  }
+  return rows;
+}
+
+/** Shows the map, with what the last step changed. */
+function showMemory(state, before) {
+  const { memory, divided } = state;
+  if (by("map").querySelectorAll(".cell").length !== memory.length) fill("map", ...rowsOf(memory.length));
+  for (const cell of by("map").querySelectorAll(".cell")) {
+    const place = Number(cell.dataset.at);
+    const [address, kind] = [addressAt(place), kindOf(addressAt(place), divided)];
+    const isChanged = memory[place] !== before.memory[place];
+    const isZero = /^0*$/.test(memory[place]);
+    const classes = ["cell", kind, isZero && "zero", isChanged && "altered", address === divided[2] && "curtain"];
+    const [sign, words] = KINDS[kind];
+    const name = nameOf(address, kind, divided[2]);
+    const label = [hexadecimal(address), name, words, isZero ? "zero" : memory[place], isChanged && "changed"];
+    filled(cell, { class: classes.filter(Boolean).join(" "), "aria-label": label.filter(Boolean).join(", ") }, []);
+    cell.textContent = isChanged ? "●" : kind === "status" ? name : sign;
+  }
+  showDivided(divided);
+  showCell(cellShown ?? STATUS_NAMES.indexOf("c"));
+}
+
+/** Draws what register c says. */
+function showDivided([statistics, constant, curtain, end, isSound]) {
+  const parts = [[statistics, "first statistics register"], [constant, isSound ? "memory is sound" : "memory is not sound"],
+    [hexadecimal(curtain), "the curtain, R00"], [hexadecimal(end), "the register of .END."]];
+  fill("divided", ...parts.map(([digits, words]) => make("div", {}, make("dt", {}, digits), make("dd", {}, words))));
+}
+
+/** Shows the digits of a register, and those before the last step if it changed them. */
+function showCell(place) {
+  cellShown = place;
+  const [state, before] = looked();
+  const [now, old] = [state.memory[place], before.memory[place] ?? ""];
+  const [address, kind] = [addressAt(place), kindOf(addressAt(place), state.divided)];
+  const name = nameOf(address, kind, state.divided[2]);
+  const value = kind === "data" ? state.values[address - state.divided[2]] : null;
+  fill("cell", make("span", { class: "place" }, `${hexadecimal(address)} ${name} ${KINDS[kind][1]}`), " ",
+    make("span", { class: "digits" }, ...digitsOf(now, old)), ...(value ? [` ${value}`] : []),
+    ...(now !== old && old ? [make("span", { class: "place" }, ` before: ${old}`)] : []));
+}
+
+/** Moves from cell to cell by the arrow keys. */
+function walkMap(event) {
+  const rows = [...by("map").children].map((row) => [...row.querySelectorAll(".cell")]);
+  if (moved(rows, event.target, event.key)) event.preventDefault();
+}

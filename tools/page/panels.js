@@ -1,0 +1,257 @@
+"use strict";
+// The panels beside the calculator.
+
+const present = () => past.at(-1);
+const lastNumber = () => pastFirst + past.length - 1;
+
+/** Returns the state with a number; the oldest one if it is forgotten. */
+const stateAt = (number) => past[Math.max(0, Math.min(number - pastFirst, past.length - 1))];
+
+/** Returns the state that is shown, and the one before it. */
+const looked = () => [stateAt(shown ?? lastNumber()), stateAt((shown ?? lastNumber()) - 1)];
+
+const isOpen = (id) => by(id).open;
+
+function show() {
+  if (!past.length) return;
+  const [state, before] = looked();
+  showDisplay(state.display[0]);
+  showLights(state);
+  showPast();
+  by("stop").disabled = !(waits || present().program) || isGone;
+  by("run").textContent = waits && !driver ? "Continue" : "Run";
+  by("pos").textContent = state.pos[0];
+  document.body.classList.toggle("busy", driver !== null && waits > 0);
+  by("next").textContent = state.next ? `${state.word}: ${state.next}` : state.word;
+  showBreakpoints();
+  showStack(state, before);
+  showProgram(state);
+  if (isOpen("modules-panel")) showModules(state);
+  if (isOpen("processor-panel")) showProcessor(state, before);
+  if (isOpen("listing-panel")) showListing(state);
+  if (isOpen("trace-panel")) showTrace();
+  if (isOpen("memory-panel")) showMemory(state, before);
+  if (isOpen("registers-panel")) showRegisters(state, before);
+  if (isOpen("flags-panel")) showFlags(state, before);
+  by("alpha").textContent = state.alpha[0];
+  by("alpha").classList.toggle("changed", state.alpha[0] !== before.alpha[0]);
+  showSession(state);
+  showLesson();
+}
+
+let saying = null;
+
+/** Shows the annunciators. A screen reader gets the display and the lit ones when they have not changed for a moment. */
+function showLights(state) {
+  const lights = lightsOf(state);
+  fill("lights", ...lights.map(([name, isLit]) => make("span", { class: isLit ? "lit" : "" }, name)));
+  const lit = lights.filter(([, isLit]) => isLit).map(([name]) => name);
+  const said = `${state.display[0] || "(off)"}${lit.length ? ` (${lit.join(" ")})` : ""}`;
+  clearTimeout(saying);
+  if (!(driver && waits) && by("live").textContent !== said) saying = setTimeout(() => by("live").textContent = said, 200);
+}
+
+/** Returns the digits of a register; digits that have changed, and those of a field, are highlighted. */
+function digitsOf(now, old, isInField = () => false) {
+  return [...now].map((digit, at) => make("span", {
+    class: `${digit !== old[at] ? "changed " : ""}${isInField(now.length - 1 - at) ? "field" : ""}`.trim(),
+  }, digit));
+}
+
+function showStack(state, before) {
+  fill("stack", ...state.stack.map((row, at) => make("tr", {},
+    make("th", { scope: "row" }, row[0] === "L" ? "LAST X" : row[0]),
+    make("td", { class: "number" }, make("span", { class: row !== before.stack[at] ? "changed" : "" }, state.numbers[at])),
+    make("td", { class: "digits" }, ...digitsOf(row.slice(2), before.stack[at].slice(2))))));
+}
+
+/** Returns a button that sets a breakpoint or removes it. */
+function breakpoint(kind, place, isNamed = false) {
+  const isSet = present().breaks.some(([of, at]) => of === kind && at === place);
+  const name = `${kind === "w" ? "word " : kind === "l" ? "line " : "line P"}${place}`;
+  const button = make("button", { type: "button", class: "break", "aria-pressed": String(isSet), "data-at": kind + place,
+    disabled: isGone ? "" : null, "aria-label": `breakpoint at ${name}` }, isSet ? "●" : "○", isNamed ? ` ${name}` : "");
+  const deck = `${isSet ? "unbreak" : "break"} ${kind} ${kind === "l" ? Number(place) : place}\n`;
+  button.addEventListener("click", () => begun(() => ask({ do: "give", deck, first: true })));
+  return button;
+}
+
+/** Returns a button that runs to a line or an instruction. */
+function runningTo(kind, place) {
+  const button = make("button", { type: "button", class: "break", title: "Run to here", "data-at": `to ${kind}${place}`,
+    disabled: isGone ? "" : null, "aria-label": `run to ${kind === "p" ? "P" : ""}${place}` }, "⇥");
+  button.addEventListener("click", () => begun(() => runTo(kind, place)));
+  return button;
+}
+
+/** Returns a line of a list, with its breakpoint button. */
+function stopping(kind, place, isNext, ...children) {
+  const attributes = { class: `line${isNext ? " next" : ""}`, "aria-current": isNext ? "step" : null };
+  return make("div", attributes, breakpoint(kind, place), runningTo(kind, place),
+    make("span", { class: "sign", "aria-hidden": "true" }, isNext ? "▶" : ""), ...children);
+}
+
+/** Lists all breakpoints, including those of lines and words that are not visible. */
+function showBreakpoints() {
+  const { breaks } = present();
+  if (!isNew("breaks", breaks)) return;
+  by("breaks").hidden = !breaks.length;
+  fill("breaks", "Breakpoints", ...breaks.map(([kind, place]) => breakpoint(kind, place, true)));
+}
+
+/** Returns the lines of a program: the breakpoint, the number that program mode shows, the position, the text and the bytes of each. In
+    program mode the keys that type the line follow. `kind` is l for memory and p for a page. */
+function programLines(kind, lines, next, hasKeys = false) {
+  return lines.map(([place, text, number, bytes, keys]) => stopping(kind, place, place === next, make("span", { class: "count" }, number),
+    make("span", { class: "place" }, kind === "p" ? `P${place}` : place), make("code", {}, text), make("span", { class: "bytes" }, bytes),
+    ...(hasKeys && keys ? [make("span", { class: "typing" }, `keys ${keys}`)] : [])));
+}
+
+/** Shows the lines in memory; while the position is in a page, those of the programs in this page. */
+function showProgram(state) {
+  const [mode, place] = state.pos[0].split(" ");
+  const isInPage = place.startsWith("P");
+  const next = mode === "Micro" ? null : place.replace("P", "");
+  const lines = isInPage ? state.paged : state.lines.map((text, at) => [text.slice(0, 4), text.slice(5), ...state.coded[at]]);
+  if (!isNew("program", isInPage, lines, next, present().breaks, isGone, state.program)) return;
+  fill("program", ...programLines(isInPage ? "p" : "l", lines, next, state.program));
+  reveal(by("program"), by("program").querySelector(".next"));
+}
+
+let listing = null;         // the page that is listed: its page, its bank, how it is listed, and its rows
+let plugsKnown = -1;        // for which number of plugs the plugged banks are listed
+
+/** Lists the page that is chosen in the panel. */
+async function listPage() {
+  const [page, bank] = by("list-page").value.split(" b");
+  const kind = by("list-kind").value;
+  listing = page ? { page, bank, kind, rows: (await ask({ do: "list", page, bank, kind })).rows ?? [] } : null;
+  show();
+}
+
+/** Shows the page that is listed, whether it runs or not, and what the pages contain. */
+function showModules(state) {
+  if (plugsKnown !== plugs && !isGone) {
+    plugsKnown = plugs;
+    act(findPages);
+  }
+  const names = state.functions.map((text) => text.replace(/^XROM /, ""));
+  const pages = `Pages ${state.pages.join(", ")}${names.length ? `: ${names.join(", ")}` : ""}`;
+  by("modules").textContent = state.pages.length ? pages : "No module is plugged.";
+  const next = state.pos[0].split(" ")[1].replace("P", "");
+  const isNext = (place) => place === next && (listing.kind === "words") === state.pos[0].startsWith("Micro");
+  if (!isNew("listed", listing, next, present().breaks, isGone)) return;
+  if (!listing) return fill("listed");
+  const rows = listing.kind === "lines" ? programLines("p", listing.rows, isNext(next) ? next : null) :
+    listing.rows.map(([at, label, words, text]) => wordLine([at, label, words, text], isNext(at)));
+  fill("listed", ...(rows.length ? rows : [make("p", { class: "none" }, "This page has no keystroke programs.")]));
+  return reveal(by("listed"), by("listed").querySelector(".next"));
+}
+
+/** Fills the list of plugged banks, and lists the chosen one again. */
+async function findPages() {
+  const { pages } = await ask({ do: "pages" });
+  const chosen = by("list-page").value;
+  by("list-page").replaceChildren(make("option", { value: "" }, "none"), ...pages.map(([page, bank]) =>
+    make("option", { value: `${page} b${bank}` }, `${page}, bank ${bank}`)));
+  by("list-page").value = pages.some(([page, bank]) => `${page} b${bank}` === chosen) ? chosen : "";
+  await listPage();
+}
+
+/** Returns the values in the output of `show cpu`, by name. */
+function partsOf(cpu) {
+  const parts = cpu.slice(0, 4).join(" ").split(" ").map((text) => text.split("="));
+  return { ...Object.fromEntries(parts), RTN: cpu[4].slice(4) };
+}
+
+/** Returns functions that decide whether a place is in the field of the last instruction, and whether the instruction names a register. */
+function fieldOf(state, before) {
+  const last = /^Micro [0-9A-F]{4} (\S+) (@R|S&X|R<|ALL|P-Q|XS|MS|M)$/.exec(lineMade(state, before) ?? "");
+  if (!last) return [() => false, () => false, ""];
+  const { P, Q, PT } = partsOf(before.cpu);
+  const [p, q, active] = [P, Q, PT === "P" ? P : Q].map((digit) => parseInt(digit, 16));
+  const [low, high] = { "@R": [active, active], "S&X": [0, 2], "R<": [0, active], ALL: [0, 13], "P-Q": [p, p > q ? 13 : q],
+    XS: [2, 2], M: [3, 12], MS: [13, 13] }[last[2]];
+  return [(place) => place >= low && place <= high, (name) => last[1].replace("SHF", "").includes(name), `${last[1]} ${last[2]}`];
+}
+
+function showProcessor(state, before) {
+  const [now, old] = [partsOf(state.cpu), partsOf(before.cpu)];
+  const [isInField, isNamed, text] = fieldOf(state, before);
+  const places = [..."DCBA9876543210"];
+  const rows = ["A", "B", "C", "M", "N"].map((name) => make("tr", {}, make("th", { scope: "row" }, name),
+    make("td", { class: "digits" }, ...digitsOf(now[name], old[name], (place) => isNamed(name) && isInField(place)))));
+  fill("processor", make("caption", {}, text || "the last instruction names no field"),
+    make("tr", { class: "places", "aria-hidden": "true" }, make("th"), make("td", { class: "digits" },
+      ...places.map((place) => make("span", {}, place)))), ...rows);
+  const others = ["PC", "CY", "MODE", "P", "Q", "PT", "G", "T", "ST", "RAM", "KY", "KF", "RTN"];
+  fill("cpu", ...others.map((name) => make("div", { class: now[name] !== old[name] ? "changed" : "" },
+    make("dt", {}, name), make("dd", {}, now[name]))));
+}
+
+/** Returns a line of instructions; `label` is the last label and the offset to it. */
+function wordLine([at, label, words, text], isNext) {
+  return stopping("w", at, isNext, make("span", { class: "place" }, at), make("span", { class: "words" }, words), make("code", {}, text),
+    make("span", { class: "label" }, /\+/.test(label) && !isNext ? "" : label));
+}
+
+function showListing(state) {
+  const place = state.pos[0].startsWith("Micro") ? state.pos[0].slice(6) : null;
+  const lines = state.listing.map(([at, label, text]) => wordLine([at, label, text.slice(0, 9).trim(), text.slice(9)], at === place));
+  fill("listing", ...(lines.length ? lines : [make("p", { class: "none" }, "No function runs. The panel Modules lists each page.")]));
+  reveal(by("listing"), by("listing").querySelector(".next"));
+}
+
+const registerName = (at) => `R${String(at).padStart(2, "0")}`;
+
+function showRegisters(state, before) {
+  const rows = state.registers.map((digits, at) => {
+    const isChanged = digits !== before.registers[at];
+    if (/^0*$/.test(digits) && !isChanged && !by("zeros").checked) return null;
+    return make("tr", { class: isChanged ? "changed" : "" }, make("th", { scope: "row" }, registerName(at)),
+      make("td", { class: "number" }, state.values[at]), make("td", { class: "digits" }, digits));
+  }).filter(Boolean);
+  if (!rows.length) rows.push(make("tr", {}, make("td", { class: "none" }, `${state.registers.length} registers, all zero`)));
+  fill("registers", ...rows);
+}
+
+function showFlags(state, before) {
+  fill("flags", ...Array.from({ length: 56 }, (_, at) => {
+    const number = String(at).padStart(2, "0");
+    const [isSet, wasSet] = [state, before].map(({ flags }) => flags[0].split(" ").includes(number));
+    return make("li", { class: `${isSet ? "set" : ""}${isSet !== wasSet ? " changed" : ""}`,
+      "aria-label": `flag ${number} ${isSet ? "set" : "clear"}` }, number);
+  }));
+}
+
+/** Joins lines into a text. If there are many, some in the middle are omitted. */
+function shortened(lines, first, last) {
+  const left = lines.length - first - last;
+  return (left > 1 ? [...lines.slice(0, first), `… ${left} lines`, ...lines.slice(-last)] : lines).join("\n");
+}
+
+/** Returns a button that goes on from the end of a command of the session. */
+function goingOn(entry) {
+  const button = make("button", { type: "button", class: "break", title: "Go on from here", "data-at": `on ${entry}`,
+    disabled: isGone ? "" : null, "aria-label": `go on from after command ${entry + 1}` }, "↶");
+  button.addEventListener("click", () => begun(() => branchFrom({ entry })));
+  return button;
+}
+
+/** Shows the commands up to the state that is shown. */
+function showSession(state) {
+  const end = shown === null ? entries.length : state.entries;
+  const first = Math.max(0, end - MOST_ENTRIES);
+  if (!isNew("session", first, end, entries.slice(first, end).at(-1), session, shown === null ? 0 : state.last)) return;
+  const rows = entries.slice(first, end).map((entry, at) => {
+    const { text, reply } = shown !== null && first + at === end - 1 ? { text: textOf(state.last[0]), reply: state.last[1] } : entry;
+    const kind = `reply${reply.at(-1)?.startsWith("! ") ? " refusal" : ""}`;
+    const isComment = text.startsWith("#") || !text.trim();
+    return make("li", { class: isComment ? "comment" : "" }, ...(isComment ? [] : [goingOn(first + at)]),
+      make("pre", {}, shortened(text.trimEnd().split("\n"), 4, 2)),
+      ...(reply.length ? [make("pre", { class: kind }, shortened(reply, 36, 1))] : []));
+  });
+  if (first) rows.unshift(make("li", { class: "comment" }, `${first} earlier commands are in the saved deck`));
+  fill("session", ...rows);
+  by("session").scrollTop = by("session").scrollHeight;
+}

@@ -13,7 +13,7 @@ _bench_options() {
         asm) echo '--origin' ;;
         dis) echo '--origin' ;;
         prove) echo '--all --check' ;;
-        bench-calculator) echo '--port --memory --lesson --no-browser --help' ;;
+        bench-calculator) echo '--port --memory --lesson --lessons --no-browser --help' ;;
         bench-catalogue) echo '--format --workers --out --shard --join --help' ;;
         bench-check) echo '--memory --workers --shard --join --help' ;;
         bench-debug) echo '--memory --help' ;;
@@ -28,7 +28,7 @@ _bench_options() {
         bench-module) echo '--out --images --junk --no-junk --trace --junit --table --call --write --values --help' ;;
         bench-play) echo '--size --memory --steps --skip --tone --workers --script --shard --join --help' ;;
         bench-registers) echo '--memory --all --deck --page --help' ;;
-        bench-trace) echo '--memory --labels --function --watch --help' ;;
+        bench-trace) echo '--memory --labels --function --explain --watch --help' ;;
         bench-where) echo '--memory --brief --labels --help' ;;
     esac
 }

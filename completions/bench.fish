@@ -3,6 +3,7 @@ function __bench_words
     count (commandline -opc)
 end
 complete -c bench -n '__fish_use_subcommand' -f -a 'run asm dis prove help'
+complete -c bench -n '__fish_seen_subcommand_from help prove' -f
 complete -c bench -n '__fish_seen_subcommand_from help; and test (__bench_words) = 2' -f -a 'run asm dis words image unplug load program size reset call key step trace break unbreak list show'
 complete -c bench -n '__fish_seen_subcommand_from help; and test (__bench_words) = 3; and contains break (commandline -opc)' -f \
     -a 'w l p'
@@ -18,6 +19,7 @@ complete -c bench -n '__fish_seen_subcommand_from prove' -l check
 complete -c bench-calculator -l port
 complete -c bench-calculator -l memory -x -a '64 128 192 256 320'
 complete -c bench-calculator -l lesson
+complete -c bench-calculator -l lessons
 complete -c bench-calculator -l no-browser
 complete -c bench-calculator -l help
 complete -c bench-catalogue -l format
@@ -104,6 +106,7 @@ complete -c bench-registers -l help
 complete -c bench-trace -l memory -x -a '64 128 192 256 320'
 complete -c bench-trace -l labels
 complete -c bench-trace -l function
+complete -c bench-trace -l explain
 complete -c bench-trace -l watch
 complete -c bench-trace -l help
 complete -c bench-where -l memory -x -a '64 128 192 256 320'

@@ -11,28 +11,23 @@ import threading
 from importlib.machinery import SourceFileLoader
 from importlib.util import module_from_spec, spec_from_loader
 
-from decks import NO_ANSWER, TOP, Failure, bytes_of, lines_of
-from desk import PAGES, Desk, parts_of, refusal_of
+from decks import MARKS_OF_UTF16, NO_ANSWER, TOP, Failure, bytes_of, lines_of, shown
+from branches import Branches
+from desk import PAGES, Desk
 from keyboard import ROWS, places
+from lessons import grouped, lessons
+from parts import parts_of, refusal_of
+from recorded import recorded
 from refusals import Refused, look_into_blocks
+from unsupported import unsupported
 
 TOOLS = os.path.join(TOP, "tools")
-LESSONS = os.path.join(TOP, "examples")
-LESSON = re.compile(r"^\| \[([^\]]*)\]\((\S+)\.deck\) \| (.*) \|$", re.M)
-
-# The lessons that walk through an example of the documents. They come first in the list of lessons.
-WALKS = {"trace": "A carry on its way", "key-to-byte": "A program, from key to byte", "debugged": "A module's function, found by a break"}
-
 # The longest time in seconds for an import or an export, and for one request that executes commands.
 LONGEST_TOOL, LONGEST_GO = 120, 0.25
 MOST_FILES = 16
 
-
-def lessons():
-    """Returns the titles of the lessons by their names: first those of WALKS, then the other examples in the list of examples/README.md."""
-    text = bytes_of(os.path.join(LESSONS, "README.md")).decode("utf-8")
-    found = {path: f"{name}: {title}" for name, path, title in LESSON.findall(text)}
-    return {**WALKS, **{name: title for name, title in found.items() if name not in WALKS}}
+# Quotes that a word processor writes, and that the bench does not read.
+QUOTES = re.compile("[“”„‘’«»]")
 
 
 class Causes:
@@ -59,27 +54,32 @@ class Causes:
         one = Refused(lines, 0, len(lines) - 1, refusal)
         look_into_blocks([one])
         line = "" if one.inner is None else f"line {one.inner + 1}: {one.shown()}"
-        return line, [[head.replace("`", ""), (why or "").replace("`", "")] for head, why in self.documents.causes_of(one).items()]
+        causes = [[head.replace("`", ""), (why or "").replace("`", "")] for head, why in self.documents.causes_of(one).items()]
+        quotes = QUOTES.findall(text.decode("utf-8", "replace"))
+        return line, [[" ".join(quotes), 'typographic quotes: write straight ones, as in key "HI"'], *causes] if quotes else causes
 
 
 class Answers:
     """The desk with the bench, and the answers to the requests of the page."""
 
-    def __init__(self, memory):
-        self.lock, self.causes, self.lessons = threading.RLock(), Causes(), lessons()
-        self.number, self.seen, self.ended = 0, None, None
+    def __init__(self, memory, found=None):
+        """`found` are the lessons; without them the examples are."""
+        self.lock, self.causes, self.lessons = threading.RLock(), Causes(), lessons() if found is None else found
+        self.branches = Branches()
+        self.number, self.ended, self.last_id = 0, None, None
         self.desk = Desk(memory)
-        self.seen = self.desk.look()
+        self.unsupported = unsupported()
 
     def close(self):
         """Ends the bench, after the thread that reads the tables: its own run of the bench would otherwise report a closed pipe."""
         self.causes.reader.join()
+        self.desk.beside.close()
         self.desk.bench.close()
 
     def calls(self):
         """Returns the functions that answer requests, by the names of the requests."""
         return {"state": self.state, "do": self.do, "import": self.bring_in, "export": self.take_out, "deck": self.deck,
-                "version": self.version}
+                "version": self.version, "recorded": self.recorded}
 
     def version(self):
         """Returns what the page gets twice a second: the number of the last change, and how the bench has ended, or None.
@@ -92,10 +92,15 @@ class Answers:
                 self.lock.release()
         return {"version": self.number, "ended": self.ended}
 
-    def deck(self):
-        """Returns the session as the bytes of a deck."""
+    def deck(self, asked=()):
+        """Returns the session as the bytes of a deck, or a branch that was left."""
         with self.lock:
-            return self.desk.deck()
+            return self.branches.deck(int(asked["branch"])) if "branch" in asked else self.desk.deck()
+
+    def recorded(self):
+        """Returns the session as a page that needs no server, as bytes."""
+        with self.lock:
+            return recorded({**self.told({}), "branches": [], "lesson": None})
 
     # The state of the session.
 
@@ -104,20 +109,24 @@ class Answers:
         with self.lock:
             return self.told(asked)
 
-    def told(self, asked, states=()):
-        """Returns the answer to a request: the state, the entries after those that the page has, and the states after the steps of a
-        trace."""
+    def told(self, asked):
+        """Returns the answer to a request: the states and the entries after those that the page has."""
         desk = self.desk
         is_known = asked.get("session") in (desk.number, str(desk.number))
         since = max(0, int(asked.get("since", 0)) - 1) if is_known else 0
-        answer = {"version": self.number, "session": desk.number, "state": self.seen, "states": list(states),
+        known = int(asked["at"]) if is_known and "at" in asked else None
+        doing = desk.doing()
+        answer = {"version": self.number, "session": desk.number, "states": desk.history.told(known), "plugs": desk.plugs,
+                  "doing": doing.decode("latin-1") if doing else None,
                   "entries": [[number, *entry.told()] for number, entry in enumerate(desk.log[since:], since)],
-                  "waits": len(desk.queue), "ended": self.ended, "lesson": self.lesson_told(is_known)}
+                  "waits": len(desk.queue), "ended": self.ended, "lesson": self.lesson_told(is_known),
+                  "branches": self.branches.told()}
         if desk.queue and desk.queue[0].kind:
             answer["left"] = desk.queue[0].left
         if not is_known:
             answer["keys"] = [[list(key) + [place] for key, place in zip(row, places(row))] for row in ROWS]
-            answer["lessons"] = self.lessons
+            answer["lessons"] = grouped(self.lessons)
+            answer["unsupported"] = self.unsupported
         return answer
 
     def lesson_told(self, is_known):
@@ -136,14 +145,19 @@ class Answers:
         """Executes a request of the page, and returns the answer."""
         name = asked["do"]
         call = {"give": self.give, "go": self.go, "stop": self.stop, "next": self.next, "lesson": self.open_lesson,
-                "open": self.open, "again": self.again, "begin": self.begin, "causes": self.causes_of}.get(name)
+                "open": self.open, "again": self.again, "begin": self.begin, "causes": self.causes_of, "list": self.listed,
+                "pages": self.pages, "branch": self.branch}.get(name)
         if call is None:
             raise ValueError(name)
         seconds, steps, _ = asked.get("seconds", 0.05), asked.get("steps"), int(asked.get("since", 0))
         if not isinstance(seconds, (int, float)) or not (steps is None or isinstance(steps, int) and steps > 0):
             raise ValueError(seconds)
         with self.lock:
-            if self.ended and name not in ("again", "begin", "open", "lesson"):
+            if asked.get("id") is not None and asked["id"] == self.last_id:
+                # The answer to this request was lost.
+                return self.told(asked)
+            self.last_id = asked.get("id")
+            if self.ended and name not in ("again", "begin", "open", "lesson", "branch"):
                 return self.told(asked)
             try:
                 answer = call(asked)
@@ -151,9 +165,7 @@ class Answers:
                 if failure.status != NO_ANSWER:
                     raise
                 return self.end(asked)
-            if name == "causes":
-                return answer
-            return self.told(asked, answer or ())
+            return self.told(asked) if answer is None else answer
 
     def end(self, asked):
         """Records that the bench has ended, drops the commands that wait, and returns the answer."""
@@ -165,27 +177,23 @@ class Answers:
 
     def look(self):
         """Reads the state of the bench again."""
-        self.seen = self.desk.look()
+        self.desk.look()
         self.number += 1
 
     def give(self, asked):
         """Adds commands and blocks after those that wait, or before them if the request says so, and starts executing."""
         is_first, waited = asked.get("first") is True, len(self.desk.queue)
-        self.desk.give(asked["deck"].encode(), is_first)
-        return self.go(asked, len(self.desk.queue) - waited if is_first else None)
+        self.desk.give(asked["deck"].encode(), is_first, asked.get("on") is True)
+        self.go(asked, len(self.desk.queue) - waited if is_first else None)
 
     def go(self, asked, parts=None):
-        """Executes commands that wait, for a limited time, or only the first parts of them. Returns the states after the steps of a
-        trace."""
+        """Executes commands that wait, for a limited time, or only the first parts of them."""
         if self.desk.queue:
-            states = self.desk.go(min(max(asked.get("seconds", 0.05), 0.001), LONGEST_GO), asked.get("steps"), parts)
-            if states and self.desk.is_seen:
-                self.seen = states.pop()
+            self.desk.go(min(max(asked.get("seconds", 0.05), 0.001), LONGEST_GO), asked.get("steps"), parts)
+            if self.desk.is_seen:
                 self.number += 1
             else:
                 self.look()
-            return states
-        return ()
 
     def stop(self, _):
         """Drops the commands that wait. Those of a lesson that have not been started go back to the lesson."""
@@ -204,6 +212,8 @@ class Answers:
     def open(self, asked):
         """Opens a deck on an empty bench. Its commands wait until the page asks for them."""
         deck = base64.b64decode(asked["data"], validate=True)
+        if deck.startswith(MARKS_OF_UTF16):
+            raise Failure("the deck is in UTF-16: save it in UTF-8, without a byte order mark")
         parts = parts_of(deck, True)
         self.begin(asked)
         self.desk.queue = parts
@@ -214,20 +224,36 @@ class Answers:
         self.begin(asked)
         self.desk.queue = parts
 
+    def branch(self, asked):
+        """Goes on from a past state, from the end of an entry of the session, or from the end of a branch that was left. The session so
+        far is kept as a branch."""
+        desk, deck = self.desk, None
+        if "branch" in asked:
+            deck = self.branches.deck(int(asked["branch"]))
+            self.branches.drop(int(asked["branch"]))
+        else:
+            deck = desk.deck_to(int(asked["entry"])) if "entry" in asked else desk.deck_at(int(asked["state"]))
+        parts = parts_of(deck, True)
+        if desk.deck() != deck:
+            self.branches.keep(desk.deck())
+        self.begin(asked)
+        desk.queue = parts
+
     def open_lesson(self, asked):
         """Opens a lesson at its first step."""
         name = asked["name"]
         if name not in self.lessons:
             raise Failure(f"unknown lesson '{name}': expected one of {', '.join(self.lessons)}")
-        parts = parts_of(bytes_of(os.path.join(LESSONS, f"{name}.deck")), True)
+        lesson = self.lessons[name]
+        parts = parts_of(bytes_of(lesson.path), True)
         self.begin(asked)
-        self.desk.lesson = {"name": name, "title": self.lessons[name], "parts": parts, "left": list(parts)}
+        self.desk.lesson = {"name": name, "title": lesson.title, "parts": parts, "left": list(parts)}
 
     def next(self, asked):
         """Executes the next step or the next command of the lesson, or all the rest of it."""
         lesson, how = self.desk.lesson, asked["how"]
         if lesson is None:
-            return ()
+            return
         if not self.desk.queue:
             while lesson["left"]:
                 part = lesson["left"].pop(0)
@@ -239,7 +265,20 @@ class Answers:
             lesson["left"] = []
         command = next((part for part in self.desk.queue if part.is_command), None)
         is_stepped = how == "step" and command is not None and command.kind in ("step", "trace")
-        return self.go({**asked, "steps": 1} if is_stepped else asked)
+        self.go({**asked, "steps": 1} if is_stepped else asked)
+
+    # What is listed.
+
+    def pages(self, _):
+        """Returns the plugged banks."""
+        return {"pages": self.desk.plugged()}
+
+    def listed(self, asked):
+        """Returns the instructions of a bank, or the lines of the programs in a page."""
+        page, bank, kind = asked["page"], asked["bank"], asked["kind"]
+        if page not in list(PAGES) or bank not in list("1234") or kind not in ("words", "lines"):
+            raise ValueError(page)
+        return {"rows": self.desk.listed(page, bank, kind == "words")}
 
     def causes_of(self, asked):
         """Returns the usual causes for the refusal of an entry of the session."""
@@ -263,13 +302,13 @@ class Answers:
         names = [name for name, _ in files]
         twice = next((name for at, name in enumerate(names) if name in names[:at]), None)
         if twice is not None:
-            raise Failure(f"two files are named '{twice}': rename one of them")
+            same = " and ".join(f"'{shown(file['name'])}'" for file, name in zip(asked["files"], names) if name == twice)
+            raise Failure(f"{same} are read under the same name, '{twice}': rename one of them")
         with self.lock:
-            free = [page for page in PAGES[4:] + PAGES[:4] if page not in self.seen["pages"]] or ["8"]
+            free = [page for page in PAGES[4:] + PAGES[:4] if page not in self.desk.views["pages"]] or ["8"]
         with tempfile.TemporaryDirectory() as room:
             for name, data in files:
-                with open(os.path.join(room, name), "wb") as file:
-                    file.write(data)
+                write_file(os.path.join(room, name), data)
             page = asked.get("page") if asked.get("page") in list(PAGES) else free[0]
             ran = tool("import", [*self.desk.words, "--page", page, *(name for name, _ in files)], room)
         told = ran.stderr.decode(errors="replace")
@@ -287,7 +326,7 @@ class Answers:
             raise ValueError(kind)
         with self.lock:
             if kind in ("rom", "source") and not page:
-                page = next(iter(self.seen["pages"]), "8")
+                page = next(iter(self.desk.views["pages"]), "8")
             deck = self.desk.leaves(kind, page)
         words = ["--page", page] if kind in ("rom", "source") else [f"--label={label}"] if label else []
         ran = tool("export", [kind, *words, "-", "-"], None, deck)
@@ -300,6 +339,15 @@ class Answers:
 def file_name(name):
     """Returns a safe name for a file: without its folder, and with only letters, digits, `.`, `_` and `-`."""
     return re.sub(r"[^A-Za-z0-9._-]", "_", os.path.basename(name.replace("\\", "/")))[-100:].lstrip(".-")
+
+
+def write_file(path, data):
+    """Writes a file of an import. If the disk is full, that is reported."""
+    try:
+        with open(path, "wb") as file:
+            file.write(data)
+    except OSError as error:
+        raise Failure(f"{os.path.basename(path)} cannot be written for the import: {error.strerror}") from error
 
 
 def tool(name, words, folder, given=b""):

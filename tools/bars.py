@@ -94,9 +94,9 @@ def read_bars(data: bytes) -> List[Part]:
             parts.append(part_of(program, is_private))
             program, row, before, is_private = b"", 0, 0, False
     if program and partials(program, b"")[1]:
-        raise Unreadable(number, 1, f"row {row} as the last one", "a further row: its last instruction is incomplete")
+        raise Unreadable(number, 1, f"row {row} as the last one", "another row, because its last instruction is incomplete")
     if program:
-        parts.append(part_of(program, is_private))
+        raise Unreadable(number, 1, f"row {row} as the last one", "another row, because its program has no END")
     return parts
 
 
@@ -112,16 +112,18 @@ def checked(values: List[Tuple[int, int]], line: int, row: int, before: int, pro
         raise Unreadable(line, 1, f"{len(data)} bytes", f"{HEAD_OF_ROW + 1} to {HEAD_OF_ROW + MOST_IN_ROW} in a row")
     wanted = running_sum(before, data[1:])
     if data[1] >> 4 not in TYPES:
-        raise Unreadable(line, columns[1], f"the type {data[1] >> 4:X}", "1, a program, or 2, a private program")
+        raise Unreadable(line, columns[1], f"the type {data[1] >> 4:X}", "1 (program) or 2 (private program)")
     if data[1] & 0xF != (row - 1) % 16:
-        raise Unreadable(line, columns[1], f"the number {data[1] & 0xF:X}", f"{(row - 1) % 16:X}, for row {row}")
+        raise Unreadable(line, columns[1], f"the number {data[1] & 0xF:X}", f"{(row - 1) % 16:X}, for row {row}: numbers begin with 0")
     if data[0] != wanted:
         raise Unreadable(line, columns[0], f"the checksum {data[0]:02X}", f"{wanted:02X}")
     first, last = partials(program, data[HEAD_OF_ROW:])
     if data[2] >> 4 != first:
-        raise Unreadable(line, columns[2], f"{data[2] >> 4} bytes of an instruction of the row before it", str(first))
+        found = f"{data[2] >> 4} as the number of bytes that complete an instruction of the row before"
+        raise Unreadable(line, columns[2], found, str(first))
     if data[2] & 0xF != last:
-        raise Unreadable(line, columns[2], f"{data[2] & 0xF} bytes of an incomplete instruction at its end", str(last))
+        found = f"{data[2] & 0xF} as the number of bytes of an instruction that the next row completes"
+        raise Unreadable(line, columns[2], found, str(last))
     return data[0]
 
 

@@ -3,7 +3,7 @@ import os
 import sys
 
 from decks import MEMORY, Failure
-from files import put
+from files import put, why_no_folder
 from linking import LONG, Linked, Unit
 from rules import Lint, lines_of
 from stepping import tool
@@ -29,7 +29,7 @@ def build(linked: Linked, out: str, images: str | None) -> int:
         put(head.encode() + blocks + (size + programs).encode("latin-1"), out)
         return 0
     if not os.path.isdir(images):
-        raise Failure(f"{images}: no such folder: create it first", 3)
+        raise Failure(f"--images {images}: {why_no_folder(images)}", 3)
     for unit in linked.units:
         words = unit.words + [0] * (PAGE_SIZE - len(unit.words))
         path = os.path.join(images, f"{unit.name}.rom")

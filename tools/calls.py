@@ -1,12 +1,18 @@
 """Calls of a module's functions in one process of the bench: each begins with a reset, sets registers, and prints what is wanted."""
+import re
 import subprocess
 from collections.abc import Iterable, Iterator
 from typing import NamedTuple
 
 from cases import TARGET, Case
-from decks import BENCH, LONGEST_DECK, NO_ANSWER, Failure, ended, hexadecimal, lines_of, running, with_keys
+from decks import BENCH, LONGEST_DECK, NO_ANSWER, Failure, bytes_of, ended, hexadecimal, lines_of, refused, running, shown, with_keys
+from keyboard import KEYS
 from linking import Linked
+from programs import broken
+from projects import Project, nearest
+from refusals import OF_A_LINE
 from settings import CPU, DATA_NAME, FLAG_NAME, MEMORY_NAME, STACK, Setting
+from sources import text_in
 from stubs import JUNK, Sizes, junk_of, memory_of, sizes_of, stub_of
 from typed import NoKeys, Text, keys_of, pieces_of
 
@@ -73,18 +79,29 @@ class Call:
     def __init__(self, caller: "Caller", case: Case, junk: dict[str, str] | None = None) -> None:
         self.case = case
         cpu = {one.name: one.value for one in case.before if one.name in CPU}
+        check_registers(case, caller.sizes.data)
         self.junked = [name for name in JUNK if name not in cpu and junk and name in junk]
         cpu.update((name, junk[name]) for name in self.junked)
         target = caller.target(case)
         stub = stub_of(memory_of(case.before, caller.sizes), cpu, target)
         if stub.words > 0x1000:
-            raise Failure(f"{case.name()}: the case sets too many registers: expected at most 200")
+            raise Failure(f"{case.name()}: found {len(case.before)} settings before ->, expected at most about 200: the words that set the "
+                          "registers must fit into a page")
         self.before = stub.steps if target is not None else 0
         limit = next((int(one.value) for one in case.after if one.name == "steps" and one.value), None)
         self.limit = min((LIMIT if limit is None else max(LIMIT, limit)) + self.before, MOST_STEPS)
         self.deck = f"unplug {caller.page}\nwords {caller.page}\n{stub.text}end\n{caller.start}{caller.keys(case)}call {caller.page}000\n"
         if target is None:
             self.deck += f"step {stub.steps}\n{caller.key_line(case, 'call', f'XEQ {case.target}')}"
+
+
+def check_registers(case: Case, size: int) -> None:
+    """Raises Failure if a case sets or wants a data register that memory does not have."""
+    for one in [*case.before, *case.after]:
+        data = DATA_NAME.fullmatch(one.name)
+        if data and int(data[1]) >= size:
+            raise Failure(f"{case.name()}: found {one.name}, but memory has {size} data registers: use a lower one, or set `size` in the "
+                          "project file")
 
 
 class Caller:
@@ -97,6 +114,8 @@ class Caller:
         self.junks: dict[int, dict[str, str]] = {}
         size = f"size {project.size}\n" if project.size is not None else ""
         self.start = f"reset\n{size}{''.join(program_block(path) for path in project.programs)}"
+        if project.programs:
+            check_programs(project, "".join(["reset\n", size]))
         self.addresses: dict[str, int] = {}
         # The status of the last run of the bench.
         self.status = 0
@@ -111,8 +130,8 @@ class Caller:
             if isinstance(label, str):
                 raise Failure(f"{case.path}:{case.number}: `{case.target}`: {label}")
             if label.unit.bank.bank != 1:
-                raise Failure(f"{case.path}:{case.number}: `{case.target}`: the label is in bank {label.unit.bank.bank}, and a call begins in "
-                              "bank 1: call a label of bank 1 that activates the bank")
+                raise Failure(f"{case.path}:{case.number}: `{case.target}`: the label is in bank {label.unit.bank.bank}, and a call begins "
+                              "in bank 1: call a label of bank 1 that activates the bank")
             self.addresses[case.target] = label.address
         return self.addresses[case.target]
 
@@ -125,8 +144,13 @@ class Caller:
         """Returns the line that presses keys, which a setting or a quoted name asks for."""
         try:
             pieces = pieces_of(asked)
+            unknown = [piece for piece in pieces if not isinstance(piece, Text) and piece not in KEYS]
+            if unknown:
+                near = nearest(unknown[0], KEYS)
+                raise NoKeys(f"no key is named {unknown[0]}{near and f', the nearest is {near}'}: `tools/keyboard text` shows the names; a text "
+                             "is in quotes")
         except NoKeys as why:
-            raise Failure(f"{case.path}:{case.number}: {what}={asked}: {why}") from why
+            raise Failure(f"{case.path}:{case.number}: `{asked if what == 'call' else f'{what}={asked}'}`: {why}") from why
         if "ALPHA" not in pieces and sum(isinstance(piece, Text) for piece in pieces) < 2:
             return f"key {' '.join(keys_of(asked))}\n"
         # ALPHA may be on before a text.
@@ -179,11 +203,31 @@ class Caller:
 
 def program_block(path: str) -> str:
     """Returns the block that loads the program in a file: a listing, or bytes."""
-    from sources import text_in
     if path.lower().endswith(".raw"):
-        with open(path, "rb") as file:
-            return "load\n" + b"\n".join(hexadecimal(file.read())).decode() + "\nend\n"
+        return "load\n" + b"\n".join(hexadecimal(bytes_of(path))).decode() + "\nend\n"
     return f"program\n{text_in(path).decode('latin-1').strip(chr(10))}\nend\n"
+
+
+def check_programs(project: Project, before: str) -> None:
+    """Raises Failure if the bench refuses a program in memory."""
+    blocks = [(path, program_block(path).encode("latin-1")) for path in project.programs]
+    found = refused(before.encode() + b"".join(text for _, text in blocks), project.memory)[1]
+    if not found:
+        return
+    first, refusal = found[0][0] - before.count("\n"), found[0][2]
+    for path, text in blocks:
+        if first < text.count(b"\n"):
+            break
+        first -= text.count(b"\n")
+    numbered = OF_A_LINE.fullmatch(refusal)
+    if numbered:
+        number, empty = int(numbered[1]), re.match(rb"\n*", text_in(path))[0].count(b"\n")
+        line = shown(lines_of(text)[number].strip())
+        raise Failure(f"{path}:{number + empty}: `{line}`: {refusal.rsplit(' ', 1)[0]}: expected a program line in the spelling of the "
+                      "bench, which tools/import translates to")
+    why = (f": {broken(bytes_of(path))}" if refusal.startswith("! 14") and path.lower().endswith(".raw") else
+           ": the programs do not fit into memory: set a smaller `size` in the project file" if refusal.startswith("! 16") else "")
+    raise Failure(f"{path}: {refusal}{why}")
 
 
 def result_of(call: Call, views: Views, lines: Iterator[str]) -> Result:

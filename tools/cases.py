@@ -5,12 +5,13 @@ import re
 from typing import NamedTuple
 
 from decks import Failure, bytes_of
-from settings import Setting, Wrong, setting, settings_in
+from settings import Setting, Wrong, reader_of, setting, settings_in
 
 WORDS = re.compile(r"""(?:[^\s"'#]|"[^"]*"|'[^']*')+|\#.*""")
 ARROW = "->"
 TARGET = re.compile(r"(?:([A-Za-z]\w{0,11})\.)?([A-Za-z]\w{0,11})")
 
+CALLED = "a label, PAGE.LABEL, or the name of a function in quotes"
 FORM = "expected LABEL BEFORE.. -> AFTER.., for example: X10 X=5 -> X=50"
 
 
@@ -33,6 +34,15 @@ def failure(path: str, number: int, row: str, why: str) -> Failure:
     return Failure(f"{path}:{number}: `{row.strip()[:200]}`: {why}")
 
 
+def text_in(path: str) -> str:
+    """Returns the text of a file in UTF-8."""
+    try:
+        return bytes_of(path).decode("utf-8-sig")
+    except UnicodeDecodeError as error:
+        line = error.object[:error.start].count(b"\n") + 1
+        raise Failure(f"{path}:{line}: byte {error.object[error.start]:02X} is not valid UTF-8: save the file as UTF-8") from error
+
+
 def usual(text: str) -> list[Setting]:
     """Returns the settings that every test has before its call."""
     return settings_in([word for word in WORDS.findall(text)], True)
@@ -44,10 +54,15 @@ def joined(common: list[Setting], own: list[Setting]) -> list[Setting]:
     return [*(one for one in common if one.name not in names), *own]
 
 
+def is_target(text: str) -> bool:
+    """Returns whether a text can be what a case calls."""
+    return text.startswith('"') or TARGET.fullmatch(text) is not None
+
+
 def row_of(words: list[str], common: list[Setting]) -> tuple[str, list[Setting], list[Setting]]:
     """Returns the target of a row, and its settings before and after the call."""
-    if words[0] != ARROW and not words[0].startswith('"') and not TARGET.fullmatch(words[0]):
-        raise Wrong(f"found {words[0]}, expected a label, PAGE.LABEL, or the name of a function in quotes")
+    if words[0] != ARROW and not is_target(words[0]):
+        raise Wrong(f"found `{words[0]}`, expected {CALLED}", words[0])
     at = words.index(ARROW) if ARROW in words else len(words)
     return words[0], joined(common, settings_in(words[1:at], True)), settings_in(words[at + 1:], False)
 
@@ -55,12 +70,9 @@ def row_of(words: list[str], common: list[Setting]) -> tuple[str, list[Setting],
 def cases_in(path: str, common: list[Setting]) -> list[Case]:
     """Returns the cases of a file. Empty rows and rows that begin with # are skipped."""
     cases = []
-    try:
-        rows = bytes_of(path).decode("utf-8-sig").splitlines()
-    except UnicodeDecodeError as error:
-        raise Failure(f"{path}: byte {error.object[error.start]:02X} is not valid UTF-8: save the file as UTF-8") from error
-    for number, row in enumerate(rows, 1):
-        words = WORDS.findall(row)
+    for number, row in enumerate(text_in(path).splitlines(), 1):
+        places = list(WORDS.finditer(row))
+        words = [place[0] for place in places]
         title = words.pop()[1:].strip() if words and words[-1].startswith("#") else ""
         if not words:
             continue
@@ -69,20 +81,42 @@ def cases_in(path: str, common: list[Setting]) -> list[Case]:
         try:
             target, before, after = row_of(words, common)
         except Wrong as why:
-            raise failure(path, number, row, str(why)) from why
+            column = next((f"column {place.start() + 1}: " for place, word in zip(places, words) if word is why.word), "")
+            is_open = re.sub("'[^']*'", "", row[:row.find("#")] if title else row).count('"') % 2
+            raise failure(path, number, row, f"{column}{why}{'; the other quote is missing' if is_open else ''}") from why
         cases.append(Case(path, number, title, target, before, after))
     return cases
+
+
+def rows_in(path: str) -> list[list[str]]:
+    """Returns the rows of a table in CSV, of which the first one has names."""
+    import csv
+    import io
+    reader = csv.reader(io.StringIO(text_in(path)))
+    try:
+        rows = list(reader)
+    except csv.Error as error:
+        raise Failure(f"{path}:{reader.line_num}: cannot be read as CSV: {error}") from error
+    if not rows or not rows[0]:
+        raise Failure(f"{path}:1: found no names, expected a first row with names, for example: X,Y,->X")
+    return rows
 
 
 def table_in(path: str, target: str | None, common: list[Setting]) -> list[Case]:
     """Returns the cases of a table in CSV. Its first row names the settings; those wanted after the call begin with ->. A column `call` has
     the target. Empty cells are not set, or not compared."""
-    import csv
-    import io
-    rows = list(csv.reader(io.StringIO(bytes_of(path).decode("utf-8-sig"))))
-    if not rows or not rows[0]:
-        raise Failure(f"{path}: the table is empty: expected a first row with names, for example: X,Y,->X")
+    rows = rows_in(path)
+    if target is not None and not is_target(target):
+        raise Failure(f"--call {target}: expected {CALLED}", 2)
     names, cases = [name.strip() for name in rows[0]], []
+    other = re.search("[;\t|]", names[0]) if len(names) == 1 else None
+    if other:
+        raise Failure(f"{path}:1: `{names[0]}`: found {other[0]!r} between names, expected commas: save the table with commas")
+    for name in names:
+        try:
+            _ = name in ("", "call") or reader_of(name.removeprefix(ARROW).strip())
+        except Wrong as why:
+            raise failure(path, 1, ",".join(rows[0]), str(why)) from why
     if target is None and "call" not in names:
         raise Failure(f"{path}:1: `{','.join(names)}`: no column is named call: name the function with --call LABEL")
     for number, row in enumerate(rows[1:], 2):
@@ -99,5 +133,7 @@ def table_in(path: str, target: str | None, common: list[Setting]) -> list[Case]
         called = dict(cells).get("call", target)
         if called is None:
             raise failure(path, number, ",".join(row), "the cell of call is empty, expected a label")
+        if not is_target(called):
+            raise failure(path, number, ",".join(row), f"the cell of call is `{called}`, expected {CALLED}")
         cases.append(Case(path, number, "", called, joined(common, before), after))
     return cases

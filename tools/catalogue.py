@@ -9,9 +9,9 @@ from typing import Callable, Dict, Iterable, Iterator, List, NamedTuple, Optiona
 
 import listings
 import programs
-from containers import BY_NAME, FREE42, LIF, Member, members_of
-from decks import MARK_OF_UTF8, MARKS_OF_UTF16, Failure, answered, block, hexadecimal, shown
-from doubts import Doubt, at_places, of_bytes, of_line, parted
+from containers import BY_NAME, FREE42, PACKED, UNPACK, Member, members_of
+from decks import MARK_OF_UTF8, MARKS_OF_UTF16, Failure, answered, block, ended, hexadecimal, shown
+from doubts import PRIVATE, PRIVATE_ROWS, Doubt, at_places, of_bytes, of_line, parted
 from exchange import Count, counts_in, wanted_counts
 from functions import Functions, table
 from modules import lines_of_bytes, lines_of_texts
@@ -175,9 +175,11 @@ def found_in(path: str) -> Tuple[List[Member], Optional[Row]]:
     if os.path.islink(path) and not os.path.exists(path):
         return [], Row(path, "refused", f"this link leads nowhere: found {os.readlink(path)}, expected a file")
     if not os.path.isfile(path):
-        return [], Row(path, "none", "it is no regular file")
-    if os.path.splitext(path)[1].lower() not in NAMES:
-        return [], Row(path, "none", "its name is not that of a program")
+        return [], Row(path, "none", "found a device or a pipe, expected a regular file")
+    ending = os.path.splitext(path)[1]
+    if ending.lower() not in NAMES:
+        why = f"found a name that ends in {ending}, expected one of a program: {', '.join(filter(None, NAMES))}"
+        return [], Row(path, "refused", UNPACK) if is_packed(path) else Row(path, "none", why)
     try:
         members = members_of(path)
     except Failure as failure:
@@ -185,6 +187,15 @@ def found_in(path: str) -> Tuple[List[Member], Optional[Row]]:
     if not members[0].data:
         return [], Row(path, "refused", "the file is empty")
     return members, None
+
+
+def is_packed(path: str) -> bool:
+    """Returns whether a file begins as a packed archive does, which may have programs in it."""
+    try:
+        with open(path, "rb") as file:
+            return file.read(max(map(len, PACKED))).startswith(PACKED)
+    except OSError:
+        return False
 
 
 def text_of(member: Member) -> Optional[List[str]]:
@@ -209,7 +220,8 @@ def programs_of(member: Member) -> List[object]:
     if lines is None:
         is_text = member.kind == LISTING or suffix in LISTING_NAMES
         why = "found bytes that are no text in UTF-8, expected a listing: convert it with iconv, or name bytes of a program .raw"
-        return [Row(member.path, "refused" if is_text else "none", why if is_text else "found bytes of an unknown kind")]
+        other = "found bytes that are no text in UTF-8, expected a listing or a container"
+        return [Row(member.path, "refused" if is_text else "none", why if is_text else other)]
     return programs_of_listing(member, lines)
 
 
@@ -217,9 +229,9 @@ def programs_of_bytes(member: Member) -> List[object]:
     """Returns the programs in the bytes of a member, or a row if there are none."""
     found: List[object] = []
     begin = 0
-    doubts = list(of_bytes(member.data))
+    doubts = [*(Doubt(PRIVATE, 1, 1, note) for note in member.notes if note == PRIVATE_ROWS), *of_bytes(member.data)]
     for number, data in enumerate(programs_in(member.data), 1):
-        own = [*(member.notes if number == 1 else []), *(in_row(doubt) for doubt in doubts if doubt.program == number)]
+        own = [in_row(doubt) for doubt in doubts if doubt.program == number]
         found.append(Program(member.path, number, begin, data, [], own, None))
         begin += len(data)
     return found or [Row(member.path, "refused", "found nulls alone, expected the bytes of a program")]
@@ -236,8 +248,7 @@ def programs_of_listing(member: Member, lines: List[str]) -> List[object]:
     if listing.bad:
         number, line, reason = listing.bad[0]
         more = f" (and {listing.unread - 1} more)" if listing.unread > 1 else ""
-        is_none = listing.is_foreign() or member.container == LIF
-        return [Row(member.path, "none" if is_none else "refused", "a text that is no listing" if is_none else
+        return [Row(member.path, "none" if listing.is_foreign() else "refused", "a text that is no listing" if listing.is_foreign() else
                     f"line {number}: `{shown(line)}`: not a program line{f': {reason}' if reason else ''}{more}")]
     doubts = [in_row(doubt) for doubt in parted(listing.doubts, ())[0]]
     counts = counts_in(lines) if member.container == FREE42 else []
@@ -247,7 +258,7 @@ def programs_of_listing(member: Member, lines: List[str]) -> List[object]:
             break
         if text in (None, "END", ".END."):
             at = len(found)
-            own = [] if at else [*member.notes, *doubts]
+            own = [] if at else doubts
             found.append(Program(member.path, at + 1, 0, None, texts, own if text else [*own, "no END"],
                                  counts[at] if at < len(counts) else None))
             texts = []
@@ -276,7 +287,7 @@ def lines_in(found: List[Program]) -> List[Optional[List[Tuple[int, str]]]]:
     """Returns for each program its lines with their positions, up to its END; None if the bench refuses it. One bench is asked for all."""
     status, answers = answered(b"".join(map(deck_of, found)))
     if status > 1:
-        raise Failure(f"the bench ended with status {status} when it was asked for the lines of {len(found)} programs")
+        raise Failure(ended(status, f"when it was asked for the lines of {len(found)} programs"))
     results: List[Optional[List[Tuple[int, str]]]] = []
     for (_, _, loaded), (_, _, lines) in zip(answers[2::4], answers[3::4]):
         texts = [(int(line[:4]), line[5:].decode()) for line in lines]
@@ -335,7 +346,6 @@ def row_of(program: Program, lines: Optional[List[Tuple[int, str]]]) -> Row:
     row.exact = hashed(program.data if program.data is not None else b"\n" + "\n".join(texts).encode())
     if program.data is not None:
         row.doubts += [in_row(doubt) for number, text in enumerate(texts, 1) for doubt in at_places(of_line(text), number, text)]
-        row.doubts += [] if ends_of(program.data) else ["no END"]
     judge(row, texts)
     return row
 

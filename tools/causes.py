@@ -34,11 +34,13 @@ RAISED = str.maketrans("⁰¹²³⁴⁵⁶⁷⁸⁹", "0123456789")
 
 # Operands of functions.
 WITH_OPERAND = re.compile(r"(.+?)\s+(\S+)")
+OF_ONE_DIGIT, OF_FLAGS = ("FIX", "SCI", "ENG", "TONE"), ("SF", "CF", "FS?", "FC?", "FS?C", "FC?C")
 CONFUSED = str.maketrans("OoQlI|", "000111")
 TOUCHING_LETTER = re.compile(r"(STO?[-+*/])(IND\s*)?([XYZTL])", re.I)
 INDIRECT = re.compile(r"(\S+) IND", re.I)
 TWICE = re.compile(r"(\S+) IND IND (\S+)", re.I)
 TWO_OPERANDS = re.compile(r"(\S+ (?:IND )?(?:[0-9]{1,2}|[XYZTL])) (?:[0-9]{1,3}|[XYZTL])", re.I)
+AFTER_POINT = re.compile(r"([A-Z<>*/+-]+)\.([0-9]{1,2})", re.I)
 VARIABLE = re.compile(r"(STO|RCL|ST[-+*/]|VIEW|ISG|DSE|X<>|ASTO|ARCL)\s*\"(.*)\"", re.I)
 TEXT_AFTER = re.compile(r"(PROMPT|AVIEW|PSE|STOP|ALPHA)\s*\"(.*)\"", re.I)
 
@@ -183,6 +185,10 @@ def of_operands(text: str, speller: object) -> Iterator[Cause]:
     if touching:
         line = f"{speller.tables.name(touching[1])} {'IND ' if touching[2] else ''}{touching[3].upper()}"
         yield (line,), f"write a space before the operand: {line}"
+    pointed = AFTER_POINT.fullmatch(text)
+    if pointed:
+        line = f"{speller.tables.name(pointed[1])} {int(pointed[2]):02}"
+        yield (line,), f"write a space and no point before the operand: {line}"
     variable = VARIABLE.fullmatch(text)
     if variable:
         name = speller.tables.name(variable[1])
@@ -202,6 +208,11 @@ def of_operands(text: str, speller: object) -> Iterator[Cause]:
                                   "IND " if re.search(r" IND\Z", found[1], re.I) else "")
 
 
+def operands_of(name: str, indirect: str) -> str:
+    """Returns the numbers that keys can type after a function."""
+    return "00 to 99" if indirect else "0 to 9" if name in OF_ONE_DIGIT else "00 to 55" if name in OF_FLAGS else "00 to 99"
+
+
 def of_one_operand(name: str, operand: str, speller: object, indirect: str) -> Iterator[Cause]:
     """Yields what is wrong with the operand of a function, if the function has one."""
     fits, begin = (f"{name} {indirect}00",), f"{name} {indirect}"
@@ -218,13 +229,13 @@ def of_one_operand(name: str, operand: str, speller: object, indirect: str) -> I
         line = f"{begin}{int(confused):02}"
         yield (line,), f"found a letter in the operand, expected digits: write {line}"
     elif re.fullmatch(r"[-+][0-9]+", operand):
-        yield fits, f"{operand} is not a valid operand here: it has no sign, expected 00 to 99"
+        yield fits, f"{operand} is not a valid operand here: expected {operands_of(name, indirect)}, without a sign"
     elif re.fullmatch(r"[0-9]*\.[0-9]*", operand) and re.search("[0-9]", operand):
-        yield fits, f"{operand} is not a valid operand here: it has no point, expected 00 to 99"
+        yield fits, f"{operand} is not a valid operand here: expected {operands_of(name, indirect)}, without a point"
     elif re.fullmatch(r"[0-9]+", operand):
-        last = "101" if int(operand) > 101 else "99"
-        more = ", or up to 101 in synthetic lines" if last == "101" else ""
-        yield fits, f"{operand} is not a valid operand here: expected 00 to 99{more}"
+        wanted = operands_of(name, indirect)
+        more = ", or up to 101 in synthetic lines" if int(operand) > 101 and wanted == "00 to 99" else ""
+        yield fits, f"{operand} is not a valid operand here: expected {wanted}{more}"
     stack = re.fullmatch(r"ST([XYZTL])", operand, re.I)
     if stack:
         yield (f"{begin}{stack[1].upper()}",), f"{operand} is not a valid operand here: write {begin}{stack[1].upper()}"

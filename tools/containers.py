@@ -17,8 +17,13 @@ from spellings import read_tables
 
 LIF, P41, HEX, BARS, RAW, FREE42, MOD = "lif", "p41", "hex", "bars", "raw", "free42", "mod"
 BY_NAME = {".lif": LIF, ".dat": LIF, ".p41": P41, ".hex": HEX, ".bars": BARS, ".mod": MOD}
+WITH_NAMES = (LIF, MOD)
 LISTINGS = tuple(exchange.READERS)
 KINDS = (LIF, P41, HEX, BARS, MOD, *LISTINGS)
+
+# How files begin that have other files in them: .zip, .gz, .7z, .rar, .bz2 and .xz.
+PACKED = (b"PK\x03\x04", b"\x1f\x8b", b"7z\xbc\xaf", b"Rar!", b"BZh", b"\xfd7zXZ")
+UNPACK = "this is a packed archive, such as .zip or .gz: unpack it first"
 
 # The least number of bytes of hexadecimal digits by which a text without a known name is taken for them.
 FEW_DIGITS = 8
@@ -76,7 +81,7 @@ def members_of(path: str, kind: Optional[str] = None) -> List[Member]:
     except Unreadable as unreadable:
         raise Failure(f"{path}:{unreadable}") from unreadable
     if not parts:
-        raise Failure(f"{path}: found no files in the directory, expected one at least")
+        raise Failure(f"{path}: found no {'files in the directory' if container == LIF else 'rows of bar code'}, expected one at least")
     return [Member(f"{path}:{part.name}" if container == LIF else path, part.data, None if container == RAW else part.kind, part.notes,
                    container) for part in parts]
 
@@ -94,7 +99,7 @@ def members_of_mod(path: str, data: bytes) -> List[Member]:
 
 def only(members: List[Member], names: Optional[List[str]]) -> List[Member]:
     """Returns the members with these names in a LIF image or a file .mod, or all if there are no names. Raises Failure if there is none."""
-    if not names or members[0].container not in (LIF, MOD):
+    if not names or members[0].container not in WITH_NAMES:
         return members
     found = [member for member in members if member.path.rsplit(":", 1)[1] in names]
     if not found:

@@ -36,6 +36,7 @@ delete [N]          removes the one with this number, or all
 registers       r   prints all registers; * follows those that the last command has changed
 returns             prints the return addresses with their labels
 list [PLACE]    l   prints the source around the next instruction, or around a place
+explain         e   says what the next instruction or program line does, with the values that it finds
 deck COMMAND        executes a command of the bench, for example: deck show flags, deck key R/S
 more                executes the deck from the command at which the debugger stopped, up to its next step, run or trace
 restart             goes back to the start
@@ -48,8 +49,13 @@ def number_in(words: list[str], usual: int) -> int:
     if not words:
         return usual
     if words[1:] or not words[0].isdecimal() or not 1 <= int(words[0]) <= MOST_STEPS:
-        raise Failure(f"found {' '.join(words)}, expected a number of steps from 1 to {MOST_STEPS:,}")
+        raise Failure(f"found `{' '.join(words)}`, expected a number of steps from 1 to {MOST_STEPS:,}")
     return int(words[0])
+
+
+def given(words: list[str]) -> str:
+    """Returns what an error says of the words after a command."""
+    return f"found `{' '.join(words)}`" if words else "found nothing"
 
 
 class Debugger:
@@ -62,8 +68,9 @@ class Debugger:
         self.state, self.changed = self.views(), set()
         self.commands = {name: getattr(self, f"do_{name}") for name in
                          ("step", "next", "finish", "continue", "back", "break", "watch", "breaks", "delete", "registers", "returns", "list",
-                          "deck", "more", "restart", "help")}
-        self.short = {"s": "step", "n": "next", "f": "finish", "c": "continue", "b": "back", "r": "registers", "l": "list", "h": "help"}
+                          "explain", "deck", "more", "restart", "help")}
+        self.short = {"s": "step", "n": "next", "f": "finish", "c": "continue", "b": "back", "r": "registers", "l": "list", "e": "explain",
+                      "h": "help"}
 
     # What is printed.
 
@@ -82,15 +89,18 @@ class Debugger:
             position = point.position.split()[1]
             lines = [] if position[:1] == "P" else self.machine.ask("show lines\n")
             return point.position + next((line[4:] for line in lines if line.startswith(f"{position} ")), "")
-        lines = self.machine.ask(f"list {point.address:04X} 2\n")
-        if lines[0].startswith("! 04"):
-            lines = self.machine.ask(f"list {point.address:04X} 1\n")
-        words = lines[0][6:] if not lines[0].startswith("! ") else lines[0]
+        line = self.listed(point.address)
+        words = line[6:] if not line.startswith("! ") else line
         bank = f" b{point.bank}" if self.places.has_banks(point.address) else ""
         source = self.places.source_of(point.address, point.bank)
         address = f"{point.address:04X}"
         front = f"{address}{bank} {self.name(point.address, point.bank).removeprefix(address):<12}  {words}"
         return f"{front:<48}  {source}".rstrip()
+
+    def listed(self, address: int) -> str:
+        """Returns the instruction at an address, as the bench lists it, or the refusal."""
+        lines = self.machine.ask(f"list {address:04X} 2\n")
+        return self.machine.ask(f"list {address:04X} 1\n")[0] if lines[0].startswith("! 04") else lines[0]
 
     def tell(self, count: int, reason: str) -> None:
         """Prints why a command has stopped, the next instruction, and what has changed."""
@@ -207,16 +217,16 @@ class Debugger:
         if words[:1] in (["l"], ["p"]) and len(words) == 2:
             is_line = words[0] == "l"
             if not re.fullmatch("[0-9]{1,4}" if is_line else "[0-9A-Fa-f]{4}", words[1]):
-                raise Failure(f"found {words[1]}, expected {'the position of a line' if is_line else 'an address of four digits'}")
+                raise Failure(f"found `{words[1]}`, expected {'a position of up to four decimal digits' if is_line else 'an address of four hexadecimal digits'}")
             return self.add("break", f"{int(words[1]):04}" if is_line else f"P{words[1].upper()}")
         if len(words) != 1:
-            raise Failure("expected a place, for example: break LOOP")
+            raise Failure(f"{given(words)}, expected a label, an address or a line of a source, for example: break LOOP")
         return self.add("break", self.places.find(words[0]))
 
     def do_watch(self, words: list[str]) -> None:
         """Watches a register or an address of memory."""
         if not 1 <= len(words) <= 2:
-            raise Failure("expected a register, for example: watch C S&X")
+            raise Failure(f"{given(words)}, expected a register, for example: watch C S&X")
         name = "cpu.T" if words[0].lower() == "cpu.t" else words[0].upper()
         data, address = DATA_NAME.fullmatch(name), ""
         if name in STACK:
@@ -227,7 +237,7 @@ class Debugger:
         elif MEMORY_NAME.fullmatch(name):
             address = name
         elif name not in ("cpu.T", *WIDE, *SMALL):
-            raise Failure(f"{words[0]}: expected a register such as C, ST, X, R05, or an address of memory such as 00D")
+            raise Failure(f"found `{words[0]}`, expected a register such as C, ST, X, R05, or an address of memory such as 00D")
         first, last = self.places_in(words[1]) if words[1:] else FIELDS["ALL"]
         if address and address not in self.machine.addresses:
             self.machine.addresses.append(address)
@@ -242,7 +252,7 @@ class Debugger:
         found = re.fullmatch("([0-9]{1,2})(?:-([0-9]{1,2}))?", text)
         first, last = (int(found[1]), int(found[2] or found[1])) if found else (0, 1)
         if not DIGITS > first >= last:
-            raise Failure(f"{text}: expected ALL, M, S&X, XS, MS, a place from 0 to 13, or two such as 12-3")
+            raise Failure(f"found `{text}`, expected ALL, M, S&X, XS, MS, a place from 0 to 13, or two such as 12-3")
         return first, last
 
     def add(self, kind: str, what: Any) -> None:
@@ -272,7 +282,7 @@ class Debugger:
         """Removes breakpoints and watched registers."""
         numbers = list(self.breaks) if not words else [int(word) for word in words if word.isdecimal() and int(word) in self.breaks]
         if words and len(numbers) != len(words):
-            raise Failure(f"found {' '.join(words)}, expected a number that `breaks` prints")
+            raise Failure(f"found `{' '.join(words)}`, expected a number that `breaks` prints")
         for number in numbers:
             del self.breaks[number]
 
@@ -295,7 +305,7 @@ class Debugger:
         """Prints the source around an address."""
         point = self.machine.point
         if words[1:] or not words and point.address is None:
-            raise Failure("expected a place, for example: list LOOP")
+            raise Failure(f"{given(words)}, expected a place, for example: list LOOP")
         address, bank = self.places.find(words[0]) if words else (point.address, point.bank)
         part = self.places.part_at(address, bank or self.machine.banks.get(address >> 12, 1))
         row = part.row_at(address & 0xFFF) if part else None
@@ -305,12 +315,19 @@ class Debugger:
         for path, number, text in part.rows[max(at - AROUND, 0):at + AROUND + 1]:
             print(f"{'>' if (path, number) == row[:2] else ' '} {number:>4}  {text}".rstrip())
 
+    def do_explain(self, words: list[str]) -> None:
+        """Prints what the next instruction or program line does, in a sentence."""
+        self.none(words)
+        point = self.machine.point
+        line = self.next_line() if point.address is None else f"{point.position} {self.listed(point.address)[15:]}"
+        print(*self.trace.explained(line, self.state, {}) or ["    no sentence is known for it"], sep="\n")
+
     def do_deck(self, words: list[str]) -> None:
         """Executes a command of the bench."""
         if not words:
-            raise Failure("expected a command of the bench, for example: deck show flags")
+            raise Failure("found nothing, expected a command of the bench, for example: deck show flags")
         if words[0] in ("words", "image", "asm", "load", "program"):
-            raise Failure(f"{words[0]}: expected a command of one line")
+            raise Failure(f"`{words[0]}` opens a block, expected a command of one line: put the block into the deck")
         try:
             line = f"key {' '.join(keys_of(' '.join(words[1:])))}" if words[0] == "key" else " ".join(words)
         except NoKeys as why:
@@ -318,7 +335,7 @@ class Debugger:
         if words[0] == "show":
             print(*self.machine.ask(f"{line}\n"), sep="\n")
         elif words[0] in ("step", "run", "trace"):
-            raise Failure(f"{words[0]}: use step, continue or back, which the debugger can undo")
+            raise Failure(f"found `deck {line}`, which the debugger cannot undo: use its own step, continue or back")
         else:
             lines = self.machine.carry_out(line.encode("latin-1"))
             print(*lines, sep="\n", end="\n" if lines else "")
@@ -345,7 +362,7 @@ class Debugger:
     def none(words: list[str]) -> None:
         """Refuses words after a command that takes none."""
         if words:
-            raise Failure(f"found {' '.join(words)}, expected nothing after this command")
+            raise Failure(f"found `{' '.join(words)}`, expected nothing after this command")
 
     # The loop.
 
@@ -357,7 +374,7 @@ class Debugger:
         try:
             command = self.commands.get(self.short.get(name, name))
             if command is None:
-                raise Failure(f"{name}: no such command: help lists them")
+                raise Failure(f"`{name}`: no such command: help lists them")
             command(words)
         except Failure as why:
             if why.status == NO_ANSWER:

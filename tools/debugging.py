@@ -17,6 +17,9 @@ STEP, CPU_LINES = b"trace 1\nshow cpu\nshow pos\n", 5
 # The numbers of steps that the bench gets at a time: few at first, because it must not go far past a reason to stop.
 FEWEST, MOST = 8, 512
 
+# The number of bytes after which another bench goes on. A bench reads at most 67,108,864 bytes.
+MOST_SENT = 60_000_000
+
 POSITION = re.compile(r"(Micro|Run|Idle)\s(P?)([0-9A-F]{4})")
 RETURNS = 4
 FIELDS = {"ALL": (13, 0), "M": (12, 3), "S&X": (2, 0), "XS": (2, 2), "MS": (13, 13)}
@@ -173,8 +176,10 @@ class Machine:
 
     def steps(self, count: int) -> Iterator[Taken]:
         """Yields the next steps. The bench executes them in groups, so it may be further than the last one that was yielded."""
-        size = FEWEST
+        size, done = FEWEST, 0
         while count > 0:
+            if self.session.sent > MOST_SENT:
+                self.renew(done)
             size = min(size, count, max(1, 45_000 // len(STEP + self.views())))
             lines = iter(self.ask(((STEP + self.views()) * size).decode()))
             for left in reversed(range(size)):
@@ -185,7 +190,15 @@ class Machine:
                 if taken.refusal:
                     return
             count -= size
+            done += size
             size = min(2 * size, MOST)
+
+    def renew(self, done: int) -> None:
+        """Starts another bench at the same point, because one bench reads only so many bytes. `done` steps are not in the events yet."""
+        self.close()
+        self.session = self.started(True)
+        for event in [*self.events, done]:
+            self.session.ask(b"step %d" % event if isinstance(event, int) else event)
 
     def taken(self, lines: Iterator[str]) -> Taken:
         """Reads a step."""

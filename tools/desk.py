@@ -9,39 +9,37 @@ import threading
 import time
 
 from alpha import PROBES, takes_letters, typed_keys
-from decks import BENCH, MARK, MARK_ANSWER, NO_ANSWER, Failure, items_of, lines_of, spelled_lines, words_of
+from beside import Beside
+from coded import coded
+from decks import BENCH, MARK, MARK_ANSWER, MEMORY, NO_ANSWER, Failure, lines_of
 from decks import text_of as text_of_line
 from keyboard import KEYS
-from session import Session, is_whole
+from explaining import is_carrying, of_line, of_word
+from history import History
+from lights import AFTER, BEFORE, PROMPT, Lights, Seen
+from memory import MAIN_START, Memory
+from paging import Pages
+from parts import MOST_STEPS, NO_END, Entry, Part, parts_of, refusal_of
+from session import Session
 from sources import Labels
 from typed import Text
 from values import text_of
 
 # The longest time in seconds to wait for an answer of the bench, even on a busy machine, and the intended time for a piece of a run.
 PATIENCE, PIECE = 120, 0.02
-MOST_STEPS = 9_999_999
 
-# How many of the last steps of a long trace are read one by one; and how many lines of a long reply are kept, and how many of its first
-# and last lines then.
-LAST_STEPS, MOST_LINES, FIRST_LINES = 200, 5000, 100
+# How many of the last steps of a long trace are read one by one, and after how many of the last commands that wait the state is read.
+LAST_STEPS = 200
 
-# Commands that are executed in pieces.
-IN_PIECES = re.compile(r"(run|step|trace)(?: 0*([0-9]{1,7}))?")
 RAN = re.compile(r"ran ([0-9]+) ([A-Z][a-z]+)")
-
-# A prompt on the display, in which SHIFT adds IND. While a name is typed there is no prompt.
-PROMPT = re.compile(r"(?:RCL|STO|ISG|VIEW|ASTO|ARCL|ST[-+*/]|SF|CF|FS\?|FIX|SCI|ENG|GTO|XEQ|LBL)(?: IND)?(?: ST)? [.0-9]?_{1,2}")
 
 # A name that is being typed. Keys are letters in it, as they are with flag 48 set outside a prompt.
 NAME = re.compile(r'^(?:GTO|XEQ|LBL) "[^"]*_$')
 
 PAGES = "456789ABCDEF"
-BOTTOM_OF_MEMORY, MOST_REGISTERS = 0x0C0, 320
+MOST_REGISTERS = 320
 VIEWS = ("cpu", "stack", "flags", "alpha", "display", "pos", "lines", "functions")
 WORDS_BEFORE, WORDS_BEHIND = 16, 32
-
-# The refusal of a block whose `end` is missing when the input ends.
-NO_END = "! 52 NoEnd"
 
 
 def read(lines):
@@ -49,9 +47,35 @@ def read(lines):
     return [line.decode("latin-1") for line in lines]
 
 
-def refusal_of(reply):
-    """Returns the refusal at the end of a reply, or None."""
-    return reply[-1] if reply and reply[-1].startswith("! ") else None
+class Watchdog:
+    """Kills each bench that does not answer in time. One thread watches all of them, because to start a thread takes time."""
+
+    def __init__(self):
+        self.lock, self.until, self.thread = threading.Lock(), {}, None
+
+    def begin(self, process):
+        """Watches a process from now on."""
+        with self.lock:
+            self.until[process] = time.monotonic() + PATIENCE
+            if self.thread is None:
+                self.thread = threading.Thread(target=self.watch, daemon=True)
+                self.thread.start()
+
+    def end(self, process):
+        """Watches a process no more."""
+        with self.lock:
+            self.until.pop(process, None)
+
+    def watch(self):
+        """Kills processes that are late."""
+        while True:
+            time.sleep(0.5)
+            with self.lock:
+                for process in [one for one, until in self.until.items() if time.monotonic() > until]:
+                    process.kill()
+
+
+WATCHDOG = Watchdog()
 
 
 class Bench(Session):
@@ -63,9 +87,7 @@ class Bench(Session):
 
     def ask_all(self, commands):
         """Returns the lines that each of some whole commands prints."""
-        timer = threading.Timer(PATIENCE, self.bench.kill)
-        timer.daemon = True
-        timer.start()
+        WATCHDOG.begin(self.bench)
         try:
             self.bench.stdin.write(b"".join(command + b"\n" + MARK for command in commands))
             self.bench.stdin.flush()
@@ -73,7 +95,7 @@ class Bench(Session):
         except (OSError, ValueError) as error:
             raise self.failure() from error
         finally:
-            timer.cancel()
+            WATCHDOG.end(self.bench)
 
     def answer(self):
         """Returns the lines up to the next marker."""
@@ -115,100 +137,16 @@ class Bench(Session):
         self.bench.stdout.close()
 
 
-class Lights:
-    """SHIFT and program mode, which no command shows. They are computed from the accepted keys by the rules of docs/KEYBOARD.md."""
-
-    def __init__(self):
-        self.shift = self.program = False
-
-    def press(self, name, is_idle, display):
-        """Updates the state after an accepted key; `display` is the display after it."""
-        if not is_idle:
-            return
-        if name != "SHIFT":
-            self.shift = False
-            self.program ^= name == "PRGM"
-        elif not PROMPT.fullmatch(display):
-            self.shift = not self.shift
-
-
-class Part:
-    """A command, a block, or the comments and empty lines between two of them, as the bytes of a deck."""
-
-    def __init__(self, text, is_command):
-        self.text, self.is_command = text, is_command
-        self.words = [word.decode("latin-1") for word in words_of(lines_of(text)[0])] if is_command else []
-        found = IN_PIECES.fullmatch(" ".join(self.words))
-        count = int(found[2] or 1) if found else 0
-        self.kind = found[1] if found and count <= MOST_STEPS and (found[2] or found[1] == "step") else None
-        # For a command in pieces: how many steps are left, how many were requested so far, and how many lines or words a run has
-        # executed.
-        self.left, self.asked, self.ran = count if self.kind else 0, 0, 0
-        # The keys of a key line, with texts among them.
-        self.pieces = [] if self.words[:1] != ["key"] else spelled_lines([text]).get(0, self.words[1:])
-        # The entry of this part in the session, and whether it is a block without `end` at the end of the deck.
-        self.entry, self.is_open = None, False
-
-    def shown(self):
-        """Returns the part as text."""
-        return self.text.decode("utf-8", "replace").replace("\r\n", "\n")
-
-    def paragraphs(self):
-        """Returns the comments as paragraphs. An indented line is a paragraph of its own."""
-        found, is_open = [], False
-        for line in [] if self.is_command else self.shown().split("\n"):
-            words = re.sub("^# ?", "", line)
-            is_set_in = words[:1].isspace()
-            if words.strip() and is_open and not is_set_in:
-                found.append(f"{found.pop()} {words}")
-            elif words.strip():
-                found.append(words)
-            is_open = bool(words.strip()) and not is_set_in
-        return found
-
-
-def parts_of(deck, may_be_open=False):
-    """Returns the parts of a deck; their texts together are the deck. The last block may lack its `end` if `may_be_open` is set."""
-    if deck.endswith(b"\r"):
-        raise Failure("the deck ends in CR without LF, which makes the CR part of its last line: end the line with LF")
-    lines = lines_of(deck)
-    parts, at = [], 0
-    for first, last in items_of(lines):
-        if first > at:
-            parts.append(Part(b"".join(lines[at:first]), False))
-        parts.append(Part(b"".join(lines[first:last + 1]), True))
-        at = last + 1
-    if lines[at:]:
-        parts.append(Part(b"".join(lines[at:]), False))
-    if parts and parts[-1].is_command and not is_whole(parts[-1].text.rstrip(b"\n")):
-        parts[-1].is_open = True
-        if not may_be_open:
-            raise Failure(f"{NO_END}: the block `{parts[-1].shown().splitlines()[0]}` has no line `end`")
-    return parts
-
-
-class Entry:
-    """An entry of the session: its text, its reply, and the refused key if there were several."""
-
-    def __init__(self, text):
-        self.text, self.reply, self.key = text, [], None
-
-    def told(self):
-        """Returns the text without its last newline, with a character for each byte, and the reply, which is shortened if it is long."""
-        reply = self.reply
-        if len(reply) > MOST_LINES:
-            reply = [*reply[:FIRST_LINES], f"… {len(reply) - 2 * FIRST_LINES} lines", *reply[-FIRST_LINES:]]
-        return [self.text.decode("latin-1").removesuffix("\n"), reply]
-
-
 class Desk:
     """The bench, the commands that it was given, the commands that wait, and the state of the bench."""
 
     def __init__(self, memory=None):
         """Starts a bench with `memory` registers of main memory; None means the default."""
         self.words = [] if memory is None else ["--memory", memory]
-        self.top = BOTTOM_OF_MEMORY + (int(memory) if memory and memory.isdigit() else MOST_REGISTERS)
-        self.number, self.bench = 0, None
+        self.top = MAIN_START + (int(memory) if memory and memory.isdigit() else MOST_REGISTERS)
+        self.number, self.bench, self.pages = 0, None, Pages()
+        # Its command line differs from that of the session's bench, so that a list of processes shows which one it is.
+        self.beside = Beside(lambda: Bench(["--memory", MEMORY]))
         self.begin()
 
     def begin(self):
@@ -218,7 +156,9 @@ class Desk:
         self.bench = Bench(self.words)
         self.number += 1
         self.log, self.queue, self.lesson = [], [], None
-        self.breaks, self.lights, self.labels = set(), Lights(), Labels()
+        self.breaks, self.lights, self.labels, self.coded = set(), Lights(), Labels(), ([], b"", [])
+        # The last states, and how often pages were plugged or unplugged.
+        self.history, self.plugs = History(), 0
         # The number of steps in a piece, the number of steps that were made, and how many of them were made before the last look.
         self.size, self.made, self.seen = 256, 0, 0
         try:
@@ -230,13 +170,38 @@ class Desk:
     # Commands that are given.
 
     def deck(self):
-        """Returns the session as a deck."""
-        return b"".join(entry.text if entry.text.endswith(b"\n") else entry.text + b"\n" for entry in self.log)
+        """Returns the session as a deck. Of a command that is being executed in pieces, it has the steps that were made."""
+        texts = [entry.text for entry in self.log]
+        if self.doing() is not None:
+            texts[-1] = self.doing()
+        return b"".join(text if text.endswith(b"\n") else text + b"\n" for text in texts)
 
-    def give(self, deck, is_first=False):
+    def deck_to(self, entry):
+        """Returns the session up to the end of an entry as a deck."""
+        return b"".join(one.text if one.text.endswith(b"\n") else one.text + b"\n" for one in self.log[:entry + 1])
+
+    def deck_at(self, number):
+        """Returns the deck that leads to the state with a number."""
+        state = self.history.at(number)
+        if state is None:
+            raise Failure(f"state {number} is not kept any more: go on from a command of the deck")
+        if not state["doing"]:
+            return self.deck_to(state["entries"] - 1)
+        return self.deck_to(state["entries"] - 2) + state["doing"].encode("latin-1")
+
+    def doing(self):
+        """Returns the command that is being executed in pieces, with the number of steps that were made; None if there is none."""
+        part = self.queue[0] if self.queue else None
+        if part and part.kind and part.entry:
+            return b"%s %d\n" % (part.kind.encode(), part.asked)
+        return None
+
+    def give(self, deck, is_first=False, goes_on=False):
         """Adds the parts of a deck after those that wait. If `is_first` is set, they are added before all others, and a running command
-        is split."""
+        is split. If `goes_on` is set, a run that ends at its limit is followed by another one."""
         parts = parts_of(deck)
+        for part in parts:
+            part.goes_on = goes_on and part.kind == "run"
         if is_first:
             self.part_here()
             self.queue = parts + self.queue
@@ -248,8 +213,8 @@ class Desk:
         of its own."""
         part = self.queue[0] if self.queue else None
         if part and part.kind and part.entry:
-            part.entry.text = b"%s %d\n" % (part.kind.encode(), part.asked)
-            self.queue[0] = Part(b"%s %d\n" % (part.kind.encode(), part.left), True)
+            part.entry.text = self.doing()
+            self.queue[0] = Part(b"%s %d\n" % (part.kind.encode(), part.left), True, part.goes_on)
 
     def stop(self):
         """Drops the commands that wait."""
@@ -260,8 +225,8 @@ class Desk:
 
     def go(self, seconds, steps=None, parts=None):
         """Executes commands that wait for about `seconds`: at most so many steps and parts, and at least one command or a piece of one.
-        Returns the states after the steps of a trace."""
-        until, states, has_asked = time.monotonic() + seconds, [], False
+        Each step of a trace adds a state to the history."""
+        until, has_asked = time.monotonic() + seconds, False
         while self.queue and (steps is None or steps > 0) and (parts is None or parts > 0):
             if has_asked and time.monotonic() >= until:
                 break
@@ -272,11 +237,14 @@ class Desk:
             if part.kind:
                 steps = None if steps is None else steps - (part.asked - before)
             if part.kind == "trace":
-                states.append(self.look())
+                self.look()
             if part.left == 0:
                 self.queue.pop(0)
+                if part.is_command and part.kind != "trace" and len(self.queue) <= LAST_STEPS:
+                    self.look()
                 parts = None if parts is None else parts - 1
-        return states
+                if part.goes_on and part.reason == "Limit":
+                    self.queue.insert(0, Part(b"run %d\n" % MOST_STEPS, True, True))
 
     def carry_out(self, part, most):
         """Executes a part, or its next piece."""
@@ -309,13 +277,14 @@ class Desk:
         entry = part.entry
         if part.kind == "run":
             ran, reason = RAN.fullmatch(reply[0]).groups()
+            part.reason = reason
             part.ran, self.made = part.ran + int(ran), self.made + int(ran)
             entry.reply = [f"ran {part.ran} {reason}", *reply[1:]]
             part.left = part.left if reason == "Limit" else 0
         else:
             is_refused = refusal_of(reply) is not None
             self.made += count - is_refused
-            entry.reply = entry.reply + reply
+            entry.add(reply)
             part.left = 0 if is_refused else part.left
 
     def press(self, part):
@@ -335,13 +304,14 @@ class Desk:
     def press_names(self, entry, names):
         """Presses keys by their names, up to the first one that is refused."""
         for name in names:
-            pos = self.views["pos"][0]
-            reply, display, after = self.bench.ask_all([b"key " + name.encode(), b"show display", b"show pos"])
-            if reply:
-                entry.reply, entry.key = reply, name
+            asked = [*BEFORE, b"key " + name.encode(), *AFTER]
+            replies = self.bench.ask_all(asked)
+            # X is in the fourth line of the stack.
+            views = [reply[3 if asked[at] == b"show stack" else 0] for at, reply in enumerate(replies) if at != len(BEFORE)]
+            if replies[len(BEFORE)]:
+                entry.reply, entry.key = replies[len(BEFORE)], name
                 return
-            self.lights.press(name, pos.startswith("Idle"), display[0])
-            self.views["pos"] = after
+            self.lights.press(name, Seen(*views[:len(BEFORE)]), Seen(*views[len(BEFORE):]))
 
     def keep_up(self, part):
         """Records what an accepted command changes if no command shows it."""
@@ -355,27 +325,41 @@ class Desk:
             (self.breaks.add if word == "break" else self.breaks.discard)(place)
         elif word in ("asm", "words", "image", "unplug"):
             self.labels.follow(lines_of(part.text))
+            self.plugs += 1
 
     # The state of the bench.
 
     def look(self):
-        """Reads the views of the bench. Returns its state."""
-        asked = [*(f"show {view}" for view in VIEWS), "show ram 00d", *(f"list {page}000 1" for page in PAGES)]
-        replies = self.bench.ask_all([command.encode() for command in asked])
-        views = dict(zip(VIEWS, replies))
+        """Reads the views of the bench. Returns its state, which is then the last one of the history."""
+        asked = [*(f"show {view}" for view in VIEWS), *(f"list {page}000 1" for page in PAGES)]
+        *replies, printed = self.bench.ask_all([*(command.encode() for command in asked), Memory.command(self.top)])
+        views, memory = dict(zip(VIEWS, replies)), Memory([line[4:] for line in printed], self.top)
         mode, place = views["pos"][0].split()
-        curtain = int(replies[len(VIEWS)][0][12:15], 16)
-        sizes = range(curtain, self.top) if BOTTOM_OF_MEMORY < curtain <= self.top else ()
         lists = self.lists_at(int(place, 16)) if mode == "Micro" else []
-        more = self.bench.ask_all([b"show ram %03x" % at for at in sizes] + lists)
-        views["registers"] = [digits[0][4:] for digits in more[:len(sizes)]]
+        views["memory"], views["divided"] = memory.digits, memory.divided()
+        views["registers"] = memory.data_registers()
         views["values"] = [text_of(digits) for digits in views["registers"]]
         views["numbers"] = [text_of(line[2:]) for line in views["stack"]]
-        views["pages"] = [page for page, listed in zip(PAGES, replies[len(VIEWS) + 1:]) if refusal_of(listed) is None]
-        views["listing"] = self.listing(more[len(sizes):], place) if mode == "Micro" else []
+        views["pages"] = [page for page, listed in zip(PAGES, replies[len(VIEWS):]) if refusal_of(listed) is None]
+        views["listing"] = self.listing(self.bench.ask_all(lists), place) if lists else []
+        views["coded"] = self.coded_lines(views["lines"], memory.program_bytes())
         views["made"], self.seen, self.is_seen = self.made - self.seen, self.made, True
+        views["paged"] = self.paged(place[1]) if place.startswith("P") else []
         self.views = views
-        return self.state()
+        state = self.state()
+        self.history.add(state)
+        return state
+
+    def coded_lines(self, lines, data):
+        """Returns the number, the bytes and the keys of each line in memory. They are kept until lines or bytes change."""
+        if self.coded[:2] != (lines, data):
+            self.coded = lines, data, coded([(int(line[:4]), line[5:]) for line in lines], data)
+        return self.coded[2]
+
+    def paged(self, page):
+        """Returns the lines of the programs in a page."""
+        image, = self.bench.ask_all([b"show image %s" % page.encode()])
+        return [] if refusal_of(image) else self.pages.lines(page, tuple(image))
 
     def lists_at(self, at):
         """Returns the commands that list the words around an address. The words before it are listed from several start addresses,
@@ -402,7 +386,36 @@ class Desk:
         return {**self.views, "shift": self.lights.shift, "program": self.lights.program, "breaks": sorted(map(list, self.breaks)),
                 "spells": spells,
                 "label": self.labels.of(self.views["pos"][0].split()[1]) if self.views["listing"] else "",
-                "last": self.log[-1].told() if self.log else ["", []], "entries": len(self.log)}
+                "last": self.log[-1].told() if self.log else ["", []], "entries": len(self.log),
+                "doing": (self.doing() or b"").decode(), **self.explained()}
+
+    def explained(self):
+        """Returns what the next instruction or line is, what it does, in a sentence, and the name of a register that it changes; empty
+        texts if this is not known."""
+        views, (mode, place) = self.views, self.views["pos"][0].split()
+        if mode == "Micro":
+            words, text = next(((text[:9].strip(), text[9:]) for at, _, text in views["listing"] if at == place), ("", ""))
+            one = of_word(text, views["cpu"], self.beside.after(words, views["cpu"]) if is_carrying(text) else None)
+            return {"word": text, "next": one.sentence(), "asks": one.asks()}
+        lines = [(f"P{at}", text) for at, text, *_ in views["paged"]] if place[0] == "P" else [(line[:4], line[5:]) for line in views["lines"]]
+        text = next((text for at, text in lines if at == place), "")
+        one = of_line(text, views["numbers"], views["values"], views["alpha"][0], views["flags"][0])
+        return {"word": text, "next": one.sentence(), "asks": one.asks()}
+
+    def plugged(self):
+        """Returns the plugged banks: pairs of a page and a bank."""
+        asked = [(page, bank) for page in PAGES for bank in "1234"]
+        replies = self.bench.ask_all([f"show image {page} b{bank}".encode() for page, bank in asked])
+        return [one for one, reply in zip(asked, replies) if refusal_of(reply) is None]
+
+    def listed(self, page, bank, is_words):
+        """Returns the instructions in a bank of a page, or the lines of its programs, whether they run or not."""
+        image, = self.bench.ask_all([f"show image {page} b{bank}".encode()])
+        if refusal_of(image):
+            raise Failure(f"page {page}, bank {bank}: {image[-1]}: plug a module there first")
+        if not is_words:
+            return self.pages.lines(page, tuple(image))
+        return [[place, self.labels.of(place), words, text] for place, words, text in self.pages.words(page, tuple(image))]
 
     # Exports.
 
@@ -413,9 +426,7 @@ class Desk:
             if refusal_of(image):
                 raise Failure(f"page {page}: {image[-1]}: plug a module there first")
             return "\n".join([f"image {page}", *image, "end", ""]).encode()
-        found = self.bench.ask_all([b"show ram %03x" % at for at in (0x00D, *range(self.top - 1, BOTTOM_OF_MEMORY - 1, -1))])
-        digits = [lines[0] for lines in found]
-        curtain, end = int(digits[0][12:15], 16), int(digits[0][15:18], 16)
-        data = "".join(line[4:] for line in digits[1:] if end <= int(line[:3], 16) < curtain)[:-6]
+        printed, = self.bench.ask_all([Memory.command(self.top)])
+        data = Memory([line[4:] for line in printed], self.top).program_bytes().hex().upper()[:-6]
         lines = [data[at:at + 64] for at in range(0, len(data), 64)]
         return "\n".join(["size 0", "load", *lines, "end", ""]).encode()

@@ -293,7 +293,8 @@ class Dialect:
         joined = next((other for other in others if other.joined and other.code != text.code and other.refers_to() in labels), None)
         if text.joined or not joined:
             return text
-        return replace(text, remark="; ".join(filter(None, [text.remark, f"with a comment; without the spaces it is {joined.code}"])))
+        other = f"what follows the spaces is a comment; if it is part of the operand, write {joined.code}"
+        return replace(text, remark="; ".join(filter(None, [text.remark, other])))
 
     def texts_of(self, code):
         """Yields the readings of a line without a comment: those with an instruction or a directive."""

@@ -12,7 +12,7 @@ DOCUMENT, SECTION = "OLD-PROGRAMS.md", "Doubts"
 # The names of doubts.
 LINE_NUMBER, CALL, MODULE, PAGE, SIGMA, COMMA = "line-number", "call", "module", "page", "sigma", "comma"
 APPEND, CHARACTER, NUMBER, NUMBER_FORM, OPERAND = "append", "character", "number", "number-form", "operand"
-NULLS, DISTANCE, PRIVATE, COMMENT = "nulls", "distance", "private", "comment"
+NULLS, DISTANCE, PRIVATE, OPEN, COMMENT = "nulls", "distance", "private", "end", "comment"
 
 # The states of a file.
 IN, DOUBTFUL, NOT_IN = "in", "in, with doubts", "not in"
@@ -38,6 +38,7 @@ IN_QUOTES = re.compile(r'(?:>|[A-Z]+ )?"(.*)"')
 FLAG = re.compile(r"(SF|CF|FS\?|FC\?|FS\?C|FC\?C) ([0-9]{2,3})")
 OF_ONE_DIGIT = re.compile(r"(FIX|SCI|ENG|TONE) ([0-9]{2,3})")
 OF_THREE_DIGITS = re.compile(r"\S+ (?:IND )?([0-9]{3})")
+OF_A_LETTER = re.compile(r"(?!LBL|GTO|XEQ)([^\s\"]+) (?:IND )?([A-J])")
 LAST_FLAG, FIRST_FIXED_FLAG = 55, 30
 
 # The first byte of numbers, and the bit of the last byte of an END that makes a program private.
@@ -162,6 +163,7 @@ def why_untyped(text: str) -> str:
 def of_operand(text: str) -> Iterator[Tuple[str, str]]:
     """Yields the doubts about the operand of a line."""
     flag, digit, long = FLAG.fullmatch(text), OF_ONE_DIGIT.fullmatch(text), OF_THREE_DIGITS.fullmatch(text)
+    letter = OF_A_LETTER.fullmatch(text)
     if flag and int(flag[2]) > LAST_FLAG:
         yield OPERAND, f"a calculator has the flags 00 to {LAST_FLAG}"
     elif flag and flag[1] not in ("FS?", "FC?") and int(flag[2]) >= FIRST_FIXED_FLAG:
@@ -170,13 +172,15 @@ def of_operand(text: str) -> Iterator[Tuple[str, str]]:
         yield OPERAND, f"keys type 0 to 9 after {digit[1]}"
     elif long:
         yield OPERAND, "keys type 00 to 99; this operand is synthetic"
+    elif letter:
+        yield OPERAND, f"keys type no {letter[2]} after {letter[1]}; if it is a register of another calculator, write a number"
 
 
 # Bytes.
 
 def of_bytes(data: bytes) -> Iterator[Doubt]:
-    """Yields the doubts about bytes of programs: nulls that are removed, distances that are wrong without them, and private ENDs. The
-    column is that of the byte in its line."""
+    """Yields the doubts about bytes of programs: nulls that are removed, distances that are wrong without them, private ENDs, and an END
+    that is missing. The column is that of the byte in its line."""
     at, program, line, jumps, removed = 0, 1, 0, [], False
     end = len(data.rstrip(b"\0"))
     while at < end:
@@ -197,6 +201,9 @@ def of_bytes(data: bytes) -> Iterator[Doubt]:
             program, line, jumps, removed = program + 1, 0, [], False
         at += length
     yield from wrong_distances(data, jumps if removed else [], program)
+    if line:
+        yield Doubt(OPEN, line, 1, f"the bytes end at byte {end}, after line {line}, without an END: is the rest of the program missing? One is "
+                    "added", program)
 
 
 def wrong_distances(data: bytes, jumps: List[Tuple[int, int]], program: int) -> Iterator[Doubt]:

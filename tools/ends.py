@@ -1,4 +1,6 @@
 """Ends a tool: with the status of its work, or with an error message if its work, its input or its output has failed."""
+import contextlib
+import errno
 import os
 import signal
 import sys
@@ -7,6 +9,9 @@ from decks import Failure, end_with_reader
 
 # The status if the output of a tool cannot be written.
 NOT_WRITTEN = 3
+
+# Errors without the name of a file that have not occurred in the output.
+OF_RESOURCES = (errno.EMFILE, errno.ENFILE, errno.ENOMEM)
 
 
 class Closed:
@@ -26,10 +31,12 @@ class Closed:
 
 
 def open_ends():
-    """Replaces closed streams by ones that fail, and lets standard error print any character."""
+    """Replaces closed streams by ones that fail. Bytes of standard input that are no UTF-8 are read as escapes, and standard error prints
+    any character."""
     sys.stdin, sys.stdout = sys.stdin or Closed("input"), sys.stdout or Closed("output")
     sys.stderr = sys.stderr or open(os.devnull, "w", encoding="utf-8")
-    sys.stderr.reconfigure(errors="backslashreplace")
+    for stream in (sys.stdin, sys.stderr):
+        stream.reconfigure(errors="backslashreplace")
 
 
 def end(name, main, statuses=None):
@@ -51,7 +58,9 @@ def end(name, main, statuses=None):
         signal.raise_signal(signal.SIGPIPE)
     except OSError as error:
         # The output that is still buffered is dropped.
-        os.dup2(os.open(os.devnull, os.O_WRONLY), 1)
-        why, status = f"{error.filename or 'standard output cannot be written'}: {error.strerror}", NOT_WRITTEN
+        with contextlib.suppress(OSError):
+            os.dup2(os.open(os.devnull, os.O_WRONLY), 1)
+        what = "no further file or process can be opened" if error.errno in OF_RESOURCES else "standard output cannot be written"
+        why, status = f"{error.filename or what}: {error.strerror}", NOT_WRITTEN
     print(*(f"{name}: {line}" for line in str(why).splitlines()), sep="\n", file=sys.stderr)
     sys.exit((statuses or {}).get(status, status))

@@ -11,12 +11,34 @@ def check_out(out, sources):
     if out == "-":
         return
     if os.path.exists(out) and not os.path.isfile(out):
-        raise Failure(f"{out}: not a regular file: choose another output file")
+        what = "a folder" if os.path.isdir(out) else "a device or a pipe"
+        raise Failure(f"{out}: found {what}, expected a regular file: choose another output file")
     for what, path in sources:
         if path != "-" and is_same(path, out):
             raise Failure(f"{out}: this is also {what}, which would be overwritten: choose another output file")
-    if not os.path.isdir(os.path.dirname(os.path.realpath(out))):
-        raise Failure(f"{out}: its folder does not exist: create it first")
+    folder = os.path.dirname(os.path.realpath(out) if os.path.islink(out) else out)
+    if not os.path.isdir(folder or "."):
+        raise Failure(f"{out}: {why_no_folder(folder)}")
+
+
+def why_no_folder(folder):
+    """Returns why a path is not a folder: it or a part of it is a file, or does not exist."""
+    part = folder
+    while part and not os.path.exists(part):
+        part = os.path.dirname(part)
+    if part and not os.path.isdir(part):
+        return f"{part} is not a folder: choose another output file"
+    return f"the folder {folder} does not exist: create it first"
+
+
+def make_folder(path, option):
+    """Makes the folder of an option, with those above it, if it does not exist."""
+    try:
+        os.makedirs(path, exist_ok=True)
+    except FileExistsError as error:
+        raise Failure(f"{option} {path}: found a file, expected a folder") from error
+    except OSError as error:
+        raise Failure(f"{option} {path}: cannot be made: {error.strerror}") from error
 
 
 def is_same(one, other):

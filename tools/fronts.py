@@ -33,19 +33,20 @@ def imported(files, memory, size):
     return ran.stdout
 
 
-def joined(files, memory, size):
-    """Returns the deck of files: decks as they are, and what tools/import makes of the files between them."""
+def parts_of(files, memory, size):
+    """Returns the parts of the deck of files, each with its files: decks as they are, and what tools/import makes of the files between
+    them."""
     parts, together = [], []
     for path in [*files, None]:
         if path is not None and not is_deck(path):
             together.append(path)
             continue
         if together:
-            parts.append(imported(together, memory, None if any(parts) else size))
+            parts.append((together, imported(together, memory, None if any(data for _, data in parts) else size)))
             together = []
         if path is not None:
-            parts.append(bytes_of(path))
-    return b"".join(part if part.endswith(b"\n") or not part else part + b"\n" for part in parts)
+            parts.append(([path], bytes_of(path)))
+    return [(own, data if data.endswith(b"\n") or not data else data + b"\n") for own, data in parts]
 
 
 def lines_in(deck, memory):
@@ -96,7 +97,7 @@ def with_skips(deck, skips, memory):
     new = [skips.replaced(text, labels, functions) for text in texts]
     missing = [name for name in skips.names if name not in skips.found]
     if missing:
-        raise Failure(f"--skip {','.join(missing)}: found no line with this function: spell it as in the listing, for example --skip SIN,Y^X")
+        raise Failure(f"--skip {','.join(missing)}: found no such line: spell each function as in the listing, for example --skip SIN,Y^X")
     lines = lines_of(deck)
     rest = b"".join(b"".join(lines[first:last + 1]) for first, last in items_of(lines) if words_of(lines[first])[0] not in (b"load", b"program"))
     for ends in ([], [b"END"]):
@@ -108,12 +109,22 @@ def with_skips(deck, skips, memory):
     return made, {at: text for at, (text, other) in enumerate(zip(texts, new)) if text != other and other == NOTHING and not TONE.fullmatch(text)}
 
 
-def check(deck, files, memory):
-    """Raises Failure if the bench refuses a deck."""
+def check(deck, parts, memory):
+    """Raises Failure if the bench refuses a deck. Its parts have their files."""
     found = refused(deck, memory)[1]
     if found:
         lines = lines_of(deck)
-        raise Failure("\n".join(f"{files[0]}:{first + 1}: `{shown(lines[first].strip())}`: {refusal}" for first, _, refusal in found))
+        raise Failure("\n".join(f"{place_in(parts, first)}: `{shown(lines[first].strip())}`: {refusal}" for first, _, refusal in found))
+
+
+def place_in(parts, at):
+    """Returns the file and number of a line of the deck, counted from 0. Lines that tools/import has made have no number."""
+    for files, data in parts:
+        count = len(lines_of(data))
+        if at < count:
+            return f"{files[0]}:{at + 1}" if is_deck(files[0]) else ", ".join(files)
+        at -= count
+    return ", ".join(files)
 
 
 def front_of(files, memory, size, skips):
@@ -122,14 +133,15 @@ def front_of(files, memory, size, skips):
     if decks and (size is not None and is_deck(files[0]) or size == AUTO):
         raise Failure(f"{decks[0]}: --size cannot be used with a deck: write `size N` in its first line", 2)
     if decks and (skips.names or skips.any_tone):
-        raise Failure(f"{decks[0]}: --skip and --tone cannot be used with a deck: give the file of its program", 2)
+        raise Failure(f"{decks[0]}: --{'skip' if skips.names else 'tone'} cannot be used with a deck: give the file of its program", 2)
     chosen = None
-    deck = joined(files, memory, 0 if size == AUTO else size)
-    check(deck, files, memory)
+    parts = parts_of(files, memory, 0 if size == AUTO else size)
+    deck = b"".join(data for _, data in parts)
+    check(deck, parts, memory)
     if size == AUTO:
         chosen = size_for(deck, memory)
         deck = b"size %d\n" % chosen + deck.split(b"\n", 1)[1]
-        check(deck, files, memory)
+        check(deck, parts, memory)
     skipped = {}
     if skips.names or skips.any_tone:
         deck, skipped = with_skips(deck, skips, memory)

@@ -1,14 +1,15 @@
 """LIF disk images, and the files that begin with an entry of a LIF directory, such as .p41. docs/OLD-PROGRAMS.md has their layouts."""
 from typing import List, NamedTuple, Optional, Tuple
 
-from records import DATA, LETTERS, LISTING, OTHER, PROGRAM, Damaged, Part, names_for, number, number_in, sum_of
+from records import (DATA, END, LETTERS, LISTING, OTHER, PROGRAM, Damaged, Part, ends_of, is_end, names_for, number, number_in,
+                     sum_of)
 
 RECORD, ENTRY, HEAD = 256, 32, 512
 VOLUME, SYSTEM = b"\x80\x00", b"\x10\x00"
 DELETED, END_OF_DIRECTORY, TEXT_TYPE, PROGRAM_TYPE, DATA_TYPE = 0, 0xFFFF, 0x0001, 0xE080, 0xE0D0
 TYPES = {0xE020: "write-all", 0xE030: "key assignments", 0xE040: "status", 0xE050: "key assignments", 0xE060: "module",
          0xE070: "module", 0xE0B0: "buffer"}
-NAME = 10
+NAME, LENGTH = 10, 28
 LAST_VOLUME = 0x8001
 END_OF_TEXT = 0xFFFF
 REGISTER = 8
@@ -31,10 +32,14 @@ def is_image(data: bytes) -> bool:
 
 
 def is_headed(data: bytes) -> bool:
-    """Returns whether bytes begin with the entry of a program: a name in ten letters, and the type E080."""
+    """Returns whether bytes begin with the entry of a program: a name of ten characters, and the type E080. If the name does not begin
+    with a letter, or has a space in it, the entry must give the number of bytes up to an END."""
     name = data[:NAME]
-    return (len(data) > ENTRY and number_in(data, NAME, 2) == PROGRAM_TYPE and LETTERS.fullmatch(name) is not None
-            and name[:1].isalpha() and b" " not in name.rstrip(b" "))
+    if len(data) <= ENTRY or number_in(data, NAME, 2) != PROGRAM_TYPE or LETTERS.fullmatch(name) is None or not name.strip():
+        return False
+    last = ENTRY + number_in(data, LENGTH, 2)
+    return (name[:1].isalpha() and b" " not in name.rstrip(b" ")
+            or ENTRY + len(END) <= last <= len(data) and is_end(data[:last], last - len(END)))
 
 
 def entry_at(data: bytes, at: int) -> Entry:
@@ -45,7 +50,7 @@ def entry_at(data: bytes, at: int) -> Entry:
     if width < NAME:
         raise Damaged(at + width, f"{raw[width]:02X}", f"a character of the name of a file, 20 to 7E, of which a name has {NAME}")
     return Entry(at, raw.decode().rstrip(" "), number_in(data, at + 10, 2), number_in(data, at + 12, 4), number_in(data, at + 16, 4),
-                 number_in(data, at + 28, 2))
+                 number_in(data, at + LENGTH, 2))
 
 
 def read_image(data: bytes) -> List[Part]:
@@ -103,7 +108,7 @@ def part_of(entry: Entry, data: bytes, begin: int) -> Part:
         return Part(entry.name, PROGRAM, program_of(entry, data, begin))
     if entry.kind == DATA_TYPE:
         if entry.length * REGISTER > len(data):
-            raise Damaged(entry.at + 28, f"{entry.length} registers in {entry.name}", f"at most {len(data) // REGISTER}, which fit "
+            raise Damaged(entry.at + LENGTH, f"{entry.length} registers in {entry.name}", f"at most {len(data) // REGISTER}, which fit "
                           f"into its {entry.records} records")
         return Part(entry.name, DATA, data[:entry.length * REGISTER], [f"{entry.length} registers of data, no program"])
     if entry.kind == TEXT_TYPE:
@@ -115,7 +120,7 @@ def program_of(entry: Entry, data: bytes, begin: int) -> bytes:
     """Returns the bytes of a program, without the checksum after them, which must be right."""
     length = entry.length
     if not 0 < length < len(data):
-        raise Damaged(entry.at + 28, f"{length} bytes in the program {entry.name}",
+        raise Damaged(entry.at + LENGTH, f"{length} bytes in the program {entry.name}",
                       f"1 to {max(len(data) - 1, 1)}, which fit with a checksum into {len(data)} bytes")
     if data[length] != sum_of(data[:length]):
         raise Damaged(begin + length, f"{data[length]:02X} as the checksum of {entry.name}",
@@ -131,7 +136,7 @@ def texts_of(data: bytes, begin: int) -> List[str]:
         if length == END_OF_TEXT:
             return lines
         if at + 2 + length > len(data):
-            raise Damaged(begin + at, f"a line of {length} characters", f"at most {len(data) - at - 2}, up to the end of the file")
+            raise Damaged(begin + at, f"a line of {length} characters", f"at most {len(data) - at - 2}, up to the end of this text")
         lines.append(data[at + 2:at + 2 + length].decode("latin-1"))
         at += 2 + length + length % 2
     return lines
@@ -146,11 +151,13 @@ def read_headed(data: bytes) -> List[Part]:
         raise Damaged(NAME, f"the type {kind:04X}", f"{PROGRAM_TYPE:04X}, a program")
     entry, body = entry_at(data, 0), data[ENTRY:]
     if not 0 < entry.length <= len(body):
-        raise Damaged(28, f"{entry.length} as the number of the program's bytes", f"1 to {len(body)}, the bytes after the head")
+        raise Damaged(LENGTH, f"{entry.length} as the number of the program's bytes", f"1 to {len(body)}, the bytes after the head")
     rest = body[entry.length:]
     if rest.strip(b"\0") or len(rest) == 1:
         program_of(entry, body, ENTRY)
         rest = rest[1:]
+    elif ends_of(body[:entry.length])[-1:] != [entry.length]:
+        raise Damaged(LENGTH, f"{entry.length} as the number of the program's bytes, and no checksum after them", "a number that leads to an END")
     if rest.strip(b"\0"):
         at = ENTRY + len(body) - len(rest.lstrip(b"\0"))
         raise Damaged(at, f"{data[at]:02X}", "nulls alone after the checksum")

@@ -10,17 +10,20 @@ from collections.abc import Iterator
 from typing import NamedTuple
 
 from decks import Failure, block, run, shown, words_of
-from projects import Page, Project
+from projects import Page, Project, Reader, nearest
 from sources import (BLANKS, NAME, OF_THE_END, Assembled, Faulty, Line, Source, Whole, checksum_of, constant, directive_of, source_in,
                      text_in, without_comments)
 
 TARGET = re.compile(rb":(?:(" + NAME + rb")\.)?(" + NAME + rb")\Z")
 LONG = re.compile(rb"\?N?C[ \t]+(?:XQ|GO)[ \t]")
-SHORT = re.compile(rb"J?N?C[ \t]")
+# The short jumps, each with the long one in its place.
+SHORT = {"JNC": "?NC GO", "JC": "?C GO"}
 QUOTED = re.compile(rb'"([^"]*)"')
 TWO_WORDS = (b"LDI", b"ENTRY", b"FOCAL")
 # The first words of table entries, and their bits besides the offset.
 ENTRIES = {"ENTRY": 0x000, "FOCAL": 0x200}
+# The instructions with a number, which may be an equate.
+NUMBERED = ("READ", "WRIT", "R=", "?R=", "RCR", "LD@R", "SETF", "CLRF", "?FSET", "LDI", "CON")
 IMAGE_LINES = 256
 
 
@@ -108,13 +111,24 @@ def text_of_bank(bank: Page) -> Whole:
     from modules import Module, lines_of_texts, programs_of
     lines = []
     for path in bank.programs:
-        texts = [text.decode("latin-1").strip() for text in text_in(path).split(b"\n")]
-        found = lines_of_texts([text for text in texts if text and not text.startswith("#")])
+        texts = [(number, text.decode("latin-1").strip()) for number, text in enumerate(text_in(path).split(b"\n"), 1)]
+        texts = [(number, text) for number, text in texts if text and not text.startswith("#")]
+        found = lines_of_texts([text for _, text in texts])
         if found is None:
-            raise Failure(f"{path}: the bench cannot read a line of the listing: `tools/import {path}` prints which")
+            raise Failure(f"{path}:{why_not_read(texts)}")
         lines += found if not found or found[-1][0] == "END" else [*found, ("END", bytes.fromhex("C0000D"))]
     source = "\n".join(Module(bank.module, programs_of(lines)).source())
     return Text(bank.programs[0], source.encode() + b"\n", bank.end)
+
+
+def why_not_read(texts: list[tuple[int, str]]) -> str:
+    """Returns why the bench does not read the lines of a listing, with the number of the first wrong one."""
+    from listings import readable
+    good = readable([text for _, text in texts])
+    number, text = next(((number, text) for number, text in texts if text not in good or text == ".END."), texts[-1])
+    why = "not the last line: separate programs with END" if text in good else \
+        "not a program line: write it without a number, in the spelling of the bench, which tools/import translates to"
+    return f"{number}: `{shown(text)}`: {why}"
 
 
 class Label(NamedTuple):
@@ -122,6 +136,16 @@ class Label(NamedTuple):
     unit: Unit
     name: str
     address: int
+
+
+def why_not_joined(first: str, label: Label) -> str:
+    """Returns why the instruction `first` cannot refer to a label of another bank."""
+    if first in SHORT:
+        return f"{first} reaches only labels of its own source, and {label.name} is in {label.unit.name}: use {SHORT[first]}"
+    if first in ENTRIES:
+        return (f"{first} takes only labels of its own page, and {label.name} is in {label.unit.name} at page {label.unit.page}: name a "
+                f"label of this page from which ?NC GO :{label.name} leads there")
+    return f"{first} takes no label: expected a number, or the name of an equate"
 
 
 class Linked:
@@ -134,16 +158,20 @@ class Linked:
         for unit in self.units:
             for name, place in unit.labels.items():
                 self.labels.setdefault(name, []).append(Label(unit, name, (int(unit.page, 16) << 12) + place))
+        # The lines of each bank with a reference that is an error.
+        self.unlinked: dict[str, set[int]] = {unit.name: set() for unit in self.units}
         faults = [*self.equates_twice(), *(fault for unit in self.units for fault in unit.whole.faults + self.link(unit))]
         if faults:
-            raise Faulty("\n".join(faults))
+            raise Faulty("\n".join([*self.faults_of_lines(), *faults]))
 
     # Names.
 
     def equates_twice(self) -> list[str]:
         """Returns an error for each equate that is also a label."""
-        return [f"{self.project.path}: [equates] {name}: {self.where(self.labels[name][0])} is a label of this name: rename one of them"
-                for name in self.project.equates if name in self.labels and name not in self.project.included]
+        names = [name for name in self.project.equates if name in self.labels and name not in self.project.included]
+        reader = Reader(self.project.path) if names else None
+        return [str(reader.fail("equates", name, f"{self.where(self.labels[name][0])} is a label of this name: rename one of them"))
+                for name in names if reader]
 
     @staticmethod
     def where(label: Label) -> str:
@@ -176,9 +204,20 @@ class Linked:
         return f"no {'page' if page is None else f'line of {page}'} has the label {name}{self.near(name)}"
 
     def near(self, name: str) -> str:
-        """Returns a remark about a label whose name differs only in upper and lower case, or is in another page."""
+        """Returns a remark about a label whose name differs only in upper and lower case, or is in another page; or about the label or
+        equate whose name is most like it."""
         others = [label for known, labels in self.labels.items() if known.lower() == name.lower() for label in labels]
-        return f"; {self.where(others[0])} has {others[0].unit.name}.{others[0].name}" if others else ""
+        if others:
+            return f"; {self.where(others[0])} has {others[0].unit.name}.{others[0].name}"
+        near = nearest(name, [*self.labels, *self.project.equates])
+        return near and f"; the nearest {'equate' if near in self.project.equates else 'label'} is {near}"
+
+    def no_equate(self, name: str) -> str:
+        """Returns the error that no equate has a name."""
+        if not os.path.exists(self.project.path):
+            return f"no equate is named {name}: only a project of tools/module has equates"
+        near = nearest(name, self.project.equates)
+        return f"no equate is named {name}{near and f', the nearest is {near}'}: [equates] of {self.project.path} has them"
 
     # References.
 
@@ -195,9 +234,18 @@ class Linked:
                 self.put(unit, at, self.project.equates[name].encode())
                 continue
             label = self.find(page, name, unit)
+            first = words[0].decode(errors="replace")
+            if first not in (*SHORT, *ENTRIES, *NUMBERED) and not LONG.match(line.code):
+                # Not an instruction with a reference: the bench reports the line.
+                continue
+            if isinstance(label, str) and not page and first in NUMBERED:
+                label = self.no_equate(name)
             why = label if isinstance(label, str) else self.join(unit, at, label)
             if why:
-                faults.append(f"{unit.whole.place(at)}: `{shown(unit.whole.told[at].strip(BLANKS))}`: {why}")
+                self.unlinked[unit.name].add(at)
+                text = unit.whole.told[at].decode(errors="replace")
+                column = text.find(line.code.decode(errors="replace")) + line.code.decode(errors="replace").rfind(":") + 1
+                faults.append(f"{unit.whole.place(at)}: `{shown(unit.whole.told[at].strip(BLANKS))}`: column {column}: {why}")
         return faults
 
     def join(self, unit: Unit, at: int, label: Label) -> str:
@@ -214,8 +262,7 @@ class Linked:
             unit.linked[at] = b"\n".join(map(constant, (ENTRIES[first] | label.address >> 8 & 0xF, label.address & 0xFF)))
             return ""
         if not LONG.match(code):
-            why = "reaches only labels of its own source" if SHORT.match(code) else "takes only labels of its own source"
-            return f"{first} {why}, and {label.name} is in {label.unit.name}: use ?NC GO or ?NC XQ"
+            return why_not_joined(first, label)
         label.unit.foreign.append(label.name)
         self.put(unit, at, b"%04X" % label.address)
         return ""
@@ -223,10 +270,9 @@ class Linked:
     @staticmethod
     def put(unit: Unit, at: int, operand: bytes) -> None:
         """Replaces the last word of a line's code, for the bench."""
-        line = unit.lines[at]
-        code = line.code.removesuffix(words_of(line.code)[-1]) + operand
-        label = f"{line.label}:".encode() if line.label else b""
-        unit.linked[at] = (label.ljust(8) if len(label) < 8 else label + b" ") + code + (b" " + line.comment.encode() if line.comment else b"")
+        code, text = unit.lines[at].code, unit.texts[at]
+        end = text.find(code) + len(code)
+        unit.linked[at] = text[:end].removesuffix(words_of(code)[-1]) + operand + text[end:]
 
     def share(self) -> None:
         """Gives each bank the labels of other banks that its table names, at their places in the page."""
@@ -266,6 +312,15 @@ class Linked:
             unit.whole.lines = [b"        LDI 000" if b"\n" in line else line for line in unit.linked]
             faults += unit.whole.faults_of(Source(unit.whole.data()))
         return Faulty("\n".join(faults)) if faults else Failure(f"{self.project.path}: the bench refused a block: {refusal}", 3)
+
+    def faults_of_lines(self) -> list[str]:
+        """Returns the errors of lines whose references are no errors. An error of a label is the cause of errors of references to it."""
+        found = []
+        for unit in self.units:
+            lines = [b"        LDI 000" if b"\n" in line else line for line in unit.linked]
+            source = Source(b"".join(line + b"\n" for line in lines))
+            found += [f"{unit.whole.place(fault.at)}: {fault}" for fault in source.faults if fault.at not in self.unlinked[unit.name]]
+        return found
 
     def has_checksums(self) -> bool:
         """Returns whether a page has a checksum, which is computed from its words."""

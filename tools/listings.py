@@ -300,8 +300,8 @@ class Listing:
             if not quoted[2].isascii():
                 kept_signs = re.sub(r"[^ -~]", "", quoted[2])
                 signs = " ".join(dict.fromkeys(re.findall(r"[^ -~]", quoted[2])))
-                yield (f'{quoted[1]}"{kept_signs}"',), (f"{signs} is in none of the tables; write any character as \\ and two hexadecimal "
-                                                        "digits")
+                yield (f'{quoted[1]}"{kept_signs}"',), (f"{signs} is in none of the tables of docs/PROGRAMS.md; write a character as \\ and "
+                                                        "two hexadecimal digits")
         if text.count('"') % 2:
             for whole in (f'{text}"', re.sub(r"\A((?:LBL|GTO|XEQ) )?", r'\1"', text, flags=re.I)):
                 yield from (((found,), "a quote is missing") for found, _ in speller.spellings(whole) or [])
@@ -314,11 +314,11 @@ class Listing:
         yield from (((found[:16],), f"the number has {len(found)} characters, expected at most 16")
                     for found, _ in speller.number(text) if len(found) > 16)
         name = speller.tables.name(text)
-        yield (f"{name} 00",), "the operand is missing"
+        yield (f"{name} 00",), f"the operand is missing: write for example {name} 05"
         for found, _ in spellings:
             operated = WITH_NUMBER.fullmatch(found)
             if operated:
-                yield (f"{operated[1]}00",), f"{operated[2]} is not a valid operand here"
+                yield (f"{operated[1]}00",), f"{operated[2]} is not a valid operand here: expected 00 to 99"
         yield from self.parts(text, speller)
         several = speller.functions.lines(name) if speller.functions else []
         if several:
@@ -327,6 +327,8 @@ class Listing:
             called = f', and call a label by XEQ "{name}"' if CALLED.fullmatch(name) and not steps[1:] else ""
             yield (), ("not a function of the calculator or of a known module; write a function of another module by its "
                        f"numbers, for example XROM 05,01{called}")
+        odd = " ".join(dict.fromkeys(re.findall(r"[^ -~]", text)))
+        yield (), f"{odd} is in no name of a function" if odd and '"' not in text else "no line of the calculator has this form"
 
     @staticmethod
     def parts(text, speller):
@@ -335,8 +337,12 @@ class Listing:
         if not behind:
             return
         name = speller.tables.name(first)
-        quotes = f'; write a name in quotes, for example {name} "SUB"' if name in ("LBL", "GTO", "XEQ") else ""
-        yield (f"{name} 00",), f"{behind[0]} is not a valid operand here{quotes}"
+        is_label = name in ("LBL", "GTO", "XEQ")
+        wanted = f'a label: two digits, one letter, or a name in quotes, for example {name} "SUB"' if is_label else "two digits"
+        why = f"{behind[0]} is not a valid operand here: expected {wanted}"
+        if name != "LBL":
+            yield (f"{name} 00", f"{name} IND 00"), f"{why}, or IND and a register"
+        yield (f"{name} 00",), why
         yield from (((found,), f"{first} takes no operand") for found, _ in speller.spellings(first) or [])
 
 

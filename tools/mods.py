@@ -76,7 +76,7 @@ def read_mod(data: bytes) -> List[Image]:
         raise Damaged(len(data), "the end of the file", f"a header of {HEADER} bytes")
     count = data[HEADER - CUSTOM - 1]
     if not count:
-        raise Damaged(HEADER - CUSTOM - 1, "no pages", "a number of pages")
+        raise Damaged(HEADER - CUSTOM - 1, "00 as the number of pages", "01 or more")
     if len(data) != HEADER + count * PAGE:
         raise Damaged(min(len(data), HEADER + count * PAGE), f"a file of {len(data):,} bytes",
                       f"{HEADER + count * PAGE:,}, a header and {count} page{'' if count == 1 else 's'}")

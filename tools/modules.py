@@ -3,7 +3,7 @@ decides which bytes a line has, and which line some bytes are."""
 import re
 
 from decks import MAIN_START, Failure, block, hexadecimal, run
-from programs import loadable, whole_lines
+from programs import OF_NUMBERS, PIECE, is_cut, loadable, piece_of, whole_lines
 
 PAGE_SIZE = 4096
 MOST_FUNCTIONS = 64
@@ -16,8 +16,8 @@ ROOM = 0xFF4
 END = bytes.fromhex("C0000D")
 FIRST, LAST = 0x100, 0x200
 
-# So many bytes, and so many lines, always fit into memory.
-PIECE, LINES = 2000, 100
+# So many lines always fit into memory.
+LINES = 100
 
 # A line that is put after the lines in question: it has one byte, and is not a number.
 SENTINEL, SENTINEL_BYTE = "BEEP", b"\x86"
@@ -25,7 +25,6 @@ SENTINEL, SENTINEL_BYTE = "BEEP", b"\x86"
 LABEL = re.compile(r'LBL "(.*)"')
 ENDS = re.compile(rb"(?=[\xc0-\xcd].[\x00-\xef])", re.S)
 FINAL_END = re.compile(rb"[\xc0-\xcd].[\x20-\x3f\x60-\x7f\xa0-\xbf\xe0-\xef]", re.S)
-OF_NUMBERS = range(0x10, 0x1D)
 
 
 # Lines and their bytes.
@@ -76,16 +75,6 @@ def lines_of_bytes(data):
         found += lines[:-1]
         at += length
     return found
-
-
-def piece_of(data):
-    """Returns how many of the first bytes are whole lines and fit into memory. The last line is not a number that may continue."""
-    if len(data) <= PIECE:
-        return len(data)
-    length = whole_lines(data[:PIECE])
-    while length and data[length - 1] in OF_NUMBERS:
-        length = whole_lines(data[:length - 1])
-    return length
 
 
 def programs_of(lines):
@@ -220,6 +209,13 @@ def ended(data, lines):
 
 
 def why_none(data):
-    """Returns why bytes do not lead to an END."""
-    at = whole_lines(data[:PIECE])
-    return f"byte {data[at]:02X} at offset {at} does not begin a line" if at < min(len(data), PIECE) - 18 else "the page ends first"
+    """Returns why bytes do not lead to an END: the first byte that does not begin a line, or that the page ends."""
+    at = 0
+    while at < len(data):
+        length = whole_lines(data[at:at + PIECE])
+        if not length:
+            break
+        at += length
+    if at == len(data) or is_cut(data[at:]):
+        return "the page ends before an END"
+    return f"byte {data[at]:02X} at offset {at} of the program does not begin a line"

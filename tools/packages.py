@@ -35,7 +35,7 @@ COPYRIGHT = """\
 Format: https://www.debian.org/doc/packaging-manuals/copyright-format/1.0/
 Upstream-Name: HP-41 bench
 Comment: The repository states no licence. Ask its maintainers before you pass
- this package on.
+ it, or a release, on.
 
 Files: *
 Copyright: {year} Firdanke maintainers

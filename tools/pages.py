@@ -53,8 +53,8 @@ class Page:
         """Adds the further entries, which must be at words of the page."""
         for place, name in self.named.items():
             if place >= self.end or self.is_data(place):
-                raise Failure(f"--entry {self.page}{place:03X}: " + (f"the last word that is not 000 is at {self.page}{self.end - 1:03X}"
-                              if place >= self.end else "the table or a name of the module is there"))
+                raise Failure(f"--entry {self.page}{place:03X}: " + (f"only words 000 are there, expected an address up to "
+                              f"{self.page}{self.end - 1:03X}" if place >= self.end else "the table or a name of the module is there"))
             if not name:
                 self.labels.setdefault(place, self.unused(f"E{place:03X}"))
             self.entries.append(place)

@@ -91,11 +91,11 @@ class Places:
         self.number += 1
         if self.bank is not None and self.bank > BANKS:
             count = BANKS + 1 - self.start[1]
-            raise Failure(f"image or source {self.number} has no bank: from bank {self.start[1]} on there "
+            raise Failure(f"{path}: no bank is left for it: it is image or source {self.number}, and from bank {self.start[1]} on there "
                           f"{counted(count, 'is {} bank', 'are {} banks')}")
         if self.page is None:
             count = len(PAGES) - PAGES.index(self.start[0])
-            raise Failure(f"image or source {self.number} has no page: from page {self.start[0]} on there "
+            raise Failure(f"{path}: no page is left for it: it is image or source {self.number}, and from page {self.start[0]} on there "
                           f"{counted(count, 'is {} page', 'are {} pages')}")
         found = self.page, self.bank, self.writable
         other = self.taken.setdefault((self.page, self.bank or 1), path)
@@ -107,7 +107,6 @@ class Places:
         else:
             self.bank += 1
         return found
-
 
     def fixed(self, path, page, image, first):
         """Returns the page, the bank and whether it is writable for an image that has its own place. Later files get the pages after it."""

@@ -3,7 +3,7 @@ import re
 from functools import cached_property
 
 from alpha import ALPHA_ON, PROBES, takes_letters, typed_keys
-from decks import MAIN_START, Failure, answered, ended, items_of, lines_of
+from decks import KEY_NOT_HELD, MAIN_START, Failure, answered, ended, items_of, lines_of
 from functions import Functions
 from programs import numbered
 from spellings import read_tables
@@ -261,9 +261,8 @@ class Player:
             first = end
         pressed = len(one.runs)
         if one.refusal:
-            is_on = keys[pressed] == "R/S" and ALPHA_ON in answers[-1][0].split()
-            lines.append(f"= key {pressed - one.told + 1}, {keys[pressed]}, is refused: {one.refusal}"
-                         f"{' (ALPHA is on: press ALPHA first)' if is_on else ''}")
+            why = why_refused(one.refusal, keys[:pressed + 1], answers[-1][0].split())
+            lines.append(f"= key {pressed - one.told + 1}, {keys[pressed]}, is refused: {one.refusal}{why}")
             status = 1
         return lines, status, pressed
 
@@ -309,6 +308,16 @@ class Player:
             is_there = operand[1] in STACK or int(operand[1]) < size
             values.append(f"{name} {text_of(registers[2][4:])}" if is_there else f"no {name} with size {size}")
         return ", ".join(values)
+
+
+def why_refused(refusal, keys, flags):
+    """Returns why the last of some keys is refused as KeyNotHeld, by the flags that are set; an empty text if they are not the reason."""
+    if KEY_NOT_HELD not in refusal.encode():
+        return ""
+    if keys[-1] == "USER":
+        return " (the bench has no USER mode)"
+    is_plain = keys[-1] == "R/S" or keys[-2:] in (["SHIFT", "CHS"], ["SHIFT", "EEX"])
+    return " (ALPHA is on: press ALPHA first)" if is_plain and ALPHA_ON in flags else ""
 
 
 def times(numbers):

@@ -20,6 +20,9 @@ CALL = re.compile(r'(?:GTO|XEQ) ".*"|XROM .*')
 
 LONGEST_LINE_BYTES = 18
 
+# So many bytes always fit into memory. And the bytes of numbers, and that of RTN.
+PIECE, OF_NUMBERS, RTN = 2000, range(0x10, 0x1D), b"\x85"
+
 
 def listed(data):
     """Returns the texts of the lines in the bytes of a program, with `.END.`; None if the bench refuses the bytes."""
@@ -148,19 +151,44 @@ def whole_lines(data):
     return good[-1] if good else low
 
 
+def piece_of(data):
+    """Returns how many of the first bytes are whole lines and fit into memory. The last line is not a number that may continue."""
+    if len(data) <= PIECE:
+        return len(data)
+    length = whole_lines(data[:PIECE])
+    while length and data[length - 1] in OF_NUMBERS:
+        length = whole_lines(data[:length - 1])
+    return length
+
+
+def listed_in_pieces(data):
+    """Returns the texts of whole lines, which may be too long for memory; None if an .END. is among them."""
+    texts, at = [], 0
+    while at < len(data):
+        piece = data[at:at + (piece_of(data[at:]) or PIECE)]
+        found = listed(piece + RTN)
+        if found is None:
+            return None
+        texts += found[:-2]
+        at += len(piece)
+    return texts
+
+
 def broken(data):
     """Returns where bytes that the bench refuses are not a line, and the line before them."""
     at = whole_lines(data)
-    texts = listed(data[:at] + b"\x85")
+    texts = listed_in_pieces(data[:at])
     if texts is None:
         return f".END. ends at byte {at} of {len(data)}, before the last line: separate programs with END, C0 00 0D"
-    before = [(number, text) for number, text in enumerate(texts[:-2], 1)]
-    line = numbered(before)[-1] if before else None
-    behind = f"the line before it is {line[0]}, {line[1]}" if line else "no line is before it"
-    rest = data[at:]
-    cut = len(rest) < LONGEST_LINE_BYTES and any(loadable([rest + b"A" * more for more in range(1, LONGEST_LINE_BYTES)]))
-    what = "begins an incomplete line" if cut else "does not begin a line"
-    return f"byte {rest[0]:02X} at offset {at} {what}; {behind}"
+    line = numbered(enumerate(texts, 1))[-1] if texts else None
+    behind = f"the line before it is line {line[0]}, `{line[1]}`" if line else "no line is before it"
+    what = "begins an incomplete line" if is_cut(data[at:]) else "does not begin a line"
+    return f"byte {data[at]:02X} at offset {at} {what}; {behind}"
+
+
+def is_cut(data):
+    """Returns whether bytes are the beginning of one line."""
+    return len(data) < LONGEST_LINE_BYTES and any(loadable([data + b"A" * more for more in range(1, LONGEST_LINE_BYTES)]))
 
 
 def numbered(lines):

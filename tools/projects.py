@@ -3,9 +3,11 @@ from __future__ import annotations
 
 import os
 import re
+from collections.abc import Iterable
 from typing import Any, NamedTuple
 
-from decks import MEMORIES, Failure, bytes_of
+from decks import MEMORIES, Failure
+from toml_causes import toml_in
 
 PAGES = "456789ABCDEF"
 BANKS = (1, 2, 3, 4)
@@ -59,18 +61,8 @@ class Reader:
     """Reads a project file. An error names the file, the line of the key, and what was expected."""
 
     def __init__(self, path: str) -> None:
-        # Python has it from version 3.11 on.
-        import tomllib
         self.path = os.path.normpath(os.path.join(path, IN_A_FOLDER) if os.path.isdir(path) else path)
-        data = bytes_of(self.path)
-        try:
-            self.text = data.decode("utf-8")
-            self.table = tomllib.loads(self.text)
-        except UnicodeDecodeError as error:
-            raise Failure(f"{self.path}: byte {data[error.start]:02X} at offset {error.start} is not valid UTF-8: save the file as UTF-8") \
-                from error
-        except tomllib.TOMLDecodeError as error:
-            raise Failure(f"{self.path}: not a file in TOML: {error}") from error
+        self.text, self.table = toml_in(self.path)
 
     def line_of(self, section: str, key: str) -> int | None:
         """Returns the line number of a key in a section, or of the section; None if the text does not have it in this form."""
@@ -79,7 +71,7 @@ class Reader:
             head = re.match(r"\s*\[\s*(.*?)\s*\]", line)
             if head:
                 now = head[1].replace('"', "")
-                found = number if now == section and section else found
+                found = number if section in (now, "") and now.partition(".")[0] in (key, section.partition(".")[0]) else found
             elif now == section and re.match(rf'\s*"?{re.escape(key)}"?\s*=', line):
                 return number
         return found
@@ -103,7 +95,8 @@ class Reader:
             if key in others:
                 raise self.fail(section, key, f"unknown key of [{section}], because it follows this line: write it before the first [..]")
             if key not in keys:
-                raise self.fail(section, key, f"unknown key, expected one of {', '.join(keys)}")
+                near = nearest(key, keys)
+                raise self.fail(section, key, f"unknown key{near and f', the nearest is {near}'}: expected one of {', '.join(keys)}")
 
     def files(self, section: str, table: dict[str, Any], key: str) -> list[str]:
         """Returns the paths in a list of file names."""
@@ -115,6 +108,23 @@ class Reader:
     def file(self, name: str) -> str:
         """Returns the path of a file, which is named relative to the folder of the project file."""
         return os.path.normpath(os.path.join(os.path.dirname(self.path), name))
+
+    def want(self, section: str, key: str, *paths: str | None) -> None:
+        """Checks that the files of a key exist."""
+        for path in paths:
+            if path is not None and os.path.isdir(path):
+                raise self.fail(section, key, f"{path} is a folder, expected a file")
+            if path is not None and not os.path.exists(path):
+                folder, name = os.path.split(path)
+                near = nearest(name, os.listdir(folder or ".") if os.path.isdir(folder or ".") else [])
+                raise self.fail(section, key, f"no file {path}{near and f'; the nearest name is {near}'}")
+
+
+def nearest(name: str, names: Iterable[str]) -> str:
+    """Returns the name that is most like another one; an empty text if none is."""
+    # Only errors need this module.
+    from difflib import get_close_matches
+    return next(iter(get_close_matches(name, names, 1)), "")
 
 
 def shown(value: Any) -> str:
@@ -144,6 +154,7 @@ def included_by(reader: Reader) -> dict[str, str]:
     """Returns the equates of the files that a project includes."""
     found: dict[str, str] = {}
     for path in reader.files("", reader.table, "include"):
+        reader.want("", "include", path)
         other = Reader(path)
         other.known("", other.table, ("equates",))
         found.update(equates_of(other))
@@ -153,8 +164,10 @@ def included_by(reader: Reader) -> dict[str, str]:
 def page_of(reader: Reader, name: str, table: Any) -> Page:
     """Returns a page or bank from its table."""
     section = f"page.{name}"
-    if not NAME.fullmatch(name) or not isinstance(table, dict):
-        raise reader.fail(section, name, "expected a table such as [page.MAIN], named by a letter and up to eleven letters, digits or _")
+    if not NAME.fullmatch(name):
+        raise reader.fail(section, name, "not a name: expected a letter and up to eleven letters, digits or _")
+    if not isinstance(table, dict):
+        raise reader.fail("page", name, f"found {shown(table)}, expected a table such as [page.MAIN]")
     reader.known(section, table, ("at", "bank", "source", "end", "writable", "module", "programs"), ("name", "tests", "memory", "size", "before", "include"))
     at = reader.value(section, table, "at", str, "", 'a page from "4" to "F"').upper()
     bank = reader.value(section, table, "bank", int, 1, "a bank from 1 to 4")
@@ -167,11 +180,16 @@ def page_of(reader: Reader, name: str, table: Any) -> Page:
     if bank not in BANKS:
         raise reader.fail(section, "bank", f"found {bank}, expected a bank from 1 to 4")
     if (source is None) == (not programs):
-        raise reader.fail(section, "source", 'expected either source = "FILE.asm" or programs = ["FILE.txt"]')
+        found = "neither source nor programs" if source is None else "both source and programs"
+        raise reader.fail(section, "source", f'found {found}, expected one of source = "FILE.asm" and programs = ["FILE.txt"]')
     if programs and module not in range(1, 32):
         raise reader.fail(section, "module", f"found {shown(module)}, expected the module number of the programs, 1 to 31")
-    return Page(name, at, bank, reader.file(source) if source else None, reader.file(end) if end else None,
+    page = Page(name, at, bank, reader.file(source) if source else None, reader.file(end) if end else None,
                 reader.value(section, table, "writable", bool, False, "true or false"), module, programs)
+    reader.want(section, "source", page.source)
+    reader.want(section, "end", page.end)
+    reader.want(section, "programs", *programs)
+    return page
 
 
 def project_in(path: str) -> Project:
@@ -194,6 +212,7 @@ def project_in(path: str) -> Project:
     size = reader.value("", table, "size", int, None, "a number of data registers")
     if size is not None and not 0 <= size < int(memory):
         raise reader.fail("", "size", f"found {size}, expected a number of data registers below {memory}")
+    reader.want("", "programs", *reader.files("", table, "programs"))
     folder = os.path.basename(os.path.dirname(os.path.realpath(reader.path)))
     return Project(reader.path, reader.value("", table, "name", str, folder, "a text"), memory, size, pages, equates_of(reader),
                    reader.files("", table, "programs"), reader.files("", table, "tests"),

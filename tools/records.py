@@ -75,6 +75,18 @@ def ends_of(data: bytes) -> List[int]:
     return found
 
 
+def last_end(data: bytes) -> bytes:
+    """Returns the END at the end of some bytes, after which there may be nulls; no bytes if there is none."""
+    last = (ends_of(data) or [0])[-1]
+    return data[last - len(END):last] if last and not data[last:].strip(b"\0") else b""
+
+
+def with_its_end(data: bytes) -> bytes:
+    """Returns the bytes of a program after which another one is loaded, with the END of archives. `load` drops the last END, so there is one
+    more."""
+    return (data[:ends_of(data)[-1] - len(END)] if last_end(data) else data) + END + END
+
+
 def programs_in(data: bytes) -> List[bytes]:
     """Returns the programs in some bytes, each with its END. Bytes after the last END are a program too, unless they are nulls."""
     found, begin = [], 0

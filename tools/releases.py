@@ -8,6 +8,7 @@ import re
 import shutil
 import subprocess
 import tarfile
+import zlib
 from dataclasses import dataclass
 
 from crates import NAME, TOP, crates_of_program
@@ -39,9 +40,10 @@ kit: {kit}
 program: program/{name}, SHA-256 {checksum}
 
 Who proved it: the prover of this kit checked every function of the crates below against its
-contract, and the program was built from these crates. Each line is the last one that the prover
-printed for the crate. `trusted` means that the kit's own logic, libraries and statements were used
-as they were built. docs/PROOFS.md says what the contracts promise.
+contract. Each line is the last one that the prover printed for the crate. The program was built
+from the crates up to h41_bench; those after it state laws about them. `trusted` means that the
+kit's own logic, libraries and statements were used as they were built. docs/PROOFS.md says what
+the contracts promise.
 
 {verdicts}
 
@@ -54,6 +56,12 @@ To see for yourself: check out this commit of the repository, prove it with `./b
 and compare this archive with `tools/release --verify FILE`. `sha256sum -c MANIFEST` compares the
 unpacked files with the archive.
 """
+
+# What is printed above the names of crates for which no line of the prover is stored.
+NOT_SAID = """\
+No line of the prover was stored for these crates when the release was made. So this file does not
+say whether they are proved; docs/PROOFS.md relies on them too."""
+NOT_USED = "The program does not depend on them: they are crates of laws."
 
 
 @dataclass
@@ -117,6 +125,11 @@ def verdicts():
         else:
             missing.append(crate.name)
     return found, missing
+
+
+def program_crates():
+    """Returns the names of the crates from which the program is built."""
+    return {crate.name for crate in crates_of_program()}
 
 
 def assumed():
@@ -186,7 +199,7 @@ class Release:
         """Returns the text of the file RELEASE."""
         lines = [f"{name}: {verdict}" for name, verdict in self.verdicts.items()]
         if self.missing:
-            lines += ["", "No line of the prover was stored for these crates: `rt ci` proves without storing one.", wrapped(self.missing)]
+            lines += ["", NOT_SAID, *([] if set(self.missing) & program_crates() else [NOT_USED]), wrapped(self.missing)]
         names = assumed()
         found = re.search(r"\baxioms=(\d+)", self.verdicts.get(NAME, ""))
         if found and int(found[1]) != len(names):
@@ -215,13 +228,13 @@ def path_of(file):
     return file.path.encode()
 
 
-def packed_files(data):
-    """Returns the bytes of the files in an archive, by path without the first folder."""
+def packed_files(path, data):
+    """Returns the bytes of the files in an archive, which is at a path, by their paths without the first folder."""
     try:
         with tarfile.open(fileobj=io.BytesIO(data), mode="r:gz") as packed:
             return {entry.name.partition("/")[2]: packed.extractfile(entry).read() for entry in packed if entry.isfile()}
-    except (tarfile.TarError, EOFError, OSError) as error:
-        raise Failure(f"not an archive of a release: {error}", 1) from error
+    except (tarfile.TarError, EOFError, OSError, zlib.error) as error:
+        raise Failure(f"{path}: not an archive of a release: {error}", 1) from error
 
 
 def commit_of(files):

@@ -22,7 +22,8 @@ def case_of(linked: Linked, target: str, words: list[str]) -> Case:
 def requoted(word: str) -> str:
     """Returns a setting with quotes around its value, which the shell has removed."""
     name, sign, value = word.partition("=")
-    return f'{name}{sign}"{value}"' if name in ("keys", "ALPHA") and value[:1] not in ('"', "'") else word
+    quote = "'" if '"' in value else '"'
+    return f"{name}{sign}{quote}{value}{quote}" if name in ("keys", "ALPHA") and value[:1] not in ('"', "'") else word
 
 
 def call(linked: Linked, target: str, words: list[str], is_traced: bool) -> int:

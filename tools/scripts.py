@@ -6,12 +6,12 @@ import re
 from functools import partial
 from typing import NamedTuple
 
-from cases import ARROW, WORDS
-from decks import MAIN_START, Failure, answered, bytes_of, items_of, lines_of, shown, words_of
+from cases import ARROW, WORDS, text_in
+from decks import MAIN_START, Failure, answered, items_of, lines_of, shown, words_of
 from playing import FAULTS, Player, Round
 from settings import CPU, DATA_NAME, FLAG_NAME, SETTING, STACK, Setting, Wrong, setting
 from stubs import Sizes, memory_of, stub_of
-from typed import NoKeys, Text, pieces_of
+from typed import NoKeys, Text, pieces_of, why_no_key
 from values import text_of
 
 # Settings of programs alone: keys after the call; the texts that are shown, and the error that is wanted.
@@ -56,14 +56,14 @@ def keys_in(name: str, value: str) -> list[str]:
         raise Wrong(f"{name}: {why}") from why
     unknown = [piece for piece in pieces if not isinstance(piece, Text) and piece not in KEYS]
     if unknown:
-        raise Wrong(f"{name}: no key is named {unknown[0]}: `tools/keyboard text` shows the names")
+        raise Wrong(f"{name}: {why_no_key(unknown[0])}")
     return pieces
 
 
 def error_of(value: str) -> str:
     """Returns the message of an error."""
     if unquoted(value) not in FAULTS:
-        raise Wrong(f"error: found {unquoted(value)}, expected one of {', '.join(FAULTS)}")
+        raise Wrong(f"error: found `{value}`, expected one of {', '.join(FAULTS)}")
     return unquoted(value)
 
 
@@ -79,22 +79,24 @@ class Words:
     """The settings in the words of a row, before or after the arrow."""
 
     def __init__(self, words: list[str], is_before: bool) -> None:
-        self.settings, self.keys, self.input, self.texts, self.error, names = [], [], [], None, None, set()
+        self.settings, self.keys, self.input, self.texts, self.error = [], [], [], None, None
+        before: dict[str, str] = {}
         own = {"keys": "keys", INPUT: "input"} if is_before else {SHOWS: "texts", ERROR: "error"}
         for word in words:
             parts = SETTING.fullmatch(word)
             if not parts:
                 raise Wrong(f"found `{word}`, expected a setting like X=5 or {INPUT}=\"1 R/S\"")
             name, sign, value = parts.groups()
-            if name in names:
-                raise Wrong(f"{name} is set twice")
-            names.add(name)
+            if name in before:
+                raise Wrong(f"found two settings of {name}, `{before[name]}` and `{word}`, expected one")
+            before[name] = word
             if name in own and sign == "=":
                 read = {"keys": partial(keys_in, name), INPUT: partial(keys_in, name), ERROR: error_of,
                         SHOWS: lambda text: unquoted(text).split(BETWEEN_TEXTS) if unquoted(text) else []}[name]
                 setattr(self, own[name], read(value))
             elif name in (INPUT, SHOWS, ERROR):
-                raise Wrong(f"{name} belongs {'before' if name == INPUT else 'after'} ->, with the sign =")
+                raise Wrong(f"found `{word}` {'before' if is_before else 'after'} ->, expected {name}=\"..\" "
+                            f"{'before' if name == INPUT else 'after'} it")
             else:
                 self.settings.append(setting_of(name, sign, value, is_before))
 
@@ -112,12 +114,8 @@ def case_of(path: str, number: int, words: list[str], title: str) -> Case:
 
 def cases_in(path: str) -> list[Case]:
     """Returns the cases of a file. Empty rows and rows that begin with # are skipped."""
-    try:
-        rows = bytes_of(path).decode("utf-8-sig").splitlines()
-    except UnicodeDecodeError as error:
-        raise Failure(f"{path}: byte {error.object[error.start]:02X} is not valid UTF-8: save the file as UTF-8") from error
     cases = []
-    for number, row in enumerate(rows, 1):
+    for number, row in enumerate(text_in(path).splitlines(), 1):
         words = WORDS.findall(row)
         title = words.pop()[1:].strip() if words and words[-1].startswith("#") else ""
         if not words:
@@ -148,7 +146,8 @@ class Tester:
         for one in case.before:
             data = DATA_NAME.fullmatch(one.name)
             if data and int(data[1]) >= self.sizes.data:
-                raise Failure(f"{case.name()}: there is no {one.name} with size {self.sizes.data}: give a greater --size")
+                raise Failure(f"{case.name()}: there is no {one.name} with size {self.sizes.data}: give a greater --size, or in a deck a "
+                              "greater `size N`")
         memory = memory_of(case.before, self.sizes)
         if not memory:
             return b"reset\n" + self.front
@@ -178,7 +177,8 @@ class Tester:
         for one in case.after:
             data = DATA_NAME.fullmatch(one.name)
             if data and int(data[1]) >= self.sizes.data:
-                raise Failure(f"{case.name()}: there is no {one.name} with size {self.sizes.data}: give a greater --size")
+                raise Failure(f"{case.name()}: there is no {one.name} with size {self.sizes.data}: give a greater --size, or in a deck a "
+                              "greater `size N`")
         return list(dict.fromkeys(filter(None, (self.view(one.name) for one in case.after))))
 
     def view(self, name: str) -> str:

@@ -7,6 +7,7 @@ import os
 import secrets
 import select
 import socket
+import sys
 import threading
 import time
 from http.server import BaseHTTPRequestHandler, ThreadingHTTPServer
@@ -18,16 +19,18 @@ FOLDER = os.path.join(os.path.dirname(os.path.realpath(__file__)), "page")
 
 # The files that are served from the folder.
 FILES = {"": ("calculator.html", "text/html; charset=utf-8"), "calculator.css": ("calculator.css", "text/css; charset=utf-8"),
-         "calculator.js": ("calculator.js", "text/javascript; charset=utf-8")}
+         **{name: (name, "text/javascript; charset=utf-8")
+            for name in ("elements.js", "display.js", "keys.js", "panels.js", "memory.js", "times.js", "lessons.js", "files.js",
+                         "settings.js", "calculator.js")}}
 
 LONGEST_BODY, LONGEST_PATH = 8_388_608, 2000
 MOST_CONNECTIONS = 48
 # A browser has at most six connections at a time, and each open page holds one.
 MOST_PAGES = 4
 
-# Times in seconds: for a request to arrive completely, between two events, for which a page may be away (for example while it is loaded
-# again), and until the first page must be opened.
-SLOWEST, BEAT, AWAY, FIRST = 20, 0.5, 10, 600
+# Times in seconds: for a request to arrive completely, between two events, for which a page may be away (for example while another
+# address is open in its tab), how long before the end of this time a warning is printed, and until the first page must be opened.
+SLOWEST, BEAT, AWAY, WARNING, FIRST = 10, 0.5, 120, 60, 600
 # How long the rest of a refused request is read and ignored.
 MOMENT = 2
 
@@ -68,39 +71,79 @@ class Server(ThreadingHTTPServer):
         self.answers = answers
         self.token, self.cookie = secrets.token_urlsafe(24), None
         self.port = self.server_address[1]
-        self.room = threading.BoundedSemaphore(MOST_CONNECTIONS)
+        # The connections: for each when it began, and whether its request has arrived.
+        self.connections = {}
         # The number of open pages, for how long there may be none, and until when.
         self.pages, self.patience, self.until = 0, FIRST, time.monotonic() + FIRST
-        self.lock, self.closing = threading.Lock(), False
+        self.lock, self.closing, self.warned = threading.RLock(), False, False
 
     def address(self):
         """Returns the address of the page."""
         return f"http://127.0.0.1:{self.port}/{self.token}/"
 
     def process_request(self, request, client_address):
-        """Handles a connection. If there are too many, it is closed at once."""
-        if self.room.acquire(blocking=False):
+        """Handles a connection. If there are too many, the oldest one whose request has not arrived is closed, so that connections that
+        are idle cannot keep others away."""
+        with self.lock:
+            waiting = [other for other, (_, has_arrived) in self.connections.items() if not has_arrived]
+            is_full = len(self.connections) >= MOST_CONNECTIONS
+            if is_full and waiting:
+                self.drop(waiting[0])
+            is_taken = not is_full or bool(waiting)
+            if is_taken:
+                self.connections[request] = (time.monotonic(), False)
+        if is_taken:
             super().process_request(request, client_address)
         else:
             self.shutdown_request(request)
 
+    def drop(self, request):
+        """Closes a connection; its thread then ends."""
+        self.connections.pop(request, None)
+        try:
+            request.shutdown(socket.SHUT_RDWR)
+        except OSError:
+            pass
+
+    def arrived(self, request):
+        """Notes that the request of a connection has arrived. Returns whether the connection is still there."""
+        with self.lock:
+            begun, _ = self.connections.get(request, (None, False))
+            if begun is not None:
+                self.connections[request] = (begun, True)
+            return begun is not None
+
     def process_request_thread(self, request, client_address):
-        """Handles a connection in its thread, and counts it."""
+        """Handles a connection in its thread, and forgets it afterwards."""
         try:
             super().process_request_thread(request, client_address)
         finally:
-            self.room.release()
+            with self.lock:
+                self.connections.pop(request, None)
 
     def handle_error(self, request, client_address):
         """Ignores a broken connection."""
 
     def service_actions(self):
-        """Ends the server when no page has been open for some time."""
+        """Closes connections whose request takes too long, and ends the server when no page has been open for some time."""
+        now = time.monotonic()
         with self.lock:
-            is_over = not self.pages and time.monotonic() > self.until
-        if is_over and not self.closing:
+            for request in [one for one, (begun, has_arrived) in self.connections.items() if not has_arrived and now > begun + SLOWEST]:
+                self.drop(request)
+            left = self.until - now if not self.pages else AWAY
+            is_warned, self.warned = self.warned, left < WARNING
+        if left < 0 and not self.closing:
             self.closing = True
             threading.Thread(target=self.shutdown, daemon=True).start()
+        elif self.warned and not is_warned:
+            self.warn(f"no page is open: the session ends in {WARNING} seconds; open {self.address()} to keep it")
+
+    def warn(self, text):
+        """Prints a warning, if standard error can be written."""
+        try:
+            print(f"calculator: {text}", file=sys.stderr, flush=True)
+        except (OSError, ValueError):
+            pass
 
     def open_page(self, count):
         """Counts a page that opens or closes."""
@@ -182,12 +225,19 @@ class Handler(BaseHTTPRequestHandler):
         begin = f"/{self.server.token}/"
         if not hmac.compare_digest(self.path[:len(begin)].encode(), begin.encode()):
             raise Refusal(403, "the address lacks the token: open the address that tools/calculator printed")
+        if self.command == "GET":
+            self.want_arrival()
         name, _, query = self.path[len(begin):].partition("?")
         # The page itself may be opened by a link in another page.
         if name and self.headers.get("Sec-Fetch-Site", "none") not in ("none", "same-origin"):
             raise Refusal(403, "the request comes from another web page: open the address that tools/calculator printed")
         self.server.stay()
         return name, {key: values[-1] for key, values in parse_qs(query).items()}
+
+    def want_arrival(self):
+        """Notes that the request has arrived, unless its connection was closed because it took too long."""
+        if not self.server.arrived(self.connection):
+            raise Refusal(408, f"the request did not arrive within {SLOWEST} seconds")
 
     def given_cookie(self):
         """Returns the cookie of the browser for this server."""
@@ -200,7 +250,7 @@ class Handler(BaseHTTPRequestHandler):
         if name == "":
             cookie = self.server.take_cookie(self.given_cookie())
             if cookie:
-                more["Set-Cookie"] = f"bench-{self.server.port}={cookie}; HttpOnly; SameSite=Strict; Path=/{self.server.token}/"
+                more["Set-Cookie"] = f"bench-{self.server.port}={cookie}; HttpOnly; SameSite=Lax; Path=/{self.server.token}/"
         else:
             self.want_cookie()
         if name in FILES:
@@ -210,12 +260,17 @@ class Handler(BaseHTTPRequestHandler):
         elif name == "events":
             self.events()
         elif name == "deck":
-            self.reply(200, "text/plain; charset=utf-8", self.server.answers["deck"](),
-                       {"Content-Disposition": 'attachment; filename="session.deck"'})
+            self.save("text/plain", self.server.answers["deck"](asked), "branch.deck" if "branch" in asked else "session.deck")
+        elif name == "recorded":
+            self.save("text/html", self.server.answers["recorded"](), "session.html")
         elif name == "state":
             self.tell(self.server.answers["state"](asked))
         else:
             raise Refusal(404, f"unknown path '{name[:100]}'")
+
+    def save(self, kind, data, name):
+        """Sends bytes that the browser saves as a file of this name."""
+        self.reply(200, f"{kind}; charset=utf-8", data, {"Content-Disposition": f'attachment; filename="{name}"'})
 
     def post(self, name, _):
         """Answers a POST request for a path after the token."""
@@ -228,6 +283,7 @@ class Handler(BaseHTTPRequestHandler):
         if self.headers.get_content_type() != "application/json":
             raise Refusal(415, f"the request body is {self.headers.get_content_type()}: expected application/json")
         body = self.rfile.read(int(length))
+        self.want_arrival()
         if len(body) < int(length):
             raise Refusal(400, f"the request body has {len(body):,} bytes, expected {int(length):,}")
         if name not in ("do", "import", "export"):

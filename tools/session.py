@@ -40,6 +40,8 @@ class Session:
             want_program()
         # In a session of its own, so that an interrupt at a terminal reaches only this tool.
         self.bench = subprocess.Popen([BENCH, *running(memory)], stdin=subprocess.PIPE, stdout=subprocess.PIPE, start_new_session=True)
+        # The number of bytes that the bench was sent. It reads at most LONGEST_DECK.
+        self.sent = 0
 
     def ask(self, command):
         """Returns the lines that a command or a whole block prints."""
@@ -53,6 +55,7 @@ class Session:
         """Returns the lines that some commands print. They and their marker must fit into a pipe, so they have at most 50,000 bytes if
         they print more than a pipe holds."""
         lines = []
+        self.sent += len(commands) + 1 + len(MARK)
         try:
             self.bench.stdin.write(commands.rstrip(b"\n") + b"\n" + MARK)
             self.bench.stdin.flush()

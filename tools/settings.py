@@ -3,6 +3,7 @@ from __future__ import annotations
 
 import re
 from collections.abc import Callable
+from functools import cache
 from typing import NamedTuple
 
 from decks import Failure
@@ -24,7 +25,11 @@ MOST_STEPS = 9_999_999
 
 
 class Wrong(Failure):
-    """A setting cannot be read. The text says why."""
+    """A setting cannot be read. The text says why, and `word` is the word of the row that is wrong."""
+
+    def __init__(self, why: str, word: str = "") -> None:
+        super().__init__(why)
+        self.word = word
 
 
 class Setting(NamedTuple):
@@ -58,7 +63,8 @@ def register(text: str) -> str:
         return f"10{quoted[1].encode().hex().upper():0>12}"
     digits = digits_of(text)
     if digits is None:
-        raise Wrong(f'found {text}, expected a number of at most ten digits, 14 hexadecimal digits, or a text like "ABC"')
+        raise Wrong(f"found `{text}`, expected a number of at most ten digits with an exponent from -99 to 99, 14 hexadecimal digits, or a "
+                    'text of at most six characters like "ABC"')
     return digits
 
 
@@ -66,7 +72,7 @@ def hexadecimal(width: int, most: int) -> Callable[[str], str]:
     """Returns the reader of a hexadecimal number, which is printed with so many digits."""
     def read(text: str) -> str:
         if not re.fullmatch(f"[0-9A-Fa-f]{{1,{width}}}", text) or int(text, 16) > most:
-            raise Wrong(f"found {text}, expected a hexadecimal number up to {most:X}")
+            raise Wrong(f"found `{text}`, expected 1 to {width} hexadecimal digits, at most {most:X}")
         return f"{int(text, 16):0{width}X}"
     return read
 
@@ -74,7 +80,7 @@ def hexadecimal(width: int, most: int) -> Callable[[str], str]:
 def pointer(text: str) -> str:
     """Returns a pointer as the bench prints it, from its decimal number."""
     if not text.isdecimal() or int(text) > 13:
-        raise Wrong(f"found {text}, expected a place from 0 to 13")
+        raise Wrong(f"found `{text}`, expected a place from 0 to 13")
     return f"{int(text):X}"
 
 
@@ -82,7 +88,7 @@ def one_of(*values: str) -> Callable[[str], str]:
     """Returns the reader of a value that is one of a few words."""
     def read(text: str) -> str:
         if text not in values:
-            raise Wrong(f"found {text}, expected {' or '.join(values)}")
+            raise Wrong(f"found `{text}`, expected {' or '.join(values)}")
         return text
     return read
 
@@ -95,14 +101,31 @@ def text(value: str) -> str:
 def alpha(value: str) -> str:
     """Returns the text of ALPHA."""
     if not re.fullmatch(r"[ -~]{0,24}", text(value)):
-        raise Wrong(f"found {value}, expected a text of at most 24 characters in quotes")
+        raise Wrong(f"found `{value}`, expected a text in quotes of at most 24 printable ASCII characters")
     return text(value)
+
+
+def refusal(value: str) -> str:
+    """Returns the name or number of a refusal, or the address in it, or several of these."""
+    name, known = text(value), refusals()
+    if not {*known, *known.values()} & {*name.split()} and not re.search(r"\b[0-9A-F]{4}\b", name):
+        from difflib import get_close_matches
+        near = get_close_matches(name, known, 1)
+        raise Wrong(f"found `{value}`, expected a refusal{f', the nearest is {near[0]}' if near else ''}: docs/DECK.md has all of them")
+    return name
+
+
+@cache
+def refusals() -> dict[str, str]:
+    """Returns the refusals of docs/DECK.md: the number of each, by its name."""
+    from documents import section_of
+    return {name: number for number, name in re.findall(r"`! (\d\d) (\w+)", section_of("DECK.md", "Refusals"))}
 
 
 def steps(value: str) -> str:
     """Returns a number of steps."""
     if not value.isdecimal() or int(value) > MOST_STEPS:
-        raise Wrong(f"found {value}, expected a number of steps up to {MOST_STEPS:,}")
+        raise Wrong(f"found `{value}`, expected a number of steps up to {MOST_STEPS:,}")
     return str(int(value))
 
 
@@ -110,7 +133,7 @@ READERS: dict[str, Callable[[str], str]] = {
     **{name: register for name in STACK}, **{name: hexadecimal(DIGITS, 16 ** DIGITS - 1) for name in WIDE},
     "G": hexadecimal(2, 0xFF), "cpu.T": hexadecimal(2, 0xFF), "ST": hexadecimal(4, 0x3FFF), "P": pointer, "Q": pointer,
     "PT": one_of("P", "Q"), "CY": one_of("0", "1"), "MODE": one_of("HEX", "DEC"), "RAM": hexadecimal(3, 0x3FF),
-    "ALPHA": alpha, "keys": text, "display": text, "steps": steps, "refusal": text}
+    "ALPHA": alpha, "keys": text, "display": text, "steps": steps, "refusal": refusal}
 
 
 def reader_of(name: str) -> Callable[[str], str]:
@@ -121,6 +144,12 @@ def reader_of(name: str) -> Callable[[str], str]:
         return register
     if FLAG_NAME.fullmatch(name) and int(name[1:]) <= 55:
         return one_of("0", "1")
+    if re.fullmatch("F[0-9]{2,}", name):
+        raise Wrong(f"{name}: no such flag: expected one from F00 to F55")
+    if re.fullmatch("[RF][0-9]", name):
+        raise Wrong(f"{name}: a register or flag has two digits: write {name[0]}0{name[1]}")
+    if any(other.lower() == name.lower() for other in READERS):
+        raise Wrong(f"{name}: upper and lower case differ: write {next(other for other in READERS if other.lower() == name.lower())}")
     raise Wrong(f"{name}: no such register: expected one of {', '.join([*STACK, *CPU, *ALONE])}, a data register like R05, a flag like "
                 "F22, or an address of memory like 00D")
 
@@ -129,9 +158,10 @@ def setting(name: str, sign: str, value: str, is_before: bool) -> Setting:
     """Returns a setting before or after a call."""
     read = reader_of(name)
     if name in (ONLY_AFTER if is_before else ONLY_BEFORE):
-        raise Wrong(f"{name} is set {'before' if is_before else 'after'} the call, expected it only {'after' if is_before else 'before'} ->")
+        raise Wrong(f"found `{name}{sign}{value}` {'before' if is_before else 'after'} ->, expected {name} only "
+                    f"{'after' if is_before else 'before'} it")
     if sign == "<=" and name != "steps":
-        raise Wrong(f"{name}<=: only steps can have a limit, expected {name}=")
+        raise Wrong(f"found `{name}<={value}`, expected {name}={value}: only steps can have a limit")
     try:
         return Setting(name.upper() if MEMORY_NAME.fullmatch(name) else name, sign, read(value))
     except Wrong as why:
@@ -140,12 +170,19 @@ def setting(name: str, sign: str, value: str, is_before: bool) -> Setting:
 
 def settings_in(words: list[str], is_before: bool) -> list[Setting]:
     """Returns the settings in some words."""
-    found = []
+    found: list[Setting] = []
+    before: dict[str, str] = {}
     for word in words:
         parts = SETTING.fullmatch(word)
         if not parts:
-            raise Wrong(f"found `{word}`, expected a setting like X=5 or C=00F")
-        found.append(setting(parts[1], parts[2], parts[3], is_before))
-        if found[-1].name in {one.name for one in found[:-1]}:
-            raise Wrong(f"{found[-1].name} is set twice")
+            is_text = words.index(word) and re.match("(?:ALPHA|keys|display)=", words[words.index(word) - 1])
+            hint = "; a text with spaces is in quotes" if is_text else "; a limit is written steps<=20" if word.startswith("steps") else ""
+            raise Wrong(f"found `{word}`, expected a setting like X=5 or C=00F{hint}", word)
+        try:
+            found.append(setting(parts[1], parts[2], parts[3], is_before))
+        except Wrong as why:
+            raise Wrong(str(why), word) from why
+        first = before.setdefault(found[-1].name, word)
+        if len(before) < len(found):
+            raise Wrong(f"found two settings of {found[-1].name}, `{first}` and `{word}`, expected one", word)
     return found

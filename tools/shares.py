@@ -8,6 +8,7 @@ import shlex
 import shutil
 import subprocess
 import sys
+import tempfile
 from concurrent.futures import ProcessPoolExecutor
 from typing import Callable, Iterator, List, NamedTuple, Optional, Sequence, Tuple, TypeVar
 
@@ -143,22 +144,31 @@ def results_in(tool: str, parts: List[Tuple[str, str]]) -> List[object]:
 
 def shares_in(tool: str, path: str, text: str) -> Iterator[Tuple[Share, int, List[object]]]:
     """Yields each share in a text, which may have several: the number of items in all, and its results."""
+    if not text:
+        raise Failure(f"{path}: the file is empty, expected the output of tools/{tool} --shard I/N")
     lines = text.split("\n")
     heads = [at for at, line in enumerate(lines) if HEAD.fullmatch(line)]
     if not heads or heads[0]:
         raise Failure(f"{path}:1: `{lines[0][:200]}`: expected the output of tools/{tool} --shard I/N")
     for at, after in zip(heads, [*heads[1:], len(lines)]):
         number, of, count, by = HEAD.fullmatch(lines[at]).groups()
-        share, own = Share(int(number), int(of)), [line for line in lines[at + 1:after] if line]
+        share = Share(int(number), int(of))
+        own = [(place, line) for place, line in enumerate(lines[at + 1:after], at + 2) if line]
         wanted = len(range(int(count))[share.number - 1::share.of])
         if by != tool:
             raise Failure(f"{path}:{at + 1}: found a share of tools/{by}, expected one of tools/{tool}")
         if len(own) != wanted:
-            raise Failure(f"{path}:{at + 1}: found {len(own)} results, expected {wanted}: the share was not finished")
-        try:
-            yield share, int(count), [json.loads(line) for line in own]
-        except ValueError as error:
-            raise Failure(f"{path}:{at + 1}: found results that are no JSON: the file was changed") from error
+            raise Failure(f"{path}:{at + 1}: found {len(own)} result{'' if len(own) == 1 else 's'}, expected {wanted}: run this share "
+                          "again")
+        yield share, int(count), [result_in(path, place, line) for place, line in own]
+
+
+def result_in(path: str, place: int, line: str) -> object:
+    """Returns the result in a line of a part."""
+    try:
+        return json.loads(line)
+    except ValueError as error:
+        raise Failure(f"{path}:{place}: `{line[:200]}`: expected a result in JSON, on one line: run this share again") from error
 
 
 def joined(tool: str, paths: List[str]) -> List[object]:
@@ -180,12 +190,14 @@ def by_machines(tool: str, words: List[str], machines: List[str], what: str) -> 
                "--sshlogin", ",".join(machines)]
     progress, lines = Progress(of, what), []
     try:
-        with subprocess.Popen(command, stdin=subprocess.PIPE, stdout=subprocess.PIPE) as ran:
-            ran.stdin.write(jobs.encode())
-            ran.stdin.close()
-            for line in ran.stdout:
-                lines.append(line.decode("utf-8", "replace"))
-                progress.add(int(HEAD.fullmatch(lines[-1].rstrip("\n")) is not None))
+        # (in a file, because GNU parallel may end before it has read a pipe)
+        with tempfile.TemporaryFile() as given:
+            given.write(jobs.encode())
+            given.seek(0)
+            with subprocess.Popen(command, stdin=given, stdout=subprocess.PIPE) as ran:
+                for line in ran.stdout:
+                    lines.append(line.decode("utf-8", "replace"))
+                    progress.add(int(HEAD.fullmatch(lines[-1].rstrip("\n")) is not None))
     finally:
         progress.end()
     if ran.returncode:

@@ -6,7 +6,8 @@ import re
 import unicodedata
 from difflib import get_close_matches
 
-from dialects import FIELDS, LONG, OF_NUMBERS, REGISTERS, own_names
+from dialect_causes import causes
+from dialects import FIELDS, LONG, OF_NUMBERS, REGISTERS, own_names, pairs
 from documents import codes_of, section_of, tables_of
 
 GREATEST_WORD = 0x3FF
@@ -16,7 +17,8 @@ OF_BITS, OF_PLACES = ("CLRF", "SETF", "?FSET"), ("R=", "?R=", "RCR")
 
 # Instructions of other processors, and what is written here.
 ELSEWHERE = {"CALL": "?NC XQ", "JSR": "?NC XQ", "BSR": "?NC XQ", "XEQ": "?NC XQ", "JMP": "?NC GO", "BRA": "?NC GO", "GO": "?NC GO",
-             "RET": "RTN", "RTS": "RTN", "RETURN": "RTN", "JZ": "JNC after ?C#0", "JNZ": "JC after ?C#0", "DB": "CON", "DW": "CON",
+             "RET": "RTN", "RTS": "RTN", "RETURN": "RTN", "JZ": "JNC after ?C#0", "JNZ": "JC after ?C#0",
+             "BEQ": "JNC after ?C#0", "BNE": "JC after ?C#0", "BCC": "JNC", "BCS": "JC", "DB": "CON", "DW": "CON",
              "BYTE": "CON", "WORD": "CON", "DEC": "SETDEC", "HEX": "SETHEX", "CLC": "NOP, which clears the carry", "PUSH": "PUSH ADR",
              "POP": "POP ADR", "HALT": "RTN", "CLR": "C=0"}
 OF_MOVES = ("MOV", "LD", "LDA", "STA", "LOAD", "STORE")
@@ -81,12 +83,28 @@ class Mistake:
         if not self.words:
             return None
         Mistake.names = Mistake.names or own_names()
-        for reading in (self.signs, self.quotes, self.operation, self.elsewhere, self.two, self.label, self.number, self.register, self.bit,
+        for reading in (self.signs, self.quotes, self.of_others, self.operation, self.elsewhere, self.two, self.label, self.number, self.register, self.bit,
                         self.field, self.page_label):
             found = reading()
             if found:
                 return found
         return self.likely() if is_bad_line else None
+
+    def of_others(self):
+        """Finds the form of a line of another assembler. An operation must be one that the processor has, with its operands in either
+        order."""
+        for offset, cause in causes(self.code):
+            form = re.search(r"written ([ABC])=([ABC])([-+])([ABC]) ", cause)
+            if form and "{}={}{}{}".format(*form.groups()) not in operations() and form[3] == "+":
+                cause = cause.replace(form[0], f"written {form[1]}={form[4]}+{form[2]} ")
+            form = re.search(r"written ([ABC])<>([ABC]) ", cause)
+            if form and form[1] > form[2]:
+                cause = cause.replace(form[0], f"written {form[2]}<>{form[1]} ")
+            form = re.search(r"written (\??[ABC](?:=|<>|#)\S+|[LR]SHF[ABC]) ", cause)
+            if form and form[1] not in operations():
+                cause = f"the processor has no {form[1]}" + (f": {NEAREST[form[1]]}" if form[1] in NEAREST else "")
+            return self.text.find(self.code) + offset + 1, cause
+        return None
 
     def signs(self):
         """Finds characters that look like others."""
@@ -216,4 +234,8 @@ class Mistake:
             return column, "no instruction; if this is a comment, begin it with ;"
         two = " ".join(word for _, word in self.words[:2])
         near = get_close_matches(first.upper(), [*self.names, *operations()], 1, 0.7) or get_close_matches(two.upper(), self.names, 1, 0.8)
-        return (column, f"no instruction {first}; the nearest is {near[0]}") if near and near[0] != first.upper() else None
+        if near and near[0] != first.upper():
+            return column, f"no instruction {first}; the nearest is {near[0]}"
+        others = {other: here for other, here in pairs() if " " not in other}
+        near = get_close_matches(first.upper(), others, 1, 0.7)
+        return (column, f"no instruction {first}; the nearest of other dialects is {near[0]}, here {others[near[0]]}") if near else None

@@ -69,7 +69,8 @@ def source_in(path):
     commands = [words_of(line)[:2] for line in data.split(b"\n") if words_of(line) and not line.startswith(b"#")]
     why = ("the file is empty: expected a source" if not data.strip() else
            "this is an image of a page, expected a source: plug it with tools/import, and write a source with tools/export source"
-           if path.lower().endswith(".rom") or b"\0" in data else
+           if path.lower().endswith(".rom") else
+           "found a byte 00, which no text has, expected a source: bytes of a program and images are for tools/import" if b"\0" in data else
            "this is a deck, expected a source: run it with ./bench run" if path.lower().endswith(".deck") or is_deck(commands) else
            "this is a project file, expected a source: use tools/module" if path.lower().endswith(".toml") else None)
     if why:
@@ -237,7 +238,8 @@ class Source:
             is_long = line.code.startswith(b"?") and not other
             return [f"no line has the label {line.reference}"
                     + (f"; line {self.line_of(other) + 1} has {other}" if other else "")
-                    + ("; if it is in another page, name both sources, or use a project of tools/module" if is_long else "")]
+                    + ("; if it is in another page, name both sources, or use a project of tools/module; if it is in HP's ROM, "
+                       "write its address" if is_long else "")]
         if fault.refusal == "! 34 TooFar" and line.reference:
             distance = places[line.reference] - self.places[fault.at]
             least = "at least " if any(other.refusal in OF_THE_LINE for other in self.faults) else ""
@@ -564,14 +566,19 @@ def of_another_dialect(own):
     return "a line of another dialect, which tools/import " + ("removes" if own.startswith(";") else f"reads as `{own}`")
 
 
+# Causes that are certain: characters that look like others, a colon that is missing, and a zero too many.
+CERTAIN = ("U+", "begins with a colon", "has a leading zero")
+
+
 def shown_causes(asked, others):
     """Returns the cause, with its column, that each line with an error shows; None for a line of another dialect."""
     from source_causes import Mistake
     from dialects import as_own
-    found = {fault: Mistake(fault.text, one.line.code).cause(fault.refusal == OF_THE_LINE[0]) for one, fault in asked
-             if fault.refusal in OF_THE_LINE and one.first not in others}
-    # Characters that look like others are named even if tools/import reads them.
-    readings = [fault for fault, cause in found.items() if cause and "U+" not in cause[1]]
+    mistakes = [(one.first in others, fault, Mistake(fault.text, one.line.code)) for one, fault in asked if fault.refusal in OF_THE_LINE]
+    found = {fault: mistake.of_others() if is_other else mistake.cause(fault.refusal == OF_THE_LINE[0])
+             for is_other, fault, mistake in mistakes}
+    # Some causes are named even if tools/import reads the line.
+    readings = [fault for fault, cause in found.items() if cause and not any(text in cause[1] for text in CERTAIN)]
     for fault, own in zip(readings, as_own([fault.text for fault in readings]) if readings else []):
         found[fault] = None if own else found[fault]
     return found
@@ -603,7 +610,11 @@ def tell_causes(faults):
                 if row.refusal == one.refusal and (kind and row.kind(classes, others) == kind or row.first == one.first)
                 and one.may_be_as(row, kind)]
         if kind == "another dialect":
-            fault.told.append(f"{one.first.decode()} is a name of another dialect, which tools/import reads as `{others[one.first]}`")
+            name = others[one.first]
+            fault.told.append(f"{one.first.decode()} is a name of another dialect, which tools/import reads as `{name}`"
+                              if as_own([fault.text])[0] else
+                              f"{one.first.decode()} is `{name}` of another dialect, and its operand cannot be "
+                              f"read" + (f": `{name}` takes {takes[name]}" if name in takes else ""))
         elif like and not may_be_of_others(kind):
             fault.told.append(max(like)[-1])
         elif like or one.refusal == OF_THE_LINE[0]:

@@ -103,7 +103,7 @@ class Places:
         if line:
             return self.at_line(line[1] or "", int(line[2]))
         near = next((name for name in self.labels if label and name.lower() == label[2].lower()), "")
-        raise Failure(f"{text}: no source has this label{f', but {near}' if near else ''}: expected a label like LOOP or LOOP+2, an "
+        raise Failure(f"`{text}`: no source has this label{f', but {near}' if near else ''}: expected a label like LOOP or LOOP+2, an "
                       "address of four digits, or a source line like main.asm:12")
 
     def at_label(self, page: str | None, name: str, offset: int) -> tuple[int, int]:
@@ -112,14 +112,14 @@ class Places:
         first = [part for part in parts if part.bank == 1] if parts[1:] else parts
         if len(first) != 1:
             names = " or ".join(f"{part.name}.{name}" for part in self.labels[name])
-            raise Failure(f"{f'{page}.' if page else ''}{name}: expected {names}")
+            raise Failure(f"found `{f'{page}.' if page else ''}{name}`, expected {names}")
         return (first[0].page << 12) + first[0].labels[name] + offset, first[0].bank
 
     def at_line(self, file: str, number: int) -> tuple[int, int]:
         """Returns the address and the bank of the first words at or after a source line."""
         names = sorted({os.path.basename(path) for part in self.parts for path, _, _ in part.rows})
         if not file and len(names) != 1:
-            raise Failure(f"{number}: expected the file too: {' or '.join(f'{name}:{number}' for name in names) or 'no source is known'}")
+            raise Failure(f"found `{number}`, expected the file too: {' or '.join(f'{name}:{number}' for name in names) or 'no source is known'}")
         for part in self.parts:
             for at, (path, row, _) in enumerate(part.rows):
                 if file in ("", os.path.basename(path), path) and row >= number and part.places[at] < part.places[at + 1]:

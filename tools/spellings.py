@@ -239,7 +239,7 @@ class Speller:
         """Returns a remark if a line that the bench reads may be meant differently; otherwise an empty text."""
         found = ONE_LETTER.fullmatch(line)
         if found:
-            return f'the label {found[1]} of one letter; for a name write it in quotes, "{found[1]}"'
+            return f'the local label {found[1]}; for a label with this name, write it in quotes: {found[0].split()[0]} "{found[1]}"'
         return ""
 
 

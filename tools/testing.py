@@ -7,6 +7,7 @@ from cases import Case, cases_in, table_in, usual
 from decks import Failure
 from files import put
 from linking import Linked
+from projects import Reader
 from settings import CPU, DATA_NAME, MEMORY_NAME, STACK, Setting, Wrong, reader_of
 from values import text_of
 
@@ -37,6 +38,10 @@ def differences(case: Case, result: Result) -> list[str]:
     """Returns a line for each value that differs, and for a call that did not end."""
     lines = [f"{one.name}: wanted {'at most ' if one.sign == '<=' else ''}{printed(one.name, one.value)}, "
              f"found {printed(one.name, found)}" for one, found in compared(case.after, result)]
+    is_missing = case.target.startswith('"') and result.values.get("display") == "NONEXISTENT"
+    if is_missing and all(one.name != "display" for one in case.after):
+        lines.append(f"the display is NONEXISTENT: no table of the module and no program has the name {case.target}, or a register "
+                     "does not exist")
     if result.reason == "Limit":
         lines.append(f"the call has not ended after {result.steps:,} steps")
     elif not ended_well(case.after, result):
@@ -52,7 +57,8 @@ class Tests:
         self.views = {}
         calls = []
         for case in cases:
-            views = self.views_of([one.name for one in case.after])
+            # The display shows whether a function with a quoted name exists.
+            views = self.views_of([*(one.name for one in case.after), *(["display"] if case.target.startswith('"') else [])])
             calls.append((Call(self.caller, case), views))
             if not case.target.startswith('"'):
                 calls += [(Call(self.caller, case, self.caller.junk(seed)), views) for seed in seeds]
@@ -158,7 +164,7 @@ def cases_of(linked: Linked, options: argparse.Namespace) -> list[Case]:
     try:
         common = usual(project.before)
     except Wrong as why:
-        raise Failure(f"{project.path}: before: {why}") from why
+        raise Reader(project.path).fail("", "before", str(why)) from why
     if options.table is not None:
         names = options.values.split(",") if options.values else []
         try:
@@ -170,6 +176,8 @@ def cases_of(linked: Linked, options: argparse.Namespace) -> list[Case]:
     files = options.files or project.tests
     if not files:
         raise Failure(f'{project.path}: the project names no tests: expected tests = ["NAME.cases"]')
+    if not options.files:
+        Reader(project.path).want("", "tests", *files)
     return [case for path in files for case in cases_in(path, common)]
 
 

@@ -59,8 +59,16 @@ class Text(str):
 def letters_of(text):
     """Returns the keys of the letters of a text."""
     if untyped(text):
-        raise NoKeys(f"no key writes {' '.join(untyped(text))}")
+        has_capitals = text != text.upper() and not untyped(text.upper())
+        raise NoKeys(f"no key writes {' '.join(untyped(text))}{f': write {text.upper()} in capitals' if has_capitals else ''}")
     return [key for letter in text for key in letter_keys(letter)]
+
+
+def why_no_key(name):
+    """Returns that no key has a name, and what to write for it."""
+    is_typed = name.isalpha() and not untyped(name.upper())
+    letters = f'; to press its letters, write it in quotes, "{name.upper()}"' if is_typed else ""
+    return f"no key is named {name}: `tools/keyboard text` shows the names{letters}"
 
 
 def text_keys(text):
@@ -74,7 +82,7 @@ def why_no_name(name):
         return f"{len(characters(name))} characters"
     if untyped(name):
         return f"no key writes {' '.join(untyped(name))}"
-    return "the keys call the label of one letter" if re.fullmatch("[A-J]", name) else ""
+    return f"XEQ {name} on the keyboard calls the local label {name}" if re.fullmatch("[A-J]", name) else ""
 
 
 def number_keys(number):
@@ -165,7 +173,7 @@ def function_keys(name):
 
 def operand_keys(name, indirect, operand):
     """Returns the keys of an operand."""
-    keys, wanted = list(operand), "digits, or one of X, Y, Z, T and L"
+    keys, wanted = list(operand), "digits, or X, Y, Z, T or L"
     if not operand.isdecimal():
         keys = [".", LETTERS[operand]] if operand in "TZYXL" else None
     elif name in OF_ONE_DIGIT and not indirect:

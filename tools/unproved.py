@@ -92,12 +92,16 @@ def rt_try(words, given):
         rt = subprocess.Popen(["rt", "try", "--seconds", str(SECONDS), *words], cwd=CRATE, stdin=given, stdout=output, stderr=told)
 
         def end(number, _):
-            rt.terminate()
-            rt.wait()
-            os._exit(128 + number)
+            raise SystemExit(128 + number)
 
         before = {number: signal.signal(number, end) for number in (signal.SIGINT, signal.SIGTERM, signal.SIGHUP)}
-        rt.wait()
+        try:
+            rt.wait()
+        except SystemExit:
+            # (not in the handler: the wait that it interrupts has a lock)
+            rt.terminate()
+            rt.wait()
+            raise
         for number, was in before.items():
             signal.signal(number, was)
         output.seek(0)

@@ -1,0 +1,44 @@
+"""Finds out what an instruction will do: a bench beside the session executes it with the same registers of the processor."""
+from decks import Failure
+from explaining import values_of
+from settings import CPU
+from stubs import stub_of
+
+# The pages of the words that set the registers, and of the instruction.
+SETTING, INSTRUCTION = "8", "9"
+
+
+class Beside:
+    """A bench beside the session. It is started when it is first asked."""
+
+    def __init__(self, start):
+        """`start` starts a bench."""
+        self.start, self.bench, self.known = start, None, {}
+
+    def after(self, words, cpu):
+        """Returns the lines of `show cpu` after an instruction, given by its words; `cpu` are these lines before it."""
+        key = (words, *cpu)
+        if key not in self.known:
+            if len(self.known) > 100:
+                self.known.clear()
+            self.known[key] = self.asked(words, values_of(cpu))
+        return self.known[key]
+
+    def asked(self, words, values):
+        """Asks the bench; None if it does not answer."""
+        registers = {name: values[name.removeprefix("cpu.")] for name in CPU if name not in ("CY",)}
+        stub = stub_of({}, registers, int(f"{INSTRUCTION}000", 16))
+        block = [f"words {SETTING}\n{stub.text}end", f"words {INSTRUCTION}\n{words}\nend", f"call {SETTING}000", f"step {stub.steps}", "step",
+                 "show cpu"]
+        try:
+            self.bench = self.bench or self.start()
+            commands = [f"unplug {SETTING}", f"unplug {INSTRUCTION}", *block]
+            return self.bench.ask_all([command.encode() for command in commands])[-1]
+        except Failure:
+            self.bench = None
+            return None
+
+    def close(self):
+        """Ends the bench."""
+        if self.bench:
+            self.bench.close()

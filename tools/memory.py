@@ -1,0 +1,42 @@
+"""The registers of memory as the bench prints them, and how register c divides them."""
+
+# The addresses of the status registers, and of the first register of main memory.
+STATUS, MAIN_START = 0x10, 0x0C0
+REGISTER_C = 0x00D
+
+DIGITS = 14
+# The constant in register c.
+CONSTANT = "169"
+
+
+class Memory:
+    """The digits of all registers: the status registers, and main memory up to the address before `top`."""
+
+    def __init__(self, digits, top):
+        self.digits, self.top = digits, top
+
+    @staticmethod
+    def command(top):
+        """Returns the command lines that print all registers."""
+        return b"\n".join(b"show ram %03x" % at for at in (*range(STATUS), *range(MAIN_START, top)))
+
+    def part(self, first, last):
+        """Returns the digits of the registers from one address of main memory to the one before another."""
+        return self.digits[STATUS + first - MAIN_START:STATUS + last - MAIN_START]
+
+    def divided(self):
+        """Returns what register c says: the address of the first statistics register and the constant, as digits, the curtain, the
+        address of the register of `.END.`, and whether main memory can be divided by them."""
+        c = self.digits[REGISTER_C]
+        curtain, end = int(c[8:11], 16), int(c[11:], 16)
+        return [c[:3], c[5:8], curtain, end, c[5:8] == CONSTANT and MAIN_START <= end < curtain <= self.top]
+
+    def data_registers(self):
+        """Returns the digits of the data registers; none if the curtain is outside main memory."""
+        curtain = self.divided()[2]
+        return self.part(curtain, self.top) if MAIN_START < curtain <= self.top else []
+
+    def program_bytes(self):
+        """Returns the bytes from the curtain down to the end of program memory."""
+        _, _, curtain, end, is_sound = self.divided()
+        return bytes.fromhex("".join(reversed(self.part(end, curtain)))) if is_sound else b""

@@ -194,7 +194,8 @@ def by_machines(tool: str, words: List[str], machines: List[str], what: str) -> 
         with tempfile.TemporaryFile() as given:
             given.write(jobs.encode())
             given.seek(0)
-            with subprocess.Popen(command, stdin=given, stdout=subprocess.PIPE) as ran:
+            # (without SHELL and PARALLEL_SHELL it executes nothing, and ends with status 0)
+            with subprocess.Popen(command, stdin=given, stdout=subprocess.PIPE, env=os.environ | {"PARALLEL_SHELL": "/bin/sh"}) as ran:
                 for line in ran.stdout:
                     lines.append(line.decode("utf-8", "replace"))
                     progress.add(int(HEAD.fullmatch(lines[-1].rstrip("\n")) is not None))

@@ -182,7 +182,7 @@ class Caller:
             try:
                 found += [result_of(call, views, lines) for call, views in piece]
             except StopIteration as why:
-                raise Failure(ended(self.status, "before it answered all cases"), NO_ANSWER) from why
+                raise Failure(f"{self.linked.project.path}: {ended(self.status, 'before it answered all cases')}", NO_ANSWER) from why
         return found
 
     def lines(self, deck: str) -> Iterator[str]:

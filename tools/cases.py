@@ -43,9 +43,9 @@ def text_in(path: str) -> str:
         raise Failure(f"{path}:{line}: byte {error.object[error.start]:02X} is not valid UTF-8: save the file as UTF-8") from error
 
 
-def usual(text: str) -> list[Setting]:
-    """Returns the settings that every test has before its call."""
-    return settings_in([word for word in WORDS.findall(text)], True)
+def missing_quote(row: str) -> str:
+    """Returns what to add to an error of a row if the number of its double quotes, outside single ones, is odd."""
+    return "; the other quote is missing" if re.sub("'[^']*'", "", row).count('"') % 2 else ""
 
 
 def joined(common: list[Setting], own: list[Setting]) -> list[Setting]:
@@ -82,8 +82,8 @@ def cases_in(path: str, common: list[Setting]) -> list[Case]:
             target, before, after = row_of(words, common)
         except Wrong as why:
             column = next((f"column {place.start() + 1}: " for place, word in zip(places, words) if word is why.word), "")
-            is_open = re.sub("'[^']*'", "", row[:row.find("#")] if title else row).count('"') % 2
-            raise failure(path, number, row, f"{column}{why}{'; the other quote is missing' if is_open else ''}") from why
+            quote = missing_quote(row[:row.find("#")] if title else row)
+            raise failure(path, number, row, f"{column}{why}{quote}") from why
         cases.append(Case(path, number, title, target, before, after))
     return cases
 

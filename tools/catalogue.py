@@ -287,7 +287,9 @@ def lines_in(found: List[Program]) -> List[Optional[List[Tuple[int, str]]]]:
     """Returns for each program its lines with their positions, up to its END; None if the bench refuses it. One bench is asked for all."""
     status, answers = answered(b"".join(map(deck_of, found)))
     if status > 1:
-        raise Failure(ended(status, f"when it was asked for the lines of {len(found)} programs"))
+        files = list(dict.fromkeys(program.file for program in found))
+        place = files[0] + (f" and {len(files) - 1} further files" if files[1:] else "")
+        raise Failure(f"{place}: {ended(status, f'when it was asked for the lines of {len(found)} programs')}")
     results: List[Optional[List[Tuple[int, str]]]] = []
     for (_, _, loaded), (_, _, lines) in zip(answers[2::4], answers[3::4]):
         texts = [(int(line[:4]), line[5:].decode()) for line in lines]

@@ -161,7 +161,7 @@ def packed(kind: str, programs: List[bytes]) -> bytes:
     data = WRITERS[kind](programs)
     again = b"".join(part.data for part in READERS[kind](data))
     if again != b"".join(programs):
-        raise Failure(f"{kind}: other bytes are read from the container again: nothing is written")
+        raise Failure(f"{kind}: the file gives other bytes when it is read again, so nothing is written: please report this with the deck")
     return data
 
 
@@ -174,5 +174,6 @@ def listing_of(kind: str, programs: List[List[str]]) -> bytes:
     found = [text for text in again.texts if text]
     if again.bad or found != wanted:
         first = again.bad[0][1] if again.bad else next((one for one, other in zip(found, wanted) if one != other), "END")
-        raise Failure(f"{kind}: `{first}` is read as another line again: nothing is written")
+        raise Failure(f"{kind}: the line `{first}` gives another line when it is read again, so nothing is written: please report this "
+                      "with the deck")
     return text.encode()

@@ -199,7 +199,7 @@ class Debugger:
         """Goes back some steps."""
         count, total = number_in(words, 1), self.machine.total
         if not total:
-            raise Failure("this is the start")
+            raise Failure("no step has been executed, so none can be undone")
         undone = self.machine.move(max(total - count, 0))
         if undone:
             print(f"undone: {undone} command{'s' if undone > 1 else ''} after this step")

@@ -38,6 +38,9 @@ KEY_NOT_HELD, ALPHA_FLAG, USER_FLAG = b"! 18 KeyNotHeld", b"48", b"27"
 # Commands that print a text from the deck, which may look like a refusal. They are never refused.
 NEVER_REFUSED = ([b"show", b"alpha"], [b"show", b"display"])
 
+# Why memory can be wrong after a deck, and how to go on.
+OVERWRITTEN = "microcode of the deck has overwritten it; `watch 00D` in tools/debug finds the instruction"
+
 
 class Failure(Exception):
     """The reason why a tool ends with an error, and its exit status."""

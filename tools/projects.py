@@ -93,7 +93,8 @@ class Reader:
         """Refuses keys that have no meaning. `others` are the keys that come first in the file."""
         for key in table:
             if key in others:
-                raise self.fail(section, key, f"unknown key of [{section}], because it follows this line: write it before the first [..]")
+                raise self.fail(section, key,
+                                f"this is no key of [{section}], but of the whole project: write it before the first line [..]")
             if key not in keys:
                 near = nearest(key, keys)
                 raise self.fail(section, key, f"unknown key{near and f', the nearest is {near}'}: expected one of {', '.join(keys)}")
@@ -169,13 +170,15 @@ def page_of(reader: Reader, name: str, table: Any) -> Page:
     if not isinstance(table, dict):
         raise reader.fail("page", name, f"found {shown(table)}, expected a table such as [page.MAIN]")
     reader.known(section, table, ("at", "bank", "source", "end", "writable", "module", "programs"), ("name", "tests", "memory", "size", "before", "include"))
-    at = reader.value(section, table, "at", str, "", 'a page from "4" to "F"').upper()
+    if "at" not in table:
+        raise reader.fail(section, "at", 'found no such key, expected a page from "4" to "F", for example at = "8"')
+    at = reader.value(section, table, "at", str, "", 'a page from "4" to "F"')
     bank = reader.value(section, table, "bank", int, 1, "a bank from 1 to 4")
     module = reader.value(section, table, "module", int, None, "a module number from 1 to 31")
     source = reader.value(section, table, "source", str, None, "the name of a file")
     end = reader.value(section, table, "end", str, None, "the name of a file")
     programs = reader.files(section, table, "programs")
-    if len(at) != 1 or at not in PAGES:
+    if len(at) != 1 or at.upper() not in PAGES:
         raise reader.fail(section, "at", f'found {shown(at)}, expected a page from "4" to "F"')
     if bank not in BANKS:
         raise reader.fail(section, "bank", f"found {bank}, expected a bank from 1 to 4")
@@ -184,7 +187,7 @@ def page_of(reader: Reader, name: str, table: Any) -> Page:
         raise reader.fail(section, "source", f'found {found}, expected one of source = "FILE.asm" and programs = ["FILE.txt"]')
     if programs and module not in range(1, 32):
         raise reader.fail(section, "module", f"found {shown(module)}, expected the module number of the programs, 1 to 31")
-    page = Page(name, at, bank, reader.file(source) if source else None, reader.file(end) if end else None,
+    page = Page(name, at.upper(), bank, reader.file(source) if source else None, reader.file(end) if end else None,
                 reader.value(section, table, "writable", bool, False, "true or false"), module, programs)
     reader.want(section, "source", page.source)
     reader.want(section, "end", page.end)

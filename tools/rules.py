@@ -160,12 +160,12 @@ class Lint:
         behind = {source.places[after]: at for at, after in bank.pairs()}
         for place, at in ends.items():
             if place not in entered and place not in focal:
-                self.tell(at, "function-name", "the label of no ENTRY follows this name")
+                self.tell(at, "function-name", "no ENTRY names the label after this name")
         for place, at in entered.items():
             before = behind.get(place)
             is_foreign = at in getattr(source, "entered", ())
             if place not in ends and not is_foreign and not (before is not None and bank.code[before].startswith("CON ")):
-                self.tell(at, "function-name", f"no NAME directly before the label {source.lines[at].reference}")
+                self.tell(at, "function-name", f"no NAME is directly before the label {source.lines[at].reference}")
 
     @staticmethod
     def enters_own(bank, at, directive):

@@ -1,10 +1,11 @@
 """Single calls for tools/module run and trace."""
 from calls import LIMIT, Call, Caller, Views, ended_well
-from cases import Case, joined, row_of, usual
+from cases import Case, joined, row_of
 from decks import Failure
 from linking import Linked
 from settings import STACK, Setting, Wrong
 from stepping import MOST_TRACED, place_of, rows_of, traced
+from testing import usual
 from values import text_of
 
 CPU_SHOWN = ("A", "B", "C", "M", "N", "G", "cpu.T", "ST", "P", "Q", "PT", "CY", "MODE", "RAM")
@@ -12,8 +13,9 @@ CPU_SHOWN = ("A", "B", "C", "M", "N", "G", "cpu.T", "ST", "P", "Q", "PT", "CY", 
 
 def case_of(linked: Linked, target: str, words: list[str]) -> Case:
     """Returns the case of a command line."""
+    common = usual(linked.project)
     try:
-        name, before, _ = row_of([target, *map(requoted, words)], usual(linked.project.before))
+        name, before, _ = row_of([target, *map(requoted, words)], common)
     except Wrong as why:
         raise Failure(str(why)) from why
     return Case("command line", 1, "", name, before, [])

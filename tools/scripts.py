@@ -6,7 +6,7 @@ import re
 from functools import partial
 from typing import NamedTuple
 
-from cases import ARROW, WORDS, text_in
+from cases import ARROW, WORDS, missing_quote, text_in
 from decks import MAIN_START, Failure, answered, items_of, lines_of, shown, words_of
 from playing import FAULTS, Player, Round
 from settings import CPU, DATA_NAME, FLAG_NAME, SETTING, STACK, Setting, Wrong, setting
@@ -123,7 +123,7 @@ def cases_in(path: str) -> list[Case]:
         try:
             cases.append(case_of(path, number, words, title))
         except Wrong as why:
-            raise Failure(f"{path}:{number}: `{shown(row.strip())}`: {why}") from why
+            raise Failure(f"{path}:{number}: `{shown(row.strip())}`: {why}{missing_quote(row)}") from why
     if not cases:
         raise Failure(f"{path}: found no cases: {FORM}")
     return cases

@@ -54,17 +54,29 @@ def digits_of(text: str) -> str | None:
     return f"{'9' if found[1] else '0'}{digits:0<10}{exponent % 1000:03}"
 
 
-def register(text: str) -> str:
+def characters(value: str, most: int) -> str:
+    """Returns the characters of a text, without its quotes if it has some."""
+    own = text(value)
+    if own != value and (len(value) < 2 or value[-1] != value[0]):
+        raise Wrong(f"found `{value}`, expected the same quote at its end")
+    other = re.search("[^ -~]", own)
+    if other:
+        raise Wrong(f"found `{other[0]}` (U+{ord(other[0]):04X}) in `{value}`, expected printable ASCII characters")
+    if len(own) > most:
+        raise Wrong(f"found `{value}`, a text of {len(own)} characters, expected at most {most}")
+    return own
+
+
+def register(value: str) -> str:
     """Returns the digits of a register of memory: from 14 digits, a text of at most six characters, or a number."""
-    if re.fullmatch("[0-9A-Fa-f]{14}", text):
-        return text.upper()
-    quoted = re.fullmatch(r'"([ -~]{0,6})"', text)
-    if quoted:
-        return f"10{quoted[1].encode().hex().upper():0>12}"
-    digits = digits_of(text)
+    if re.fullmatch("[0-9A-Fa-f]{14}", value):
+        return value.upper()
+    if value[:1] in ("'", '"'):
+        return f"10{characters(value, 6).encode().hex().upper():0>12}"
+    digits = digits_of(value)
     if digits is None:
-        raise Wrong(f"found `{text}`, expected a number of at most ten digits with an exponent from -99 to 99, 14 hexadecimal digits, or a "
-                    'text of at most six characters like "ABC"')
+        raise Wrong(f"found `{value}`, expected a number of at most ten digits with an exponent from -99 to 99, 14 hexadecimal digits, or "
+                    'a text of at most six characters like "ABC"')
     return digits
 
 
@@ -100,9 +112,7 @@ def text(value: str) -> str:
 
 def alpha(value: str) -> str:
     """Returns the text of ALPHA."""
-    if not re.fullmatch(r"[ -~]{0,24}", text(value)):
-        raise Wrong(f"found `{value}`, expected a text in quotes of at most 24 printable ASCII characters")
-    return text(value)
+    return characters(value, 24)
 
 
 def refusal(value: str) -> str:

@@ -343,7 +343,8 @@ class Whole:
     def fill_up_to(self, goal, origin, text):
         """Adds lines that fill the page up to a place."""
         if self.end > goal:
-            self.fault(origin, f"the words before it already reach {self.end - 1:03X}", text)
+            why = f"the words before this line take the places up to {self.end - 1:03X}, but it needs those from {goal:03X} on"
+            self.fault(origin, why, text)
         for place in range(self.end, goal):
             self.fills.add(len(self.lines))
             self.add(constant(self.fill if place < FIRST_POLLED else 0), origin)

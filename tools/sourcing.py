@@ -103,8 +103,9 @@ class Places:
         if line:
             return self.at_line(line[1] or "", int(line[2]))
         near = next((name for name in self.labels if label and name.lower() == label[2].lower()), "")
-        raise Failure(f"`{text}`: no source has this label{f', but {near}' if near else ''}: expected a label like LOOP or LOOP+2, an "
-                      "address of four digits, or a source line like main.asm:12")
+        how = (f"upper and lower case differ: write {near}" if near else
+               "expected a label like LOOP or LOOP+2, an address of four hexadecimal digits, or a source line like main.asm:12")
+        raise Failure(f"found `{text}`, but no source has this label: {how}")
 
     def at_label(self, page: str | None, name: str, offset: int) -> tuple[int, int]:
         """Returns the address and the bank of a label with an offset. If several banks have the label, that of bank 1 is meant."""
@@ -112,16 +113,25 @@ class Places:
         first = [part for part in parts if part.bank == 1] if parts[1:] else parts
         if len(first) != 1:
             names = " or ".join(f"{part.name}.{name}" for part in self.labels[name])
-            raise Failure(f"found `{f'{page}.' if page else ''}{name}`, expected {names}")
+            what = "that this source does not have" if page else "of several sources"
+            raise Failure(f"found `{f'{page}.' if page else ''}{name}`, a label {what}: expected {names}")
         return (first[0].page << 12) + first[0].labels[name] + offset, first[0].bank
 
     def at_line(self, file: str, number: int) -> tuple[int, int]:
         """Returns the address and the bank of the first words at or after a source line."""
+        asked = f"{file}:{number}" if file else str(number)
         names = sorted({os.path.basename(path) for part in self.parts for path, _, _ in part.rows})
-        if not file and len(names) != 1:
-            raise Failure(f"found `{number}`, expected the file too: {' or '.join(f'{name}:{number}' for name in names) or 'no source is known'}")
-        for part in self.parts:
-            for at, (path, row, _) in enumerate(part.rows):
-                if file in ("", os.path.basename(path), path) and row >= number and part.places[at] < part.places[at + 1]:
-                    return (part.page << 12) + part.places[at], part.bank
-        raise Failure(f"{file or names[0]}:{number}: no source line with words is there: expected a line of {' or '.join(names)}")
+        if not names:
+            raise Failure(f"found `{asked}`, but no source is known: expected an address of four hexadecimal digits")
+        if not file and names[1:]:
+            raise Failure(f"found `{asked}`, expected the file too: {' or '.join(f'{name}:{number}' for name in names)}")
+        own = [(part, at, row) for part in self.parts for at, (path, row, _) in enumerate(part.rows)
+               if file in ("", os.path.basename(path), path)]
+        if not own:
+            raise Failure(f"found `{asked}`, but no source is named {file}: expected a line of {' or '.join(names)}")
+        own = [(part, at, row) for part, at, row in own if part.places[at] < part.places[at + 1]]
+        for part, at, row in own:
+            if row >= number:
+                return (part.page << 12) + part.places[at], part.bank
+        last = f"line {max(row for _, _, row in own)} is the last one with words" if own else "the source has no line with words"
+        raise Failure(f"found `{asked}`, but {last}")

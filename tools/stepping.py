@@ -94,7 +94,7 @@ def traced(caller: Caller, calls: list[tuple[Call, int]], more: list[str] | None
     try:
         return [list(steps_in(caller.linked, steps, lines, LINES + len(more), parts_of)) for _, steps in calls]
     except RuntimeError as why:
-        raise Failure(ended(caller.status, "before it answered all steps"), NO_ANSWER) from why
+        raise Failure(f"{caller.linked.project.path}: {ended(caller.status, 'before it answered all steps')}", NO_ANSWER) from why
 
 
 def steps_in(linked: Linked, steps: int, lines: Iterator[str], count: int, parts_of: Any) -> Iterator[Step]:

@@ -3,12 +3,12 @@ import argparse
 from typing import NamedTuple
 
 from calls import Call, Caller, Result, Views, compared, ended_well
-from cases import Case, cases_in, table_in, usual
+from cases import WORDS, Case, cases_in, missing_quote, table_in
 from decks import Failure
 from files import put
 from linking import Linked
-from projects import Reader
-from settings import CPU, DATA_NAME, MEMORY_NAME, STACK, Setting, Wrong, reader_of
+from projects import Project, Reader
+from settings import CPU, DATA_NAME, MEMORY_NAME, STACK, Setting, Wrong, reader_of, settings_in
 from values import text_of
 
 SEEDS = (1, 2, 3)
@@ -158,13 +158,18 @@ def written(tests: Tests, names: list[str], out: str) -> None:
     put(file.getvalue().encode(), out)
 
 
+def usual(project: Project) -> list[Setting]:
+    """Returns the settings that every test of a project has before its call."""
+    try:
+        return settings_in(WORDS.findall(project.before), True)
+    except Wrong as why:
+        raise Reader(project.path).fail("", "before", f"{why}{missing_quote(project.before)}") from why
+
+
 def cases_of(linked: Linked, options: argparse.Namespace) -> list[Case]:
     """Returns the cases to run: the rows of a table, or those of the files."""
     project = linked.project
-    try:
-        common = usual(project.before)
-    except Wrong as why:
-        raise Reader(project.path).fail("", "before", str(why)) from why
+    common = usual(project)
     if options.table is not None:
         names = options.values.split(",") if options.values else []
         try:

@@ -8,7 +8,7 @@ from decks import Failure, lines_of, text_of, words_of
 from linking import Linked
 from sources import Source
 
-LABEL = re.compile(r"(?:([A-Za-z]\w*)\.)?([A-Za-z]\w{0,11})(?:\+([0-9A-Fa-f]{1,3}))?")
+LABEL = re.compile(r"(?:(\w+)\.)?([A-Za-z]\w{0,11})(?:\+([0-9A-Fa-f]{1,3}))?")
 LINE = re.compile(r"(?:(.*):)?([0-9]{1,6})")
 ADDRESS = re.compile("[0-9A-Fa-f]{4}")
 

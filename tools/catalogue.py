@@ -288,7 +288,7 @@ def lines_in(found: List[Program]) -> List[Optional[List[Tuple[int, str]]]]:
     status, answers = answered(b"".join(map(deck_of, found)))
     if status > 1:
         files = list(dict.fromkeys(program.file for program in found))
-        place = files[0] + (f" and {len(files) - 1} further files" if files[1:] else "")
+        place = files[0] + (f" (and {len(files) - 1} more)" if files[1:] else "")
         raise Failure(f"{place}: {ended(status, f'when it was asked for the lines of {len(found)} programs')}")
     results: List[Optional[List[Tuple[int, str]]]] = []
     for (_, _, loaded), (_, _, lines) in zip(answers[2::4], answers[3::4]):

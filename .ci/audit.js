@@ -47,6 +47,51 @@ function judgeReferences() {
   }
 }
 
+// The roles that the page uses, the attributes of ARIA with their values, and the elements that have no name without a role.
+const ROLES = ["alert", "group", "status"];
+const IDS = (text) => text.split(" ").every((id) => document.getElementById(id));
+const ARIA = { "aria-label": /\S/, "aria-hidden": /^true$/, "aria-live": /^polite$/, "aria-pressed": /^(true|false)$/, "aria-current": /^step$/ };
+const UNNAMED = "div, span, p, code, pre, dd, dt, em, strong, dl, label";
+
+/** Roles and attributes of ARIA are used as they are defined. */
+function judgeRoles() {
+  for (const one of document.querySelectorAll("*")) {
+    for (const { name, value } of one.attributes) {
+      if (name === "role" && !ROLES.includes(value)) wrong.push(`role ${value}: ${called(one)}`);
+      if (!name.startsWith("aria-")) continue;
+      const isGood = name === "aria-labelledby" ? IDS(value) : ARIA[name]?.test(value);
+      if (!isGood) wrong.push(`${name}=${value}: ${called(one)}`);
+    }
+    const isNamed = one.matches("[aria-label], [aria-labelledby]");
+    if (isNamed && one.matches(UNNAMED) && !one.hasAttribute("role")) wrong.push(`a name without a role: ${called(one)}`);
+    if (one.hasAttribute("aria-pressed") && !one.matches("button")) wrong.push(`pressed: ${called(one)}`);
+  }
+}
+
+/** What is printed on a control is a part of its name, if it is words; a sign may be called otherwise. */
+function judgeLabels() {
+  const plain = (text) => text.toLowerCase().replace(/\s/g, "");
+  for (const one of all("button[aria-label], a[aria-label]")) {
+    const seen = [...one.querySelectorAll("*"), one].filter((part) => !part.closest("[aria-hidden=true]"));
+    const texts = seen.flatMap((part) => [...part.childNodes].filter((node) => node.nodeType === 3).map((node) => node.textContent));
+    for (const text of texts.filter((words) => /[A-Z]{2}|[A-Z]\/[A-Z]|[a-z]{3}/.test(words))) {
+      const word = plain(text.replace(/[^\x20-\x7e\u03a3\u207b\u00b9].*/, ""));
+      if (!plain(one.getAttribute("aria-label")).includes(word)) wrong.push(`label ${text}: ${one.getAttribute("aria-label")}`);
+    }
+  }
+  const purposes = [...document.querySelectorAll("input")].map((one) => one.type);
+  const others = purposes.filter((type) => !["text", "checkbox", "range", "file"].includes(type));
+  for (const type of others) wrong.push(`an input of type ${type}: has it a purpose of the user?`);
+}
+
+/** Pictures have a text or are hidden, and nothing is played. */
+function judgePictures() {
+  for (const one of document.querySelectorAll("img, svg, canvas")) {
+    if (!one.closest("[aria-hidden=true]") && !one.getAttribute("alt") && !one.getAttribute("aria-label")) wrong.push(`picture: ${called(one)}`);
+  }
+  for (const one of document.querySelectorAll("audio, video, iframe, object, embed, marquee, blink")) wrong.push(`played: ${called(one)}`);
+}
+
 /** What scrolls can be reached by the keyboard. */
 function judgeScrolling() {
   for (const one of all("*")) {
@@ -86,30 +131,53 @@ function lightOf(colour) {
   return 0.2126 * red + 0.7152 * green + 0.0722 * blue;
 }
 
-/** Returns the colour behind an element; the first colour of a gradient. */
-function behind(one) {
-  for (; one; one = one.parentElement) {
-    const { backgroundColor, backgroundImage } = getComputedStyle(one);
-    if (opacityOf(backgroundColor) === 1) return backgroundColor;
-    if (backgroundImage !== "none") return /rgb\([^)]*\)/.exec(backgroundImage)[0];
-  }
-  return "rgb(255, 255, 255)";
+/** Returns a colour that is partly transparent, in front of another one. */
+function mixed(front, back) {
+  const [parts, others, opacity] = [numbersIn(front), numbersIn(back), opacityOf(front)];
+  return `rgb(${[0, 1, 2].map((at) => parts[at] * opacity + others[at] * (1 - opacity)).join(", ")})`;
 }
 
-/** Texts have a contrast of 4.5 at least, and what has changed is seen without colours too. */
+/** Returns the colour behind the text of an element; the first colour of a gradient. */
+function behind(one) {
+  if (!one) return "rgb(255, 255, 255)";
+  const { backgroundColor, backgroundImage } = getComputedStyle(one);
+  if (opacityOf(backgroundColor) === 1) return backgroundColor;
+  const gradient = /rgb\([^)]*\)/.exec(backgroundImage);
+  return gradient ? gradient[0] : mixed(backgroundColor, behind(one.parentElement));
+}
+
+function contrastOf(...colours) {
+  const [high, low] = colours.map(lightOf).sort((a, b) => b - a);
+  return (high + 0.05) / (low + 0.05);
+}
+
+/** Texts have a contrast of 4.5 at least, large ones of 3, and what has changed is seen without colours too. */
 function judgeColours() {
   for (const one of all("*")) {
     const hasText = [...one.childNodes].some((node) => node.nodeType === 3 && node.textContent.trim());
-    const { color } = getComputedStyle(one);
+    const { color, fontSize, fontWeight } = getComputedStyle(one);
     if (!hasText || opacityOf(color) < 0.1 || one.closest(":disabled, svg, option, optgroup")) continue;
-    const [high, low] = [lightOf(color), lightOf(behind(one))].sort((a, b) => b - a);
-    const contrast = (high + 0.05) / (low + 0.05);
-    if (contrast < 4.5) wrong.push(`contrast ${contrast.toFixed(1)}: ${called(one)} ${one.textContent.slice(0, 20)}`);
+    const isLarge = parseFloat(fontSize) >= (Number(fontWeight) >= 700 ? 18.66 : 24);
+    const contrast = contrastOf(color, behind(one));
+    if (contrast < (isLarge ? 3 : 4.5)) wrong.push(`contrast ${contrast.toFixed(1)}: ${called(one)} ${one.textContent.slice(0, 20)}`);
   }
   for (const one of all(".changed")) {
     if (!/underline/.test(getComputedStyle(one).textDecorationLine)) wrong.push(`only coloured: ${called(one)} ${one.textContent}`);
   }
 }
 
-for (const judge of [judgeDocument, judgeControls, judgeStructure, judgeReferences, judgeScrolling, judgeTargets, judgeColours]) judge();
+/** The edges of controls have a contrast of 3 at least to what is around them; other buttons are seen by their text. */
+function judgeEdges() {
+  for (const one of all("button, a.button, select, textarea, input")) {
+    const { borderTopWidth, borderTopColor } = getComputedStyle(one);
+    if (one.matches(":disabled, .cell, .key, [type=checkbox], [type=range]")) continue;
+    const [width, outer] = [parseFloat(borderTopWidth), behind(one.parentElement)];
+    const isSeen = width >= 1 && contrastOf(borderTopColor, outer) >= 3 || contrastOf(behind(one), outer) >= 3;
+    if (!isSeen && !(one.matches("button") && width === 0)) wrong.push(`edge: ${called(one)}`);
+  }
+}
+
+const JUDGES = [judgeDocument, judgeControls, judgeStructure, judgeReferences, judgeRoles, judgeLabels, judgePictures, judgeScrolling,
+  judgeTargets, judgeColours, judgeEdges];
+for (const judge of JUDGES) judge();
 return [...new Set(wrong)].slice(0, 12);

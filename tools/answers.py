@@ -18,6 +18,7 @@ from keyboard import ROWS, places
 from lessons import grouped, lessons
 from parts import parts_of, refusal_of
 from recorded import recorded
+from repeating import Repeat
 from refusals import Refused, look_into_blocks
 from unsupported import unsupported
 
@@ -67,13 +68,14 @@ class Answers:
         self.lock, self.causes, self.lessons = threading.RLock(), Causes(), lessons() if found is None else found
         self.branches = Branches()
         self.number, self.ended, self.last_id = 0, None, None
-        self.desk = Desk(memory)
+        self.desk, self.repeat = Desk(memory), None
         self.unsupported = unsupported()
 
     def close(self):
         """Ends the bench, after the thread that reads the tables: its own run of the bench would otherwise report a closed pipe."""
         self.causes.reader.join()
         self.desk.beside.close()
+        self.forget()
         self.desk.bench.close()
 
     def calls(self):
@@ -146,7 +148,7 @@ class Answers:
         name = asked["do"]
         call = {"give": self.give, "go": self.go, "stop": self.stop, "next": self.next, "lesson": self.open_lesson,
                 "open": self.open, "again": self.again, "begin": self.begin, "causes": self.causes_of, "list": self.listed,
-                "pages": self.pages, "branch": self.branch}.get(name)
+                "pages": self.pages, "branch": self.branch, "past": self.past}.get(name)
         if call is None:
             raise ValueError(name)
         seconds, steps, _ = asked.get("seconds", 0.05), asked.get("steps"), int(asked.get("since", 0))
@@ -238,6 +240,28 @@ class Answers:
             self.branches.keep(desk.deck())
         self.begin(asked)
         desk.queue = parts
+
+    def past(self, asked):
+        """Returns states of the session that are not kept, around the one with a number; before they are found, how many entries of the
+        session were executed again."""
+        number, end = int(asked["state"]), self.desk.history.end
+        if not 0 <= number <= end:
+            raise Failure(f"there is no state {number}: the last one of the session is {end}")
+        try:
+            if self.repeat is None or self.repeat.session != self.desk.number:
+                self.forget()
+                self.repeat = Repeat(self.desk, self.desk.another())
+            self.repeat.want(number)
+            return {"found": self.repeat.go(LONGEST_GO), "reached": len(self.repeat.desk.log)}
+        except Failure as failure:
+            self.forget()
+            raise Failure(f"the session cannot be executed again: {failure}") from failure
+
+    def forget(self):
+        """Ends the bench that executes the session again."""
+        if self.repeat:
+            self.repeat.close()
+        self.repeat = None
 
     def open_lesson(self, asked):
         """Opens a lesson at its first step."""

@@ -11,15 +11,16 @@ import time
 from alpha import PROBES, takes_letters, typed_keys
 from beside import Beside
 from coded import coded
-from decks import BENCH, MARK, MARK_ANSWER, MEMORY, NO_ANSWER, Failure, lines_of
+from decks import BENCH, LONGEST_DECK, MARK, MARK_ANSWER, MEMORY, NO_ANSWER, Failure, lines_of
 from decks import text_of as text_of_line
 from keyboard import KEYS
 from explaining import is_carrying, of_line, of_word
-from history import History
+from history import History, Place
 from lights import AFTER, BEFORE, PROMPT, Lights, Seen
 from memory import MAIN_START, Memory
 from paging import Pages
 from parts import MOST_STEPS, NO_END, Entry, Part, parts_of, refusal_of
+from repeating import Renewal
 from session import Session
 from sources import Labels
 from typed import Text
@@ -30,6 +31,9 @@ PATIENCE, PIECE = 120, 0.02
 
 # How many of the last steps of a long trace are read one by one, and after how many of the last commands that wait the state is read.
 LAST_STEPS = 200
+
+# After how many bytes another bench goes on. A bench reads at most LONGEST_DECK bytes, and a command of a request has up to 8 MB.
+MOST_SENT = 50_000_000
 
 RAN = re.compile(r"ran ([0-9]+) ([A-Z][a-z]+)")
 
@@ -82,14 +86,16 @@ class Bench(Session):
     """A bench that answers several commands at a time. If it does not answer in time, it is killed."""
 
     def __init__(self, words):
-        self.told = tempfile.TemporaryFile()
+        self.told, self.sent = tempfile.TemporaryFile(), 0
         self.bench = subprocess.Popen([BENCH, "run", *words, "-"], stdin=subprocess.PIPE, stdout=subprocess.PIPE, stderr=self.told)
 
     def ask_all(self, commands):
         """Returns the lines that each of some whole commands prints."""
         WATCHDOG.begin(self.bench)
         try:
-            self.bench.stdin.write(b"".join(command + b"\n" + MARK for command in commands))
+            data = b"".join(command + b"\n" + MARK for command in commands)
+            self.sent += len(data)
+            self.bench.stdin.write(data)
             self.bench.stdin.flush()
             return [self.answer() for _ in commands]
         except (OSError, ValueError) as error:
@@ -140,20 +146,26 @@ class Bench(Session):
 class Desk:
     """The bench, the commands that it was given, the commands that wait, and the state of the bench."""
 
-    def __init__(self, memory=None):
-        """Starts a bench with `memory` registers of main memory; None means the default."""
+    def __init__(self, memory=None, beside=None):
+        """Starts a bench with `memory` registers of main memory; None means the default. `beside` is the bench that is asked about
+        instructions, if there is one already."""
         self.words = [] if memory is None else ["--memory", memory]
         self.top = MAIN_START + (int(memory) if memory and memory.isdigit() else MOST_REGISTERS)
-        self.number, self.bench, self.pages = 0, None, Pages()
+        self.number, self.bench, self.renewal, self.pages = 0, None, None, Pages()
         # Its command line differs from that of the session's bench, so that a list of processes shows which one it is.
-        self.beside = Beside(lambda: Bench(["--memory", MEMORY]))
+        self.beside = beside or Beside(lambda: Bench(["--memory", MEMORY]))
         self.begin()
+
+    def another(self):
+        """Returns an empty desk with the same memory. The command line of its bench differs too."""
+        return Desk(*(self.words[1:] or [MEMORY]), self.beside)
 
     def begin(self):
         """Starts an empty bench."""
-        if self.bench:
-            self.bench.close()
-        self.bench = Bench(self.words)
+        for one in (self.bench, self.renewal and self.renewal.bench):
+            if one:
+                one.close()
+        self.bench, self.renewal, self.most = Bench(self.words), None, MOST_SENT
         self.number += 1
         self.log, self.queue, self.lesson = [], [], None
         self.breaks, self.lights, self.labels, self.coded = set(), Lights(), Labels(), ([], b"", [])
@@ -182,12 +194,13 @@ class Desk:
 
     def deck_at(self, number):
         """Returns the deck that leads to the state with a number."""
-        state = self.history.at(number)
-        if state is None:
-            raise Failure(f"state {number} is not kept any more: go on from a command of the deck")
-        if not state["doing"]:
-            return self.deck_to(state["entries"] - 1)
-        return self.deck_to(state["entries"] - 2) + state["doing"].encode("latin-1")
+        if not 0 <= number <= self.history.end:
+            raise Failure(f"there is no state {number}: the last one of the session is {self.history.end}")
+        place = self.history.place(number)
+        if not place.steps:
+            return self.deck_to(place.entries - 1)
+        kind = self.log[place.entries - 1].text.split()[0]
+        return self.deck_to(place.entries - 2) + b"%s %d\n" % (kind, place.steps)
 
     def doing(self):
         """Returns the command that is being executed in pieces, with the number of steps that were made; None if there is none."""
@@ -228,29 +241,53 @@ class Desk:
         Each step of a trace adds a state to the history."""
         until, has_asked = time.monotonic() + seconds, False
         while self.queue and (steps is None or steps > 0) and (parts is None or parts > 0):
-            if has_asked and time.monotonic() >= until:
+            if has_asked and time.monotonic() >= until or not self.is_renewed(until if parts is None else None):
                 break
             part = self.queue[0]
             has_asked |= part.is_command
             before = part.asked
-            self.carry_out(part, steps)
+            self.carry_out(part, self.piece(part, steps))
             if part.kind:
                 steps = None if steps is None else steps - (part.asked - before)
             if part.kind == "trace":
                 self.look()
             if part.left == 0:
                 self.queue.pop(0)
-                if part.is_command and part.kind != "trace" and len(self.queue) <= LAST_STEPS:
-                    self.look()
+                if part.is_command and part.kind != "trace":
+                    self.look() if len(self.queue) <= LAST_STEPS else self.skip()
                 parts = None if parts is None else parts - 1
                 if part.goes_on and part.reason == "Limit":
                     self.queue.insert(0, Part(b"run %d\n" % MOST_STEPS, True, True))
+
+    @staticmethod
+    def piece(part, steps):
+        """Returns the most steps of the next piece of a part; None if there is no limit. The last steps of a trace are made one by one."""
+        if part.kind != "trace":
+            return steps
+        most = 1 if part.left <= LAST_STEPS else part.left - LAST_STEPS
+        return most if steps is None else min(most, steps)
+
+    def is_renewed(self, until):
+        """Has another bench go on, if this one has read nearly as many bytes as it reads. Returns whether commands can be executed."""
+        if self.renewal is None:
+            if self.bench.sent < self.most:
+                return True
+            doing, texts = self.doing(), [entry.text for entry in self.log if entry.reply != [NO_END]]
+            self.renewal = Renewal(Bench(self.words), texts if doing is None else [*texts[:-1], doing])
+        if not self.renewal.is_over(until):
+            return False
+        self.bench.close()
+        self.bench, self.renewal = self.renewal.bench, None
+        # A session that is too long itself is not executed again.
+        self.most = MOST_SENT if self.bench.sent < MOST_SENT // 2 else LONGEST_DECK
+        return True
 
     def carry_out(self, part, most):
         """Executes a part, or its next piece."""
         self.is_seen = False
         if part.entry is None:
             if self.log and self.log[-1].reply == [NO_END]:
+                self.history.withdraw(len(self.log))
                 self.log.pop()
             part.entry = Entry(part.text)
             self.log.append(part.entry)
@@ -258,7 +295,7 @@ class Desk:
             # The bench would wait for the `end`. At the end of its input it would print this refusal.
             part.entry.reply = [NO_END]
         elif part.kind:
-            self.carry_piece(part, most if part.kind != "trace" else 1 if part.left <= LAST_STEPS else part.left - LAST_STEPS)
+            self.carry_piece(part, most)
         elif part.pieces and all(isinstance(piece, Text) or piece in KEYS for piece in part.pieces):
             self.press(part)
         elif part.is_command:
@@ -347,8 +384,18 @@ class Desk:
         views["paged"] = self.paged(place[1]) if place.startswith("P") else []
         self.views = views
         state = self.state()
-        self.history.add(state)
+        self.history.add(state, self.place(views["made"]))
         return state
+
+    def place(self, made):
+        """Returns the place of the state in the session; `made` are the steps since the state before."""
+        steps = self.queue[0].asked if self.doing() is not None else 0
+        return Place(len(self.log), steps, made, self.lights.shift, self.lights.program)
+
+    def skip(self):
+        """Notes where the state is, without reading it."""
+        self.history.skip(self.place(self.made - self.seen))
+        self.seen = self.made
 
     def coded_lines(self, lines, data):
         """Returns the number, the bytes and the keys of each line in memory. They are kept until lines or bytes change."""

@@ -1,4 +1,7 @@
-"""The states of a session. They are kept and sent as differences, because a step changes little."""
+"""The states of a session. The last ones are kept, and sent as differences, because a step changes little. Of each earlier one only its
+place in the session is kept: tools/repeating.py executes the session again up to there."""
+from array import array
+from typing import NamedTuple
 
 # How many states are kept.
 MOST_STATES = 2000
@@ -35,43 +38,70 @@ def applied(state, change):
     return result
 
 
+class Place(NamedTuple):
+    """Where a state is in its session, and what no view of the bench shows of it."""
+    # How many entries the session has, and how many steps of the last one were made, if it is being executed in pieces.
+    entries: int
+    steps: int = 0
+    # How many steps were made since the state before.
+    made: int = 0
+    shift: bool = False
+    program: bool = False
+
+
 class History:
-    """The last states, each with a number that it keeps; those before `first` are forgotten."""
+    """The states of a session, numbered from 0. The last ones are kept, from `first` on; of the others, only the places are."""
 
     def __init__(self):
         self.first, self.base, self.last, self.changes = 0, None, None, []
-
-    def add(self, state):
-        """Adds a state, if it differs from the last one."""
-        if self.last is None:
-            self.base = self.last = state
-            return
-        change = difference(self.last, state)
-        if not change:
-            return
-        self.last = state
-        self.changes.append(change)
-        if len(self.changes) >= MOST_STATES:
-            self.base = applied(self.base, self.changes.pop(0))
-            self.first += 1
+        self.places = [array("I") for _ in Place._fields]
 
     @property
     def end(self):
         """The number of the last state."""
-        return self.first + len(self.changes)
+        return len(self.places[0]) - 1
 
-    def at(self, number):
-        """Returns the state with a number; None if there is none, or none any more."""
-        if self.base is None or not self.first <= number <= self.end:
-            return None
-        state = self.base
-        for change in self.changes[:number - self.first]:
-            state = applied(state, change)
-        return state
+    def place(self, number):
+        """Returns the place of a state."""
+        return Place(*(column[number] for column in self.places))
+
+    def is_read(self):
+        """Returns whether the last state is kept."""
+        return self.base is not None and self.first + len(self.changes) == self.end
+
+    def add(self, state, place):
+        """Adds a state, if it differs from the last one. If the last one was skipped, the state is that one, or the next."""
+        if self.is_read():
+            change = difference(self.last, state)
+            if not change:
+                return
+            self.skip(place)
+            self.last = state
+            self.changes.append(change)
+            if len(self.changes) >= MOST_STATES:
+                self.base = applied(self.base, self.changes.pop(0))
+                self.first += 1
+            return
+        if self.end < 0 or self.place(self.end)[:2] != place[:2]:
+            self.skip(place)
+        # Those that are kept have no gaps.
+        self.first, self.base, self.last, self.changes = self.end, state, state, []
+
+    def skip(self, place):
+        """Adds the place of a state that is not read."""
+        for column, value in zip(self.places, place):
+            column.append(value)
+
+    def withdraw(self, entries):
+        """Notes that the last entry, number `entries`, is replaced, because it was not executed: its states have the place before it."""
+        for at in range(self.end, -1, -1):
+            if self.places[0][at] != entries:
+                break
+            self.places[0][at] -= 1
 
     def told(self, known):
-        """Returns the states after the one with the number `known`, or all of them if that one is forgotten or there is none: the
+        """Returns the states after the one with the number `known`, or all that are kept if that one is not kept or there is none: the
         number of the state before the changes, this state or None, and the changes."""
-        if known is not None and self.first <= known <= self.end:
+        if known is not None and self.first <= known <= self.first + len(self.changes):
             return {"at": known, "base": None, "changes": self.changes[known - self.first:]}
         return {"at": self.first, "base": self.base, "changes": self.changes}

@@ -12,6 +12,7 @@ let entries = [];           // its commands with their replies, as the server se
 let doing = null;           // the last command with the steps that were made, while it is executed in pieces
 let past = [];              // the last states, the oldest first
 let pastFirst = 0;          // the number of the first of them
+let older = null;           // states before these that were found by executing the session again: their first number, and themselves
 let shown = null;           // the number of the state that is shown; null means the last one
 let lesson = null;          // the lesson: its name, its parts, and its position
 let waits = 0;              // how many parts of decks wait to be executed
@@ -91,7 +92,7 @@ function ask(body, path = "do") {
 /** Stores the states in an answer, and shows the last one. */
 function take(answer) {
   if (answer.session !== session) {
-    [session, entries, past, lesson, since, reasons] = [answer.session, [], [], null, 0, {}];
+    [session, entries, past, older, goal, lesson, since, reasons] = [answer.session, [], [], null, null, null, 0, {}];
   }
   if (answer.unsupported) unsupported = answer.unsupported;
   if (answer.keys) drawKeys(answer.keys);
@@ -99,7 +100,7 @@ function take(answer) {
   if (answer.lesson) lesson = { ...lesson, ...answer.lesson };
   for (const [number, bytes, reply] of answer.entries) entries[number] = { bytes, text: textOf(bytes), reply };
   remember(answer.states);
-  if (answer.version !== told) shown = null;
+  if (answer.version !== told) [shown, goal] = [null, null];
   [waits, told, doing, plugs, branches] = [answer.waits, answer.version, answer.doing, answer.plugs, answer.branches];
   gone(answer.ended, false);
   show();
@@ -128,7 +129,7 @@ function remember({ at, base, changes }) {
 
 // The controls that do something even if the bench has ended, and those of them that need the server.
 const OF_SERVER = ["again", "begin", "open-deck", "lessons", "open-lesson", "open-branch"];
-const WITHOUT_BENCH = [...OF_SERVER, "back", "forth", "moment", "now", "watched", "digit", "last-change", "branches", "zeros", "large",
+const WITHOUT_BENCH = [...OF_SERVER, "back", "forth", "moment", "now", "watched", "digit", "last-change", "branches", "zeros", "large", "tall",
   "letters", "theme", "panel", "asking", "yes", "no", "auto", "pace", "display"];
 
 /** Disables the controls that could do nothing. */
@@ -175,13 +176,16 @@ function listen(isAgain) {
 
 // ---- Messages about an action
 
-/** Shows a text below the display, with more about it below the keys; an empty text removes it. A note is no error. */
+/** Shows a text below the display, with more about it below the keys; an empty text removes it. A note is no error. A text that is longer
+    than its line is shown below the keys as a whole. */
 function tell(text, isNote = false, ...more) {
   by("refusal").textContent = text;
   by("refusal").title = text;
   by("refusal").classList.toggle("note", isNote === true);
-  by("causes").hidden = !more.length;
-  by("causes").replaceChildren(...more);
+  const isCut = by("refusal").scrollWidth > by("refusal").clientWidth;
+  const whole = isCut && !more.length ? [make("p", { class: isNote === true ? "note" : "" }, text)] : more;
+  by("causes").hidden = !whole.length;
+  by("causes").replaceChildren(...whole);
 }
 
 const isRefused = ({ text, reply }) => (reply.at(-1) ?? "").startsWith("! ") && !/^\s*show\s+(alpha|display)\s*$/.test(text);
@@ -287,7 +291,8 @@ async function step() {
 
 async function stop() {
   driver = null;
-  if (waits) await ask({ do: "stop" });
+  if (goal !== null) goal = null;
+  else if (waits) await ask({ do: "stop" });
   else if (!isGone) isProgramming("Run");
 }
 

@@ -20,7 +20,11 @@ const SHAPES = {
   "\\1D": "DGHKL",
 };
 const [CELLS, CELL_WIDTH] = [12, 49];
-let [scrolling, displayed] = [null, null];
+let [scrolling, displayed, displayedAt] = [null, null, 0];
+
+// The shortest time in milliseconds between two texts while a program runs. So the display flashes at most three times a second.
+const CALM = 170;
+const mayChange = () => performance.now() - displayedAt >= CALM;
 
 function drawDisplay() {
   for (let at = 0; at < CELLS; at++) {
@@ -55,7 +59,7 @@ function light(cells) {
 /** Shows a text. A text that is longer than the display scrolls once, from its first character to its last. */
 function showDisplay(text, isAgain = false) {
   if (text === displayed && !isAgain) return;
-  displayed = text;
+  [displayed, displayedAt] = [text, performance.now()];
   clearInterval(scrolling);
   const cells = cellsOf(text);
   const over = cells.length - CELLS;

@@ -43,6 +43,7 @@ async function takeOut() {
 
 function tellOfFiles(text, isGood = false) {
   by("told").textContent = text;
+  by("told").tabIndex = text ? 0 : -1;
   by("told").classList.toggle("refusal", !isGood);
 }
 

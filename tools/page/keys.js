@@ -19,7 +19,13 @@ const SPOKEN = {
   ENG: "engineering", "X=0?": "x equal to zero?", PI: "pi", LASTX: "last x", VIEW: "view", "R/S": "run or stop", PRGM: "program",
   "+": "plus", "-": "minus", "*": "times", "/": "divide", ".": "point",
 };
-const spoken = (name) => SPOKEN[name] ?? name;
+/** Returns how a key is called. Letters that are printed on it are a part of its name, so that they can be said to press it. */
+function spoken(name) {
+  const [words, face] = [SPOKEN[name] ?? name, FACES[name] ?? name];
+  const plain = (text) => text.toLowerCase().replaceAll(" ", "");
+  const isPrinted = /[A-Z]{2}|[A-Z]\/[A-Z]/.test(face) && !plain(words).includes(plain(face.replace(/ .*/, "")));
+  return isPrinted ? `${face} ${words}` : words;
+}
 
 let letters = {};           // the key of each letter
 

@@ -4,8 +4,11 @@
 const present = () => past.at(-1);
 const lastNumber = () => pastFirst + past.length - 1;
 
-/** Returns the state with a number; the oldest one if it is forgotten. */
-const stateAt = (number) => past[Math.max(0, Math.min(number - pastFirst, past.length - 1))];
+/** Returns the state with a number; the nearest one if the page does not have it. */
+function stateAt(number) {
+  const [states, first] = number >= pastFirst || !older ? [past, pastFirst] : [older.states, older.first];
+  return states[Math.max(0, Math.min(number - first, states.length - 1))];
+}
 
 /** Returns the state that is shown, and the one before it. */
 const looked = () => [stateAt(shown ?? lastNumber()), stateAt((shown ?? lastNumber()) - 1)];
@@ -15,10 +18,10 @@ const isOpen = (id) => by(id).open;
 function show() {
   if (!past.length) return;
   const [state, before] = looked();
-  showDisplay(state.display[0]);
+  if (!(driver && waits) || mayChange()) showDisplay(state.display[0]);
   showLights(state);
   showPast();
-  by("stop").disabled = !(waits || present().program) || isGone;
+  by("stop").disabled = !(waits || present().program || goal !== null) || isGone;
   by("run").textContent = waits && !driver ? "Continue" : "Run";
   by("pos").textContent = state.pos[0];
   document.body.classList.toggle("busy", driver !== null && waits > 0);

@@ -2,7 +2,7 @@
 // Settings, which a cookie keeps for the next calculator too: it has no port of its own. They are no secret.
 
 const [KEPT, DRIVEN, A_YEAR] = ["bench-settings", "driven", 31536000];
-const CHECKS = ["auto", "letters", "large", "zeros", "asking"];
+const CHECKS = ["auto", "letters", "tall", "large", "zeros", "asking"];
 const CHOICES = ["pace", "theme", "panel"];
 
 let mayKeep = false;
@@ -48,6 +48,7 @@ function dress() {
   document.documentElement.dataset.theme = theme || (darkness.matches ? "dark" : "light");
   const isLarge = by("large").checked;
   document.body.classList.toggle("large", isLarge);
+  document.body.classList.toggle("tall", by("tall").checked);
   by("panel").closest("label").hidden = !isLarge;
   const panel = by("panel").value;
   document.body.classList.toggle("with-keys", panel === "keys");
@@ -66,11 +67,15 @@ function choosePanel(id) {
   dress();
 }
 
+/** Keeps the height of the bars at the bottom of the window, so that they do not hide what has the focus. */
+const measureBars = new ResizeObserver(() => document.documentElement.style.setProperty("--bar", `${by("bars").offsetHeight}px`));
+
 function listenToSettings() {
+  measureBars.observe(by("bars"));
   for (const id of CHECKS) by(id).addEventListener("change", keep);
   for (const id of CHOICES) by(id).addEventListener("change", keep);
   by("zeros").addEventListener("change", show);
-  for (const id of ["large", "theme", "panel"]) by(id).addEventListener("change", dress);
+  for (const id of ["large", "tall", "theme", "panel"]) by(id).addEventListener("change", dress);
   darkness.addEventListener("change", dress);
   for (const panel of document.querySelectorAll("details")) {
     panel.addEventListener("toggle", () => {

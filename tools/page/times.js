@@ -32,8 +32,9 @@ function ledTo(state, before) {
 }
 
 function showTrace() {
-  const [end, at] = [lastNumber(), shown ?? lastNumber()];
-  const first = Math.max(pastFirst + 1, Math.min(at - MOST_TRACED / 2, end - MOST_TRACED + 1));
+  const at = shown ?? lastNumber();
+  const [begin, end] = heldAround(at);
+  const first = Math.max(begin + 1, Math.min(at - MOST_TRACED / 2, end - MOST_TRACED + 1));
   const rows = [];
   for (let number = first; number <= Math.min(end, first + MOST_TRACED - 1); number++) {
     const [one, before] = [stateAt(number), stateAt(number - 1)];
@@ -44,7 +45,7 @@ function showTrace() {
   }
   fill("trace", ...rows);
   reveal(by("trace"), by("trace").querySelector(".next"));
-  by("back").disabled = at <= pastFirst;
+  by("back").disabled = at <= firstNumber();
   by("forth").disabled = shown === null;
   showWatched();
   showBranches();
@@ -54,17 +55,65 @@ function showPast() {
   by("past").hidden = shown === null;
   const ago = lastNumber() - (shown ?? 0);
   by("past").querySelector("span").textContent = `This is the state ${ago} step${ago === 1 ? "" : "s"} ago.`;
-  Object.assign(by("moment"), { min: pastFirst, max: lastNumber() });
-  by("moment").value = shown ?? lastNumber();
+  Object.assign(by("moment"), { min: firstNumber(), max: lastNumber() });
+  if (goal === null) by("moment").value = shown ?? lastNumber();
 }
 
-/** Stops a run, and shows another state. A function computes its number from the number of the state that is shown. */
+/** Returns the number of the first state that can be shown. States before those that the page has need the bench. */
+const firstNumber = () => isGone ? pastFirst : 0;
+
+/** Returns the first and the last number of the states around one that the page has without a gap. */
+function heldAround(number) {
+  const isJoined = older && older.first + older.states.length >= pastFirst;
+  if (number >= pastFirst) return [isJoined ? older.first : pastFirst, lastNumber()];
+  return [older.first, isJoined ? lastNumber() : older.first + older.states.length - 1];
+}
+
+/** Returns whether the page has a state, and the one before it. */
+const isHeld = (number) => [number, Math.max(firstNumber(), number - 1)].every((at) =>
+  at >= pastFirst || older && at >= older.first && at < older.first + older.states.length);
+
+const REPEATING = "This state is not kept: the session is executed again up to it. Stop ends this.";
+
+let goal = null;            // the number of the state that is looked for, while the session is executed again up to it
+
+/** Stops a run, and shows another state. A function computes its number from the number of the state that is shown. A state that the page
+    does not have is found first; if another one is asked for meanwhile, that one is shown. */
 async function goTo(place) {
   driver = null;
   await line;
-  const number = place(shown ?? lastNumber());
-  shown = number >= lastNumber() ? null : Math.max(pastFirst, number);
+  const isUnderway = goal !== null;
+  goal = Math.max(firstNumber(), Math.min(lastNumber(), place(goal ?? shown ?? lastNumber())));
+  if (isUnderway) return;
+  try {
+    while (goal !== null && !isHeld(goal)) await find(goal);
+    if (goal !== null) shown = goal >= lastNumber() ? null : goal;
+  } finally {
+    goal = null;
+  }
   show();
+}
+
+/** Has the session executed again up to a state, for a moment. */
+async function find(number) {
+  const { found, reached } = await ask({ do: "past", state: number });
+  if (found) return keepOlder(found);
+  if (reached === undefined) throw new Error("");
+  if (by("refusal").textContent !== REPEATING) tell(REPEATING, true);
+  by("rate").textContent = `${reached.toLocaleString("en")} of ${entries.length.toLocaleString("en")} commands`;
+  return show();
+}
+
+/** Stores states that were found. If they follow those that were found before, these are kept too. */
+function keepOlder({ at, base, changes }) {
+  const states = [base];
+  for (const change of changes) states.push(changed(states.at(-1), change));
+  const isNext = older && at >= older.first && at <= older.first + older.states.length;
+  const all = isNext ? [...older.states.slice(0, at - older.first), ...states] : states;
+  const left = all.slice(-MOST_STATES);
+  older = { first: at + states.length - left.length, states: left };
+  by("rate").textContent = "";
+  tell("");
 }
 
 const goBack = () => goTo((at) => at - 1);
@@ -107,9 +156,11 @@ async function goToChange() {
     return digit === "" ? text : text[text.length - 1 - Number(digit)];
   };
   let number = (shown ?? lastNumber()) - (shown === null ? 0 : 1);
-  while (number > pastFirst && value(number) === value(number - 1)) number -= 1;
+  const [first] = heldAround(shown ?? lastNumber());
+  while (number > first && value(number) === value(number - 1)) number -= 1;
   const what = digit === "" ? name : `digit ${digit} of ${name}`;
-  if (number <= pastFirst) return tell(`No state before this one changed ${what}`, true);
+  if (number <= first) return tell(first > 0 ? `No state since state ${first} changed ${what}: go there first` :
+    `No state before this one changed ${what}`, true);
   await goTo(() => number);
   return tell(`The last change of ${what}: ${value(number - 1)} → ${value(number)}`, true);
 }

@@ -1,0 +1,133 @@
+"""Executes a session again: on a new bench, because one bench reads only so many bytes, and on a bench beside it, for states that are not
+kept."""
+import time
+
+from history import History, difference
+from parts import NO_END, parts_of
+
+# How many bytes of commands a bench is given before it is asked. The bench must be able to read them while its replies wait.
+MOST_BYTES = 30_000
+# How many steps are made in a piece of a run.
+MOST_PIECE = 200_000
+# How many states before and after a state are read with it.
+AROUND = 40
+
+
+def pieces(bench, part):
+    """Executes a run, or steps, in pieces; yields after each. A trace prints nothing that is needed here, and so it is executed as steps."""
+    left = part.left
+    while left:
+        count = min(left, MOST_PIECE)
+        reply, = bench.ask_all([b"%s %d" % (b"run" if part.kind == "run" else b"step", count)])
+        yield
+        left -= count
+        if not reply[0].endswith(" Limit") if part.kind == "run" else reply:
+            return
+
+
+def repeated(bench, texts):
+    """Gives a bench the commands of a session, by the texts of its entries; yields after each group or piece."""
+    group, size = [], 0
+    for part in (part for text in texts for part in parts_of(text, True) if part.is_command and not part.is_open):
+        if group and (part.kind or size + len(part.text) > MOST_BYTES):
+            bench.ask_all(group)
+            yield
+            group, size = [], 0
+        if part.kind:
+            yield from pieces(bench, part)
+        else:
+            group.append(part.text.rstrip(b"\n"))
+            size += len(part.text)
+    if group:
+        bench.ask_all(group)
+        yield
+
+
+def is_over(work, until):
+    """Goes on with some work until a time, or to its end without one. Returns whether it is at its end."""
+    for _ in work:
+        if until is not None and time.monotonic() >= until:
+            return False
+    return True
+
+
+class Repeat:
+    """A desk beside that of the session. It executes the session up to states that are not kept, and reads them."""
+
+    def __init__(self, source, desk):
+        """`source` is the desk of the session, and `desk` an empty one with the same memory."""
+        self.source, self.session, self.desk = source, source.number, desk
+        # The numbers of the first and the last state that are wanted, the states found so far, and what is left to do.
+        self.first, self.last, self.found, self.work = 0, -1, [], iter(())
+
+    def want(self, number):
+        """Asks for a state, with some before it and after it."""
+        if self.first <= number <= self.last:
+            return
+        at = self.first + len(self.found)
+        first, self.last = max(0, number - AROUND), min(self.source.history.end, number + AROUND)
+        if at > number or not self.found:
+            self.desk.begin()
+            self.first, self.found = first, []
+        elif at >= first:
+            # The last one that was found is the one before.
+            self.first, self.found = at - 1, self.found[-1:]
+        else:
+            self.first, self.found = first, []
+        self.work = self.states()
+
+    def go(self, seconds):
+        """Goes on for about `seconds`. Returns the states, or None if they are not all read."""
+        if not is_over(self.work, time.monotonic() + seconds):
+            return None
+        changes = [difference(old, new) for old, new in zip(self.found, self.found[1:])]
+        return {"at": self.first, "base": self.found[0], "changes": changes}
+
+    def states(self):
+        """Reads the wanted states; yields after each piece."""
+        for number in range(self.first + len(self.found), self.last + 1):
+            place = self.source.history.place(number)
+            yield from self.reach(place)
+            lights, self.desk.history = self.desk.lights, History()
+            lights.shift, lights.program = bool(place.shift), bool(place.program)
+            self.found.append({**self.desk.look(), "made": place.made})
+            yield
+
+    def reach(self, place):
+        """Executes the session up to a place; yields after each piece."""
+        desk, log = self.desk, self.source.log
+        if desk.queue and (place.entries > len(desk.log) or not place.steps):
+            part = desk.queue.pop(0)
+            while part.left:
+                desk.carry_out(part, None)
+                yield
+            desk.log[-1] = log[len(desk.log) - 1]
+        others = log[len(desk.log):place.entries - (place.steps > 0)]
+        yield from repeated(desk.bench, [entry.text for entry in others if entry.reply != [NO_END]])
+        for entry in others:
+            desk.log.append(entry)
+            for part in parts_of(entry.text, True):
+                part.entry = entry
+                desk.keep_up(part)
+        if not place.steps:
+            return
+        desk.queue = desk.queue or parts_of(log[place.entries - 1].text, True)
+        part = desk.queue[0]
+        while part.left and part.asked < place.steps:
+            desk.carry_out(part, place.steps - part.asked)
+            yield
+
+    def close(self):
+        """Ends its bench."""
+        self.desk.bench.close()
+
+
+class Renewal:
+    """A new bench that gets the session so far, because the old one has read nearly as many bytes as a bench reads."""
+
+    def __init__(self, bench, texts):
+        self.bench, self.work = bench, repeated(bench, texts)
+
+    def is_over(self, until):
+        """Goes on until a time, or to the end without one. Returns whether the new bench is where the old one is."""
+        return is_over(self.work, until)

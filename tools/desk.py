@@ -445,7 +445,8 @@ class Desk:
             one = of_word(text, views["cpu"], self.beside.after(words, views["cpu"]) if is_carrying(text) else None)
             return {"word": text, "next": one.sentence(), "asks": one.asks()}
         lines = [(f"P{at}", text) for at, text, *_ in views["paged"]] if place[0] == "P" else [(line[:4], line[5:]) for line in views["lines"]]
-        text = next((text for at, text in lines if at == place), "")
+        # Null bytes before a line are skipped.
+        text = next((text for at, text in lines if at >= place), "")
         one = of_line(text, views["numbers"], views["values"], views["alpha"][0], views["flags"][0])
         return {"word": text, "next": one.sentence(), "asks": one.asks()}
 

@@ -25,6 +25,7 @@ function show() {
   by("run").textContent = waits && !driver ? "Continue" : "Run";
   by("pos").textContent = state.pos[0];
   document.body.classList.toggle("busy", driver !== null && waits > 0);
+  document.body.classList.toggle("micro", state.pos[0].startsWith("Micro"));
   by("next").textContent = state.next ? `${state.word}: ${state.next}` : state.word;
   showBreakpoints();
   showStack(state, before);
@@ -114,8 +115,9 @@ function programLines(kind, lines, next, hasKeys = false) {
 function showProgram(state) {
   const [mode, place] = state.pos[0].split(" ");
   const isInPage = place.startsWith("P");
-  const next = mode === "Micro" ? null : place.replace("P", "");
   const lines = isInPage ? state.paged : state.lines.map((text, at) => [text.slice(0, 4), text.slice(5), ...state.coded[at]]);
+  // Null bytes before a line are skipped.
+  const next = mode === "Micro" ? null : lines.find(([at]) => at >= place.replace("P", ""))?.[0];
   if (!isNew("program", isInPage, lines, next, present().breaks, isGone, state.program)) return;
   fill("program", ...programLines(isInPage ? "p" : "l", lines, next, state.program));
   reveal(by("program"), by("program").querySelector(".next"));

@@ -18,9 +18,9 @@ function changesOf(state, before) {
 function lineMade(state, before) {
   if (state.made !== 1) return null;
   const [mode, place] = before.pos[0].split(" ");
-  const paged = place.startsWith("P") && before.paged.find(([at]) => `P${at}` === place);
+  const paged = place.startsWith("P") && before.paged.find(([at]) => `P${at}` >= place);
   if (paged) return `${mode} ${place} ${paged[1]}`;
-  const found = mode === "Micro" ? before.listing.find(([at]) => at === place) : before.lines.find((text) => text.startsWith(place));
+  const found = mode === "Micro" ? before.listing.find(([at]) => at === place) : before.lines.find((text) => text.slice(0, 4) >= place);
   return found ? `${mode} ${place} ${mode === "Micro" ? found[2].slice(9) : found.slice(5)}` : null;
 }
 

@@ -39,7 +39,7 @@ def applied(state, change):
 
 
 class Place(NamedTuple):
-    """Where a state is in its session, and what no view of the bench shows of it."""
+    """The place of a state in its session, and what no view of the bench shows of it."""
     # How many entries the session has, and how many steps of the last one were made, if it is being executed in pieces.
     entries: int
     steps: int = 0

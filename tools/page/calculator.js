@@ -310,7 +310,7 @@ function listenToControls() {
     run: runOn, step, stop, back: goBack, forth: goForth, now: () => goTo(() => Infinity), give: giveTyped,
     again: () => ask({ do: "again" }).then(drive), branch: branchHere, "last-change": goToChange,
     "open-branch": () => branchFrom({ branch: Number(by("branches").value) }),
-    "next-step": () => next("step"), "next-command": () => next("command"), "next-all": () => next("all"),
+    "lesson-step": () => next("step"), "next-step": () => next("step"), "next-command": () => next("command"), "next-all": () => next("all"),
     "open-lesson": () => by("lessons").value && openLesson(by("lessons").value), "lesson-again": () => openLesson(lesson.name),
     "lesson-before": () => openBeside(-1), "lesson-after": () => openBeside(1),
     choose: () => by("files").click(), "open-deck": () => by("deck-file").click(),
@@ -341,7 +341,13 @@ function listenToKeys() {
   by("map").addEventListener("keydown", walkMap);
   document.addEventListener("keydown", typed);
   // A clicked control must not receive the keys that are typed afterwards.
-  document.addEventListener("mousedown", (event) => event.target.closest("button, input[type=checkbox]") && event.preventDefault());
+  document.addEventListener("mousedown", (event) => {
+    const control = event.target.closest("button, input[type=checkbox]");
+    if (!control) return;
+    event.preventDefault();
+    // After a key of the calculator, what is typed is for the calculator, and not for the field in which was typed before.
+    if (control.closest("#keys, #runs") && document.activeElement.matches("textarea, input")) document.activeElement.blur();
+  });
   for (const kind of ["dragover", "dragleave", "drop"]) {
     document.addEventListener(kind, (event) => {
       event.preventDefault();

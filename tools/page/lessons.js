@@ -51,6 +51,8 @@ function currentCommand() {
 
 function showLesson() {
   by("lesson").hidden = !lesson;
+  // On the large page another panel may have its place.
+  by("lesson-step").hidden = !lesson || !by("large").checked || ["lesson", "keys"].includes(by("panel").value);
   if (!lesson) return;
   const number = lessonNames.indexOf(lesson.name);
   by("lesson").querySelector("h2").textContent = `${number + 1} of ${lessonNames.length}: ${lesson.title}`;
@@ -69,7 +71,7 @@ function showLesson() {
       ...(reply.length ? [make("pre", { class: "reply" }, reply.join("\n"))] : []));
   }));
   reveal(by("parts"), by("parts").querySelector(".next") || by("parts").lastElementChild);
-  for (const id of ["next-step", "next-command", "next-all"]) by(id).disabled = current < 0 || isGone;
+  for (const id of ["next-step", "next-command", "next-all", "lesson-step"]) by(id).disabled = current < 0 || isGone;
   by("lesson-before").disabled = number <= 0 || isGone;
   by("lesson-after").disabled = number < 0 || number === lessonNames.length - 1 || isGone;
 }
@@ -92,6 +94,7 @@ function openQuestion(how, command, isStep) {
   const isStepped = isStep && /^(step|trace)\b/.test(command) && asks;
   if (!isStepped && !/^key\s/.test(command)) return false;
   question = { ...how, name: isStepped ? asks : "display", isWord: isStepped && pos[0].startsWith("Micro") };
+  if (by("large").checked) choosePanel("lesson");
   by("question").hidden = false;
   by("question-text").textContent = isStepped ? `What is ${asks} after ${word}?` : `What does the display show after ${command}?`;
   by("answer").value = "";

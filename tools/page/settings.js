@@ -42,7 +42,8 @@ function restore() {
 
 const darkness = matchMedia("(prefers-color-scheme: dark)");
 
-/** Shows the page in light or dark, and large for a projector: then it has the display, the program and one panel. */
+/** Shows the page in light or dark, and large for a projector: then it has the display, the program and one panel. While a function runs,
+    its words have the place of the program. */
 function dress() {
   const theme = by("theme").value;
   document.documentElement.dataset.theme = theme || (darkness.matches ? "dark" : "light");
@@ -52,9 +53,10 @@ function dress() {
   by("panel").closest("label").hidden = !isLarge;
   const panel = by("panel").value;
   document.body.classList.toggle("with-keys", panel === "keys");
+  document.body.classList.toggle("with-words", panel === "listing-panel");
   for (const one of document.querySelectorAll("#beside details")) {
     one.classList.toggle("chosen", one.id === panel);
-    if (isLarge && (one.id === panel || one.closest("#next-panel, #program-panel"))) one.open = true;
+    if (isLarge && (one.id === panel || one.closest("#next-panel, #program-panel, #listing-panel"))) one.open = true;
   }
   // What is next is in another place of the window now.
   for (const id of ["program", "listed"]) delete drawings[id];

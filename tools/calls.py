@@ -223,8 +223,8 @@ def check_programs(project: Project, before: str) -> None:
     if numbered:
         number, empty = int(numbered[1]), re.match(rb"\n*", text_in(path))[0].count(b"\n")
         line = shown(lines_of(text)[number].strip())
-        raise Failure(f"{path}:{number + empty}: `{line}`: {refusal.rsplit(' ', 1)[0]}: expected a program line in the spelling of the "
-                      "bench, which tools/import translates to")
+        raise Failure(f"{path}:{number + empty}: `{line}`: {refusal.rsplit(' ', 1)[0]}: expected a program line in the bench's spelling: "
+                      "tools/import converts other spellings")
     why = (f": {broken(bytes_of(path))}" if refusal.startswith("! 14") and path.lower().endswith(".raw") else
            ": the programs do not fit into memory: set a smaller `size` in the project file" if refusal.startswith("! 16") else "")
     raise Failure(f"{path}: {refusal}{why}")

@@ -154,7 +154,7 @@ class Debugger:
     def run(self, limit: int, reason_of: Callable[[Taken, int], str]) -> None:
         """Executes steps until one of the usual reasons to stop, or another one."""
         if self.machine.point.mode == "Idle" and limit > 1:
-            raise Failure("nothing runs: start a function or program first, for example with deck key R/S")
+            raise Failure("nothing runs: start a function or program first, for example with the command `deck key R/S`")
         count, reason = self.machine.advance(limit, lambda taken, count: self.reason_of(taken) or reason_of(taken, count))
         self.tell(count, reason or ("not ended yet: continue goes on" if limit >= LIMIT else ""))
 
@@ -220,7 +220,7 @@ class Debugger:
                 raise Failure(f"found `{words[1]}`, expected {'a position of up to four decimal digits' if is_line else 'an address of four hexadecimal digits'}")
             return self.add("break", f"{int(words[1]):04}" if is_line else f"P{words[1].upper()}")
         if len(words) != 1:
-            raise Failure(f"{given(words)}, expected a label, an address or a line of a source, for example: break LOOP")
+            raise Failure(f"{given(words)}, expected a label, an address, a line of a source, or a program line (l 41, p 8006), for example: break LOOP")
         return self.add("break", self.places.find(words[0]))
 
     def do_watch(self, words: list[str]) -> None:
@@ -252,7 +252,7 @@ class Debugger:
         found = re.fullmatch("([0-9]{1,2})(?:-([0-9]{1,2}))?", text)
         first, last = (int(found[1]), int(found[2] or found[1])) if found else (0, 1)
         if not DIGITS > first >= last:
-            raise Failure(f"found `{text}`, expected ALL, M, S&X, XS, MS, a place from 0 to 13, or two such as 12-3")
+            raise Failure(f"found `{text}`, expected ALL, M, S&X, XS, MS, a place from 0 to 13, or two places, the higher one first, such as 12-3")
         return first, last
 
     def add(self, kind: str, what: Any) -> None:

@@ -127,7 +127,7 @@ def why_not_read(texts: list[tuple[int, str]]) -> str:
     good = readable([text for _, text in texts])
     number, text = next(((number, text) for number, text in texts if text not in good or text == ".END."), texts[-1])
     why = "not the last line: separate programs with END" if text in good else \
-        "not a program line: write it without a number, in the spelling of the bench, which tools/import translates to"
+        "not a program line: write it without a number, in the bench's spelling: tools/import converts other spellings"
     return f"{number}: `{shown(text)}`: {why}"
 
 
@@ -311,7 +311,7 @@ class Linked:
             # A line that became two words keeps one line here, of two words.
             unit.whole.lines = [b"        LDI 000" if b"\n" in line else line for line in unit.linked]
             faults += unit.whole.faults_of(Source(unit.whole.data()))
-        return Faulty("\n".join(faults)) if faults else Failure(f"{self.project.path}: the bench refused a block: {refusal}", 3)
+        return Faulty("\n".join(faults)) if faults else Failure(f"{self.project.path}: the bench refused a block: {refusal}: please report it", 3)
 
     def faults_of_lines(self) -> list[str]:
         """Returns the errors of lines whose references are no errors. An error of a label is the cause of errors of references to it."""

@@ -77,7 +77,7 @@ def git(*words):
     try:
         ran = subprocess.run(["git", "-C", TOP, *words], stdin=subprocess.DEVNULL, capture_output=True, check=False)
     except OSError as error:
-        raise Failure(f"git cannot be started: {error.strerror}", NOT_BUILT) from error
+        raise Failure(f"git cannot be started: {error.strerror}: install git", NOT_BUILT) from error
     if ran.returncode != 0:
         raise Failure(f"{TOP}: git {words[0]} failed: {ran.stderr.decode(errors='replace').strip()}", NOT_BUILT)
     return ran.stdout

@@ -113,8 +113,10 @@ class Places:
         first = [part for part in parts if part.bank == 1] if parts[1:] else parts
         if len(first) != 1:
             names = " or ".join(f"{part.name}.{name}" for part in self.labels[name])
-            what = "that this source does not have" if page else "of several sources"
-            raise Failure(f"found `{f'{page}.' if page else ''}{name}`, a label {what}: expected {names}")
+            what = (", a label of several sources" if not page else
+                    ", a label that this source does not have" if page in (part.name for part in self.parts) else
+                    f": no source is named {page}")
+            raise Failure(f"found `{f'{page}.' if page else ''}{name}`{what}: expected {names}")
         return (first[0].page << 12) + first[0].labels[name] + offset, first[0].bank
 
     def at_line(self, file: str, number: int) -> tuple[int, int]:

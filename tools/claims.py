@@ -118,8 +118,13 @@ class Contract:
 
     @property
     def is_loop(self) -> bool:
-        """Returns whether the label begins a loop, and no function."""
+        """Returns whether the label begins a loop."""
         return bool(self.invariant) or self.decreases is not None
+
+    @property
+    def is_function(self) -> bool:
+        """Returns whether the label begins a function. A label can begin both."""
+        return bool(self.requires or self.ensures or self.steps) or not self.is_loop
 
 
 @dataclass(frozen=True)
@@ -245,7 +250,8 @@ class Reader:
         count = self.sum()
         self.is_counting = False
         self.want("steps", "step")
-        return Steps(count, is_exact, self.text_from(first), line)
+        before = Sum(tuple((many, Atom(atom.name, atom.lo, atom.hi, True)) for many, atom in count.parts), count.constant)
+        return Steps(before, is_exact, self.text_from(first), line)
 
     def as_before(self, atom: Atom, first: int, line: int) -> Claim:
         """Returns the claim that a number is as before."""

@@ -1,91 +1,16 @@
-"""Symbolic execution: the states that a function reaches from every state that meets its requirements, as a tree of nodes. Each step
-names the lemma of h41_reasoning that proves it."""
+"""Symbolic execution: the states that a function reaches from every state that meets its requirements, as a tree of nodes."""
 from __future__ import annotations
 
-from dataclasses import dataclass, field
-from typing import Callable, NamedTuple
+from typing import Callable
 
-from claims import FIELDS, Atom, Claim, Contract, Named, Sum
-from symbols import Fact, Key, Knowledge, Node, State, Value, literal, number
+from claims import Claim, Named, Sum
+from codes import Code, Loop, NotProved, Result, form_of, known_at_start, plain, register_of
+from linear import contradicts, row
+from symbols import Fact, Knowledge, Node, State, Value, Way, literal
+from wordsteps import Step
 
-# How many states a function may reach, and the words of an address.
-MOST_NODES, ADDRESSES = 400, 0x10000
-
-FIELD_NAMES = {"@R": "AtPointer", "S&X": "SignAndExponent", "R<": "ToPointer", "ALL": "All", "P-Q": "PToQ", "XS": "ExponentSign",
-               "M": "Mantissa", "MS": "MantissaSign"}
-
-# Sums and differences: the lemma, the register that is changed, both operands, and the carry in.
-SUMS = {"A=A+B": ("b_added_to_a", "a", "a", "b", "false"), "A=A+C": ("c_added_to_a", "a", "a", "c", "false"),
-        "A=A+1": ("a_incremented", "a", "a", "", "true"), "C=C+C": ("c_doubled", "c", "c", "c", "false"),
-        "C=A+C": ("a_added_to_c", "c", "a", "c", "false"), "C=C+1": ("c_incremented", "c", "c", "", "true")}
-DIFFERENCES = {"A=A-B": ("b_subtracted_from_a", "a", "a", "b", "false"), "A=A-1": ("a_decremented", "a", "a", "", "true"),
-               "A=A-C": ("c_taken_from_a", "a", "a", "c", "false"), "C=A-C": ("c_subtracted_from_a", "c", "a", "c", "false"),
-               "C=C-1": ("c_decremented", "c", "c", "", "true"), "C=0-C": ("c_negated", "c", "", "c", "false"),
-               "C=-C-1": ("c_complemented", "c", "", "c", "true")}
-# Copies: the operation, and for each register that is changed the register that is copied.
-COPIES = {"A=0": ("ClearA", {"a": ""}), "B=0": ("ClearB", {"b": ""}), "C=0": ("ClearC", {"c": ""}),
-          "A<>B": ("ExchangeAB", {"a": "b", "b": "a"}), "B=A": ("AToB", {"b": "a"}), "A<>C": ("ExchangeAC", {"a": "c", "c": "a"}),
-          "C=B": ("BToC", {"c": "b"}), "B<>C": ("ExchangeBC", {"b": "c", "c": "b"}), "A=C": ("CToA", {"a": "c"})}
-SHIFTS = {"RSHFA": ("ShiftRightA", "a", "right"), "RSHFB": ("ShiftRightB", "b", "right"), "RSHFC": ("ShiftRightC", "c", "right"),
-          "LSHFA": ("ShiftLeftA", "a", "left")}
-TESTS = {"?B#0": ("TestBNonzero", "b", ""), "?C#0": ("TestCNonzero", "c", ""), "?A#0": ("TestANonzero", "a", ""),
-         "?A<C": ("TestALessThanC", "a", "c"), "?A<B": ("TestALessThanB", "a", "b"), "?A#C": ("TestADiffersFromC", "a", "c")}
-TRANSFERS = {"M=C": ("CToM", {"m": "c"}), "C=M": ("MToC", {"c": "m"}), "C<>M": ("ExchangeCM", {"c": "m", "m": "c"}),
-             "N=C": ("CToN", {"n": "c"}), "C=N": ("NToC", {"c": "n"}), "C<>N": ("ExchangeCN", {"c": "n", "n": "c"})}
-
-
-class NotProved(Exception):
-    """The reason why a function cannot be proved: the source line and what was found and expected."""
-
-    def __init__(self, line: int, why: str) -> None:
-        super().__init__(why)
-        self.line, self.why = line, why
-
-
-class Instruction(NamedTuple):
-    """An instruction: its place in the list of words, its words, its text in the listing, and its source line, counted from 1."""
-    place: int
-    words: tuple[int, ...]
-    text: str
-    line: int
-
-
-@dataclass
-class Code:
-    """The instructions of a source by address, the address of its first word, and the addresses of labels with contracts."""
-    origin: int
-    words: list[int]
-    instructions: dict[int, Instruction]
-    labels: dict[str, int]
-    contracts: dict[str, Contract]
-    lines: dict[str, int] = field(default_factory=dict)
-
-    def line_of(self, label: str) -> int:
-        """Returns the source line of a label with a contract."""
-        return self.lines.get(label, 0)
-
-    def at(self, address: int, line: int) -> Instruction:
-        """Returns the instruction at an address."""
-        found = self.instructions.get(address)
-        if not found:
-            raise NotProved(line, f"the function continues at {address:04X}, expected an address of an instruction of this source")
-        return found
-
-
-@dataclass
-class Result:
-    """What is known of a function that is executed: its label, its nodes, the components that it changes, with their values at the end
-    if these are known, and the most steps that it takes."""
-    label: str
-    contract: Contract
-    root: Node
-    knowledge: Knowledge
-    ends: list[Node] = field(default_factory=list)
-    changed: dict[str, str | None] = field(default_factory=dict)
-    returns: tuple[str, ...] = ()
-    steps: int = 0
-    is_exact: bool = False
-    calls: list[str] = field(default_factory=list)
+# How many states a function may reach.
+MOST_NODES = 400
 
 
 class Execution:
@@ -95,7 +20,9 @@ class Execution:
         self.code, self.label, self.execute, self.under_way = code, label, execute, under_way
         self.contract = code.contracts[label]
         self.knowledge, self.nodes, self.calls = Knowledge(), [], []
-        self.labels = {code.labels[name]: name for name, contract in code.contracts.items() if not contract.is_loop}
+        self.labels = {code.labels[name]: name for name, contract in code.contracts.items() if contract.is_function}
+        self.loops = {code.labels[name]: name for name, contract in code.contracts.items() if contract.is_loop}
+        self.loop: Loop | None = None
         self.ends: list[Node] = []
 
     def called(self, address: int, line: int) -> Result | None:
@@ -117,18 +44,120 @@ class Execution:
         root = self.node(state, self.contract.line, [])
         for name in ("a", "b", "c", "m", "n"):
             self.knowledge.add(Value(f"s.processor.{name}", "start", root, register_of(root, name)))
-        for claim in [*self.contract.requires, *self.contract.ensures]:
+        self.cut([*self.contract.requires, *self.contract.ensures])
+        self.assume(root, plain(self.contract.requires), state, "required")
+        self.follow(root, (state.pc,))
+        if self.loop:
+            self.run_rounds(self.loop, root)
+        self.knowledge.settle()
+        self.prune()
+        result = Result(self.label, self.contract, root, self.knowledge, self.ends, calls=self.calls, loop=self.loop)
+        summarise(result)
+        return result
+
+    def cut(self, claims: list[Claim | Named]) -> None:
+        """Separates the places that some claims name."""
+        for claim in claims:
             for one in claim.atoms() if isinstance(claim, Claim) else []:
                 if one.lo is not None:
                     self.knowledge.cut(one.lo, one.hi or 0)
-        for at, claim in enumerate(plain(self.contract.requires), 1):
-            keys = [key_of(one, state) for one in claim.atoms()]
-            root.passed.append(Fact(f"required_{at}", "", "", tuple(keys), root, True))
-        self.follow(root, (state.pc,))
-        self.knowledge.settle()
-        result = Result(self.label, self.contract, root, self.knowledge, self.ends, calls=self.calls)
-        summarise(result)
-        return result
+
+    # Loops.
+
+    def arrive(self, node: Node) -> None:
+        """Ends a way at the label of a loop: the loop is entered there, or a round has ended."""
+        address = node.state.pc
+        contract = self.code.contracts[self.loops[address]]
+        if contract.decreases is None:
+            raise NotProved(contract.line, f"the loop {self.loops[address]} has no `decreases`, expected a number that each round makes "
+                                           "smaller, as in `decreases C.SX`")
+        self.loop = self.loop or Loop(self.loops[address], address, contract)
+        if self.loop.address != address:
+            raise NotProved(node.line, f"the function has two loops, {self.loop.label} and {self.loops[address]}, expected one: make a "
+                                       "function with claims of its own of one of them")
+        node.form = ("enter",) if self.loop.root is None else ("again",)
+        (self.loop.entries if self.loop.root is None else self.loop.backs).append(node)
+
+    def run_rounds(self, loop: Loop, root: Node) -> None:
+        """Executes a round, from a state in which every component that a round may change is unknown."""
+        firsts = [node.state for node in loop.entries]
+        names = {name for state in firsts for name in state.terms if state.of(name) != root.state.of(name)}
+        self.cut([*loop.contract.invariant])
+        self.cut([Claim(loop.contract.decreases or Sum(), "=", Sum(), "", 0)])
+        if any(state.returns != root.state.returns for state in firsts):
+            raise NotProved(loop.contract.line, f"the loop {loop.label} is in a subroutine without claims, expected a function: give the "
+                                                "subroutine claims")
+        ended = len(self.ends)
+        while names != loop.names or loop.root is None:
+            del self.ends[ended:]
+            loop.names, loop.backs = set(names), []
+            loop.root = self.round_root(loop, firsts[0])
+            self.follow(loop.root, (loop.address,))
+            names |= {name for state in [*firsts, *(back.state for back in loop.backs)] for name in state.terms
+                      if name not in names and state.of(name) != loop.root.state.of(name)}
+        for end in self.ends[ended:]:
+            end.is_in_round = True
+        if any(back.state.returns != root.state.returns for back in loop.backs):
+            raise NotProved(loop.contract.line, f"a round of {loop.label} changes the return addresses, expected the same")
+
+    def round_root(self, loop: Loop, first: State) -> Node:
+        """Returns the node at the beginning of a round."""
+        count = len(self.nodes)
+        t, at = f"t_{count}", f"at_{count}"
+        terms = {**first.terms, **{name: f"{t}.processor.{name}" for name in loop.names}}
+        node = self.node(State(loop.address, first.returns, terms), loop.contract.line, [])
+        node.variables = [(f"left_{count}", "ℕ"), (t, "Nut"), (at, f"AtLoop left_{count} {t}")]
+        for name in ("a", "b", "c", "m", "n"):
+            if name in loop.names:
+                self.knowledge.add(Value(f"{t}.processor.{name}", "call", node, register_of(node, name)))
+        node.passed = list(self.nodes[0].passed)
+        measure = form_of(loop.contract.decreases or Sum(), node.state, node.state)
+        keys = tuple(key for key in measure if key is not None)
+        left = f"left_{count}"
+        node.passed.append(Fact(f"{at}.counted", "", "", (*keys, left), node, row({left: 1}, "=", measure), True))
+        self.assume(node, loop.contract.invariant, self.nodes[0].state, f"{at}.invariant")
+        return node
+
+    def assume(self, node: Node, claims: list, before: State, name: str) -> None:
+        """Adds claims that are true at a node: requirements, an invariant, or what a function that was called has left."""
+        self.cut(claims)
+        for at, claim in enumerate(claims, 1):
+            if isinstance(claim, Claim):
+                left, right = (form_of(side, node.state, before) for side in (claim.left, claim.right))
+                keys = tuple(key for key in (*left, *right) if key is not None)
+                node.passed.append(Fact(f"{name}_{at}", "", "", keys, node, row(left, claim.relation, right), True))
+
+    def prune(self) -> None:
+        """Finds the ways that no state takes, because facts contradict each other there, and removes them."""
+        left, dropped = [self.nodes[0], *([self.loop.root] if self.loop and self.loop.root else [])], []
+        while left:
+            node = left.pop()
+            if node.form[0] == "failed":
+                raise node.form[1]
+            for way in node.form[2] if node.form[0] == "split" else []:
+                if way.fact:
+                    facts = self.knowledge.reach(way.fact.keys, (way.node or way.end).passed, False)
+                    if contradicts(one for fact in facts for one in fact.rows):
+                        way.refuted = facts
+                        dropped.append(way)
+                        for fact in facts:
+                            fact.is_needed = True
+            if node.form[0] == "split":
+                node.nexts = [way.node for way in node.form[2] if way.node and way.refuted is None]
+            left += node.nexts
+        self.forget(dropped)
+
+    def forget(self, dropped: list[Way]) -> None:
+        """Removes the ends, and the ends of rounds, on ways that no state takes."""
+        left = [way.node or way.end for way in dropped]
+        while left:
+            node = left.pop()
+            ends = [node, node.end] + ([way.end for way in node.form[2]] if node.form[:1] == ("split",) else [])
+            self.ends = [end for end in self.ends if all(end is not one for one in ends)]
+            if self.loop:
+                self.loop.entries = [one for one in self.loop.entries if one is not node]
+                self.loop.backs = [one for one in self.loop.backs if one is not node]
+            left += node.nexts + ([way.node for way in node.form[2] if way.node] if node.form[:1] == ("split",) else [])
 
     def node(self, state: State, line: int, passed: list[Fact]) -> Node:
         """Returns a new node."""
@@ -141,72 +170,27 @@ class Execution:
     def follow(self, node: Node, way: tuple[int, ...]) -> None:
         """Executes the instructions from a node to the end of the function."""
         while True:
+            if node.state.pc in self.loops and not (self.loop and node is self.loop.root):
+                return self.arrive(node)
             if node.state.pc in way[:-1]:
-                raise NotProved(node.line, f"the instruction goes back to {node.state.pc:04X}, expected no loop: give the label there an "
-                                           "`invariant` and a `decreases`")
-            instruction = self.code.at(node.state.pc, node.line)
-            node.line = instruction.line
-            nexts = Step(self, node, instruction).nexts()
+                node.form = "failed", NotProved(node.line, f"the instruction goes back to {node.state.pc:04X}, expected no loop: give the "
+                                                "label there an `invariant` and a `decreases`")
+                return None
+            try:
+                instruction = self.code.at(node.state.pc, node.line)
+                node.line = instruction.line
+                nexts = Step(self, node, instruction).nexts()
+            except NotProved as why:
+                # It counts only if a state comes here.
+                node.form = "failed", why
+                return None
             node.nexts = nexts
             if not nexts:
-                return
+                return None
             for one in nexts[1:]:
                 self.follow(one, (*way, one.state.pc))
             node = nexts[0]
             way = (*way, node.state.pc)
-
-
-def plain(claims: list[Claim | Named]) -> list[Claim]:
-    """Returns the claims that compare sums, without those that give a component a value."""
-    return [claim for claim in claims if isinstance(claim, Claim) and not value_of(claim)]
-
-
-def value_of(claim: Claim | Named) -> tuple[str, str] | None:
-    """Returns the component and the value that a requirement gives it."""
-    if isinstance(claim, Named):
-        values = {"HEX": "Hexadecimal", "DEC": "Decimal"}
-        return ("base", values[claim.value]) if claim.name == "MODE" else ("active", claim.value)
-    left, right = claim.left, claim.right
-    if claim.relation == "=" and len(left.parts) == 1 and not right.parts and not left.constant and left.parts[0][0] == 1:
-        name, count = left.parts[0][1].name, right.constant
-        if name == "CY" and count in (0, 1):
-            return "carry", "true" if count else "false"
-        if name in ("P", "Q") and 0 <= count < 14:
-            return name.lower(), str(count)
-    return None
-
-
-def known_at_start(contract: Contract) -> dict[str, str]:
-    """Returns the components that have a known value when the function begins: those that are required, else hexadecimal mode and a
-    clear carry."""
-    found = {"carry": "false", "base": "Hexadecimal"}
-    for claim in contract.requires:
-        given = value_of(claim)
-        if given:
-            found[given[0]] = given[1]
-    return found
-
-
-def register_of(node: Node, name: str) -> str:
-    """Returns the proof that a register has 14 digits in a state."""
-    return f"{node.whole}.processor.{'abc.' if name in 'abc' else ''}{name}"
-
-
-def key_of(atom: Atom, state: State) -> Key:
-    """Returns the number of an atom in a state."""
-    name = atom.name.lower()
-    if atom.lo is not None:
-        return state.of(name), atom.lo, atom.hi or 0
-    if atom.name == "CY":
-        return f"carry_digit {term_of(state.of('carry'))}"
-    if atom.name.startswith("S"):
-        return f"carry_digit (is_status_set {atom.name[1:]} (record s.processor {{ status = {state.of('status')} }}))"
-    return state.of(name)
-
-
-def term_of(term: str) -> str:
-    """Returns a term in parentheses if it needs them."""
-    return term if term.replace(".", "").replace("_", "").isalnum() else f"({term})"
 
 
 def summarise(result: Result) -> None:
@@ -222,15 +206,47 @@ def summarise(result: Result) -> None:
             result.changed[name] = start[name]
     stacks = {end.state.returns for end in result.ends}
     result.returns = next(iter(stacks)) if len(stacks) == 1 else ()
+    if not stacks:
+        raise NotProved(result.contract.line, f"{result.label} never returns, expected an RTN on a way from it")
     if not result.returns:
         raise NotProved(result.contract.line, "the function returns with different return addresses on different ways, expected the same: "
                                               "calls on one way only are not supported")
+    if result.loop:
+        bound_loop(result, result.loop)
+    count(result)
+
+
+def bound_loop(result: Result, loop: Loop) -> None:
+    """Gives each entry of a loop the steps that are left for it there."""
+    claimed = result.contract.steps
+    if not claimed or claimed.is_exact:
+        raise NotProved(claimed.line if claimed else result.contract.line, f"{result.label} has a loop, expected a claim such as "
+                        "`within 4 * old C.SX + 6 steps`")
+    if loop.root:
+        count_steps(loop.root)
+        loop.steps = loop.root.steps
+    depths = {result.root.number: 0}
+    left = [result.root]
+    while left:
+        node = left.pop()
+        for after in node.nexts:
+            depths[after.number] = depths[node.number] + node.cost
+            left.append(after)
+    for entry in loop.entries:
+        entry.steps = claimed.count.constant - depths[entry.number]
+        if entry.steps < 0:
+            raise NotProved(claimed.line, f"`{claimed.text}`: the function takes {depths[entry.number]} steps before its loop")
+
+
+def count(result: Result) -> None:
+    """Counts the steps of a function, and compares them with its claim."""
     counts = count_steps(result.root)
     result.steps = result.root.steps
     claimed = result.contract.steps
     result.is_exact = bool(claimed and claimed.is_exact)
-    if claimed and not claimed.count.parts and (claimed.count.constant < result.steps if not claimed.is_exact else
-                                                counts != {claimed.count.constant}):
+    if not claimed or claimed.count.parts or result.loop:
+        return
+    if claimed.count.constant < result.steps if not claimed.is_exact else counts != {claimed.count.constant}:
         taken = " or ".join(map(str, sorted(counts))) if claimed.is_exact else f"up to {result.steps}"
         raise NotProved(claimed.line, f"`{claimed.text}`: the function takes {taken} step{'' if counts == {1} else 's'}")
 
@@ -243,437 +259,10 @@ def count_steps(node: Node) -> set[int]:
         stack += order[-1].nexts
     counts: dict[int, set[int]] = {}
     for one in reversed(order):
-        cost = getattr(one, "cost", 1)
         after = set().union(*(counts[other.number] for other in one.nexts)) if one.nexts else {0}
-        counts[one.number] = {cost + count for count in after}
+        counts[one.number] = {one.cost + count for count in after} if one.form[0] not in ("enter", "again") else {one.steps}
+        if one.form[0] == "split":
+            counts[one.number] = {1 + count for way in one.form[2] if way.refuted is None
+                                  for count in (counts[way.node.number] if way.node else {0})} or {1}
         one.steps = max(counts[one.number])
     return counts[node.number]
-
-
-class Step:
-    """One step from a node: finds the next nodes, and the lemma that proves the step."""
-
-    def __init__(self, run: Execution, node: Node, instruction: Instruction) -> None:
-        self.run, self.node, self.instruction, self.state = run, node, instruction, node.state
-        self.name, _, self.operand = instruction.text.rpartition(" ")
-        self.next_pc = (node.state.pc + len(instruction.words)) % ADDRESSES
-        self.at_next = f"(has {instruction.place} (omega arith))"
-
-    def unsupported(self, why: str = "") -> NotProved:
-        """Returns the error that the instruction is not supported."""
-        return NotProved(self.instruction.line, f"`{self.instruction.text}`: {why or 'tools/prove-module does not support this instruction'}")
-
-    def nexts(self) -> list[Node]:
-        """Returns the nodes after the step; none after the return of the function."""
-        text, name = self.instruction.text, self.name
-        if name in SUMS or name in DIFFERENCES:
-            return [self.arithmetic()]
-        if name in COPIES:
-            return [self.copies()]
-        if name in SHIFTS:
-            return [self.shift()]
-        if name in TESTS:
-            return [self.test()]
-        if text in TRANSFERS:
-            return [self.transfer()]
-        if name in ("JNC", "JC"):
-            return self.short_jump()
-        if name in ("?NC XQ", "?C XQ", "?NC GO", "?C GO"):
-            return self.long_jump()
-        if text == "RTN":
-            return self.returned(f"returned straight {self.state_text()} {self.node.whole} {self.at_next}")
-        if text in ("?C RTN", "?NC RTN"):
-            return self.return_if()
-        return [self.simple()]
-
-    def state_text(self) -> str:
-        """Returns the state before the step as a term."""
-        return self.state.text()
-
-    def go_on(self, state: State) -> Node:
-        """Returns the node for the state after the step."""
-        return self.run.node(state, self.instruction.line, self.node.passed)
-
-    def step(self, lemma: str, state: State) -> Node:
-        """Returns the node after a step that a lemma proves."""
-        self.node.form = "step", lemma
-        return self.go_on(state)
-
-    def places(self) -> tuple[int, int]:
-        """Returns the places of the field of the instruction."""
-        pointers = [self.state.of(name) for name in ("p", "q", "active")]
-        if self.operand in FIELDS:
-            return FIELDS[self.operand]
-        p, q, active = pointers
-        needed = (p, q) if self.operand == "P-Q" else (active, {"P": p, "Q": q}.get(active, ""))
-        if not all(map(literal, needed)):
-            raise self.unsupported("the places of the field are not known: set the pointers before, after SLCT P or SLCT Q, or require "
-                                   "them, as in `requires PT = P, P = 3`")
-        here = int(p if active == "P" else q) if self.operand != "P-Q" else 0
-        if self.operand == "P-Q":
-            return int(p), int(q) if int(p) <= int(q) else 13
-        return (here, here) if self.operand == "@R" else (0, here)
-
-    def fresh(self, name: str) -> str:
-        """Returns a new name for a register."""
-        return f"{name}_{len(self.run.nodes)}"
-
-    def named(self, node: Node, name: str, term: str, value: Value) -> None:
-        """Adds a register with a name to a node."""
-        node.abbreviations.append((value.name, "List ℕ", term))
-        self.run.knowledge.add(value)
-
-    def operand_of(self, name: str) -> str:
-        """Returns the term of an operand."""
-        return self.state.of(name) if name else "zeros"
-
-    def arithmetic(self) -> Node:
-        """Returns the node after a sum or a difference."""
-        is_sum = self.name in SUMS
-        lemma, into, x, y, carry_in = (SUMS if is_sum else DIFFERENCES)[self.name]
-        if not literal(self.state.of("base")):
-            raise self.unsupported("the mode is not known here: require it, as in `requires MODE = HEX`")
-        lo, hi = self.places()
-        count = len(self.run.nodes)
-        z, carry, rule = f"{into}_{count}", f"carry_{count}", f"rule_{count}"
-        self.node.form = "found", f"{lemma} arithmetic {FIELD_NAMES[self.operand]} {self.state_text()} {self.node.whole} refl {self.at_next}"
-        x_term, y_term, before = self.operand_of(x), self.operand_of(y), self.state.of(into)
-        node = self.go_on(self.state.after(self.next_pc, **{into: z}))
-        node.state.terms["carry"] = carry
-        base = 16 if self.state.of("base") == "Hexadecimal" else 10
-        relation = "SumInto" if is_sum else "DifferenceInto"
-        node.variables = [(z, "List ℕ"), (carry, "Bool"),
-                          (rule, f"{relation} {base} {term_of(before)} {term_of(x_term)} {term_of(y_term)} {carry_in} {lo} {hi} {z} {carry}")]
-        self.run.knowledge.add(Value(z, "sum" if is_sum else "difference", node, register_of(node, into), before, x_term, y_term, carry_in,
-                                     carry if base == 16 else "", lo, hi, rule))
-        return node
-
-    def operated(self, operation: str, state: State) -> Node:
-        """Returns the node after an operation on a field whose result is written out."""
-        self.node.form = "step", (f"operated arithmetic {FIELD_NAMES[self.operand]} {self.state_text()} {self.node.whole} refl "
-                                  f"operations.{operation} ({state.processor()}) (λ t is. is) {self.at_next}")
-        return self.go_on(state)
-
-    def copies(self) -> Node:
-        """Returns the node after copies."""
-        operation, copied = COPIES[self.name]
-        lo, hi = self.places()
-        terms = {into: f"copy_of {term_of(self.state.of(into))} {term_of(self.operand_of(x))} {lo} {hi}" for into, x in copied.items()}
-        names = {into: self.fresh(into) for into in terms}
-        node = self.operated(operation, self.state.after(self.next_pc, **names))
-        for into, x in copied.items():
-            self.put(node, into, names[into], terms[into], Value(names[into], "copy", node, register_of(node, into), self.state.of(into),
-                                                                  self.operand_of(x), lo=lo, hi=hi))
-        return node
-
-    def put(self, node: Node, into: str, name: str, term: str, value: Value) -> None:
-        """Gives a register of a node a name, in the module before the node, because the step to the node names it too."""
-        self.node.abbreviations.append((name, "List ℕ", term))
-        self.run.knowledge.add(value)
-
-    def shift(self) -> Node:
-        """Returns the node after a shift."""
-        operation, into, way = SHIFTS[self.name]
-        lo, hi = self.places()
-        before, name = self.state.of(into), self.fresh(into)
-        node = self.operated(operation, self.state.after(self.next_pc, **{into: name}))
-        self.put(node, into, name, f"shifted_{way} {term_of(before)} {term_of(before)} {lo} {hi}",
-                 Value(name, way, node, register_of(node, into), before, before, lo=lo, hi=hi))
-        return node
-
-    def test(self) -> Node:
-        """Returns the node after a test of a field."""
-        operation, x, y = TESTS[self.name]
-        lo, hi = self.places()
-        self.run.knowledge.cut(lo, hi)
-        one, other = self.state.of(x), self.operand_of(y)
-        answer = (f"is_nonzero {term_of(one)} {lo} {hi}" if not y else
-                  f"{'is_less' if '<' in self.name else 'is_different'} {term_of(one)} {term_of(other)} {lo} {hi}")
-        state = self.state.after(self.next_pc)
-        state.terms["carry"] = f"({answer})"
-        node = self.operated(operation, state)
-        node.test = self.name, one, other, lo, hi
-        return node
-
-    def transfer(self) -> Node:
-        """Returns the node after a copy of a whole register."""
-        transfer, copied = TRANSFERS[self.instruction.text]
-        changes = {into: self.state.of(x) for into, x in copied.items()}
-        return self.step(f"transferred straight {self.state_text()} {self.node.whole} refl transfers.{transfer} {self.at_next}",
-                         self.state.after(self.next_pc, **changes))
-
-    def simple(self) -> Node:
-        """Returns the node after an instruction that changes little."""
-        text, name, operand = self.instruction.text, self.name, self.operand
-        begin = f"straight {self.state_text()} {self.node.whole} refl"
-        after = self.state.after(self.next_pc)
-        plain_words = {"NOP": "nothing_done", "?LLD": "battery_tested"}
-        if text in plain_words:
-            return self.step(f"{plain_words[text]} {begin} {self.at_next}", after)
-        if text in ("SETHEX", "SETDEC"):
-            lemma, base = ("hexadecimal_set", "Hexadecimal") if text == "SETHEX" else ("decimal_set", "Decimal")
-            return self.step(f"{lemma} {begin} {self.at_next}", self.state.after(self.next_pc, base=base))
-        if text in ("SLCT P", "SLCT Q"):
-            return self.step(f"pointer_selected {begin} {operand} {self.at_next}", self.state.after(self.next_pc, active=operand))
-        if name in ("R=", "LD@R", "?R=") or text in ("R=R+1", "R=R-1"):
-            return self.pointer(begin)
-        if name in ("SETF", "CLRF", "?FSET"):
-            return self.status(begin)
-        if name == "LDI":
-            return self.load_word()
-        if name == "RCR":
-            return self.rotate(begin)
-        if text == "CLRABC":
-            return self.step(f"registers_cleared {begin} {self.at_next}", self.state.after(self.next_pc, a="zeros", b="zeros", c="zeros"))
-        raise self.unsupported()
-
-    def pointer(self, begin: str) -> Node:
-        """Returns the node after an instruction of the active pointer."""
-        active = self.state.of("active")
-        if not literal(active):
-            raise self.unsupported("the active pointer is not known here: put SLCT P or SLCT Q before, or require it, as in "
-                                   "`requires PT = P`")
-        name, place = active.lower(), self.state.of(active.lower())
-        if self.name == "R=":
-            return self.step(f"pointer_set {begin} {self.operand} (omega arith) {self.at_next}",
-                             self.state.after(self.next_pc, **{name: self.operand}))
-        if not literal(place):
-            raise self.unsupported(f"the pointer {active} is not known here: set it before by `R= n`, or require it, as in "
-                                   f"`requires {active} = 3`")
-        if self.name == "?R=":
-            state = self.state.after(self.next_pc)
-            state.terms["carry"] = "true" if place == self.operand else "false"
-            return self.step(f"pointer_tested {begin} {self.operand} (omega arith) {self.at_next}", state)
-        if self.name == "LD@R":
-            return self.load_digit(begin, name, int(place))
-        up = self.instruction.text == "R=R+1"
-        moved = str((int(place) + (1 if up else 13)) % 14)
-        return self.step(f"pointer_{'up' if up else 'down'} {begin} {self.at_next}", self.state.after(self.next_pc, **{name: moved}))
-
-    def load_digit(self, begin: str, pointer: str, place: int) -> Node:
-        """Returns the node after LD@R."""
-        digit, before, name = int(self.operand), self.state.of("c"), self.fresh("c")
-        node = self.step(f"digit_loaded {begin} {digit} (omega arith) {self.at_next}",
-                         self.state.after(self.next_pc, c=name, **{pointer: str((place + 13) % 14)}))
-        self.put(node, "c", name, f"slice_set {term_of(before)} {place} {digit}",
-                 Value(name, "digit", node, register_of(node, "c"), before, lo=place, hi=place, digits=(digit,)))
-        return node
-
-    def load_word(self) -> Node:
-        """Returns the node after LDI."""
-        word, before, name = self.instruction.words[1], self.state.of("c"), self.fresh("c")
-        digits = word & 15, word >> 4 & 15, word >> 8
-        lemma = (f"load_immediate straight {self.state_text()} {word} {self.node.whole} {self.at_next} (has {self.instruction.place + 1} "
-                 "(omega arith)) refl")
-        node = self.step(lemma, self.state.after(self.next_pc, c=name))
-        self.put(node, "c", name, f"slice_set (slice_set (slice_set {term_of(before)} 0 {digits[0]}) 1 {digits[1]}) 2 {digits[2]}",
-                 Value(name, "word", node, register_of(node, "c"), before, lo=0, hi=2, digits=digits))
-        return node
-
-    def rotate(self, begin: str) -> Node:
-        """Returns the node after RCR."""
-        digits, before, name = int(self.operand), self.state.of("c"), self.fresh("c")
-        node = self.step(f"rotated {begin} {digits} (omega arith) {self.at_next}", self.state.after(self.next_pc, c=name))
-        self.put(node, "c", name, f"rotated_register {term_of(before)} {digits}",
-                 Value(name, "rotated", node, register_of(node, "c"), before, before, digits=(digits,)))
-        return node
-
-    def status(self, begin: str) -> Node:
-        """Returns the node after an instruction of a status bit."""
-        bit, before = int(self.operand), self.state.of("status")
-        processor = f"(record s.processor {{ status = {before} }})"
-        if self.name == "?FSET":
-            state = self.state.after(self.next_pc)
-            state.terms["carry"] = f"(is_status_set {bit} {processor})"
-            return self.step(f"status_tested {begin} {bit} (omega arith) {self.at_next}", state)
-        on = "true" if self.name == "SETF" else "false"
-        name = self.fresh("status")
-        node = self.step(f"status_{'set' if on == 'true' else 'cleared'} {begin} {bit} (omega arith) {self.at_next}",
-                         self.state.after(self.next_pc, status=name))
-        self.node.abbreviations.append((name, "ℕ", f"(with_status {bit} {on} {processor}).status"))
-        self.status_facts(node, name, before, bit, on)
-        return node
-
-    def status_facts(self, node: Node, name: str, before: str, bit: int, on: str) -> None:
-        """Adds what is known of the status bits after one was set or cleared."""
-        old, new = (f"(record s.processor {{ status = {status} }})" for status in (before, name))
-        for other in range(14):
-            key = f"carry_digit (is_status_set {other} {new})"
-            if other == bit:
-                fact = Fact(f"bit_{node.number}_{other}", f"{key} ≡ {int(on == 'true')}", f"ap carry_digit (read_status {old} {bit} {on})",
-                            (key,), node)
-            else:
-                source = f"carry_digit (is_status_set {other} {old})"
-                fact = Fact(f"bit_{node.number}_{other}", f"{key} ≡ {source}",
-                            f"ap carry_digit (other_status {old} {bit} {other} {on} (λ same. omega (arith, same)))", (key, source), node)
-            node.facts.append(fact)
-            self.run.knowledge.others[key] = [fact]
-
-    # Jumps.
-
-    def ways(self, condition: str) -> list[tuple[bool, str, Fact | None]]:
-        """Returns the ways at a jump: whether it is taken, the proof of that, and the fact that is known on this way."""
-        carry = self.state.of("carry")
-        on_carry = condition == "Carry"
-        if carry in ("true", "false"):
-            return [((carry == "true") == on_carry, "refl", None)]
-        found = []
-        for value in (True, False):
-            proof = f"is_{self.node.number}_{int(value)}"
-            found.append((value == on_carry, proof if on_carry else f"ap not {proof}", self.fact_of(carry, value)))
-        return found
-
-    def fact_of(self, carry: str, value: bool) -> Fact:
-        """Returns the fact that a carry or a test says on one way. Its proof is completed when the way has a node."""
-        name, test = f"test_{self.node.number}_{int(value)}", getattr(self.node, "test", None)
-        proved = f"is_{self.node.number}_{int(value)}"
-        if not test:
-            key = f"carry_digit {term_of(carry)}"
-            return Fact(name, f"{key} ≡ {int(value)}", f"ap carry_digit {proved}", (key,), self.node, True)
-        kind, x, y, lo, hi = test
-        one, other = (x, lo, hi), (y, lo, hi)
-        keys = tuple(key for key in (one, other) if key[0] != "zeros")
-        if kind.endswith("#0"):
-            return Fact(name, f"0 < {number(one)}" if value else f"{number(one)} ≡ 0",
-                        f"{'some' if value else 'zero'}_number at_a_place 16 {lo} {hi} {term_of(x)} (omega arith) {proved}", keys, self.node, True)
-        if "<" in kind:
-            return Fact(name, f"{number(one)} < {number(other)}" if value else f"{number(other)} ≤ {number(one)}",
-                        f"{'less' if value else 'not_less'}_number {term_of(x)} {term_of(y)} {lo} {hi} {proved}", keys, self.node, True)
-        if value:
-            return Fact(name, "", "", (), self.node)
-        return Fact(name, f"{number(one)} ≡ {number(other)}", f"same_numbers at_a_place 16 {term_of(x)} {term_of(y)} {lo} {hi} {proved}", keys,
-                    self.node, True)
-
-    def split(self, condition: str, taken, passed) -> list[Node]:
-        """Returns the nodes after a jump. `taken` and `passed` get the proof that the jump is or is not taken, and return the lemma and
-        the state, which is None after the return of the function."""
-        ways = self.ways(condition)
-        forms, nodes = [], []
-        for is_taken, proof, fact in ways:
-            lemma, state = (taken if is_taken else passed)(proof)
-            node = None
-            if state is not None:
-                node = self.go_on(state)
-                if fact and fact.statement:
-                    node.passed = [*node.passed, fact]
-                nodes.append(node)
-            forms.append((fact, lemma, node))
-        carry = self.state.of("carry")
-        if len(forms) == 1:
-            self.node.form = ("step", forms[0][1]) if forms[0][2] else ("end", forms[0][1])
-        else:
-            self.node.form = "split", carry, forms
-        if any(node is None for _, _, node in forms):
-            self.run.ends.append(self.ended(forms))
-        return nodes
-
-    def ended(self, forms) -> Node:
-        """Returns a node that stands for the state after the return of the function; it is not a node of the run."""
-        fact = next(fact for fact, _, node in forms if node is None)
-        end = Node(-1, self.instruction.line, self.popped(), passed=[*self.node.passed, *([fact] if fact and fact.statement else [])])
-        self.node.end = end
-        return end
-
-    def popped(self) -> State:
-        """Returns the state after a return to the newest return address."""
-        newest, *rest = self.state.returns
-        pc = int(newest, 16) if newest.startswith("0x") else 0
-        return self.state.after(pc).with_returns([*rest, "0"])
-
-    def returning(self) -> tuple[str, State | None]:
-        """Returns the proof that the newest return address is open, and the state there; None after the return of the function."""
-        newest = self.state.returns[0]
-        if newest == "r0":
-            return "may_return", None
-        if not newest.startswith("0x"):
-            raise self.unsupported("the function returns to its caller's caller, expected a return to its caller")
-        return "refl", self.popped()
-
-    def returned(self, lemma: str) -> list[Node]:
-        """Returns the nodes after RTN: none after the return of the function."""
-        is_open, state = self.returning()
-        if state is not None:
-            return [self.step(f"{lemma} {is_open}", state)]
-        self.node.form = "end", f"{lemma} {is_open}"
-        self.run.ends.append(self.ended([(None, "", None)]))
-        return []
-
-    def return_if(self) -> list[Node]:
-        """Returns the nodes after ?C RTN or ?NC RTN."""
-        condition = "Carry" if self.instruction.text == "?C RTN" else "NoCarry"
-        args = f"straight {self.state_text()} {self.node.whole} {condition} {self.at_next}"
-
-        def taken(proof: str):
-            is_open, state = self.returning()
-            return f"return_taken {args} ({proof}) {is_open}", state
-
-        return self.split(condition, taken, lambda proof: (f"return_passed {args} ({proof}) refl", self.state.after(self.next_pc)))
-
-    def short_jump(self) -> list[Node]:
-        """Returns the nodes after JNC or JC."""
-        condition = "Carry" if self.name == "JC" else "NoCarry"
-        distance = int(self.operand, 16)
-        shown = f"(pos {distance})" if distance >= 0 else f"(negsuc {-distance - 1})"
-        args = f"straight {self.state_text()} {self.node.whole} {condition} {shown} (le_z_yes tt, le_z_yes tt) {self.at_next}"
-        target = (self.state.pc + distance) % ADDRESSES
-        return self.split(condition, lambda proof: (f"short_jump_taken {args} ({proof}) refl", self.state.after(target)),
-                          lambda proof: (f"short_jump_passed {args} ({proof}) refl", self.state.after(self.next_pc)))
-
-    def long_jump(self) -> list[Node]:
-        """Returns the nodes after ?NC XQ, ?C XQ, ?NC GO or ?C GO."""
-        condition = "Carry" if self.name.startswith("?C") else "NoCarry"
-        target, is_call = int(self.operand, 16), self.name.endswith("XQ")
-        second = f"(has {self.instruction.place + 1} (omega arith))"
-        args = (f"straight {self.state_text()} {self.node.whole} {target & 0xFF} {self.instruction.words[1]} (omega arith) {self.at_next} "
-                f"{second}")
-        pushed = [f"{self.next_pc:#06x}", *self.state.returns[:3]] if is_call else self.state.returns
-        after = self.state.after(target).with_returns(pushed)
-        is_taken = self.state.of("carry") == ("true" if condition == "Carry" else "false")
-        callee = self.run.called(target, self.instruction.line) if is_call and is_taken else None
-        if callee:
-            return [self.call(callee, f"long_jump_taken {args} refl refl", after)]
-        return self.split(condition, lambda proof: (f"long_jump_taken {args} ({proof}) refl", after),
-                          lambda proof: (f"long_jump_passed {args} ({proof}) refl", self.state.after(self.next_pc)))
-
-    def call(self, callee: Result, lemma: str, inner: State) -> Node:
-        """Returns the node after the call of a function that has a theorem of its own."""
-        self.check_start(callee)
-        count = len(self.run.nodes)
-        t, done = f"t_{count}", f"done_{count}"
-        terms = {**inner.terms, "carry": "false"}
-        for name, known in callee.changed.items():
-            terms[name] = known if known is not None else f"{t}.processor.{name}"
-        names = {"r0": inner.returns[0], "r1": inner.returns[1], "r2": inner.returns[2], "r3": inner.returns[3]}
-        returns = tuple(names.get(one, one) for one in callee.returns)
-        node = self.go_on(State(self.next_pc, returns, terms))
-        node.variables = [(t, "Nut"), (done, f"{callee.label}_Done {inner.text()} {' '.join(inner.returns)} {t}")]
-        for name in ("a", "b", "c", "m", "n"):
-            if callee.changed.get(name, "") is None:
-                self.run.knowledge.add(Value(f"{t}.processor.{name}", "call", node, register_of(node, name)))
-        for at, claim in enumerate(callee.contract.ensures, 1):
-            if isinstance(claim, Claim):
-                keys = tuple(key_of(one, inner if one.old else node.state) for one in claim.atoms())
-                for key in keys:
-                    if not isinstance(key, str):
-                        self.run.knowledge.cut(key[1], key[2])
-                node.passed.append(Fact(f"{done}.claim_{at}", "", "", keys, node, True))
-        self.node.cost = 1 + callee.steps
-        self.node.form = "call", callee, lemma, inner, done, t
-        if callee.label not in self.run.calls:
-            self.run.calls.append(callee.label)
-        return node
-
-    def check_start(self, callee: Result) -> None:
-        """Checks that what the callee's theorem knows of its start is known here."""
-        for name, value in known_at_start(callee.contract).items():
-            found = "false" if name == "carry" else self.state.of(name)
-            if found != value:
-                raise self.unsupported(f"{callee.label} requires {name} = {value}, which is not known here")
-
-
-def negative_free(left: Sum, right: Sum) -> tuple[Sum, Sum]:
-    """Returns both sides of a comparison without negative terms: these are moved to the other side."""
-    def split(one: Sum, sign: int) -> Sum:
-        return Sum(tuple((abs(many), atom) for many, atom in one.parts if many * sign > 0), max(one.constant * sign, 0))
-
-    return split(left, 1).plus(split(right, -1)), split(right, 1).plus(split(left, -1))

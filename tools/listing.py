@@ -5,7 +5,8 @@ import subprocess
 
 from claims import Contract, Wrong, contract_before
 from decks import BENCH, NO_ANSWER, Failure
-from executing import Code, Execution, Instruction, NotProved, Result
+from codes import Code, Instruction, NotProved, Result
+from executing import Execution
 from sources import Assembled
 
 # Instructions of two words.
@@ -75,6 +76,6 @@ def in_order(code: Code, report, labels: set[str]) -> list[Result]:
         return found.get(label)
 
     for label, contract in code.contracts.items():
-        if not contract.is_loop:
+        if contract.is_function:
             execute(label)
     return list(found.values())

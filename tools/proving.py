@@ -19,6 +19,9 @@ ERROR = re.compile(r"\./(proofs/\S+|specs/\S+):(\d+):\d+: error: (.*)")
 OF_FUNCTION = re.compile(rf"fn {CRATE}::functions::of_(\w+): (.*)")
 PROVED = "logic=proved "
 
+# What the prover says of a proof that rests on another one that is not proved.
+FOLLOWS = re.compile(r"declarations? that depends? on .* not checked")
+
 # What the prover says of a claim that does not follow.
 NO_DECISION = re.compile(r"`omega`: the goal does not follow from what it read")
 
@@ -80,6 +83,8 @@ def verdict_of(text: str, proofs: dict[str, Proof]) -> Verdict:
     faults = []
     for line in lines:
         found = ERROR.match(line)
+        if found and FOLLOWS.search(found[3]):
+            continue
         if found and found[1] in proofs:
             _, source, claim = proofs[found[1]].rows[int(found[2]) - 1]
             faults.append((source, claim, reason_of(found[3])))
@@ -87,7 +92,8 @@ def verdict_of(text: str, proofs: dict[str, Proof]) -> Verdict:
             faults.append((0, "", f"{found[1]}:{found[2]}: {found[3]}"))
     proved = {found[1] for found in map(OF_FUNCTION.match, lines) if found and found[2] == "proved"}
     if not faults and not any(line.startswith(PROVED) for line in lines):
-        faults.append((0, "", next((line for line in lines if "error" in line or "not proved" in line), "logic=not-proved")))
+        faults.append((0, "", next((line for line in lines if "error" in line), next((line for line in lines if "not proved" in line),
+                                                                                     "logic=not-proved"))))
     return Verdict(proved, list(dict.fromkeys(faults)), text)
 
 
@@ -95,6 +101,4 @@ def reason_of(message: str) -> str:
     """Returns the reason in a message of the prover, in words for a writer of modules."""
     if NO_DECISION.search(message):
         return "it does not follow from what is known at the end of the function"
-    if "was rejected, was not checked" in message:
-        return "it rests on a step that is not proved"
     return f"the prover says: {message}"

@@ -2,11 +2,16 @@
 from __future__ import annotations
 
 from dataclasses import dataclass, field
-from typing import Callable, Iterable, Union
+from typing import Iterable, Union
+
+from linear import Row, row
 
 PLACES = 14
 WIDE = ("a", "b", "c", "m", "n")
 START = "s.processor"
+
+# A sum: the factor of each number; the constant is the factor of None.
+Form = dict
 
 # A number of the prover: the digits of a register from one place to another, or any other term.
 Key = Union[tuple[str, int, int], str]
@@ -60,7 +65,20 @@ class Fact:
     proof: str
     keys: tuple[Key, ...]
     owner: Node
+    rows: list[Row]
     is_needed: bool = False
+
+
+@dataclass
+class Way:
+    """What follows a jump that is taken, or not taken: the fact that is known then, the lemma that proves the step, and the node after
+    it, which is None after the return of the function. `refuted` are the facts that contradict each other on this way, if there are
+    any."""
+    fact: Fact | None
+    lemma: str
+    node: Node | None
+    end: Node | None = None
+    refuted: list[Fact] | None = None
 
 
 @dataclass
@@ -79,6 +97,7 @@ class Value:
     hi: int = PLACES - 1
     rule: str = ""
     digits: tuple[int, ...] = ()
+    is_ruled: bool = False
 
     def size(self, values: dict[str, Value]) -> str:
         """Returns the proof that the register before the word has 14 digits."""
@@ -87,8 +106,10 @@ class Value:
 
 @dataclass
 class Node:
-    """A state that a function reaches: the variables that are introduced there, abbreviations, facts, the tests that were passed on
-    the way, and how the run continues. `term` is the proof of the run from there, with the proofs of its parts by name."""
+    """A state that a function reaches: the variables that are introduced there, abbreviations, facts, and the tests that were passed on
+    the way. `form` says how the run continues, and `nexts` are the nodes after it. `steps` are the most steps from there to the end, and
+    `cost` those to the next node. `test` is the test whose result is the carry. `end` is the state after the return of the function,
+    `proofs` are the proofs of the claims there, and `is_in_round` is set if it is in a round of a loop."""
     number: int
     line: int
     state: State
@@ -98,7 +119,12 @@ class Node:
     passed: list[Fact] = field(default_factory=list)
     nexts: list[Node] = field(default_factory=list)
     steps: int = 0
-    write: Callable[[Node], list[str]] | None = None
+    cost: int = 1
+    form: tuple = ()
+    end: Node | None = None
+    test: tuple | None = None
+    proofs: list[str] = field(default_factory=list)
+    is_in_round: bool = False
 
     @property
     def whole(self) -> str:
@@ -116,9 +142,21 @@ def number(key: Key) -> str:
     return key if isinstance(key, str) else f"number_of 16 {atom(key[0])} {key[1]} {key[2]}"
 
 
+def form_text(form: Form) -> str:
+    """Returns a sum as a term."""
+    parts = [number(key) if many == 1 else f"{many} * {number(key)}" for key, many in form.items() if key is not None]
+    constant = form.get(None, 0)
+    return " + ".join([*parts, *([str(constant)] if constant or not parts else [])])
+
+
 def atom(term: str) -> str:
     """Returns a term in parentheses, if it needs them as an argument."""
     return term if term.replace(".", "").replace("_", "").isalnum() or term.startswith("(") else f"({term})"
+
+
+def added_form(one: Form, other: Form) -> Form:
+    """Returns the sum of two sums."""
+    return {key: one.get(key, 0) + other.get(key, 0) for key in (*one, *(key for key in other if key not in one))}
 
 
 class Knowledge:
@@ -129,11 +167,14 @@ class Knowledge:
         self.cuts = {0, PLACES}
         self.found: dict[Key, list[Fact]] = {}
         self.others: dict[str, list[Fact]] = {}
+        self.carries: dict[str, Value] = {}
         self.count = 0
 
     def add(self, value: Value) -> None:
         """Adds a register, and separates the places on which its word works."""
         self.values[value.name] = value
+        if value.carry:
+            self.carries[f"carry_digit {value.carry}"] = value
         if value.kind in ("right", "left", "rotated"):
             self.cuts.update(range(PLACES + 1))
         self.cut(value.lo, value.hi)
@@ -147,15 +188,21 @@ class Knowledge:
         if self.cuts & {1, 2} and any(value.kind == "word" for value in self.values.values()):
             self.cuts.update((0, 1, 2, 3))
 
-    def fact(self, owner: Node, keys: Iterable[Key], statement: str, proof: str) -> Fact:
-        """Returns a new fact."""
+    def fact(self, owner: Node, left: Form, relation: str, right: Form, proof: str) -> Fact:
+        """Returns a new fact: a comparison of two sums."""
         self.count += 1
-        one = Fact(f"fact_{self.count}", statement, proof, tuple(keys), owner)
+        signs = {"=": "≡", "<": "<", "<=": "≤"}
+        keys = tuple(key for key in (*left, *right) if key is not None)
+        one = Fact(f"fact_{self.count}", f"{form_text(left)} {signs[relation]} {form_text(right)}", proof, keys, owner,
+                   row(left, relation, right))
         owner.facts.append(one)
         return one
 
     def defining(self, key: Key) -> list[Fact]:
         """Returns the facts that define a number."""
+        if key in self.carries:
+            value = self.carries[key]
+            return [one for one in self.defining((value.name, value.lo, value.hi)) if key in one.keys]
         if isinstance(key, str):
             return self.others.get(key, [])
         if key not in self.found:
@@ -170,12 +217,12 @@ class Knowledge:
             return
         value = self.values[name]
         width = hi + 1 - lo
-        yield self.fact(value.owner, [key], f"{number(key)} < 16 ^ {width}",
+        yield self.fact(value.owner, {key: 1}, "<", {None: 16 ** width},
                         f"below {lo} {hi} {atom(name)} {value.is_register} (omega arith) (omega arith)")
         middle = next((cut for cut in sorted(self.cuts) if lo < cut <= hi), None)
         if middle is not None:
             low, high = (name, lo, middle - 1), (name, middle, hi)
-            yield self.fact(value.owner, [key, low, high], f"{number(key)} ≡ {number(low)} + 16 ^ {middle - lo} * {number(high)}",
+            yield self.fact(value.owner, {key: 1}, "=", {low: 1, high: 16 ** (middle - lo)},
                             f"parts 16 {lo} {middle - 1} {hi} {atom(name)} (omega arith) (omega arith)")
         elif hi < value.lo or lo > value.hi:
             yield from self.kept(value, key)
@@ -196,7 +243,7 @@ class Knowledge:
                  "digit": f"(loading_keeps {atom(value.into)} {value.lo} {' '.join(map(str, value.digits))})",
                  "word": f"(word_keeps {atom(value.into)} {' '.join(map(str, value.digits))} {size})"}[value.kind]
         way = "kept_above" if lo > value.hi else "kept_below"
-        yield self.fact(value.owner, [key, before], f"{number(key)} ≡ {number(before)}",
+        yield self.fact(value.owner, {key: 1}, "=", {before: 1},
                         f"{way} 16 {value.lo} {value.hi} {lo} {hi} {atom(value.into)} {atom(name)} (omega arith) {keeps}")
 
     def register(self, name: str) -> str:
@@ -206,24 +253,20 @@ class Knowledge:
     def rule(self, value: Value) -> Iterable[Fact]:
         """Yields the fact that a sum or a difference is that of whole numbers."""
         key = value.name, value.lo, value.hi
-        if getattr(value, "is_ruled", False) or not value.carry:
+        if value.is_ruled or not value.carry:
             return
         value.is_ruled = True
-        x, y = (value.x, value.lo, value.hi), (value.y, value.lo, value.hi)
-        operands = [one for one in (x, y) if one[0] != "zeros"]
-        texts = [number(one) for one in operands]
-        bit = "1" if value.carry_in == "true" else "0"
-        power = f"carry_digit {value.carry} * 16 ^ {value.hi + 1 - value.lo}"
+        x, y = ({(name, value.lo, value.hi): 1} if name != "zeros" else {} for name in (value.x, value.y))
+        carry = f"carry_digit {value.carry}"
+        power, bit = 16 ** (value.hi + 1 - value.lo), int(value.carry_in == "true")
         law = "sums" if value.kind == "sum" else "differences"
         args = (f"16 {value.lo} {value.hi} {atom(value.into)} {atom(value.x)} {atom(value.y)} {value.name} {value.carry_in} {value.carry} "
                 f"(omega arith) (omega arith) (inl (refl, {self.register(value.x)})) (inl (refl, {self.register(value.y)})) {value.rule}")
-        x_text, y_text = ("0" if one[0] == "zeros" else number(one) for one in (x, y))
-        statement = (f"{x_text} + {y_text} + {bit} ≡ {number(key)} + {power}" if value.kind == "sum" else
-                     f"{x_text} + {power} ≡ {number(key)} + {y_text} + {bit}")
-        zero = f", zeros_number 16 {value.lo} {value.hi}" if len(texts) < 2 else ""
-        carry = f"carry_digit {value.carry}"
-        yield self.fact(value.owner, [key, *operands, carry], statement, f"omega (arith, {law} {args}{zero})")
-        yield self.fact(value.owner, [carry], f"{carry} ≤ 1", f"carry_at_most {value.carry}")
+        zero = f", zeros_number 16 {value.lo} {value.hi}" if "zeros" in (value.x, value.y) else ""
+        left, right = ({**added_form(x, y), None: bit}, {key: 1, carry: power}) if value.kind == "sum" else \
+            ({**x, carry: power}, {**added_form({key: 1}, y), None: bit})
+        yield self.fact(value.owner, left, "=", right, f"omega (arith, {law} {args}{zero})")
+        yield self.fact(value.owner, {carry: 1}, "<=", {None: 1}, f"carry_at_most {value.carry}")
 
     def copy_facts(self, value: Value, key: tuple[str, int, int]) -> Iterable[Fact]:
         """Yields the fact that digits are copied."""
@@ -231,10 +274,10 @@ class Knowledge:
         copied = (f"copy_number replaced {atom(value.into)} {atom(value.x)} {value.lo} {value.hi} {value.size(self.values)} (omega arith) 16 "
                   f"{lo} {hi} (omega arith) (omega arith)")
         if value.x == "zeros":
-            yield self.fact(value.owner, [key], f"{number(key)} ≡ 0", f"{copied} ∙ zeros_number 16 {lo} {hi}")
+            yield self.fact(value.owner, {key: 1}, "=", {}, f"{copied} ∙ zeros_number 16 {lo} {hi}")
         else:
             source = value.x, lo, hi
-            yield self.fact(value.owner, [key, source], f"{number(key)} ≡ {number(source)}", copied)
+            yield self.fact(value.owner, {key: 1}, "=", {source: 1}, copied)
 
     def shift_facts(self, value: Value, key: tuple[str, int, int], empty: int, step: int, way: str, end: str) -> Iterable[Fact]:
         """Yields the fact that a digit is shifted, or that it becomes 0 at the end of the field."""
@@ -242,10 +285,10 @@ class Knowledge:
         args = f"replaced {atom(value.into)} {atom(value.into)} {value.lo} {value.hi} {value.size(self.values)} (omega arith)"
         one = f"one_digit 16 {value.name} {place}"
         if place == empty:
-            yield self.fact(value.owner, [key], f"{number(key)} ≡ 0", f"{one} ∙ {end} {args} (omega arith)")
+            yield self.fact(value.owner, {key: 1}, "=", {}, f"{one} ∙ {end} {args} (omega arith)")
         else:
             source = value.into, place + step, place + step
-            yield self.fact(value.owner, [key, source], f"{number(key)} ≡ {number(source)}",
+            yield self.fact(value.owner, {key: 1}, "=", {source: 1},
                             f"{one} ∙ {way} {args} {place} (omega arith) (omega arith) ∙ sym (one_digit 16 {atom(value.into)} {place + step})")
 
     def right_facts(self, value: Value, key: tuple[str, int, int]) -> Iterable[Fact]:
@@ -259,12 +302,12 @@ class Knowledge:
     def rotated_facts(self, value: Value, key: tuple[str, int, int]) -> Iterable[Fact]:
         """Yields the fact that a digit is rotated."""
         place, source = key[1], (key[1] + value.digits[0]) % PLACES
-        yield self.fact(value.owner, [key, (value.into, source, source)], f"{number(key)} ≡ {number((value.into, source, source))}",
+        yield self.fact(value.owner, {key: 1}, "=", {(value.into, source, source): 1},
                         f"one_digit 16 {value.name} {place} ∙ sym (one_digit 16 {atom(value.into)} {source})")
 
     def digit_facts(self, value: Value, key: tuple[str, int, int]) -> Iterable[Fact]:
         """Yields the fact that a digit was loaded."""
-        yield self.fact(value.owner, [key], f"{number(key)} ≡ {value.digits[0]}",
+        yield self.fact(value.owner, {key: 1}, "=", {None: value.digits[0]},
                         f"one_digit 16 {value.name} {value.lo} ∙ loaded_digit {atom(value.into)} {value.lo} {value.digits[0]} "
                         f"(omega (arith, {value.size(self.values)}))")
 
@@ -273,12 +316,12 @@ class Knowledge:
         args = f"{atom(value.into)} {' '.join(map(str, value.digits))} {value.size(self.values)}"
         if key[1:] == (0, 2):
             total = sum(digit << 4 * place for place, digit in enumerate(value.digits))
-            yield self.fact(value.owner, [key], f"{number(key)} ≡ {total}", f"omega (arith, word_number {args})")
+            yield self.fact(value.owner, {key: 1}, "=", {None: total}, f"omega (arith, word_number {args})")
         else:
-            yield self.fact(value.owner, [key], f"{number(key)} ≡ {value.digits[key[1]]}",
+            yield self.fact(value.owner, {key: 1}, "=", {None: value.digits[key[1]]},
                             f"one_digit 16 {value.name} {key[1]} ∙ word_digit_{key[1]} {args}")
 
-    def reach(self, keys: Iterable[Key], passed: list[Fact]) -> list[Fact]:
+    def reach(self, keys: Iterable[Key], passed: list[Fact], is_needed: bool = True) -> list[Fact]:
         """Returns the facts that may decide a claim about some numbers, and marks them as needed: those that define the numbers, tests
         and requirements that share a number with them, and so on."""
         wanted, seen, facts = list(keys), set(), {}
@@ -290,6 +333,6 @@ class Knowledge:
             for one in [*self.defining(key), *(fact for fact in passed if key in fact.keys)]:
                 if one.name not in facts:
                     facts[one.name] = one
-                    one.is_needed = True
+                    one.is_needed |= is_needed
                     wanted += [other for other in one.keys if other not in seen]
         return list(facts.values())

@@ -5,8 +5,8 @@ import os
 from typing import Iterable
 
 from claims import Atom, Claim, Named, Sum
-from executing import Code, Result, known_at_start, key_of, negative_free, plain, term_of, value_of
-from symbols import Fact, Node, State, stack
+from codes import Code, Loop, Result, key_of, known_at_start, negative_free, plain, term_of, value_of
+from symbols import Fact, Node, State, number, stack
 
 RELATIONS = {"=": "≡", "<": "<", "<=": "≤", "<>": "≢"}
 
@@ -46,7 +46,8 @@ use Rattle.h41_reasoning.proofs.Numbers.{some_number, zero_number, zeros_number,
 use Rattle.h41_reasoning.proofs.OneWord.{battery_tested, decimal_set, digit_loaded, hexadecimal_set, nothing_done, pointer_down, pointer_selected}
 use Rattle.h41_reasoning.proofs.OneWord.{pointer_set, pointer_tested, pointer_up, registers_cleared, rotated, status_cleared, status_set}
 use Rattle.h41_reasoning.proofs.OneWord.{status_tested, transferred}
-use Rattle.h41_reasoning.proofs.Rounds.{at_end, by_step, exactly, in_turn, more_suffice, takes_in_turn, takes_none, takes_step}
+use Rattle.h41_reasoning.specs.Rounds.{AfterRound}
+use Rattle.h41_reasoning.proofs.Rounds.{at_end, by_step, exactly, in_turn, loops_end, more_suffice, takes_in_turn, takes_none, takes_step}
 use Rattle.h41_reasoning.proofs.Spans.{below, kept_above, kept_below, parts}
 use Rattle.h41_reasoning.proofs.TwoWords.{load_immediate}
 """
@@ -127,10 +128,8 @@ def requirements(result: Result) -> list[tuple[str, str]]:
 
 def reached(result: Result) -> str:
     """Returns the conclusion of a theorem."""
-    count = result.steps
-    if result.contract.steps and not result.contract.steps.is_exact:
-        count = result.contract.steps.count.constant
-    return f"{'Takes' if result.is_exact else 'Reaches'} {count} s ({done_name(result.label)} s r0 r1 r2 r3)"
+    word = "Takes" if result.is_exact else "Reaches"
+    return f"{word} ({sum_text(result.bound, 's.processor')}) s ({done_name(result.label)} s r0 r1 r2 r3)"
 
 
 def spec_of(code: Code, result: Result) -> str:
@@ -159,9 +158,14 @@ class Proof:
         self.code, self.result = code, result
         self.rows: list[tuple[str, int, str]] = []
         self.words = ("Takes", "takes_step", "takes_none") if result.is_exact else ("Reaches", "by_step", "at_end")
-        self.line, self.claim = result.contract.line, ""
+        self.line, self.claim, self.after = result.contract.line, "", "After"
+        # The part of the number of steps that is not constant, in a function with a loop.
+        steps = result.contract.steps
+        self.extra = sum_text(Sum(steps.count.parts), "s.processor") if steps and steps.count.parts else ""
         for end in result.ends:
             end.proofs = [self.proof_of(claim, end) for claim in result.contract.ensures]
+        for node in [*result.loop.entries, *result.loop.backs] if result.loop else []:
+            node.proofs = self.proofs_at_loop(result.loop, node)
 
     def proof_of(self, claim: Claim | Named, end: Node) -> str:
         """Returns the proof of a claim at an end of the function."""
@@ -171,6 +175,18 @@ class Proof:
         facts = self.result.knowledge.reach([key_of(one, start if one.old else end.state) for one in claim.atoms()], end.passed)
         names = "".join(f", {one.name}" for one in facts)
         return f"λ same. omega (arith, same{names})" if claim.relation == "<>" else f"omega (arith{names})"
+
+    def proofs_at_loop(self, loop: Loop, node: Node) -> list[str]:
+        """Returns the proofs of an invariant at the label of a loop, and last the proof that the count falls, or that the steps suffice."""
+        found = [self.proof_of(claim, node) for claim in loop.contract.invariant]
+        measure = loop.contract.decreases or Sum()
+        keys = [key_of(one, node.state) for one in measure.atoms()]
+        if node in loop.backs and loop.root:
+            keys += [key_of(one, loop.root.state) for one in measure.atoms()]
+        elif self.result.contract.steps:
+            keys += [key_of(one, self.result.root.state) for one in self.result.contract.steps.count.atoms()]
+        names = "".join(f", {one.name}" for one in self.result.knowledge.reach(keys, node.passed))
+        return [*found, f"omega (arith{names})"]
 
     def put(self, depth: int, text: str) -> None:
         """Adds a line."""
@@ -207,12 +223,10 @@ class Proof:
         self.put(0, f"proved {' '.join(names)} s r0 r1 r2 r3 whole next has stack may_return {' '.join(needs)} =")
         self.put(2, f"let here : {root.text()} ≡ s = {here(known)} in")
         went = f"go_0 {' '.join(names)} s r0 r1 r2 r3 has may_return {' '.join(given)} (subst IsWhole (sym here) whole)"
-        count = result.steps
-        if not result.is_exact and result.contract.steps:
-            most = result.contract.steps.count.constant
-            went = f"more_suffice {count} {most} {root.text()} ({done_name(label)} s r0 r1 r2 r3) (omega arith) ({went})"
-            count = most
-        self.put(2, f"subst (λ t. {self.words[0]} {count} t ({done_name(label)} s r0 r1 r2 r3)) here ({went})")
+        count = sum_text(result.bound, "s.processor")
+        if not result.is_exact and not self.extra:
+            went = f"more_suffice {result.steps} ({count}) {root.text()} ({done_name(label)} s r0 r1 r2 r3) (omega arith) ({went})"
+        self.put(2, f"subst (λ t. {self.words[0]} ({count}) t ({done_name(label)} s r0 r1 r2 r3)) here ({went})")
 
     # The nodes.
 
@@ -225,6 +239,8 @@ class Proof:
             self.put(depth + 1, f"abbrev {name} : {kind}")
             self.put(depth + 1, f"{name} = {term}")
         self.facts(node.facts, depth + 1)
+        if node is self.result.root and self.result.loop:
+            self.write_loop(self.result.loop, depth + 1)
         getattr(self, f"write_{node.form[0]}")(node, depth + 1, *node.form[1:])
 
     def facts(self, facts: Iterable[Fact], depth: int) -> None:
@@ -234,11 +250,22 @@ class Proof:
                 self.put(depth, f"{one.name} : {one.statement}")
                 self.put(depth, f"{one.name} = {one.proof}")
 
+    def count(self, node: Node) -> str:
+        """Returns the most steps from a node as a term."""
+        return f"({self.extra} + {node.steps})" if self.extra and self.after == "After" else str(node.steps)
+
     def head(self, node: Node, depth: int, name: str = "") -> None:
         """Adds the type of the run from a node."""
         self.line = node.line
-        self.put(depth, f"{name or node.go} : {self.words[0]} {node.steps} {node.state.text()} After")
+        self.put(depth, f"{name or node.go} : {self.words[0]} {self.count(node)} {node.state.text()} {self.after}")
         self.put(depth, UNFOLDING)
+
+    def stepped(self, node: Node, after: Node, step: str, rest: str) -> str:
+        """Returns the run from a node by a step and the run after it."""
+        went = f"{self.words[1]} {self.count(after)} _ _ {self.after} {step} ({rest})"
+        if after.steps + 1 < node.steps or self.extra and self.after == "After":
+            went = f"more_suffice (1 + {self.count(after)}) {self.count(node)} _ {self.after} (omega arith) ({went})"
+        return went
 
     def write_step(self, node: Node, depth: int, lemma: str) -> None:
         """Adds a step."""
@@ -247,7 +274,7 @@ class Proof:
         self.head(node, depth)
         self.put(depth, f"{node.go} =")
         self.put(depth + 2, f"let step : StepsTo {node.state.text()} {after.state.text()} = {lemma} in")
-        self.put(depth + 2, f"{self.words[1]} {after.steps} _ _ After step ({after.go} step.whole)")
+        self.put(depth + 2, self.stepped(node, after, "step", f"{after.go} step.whole"))
 
     def write_found(self, node: Node, depth: int, lemma: str) -> None:
         """Adds a step after which a register is known by a rule."""
@@ -256,45 +283,110 @@ class Proof:
         self.head(node, depth)
         self.put(depth, f"{node.go} =")
         self.put(depth + 2, f"let found = {lemma} in")
-        self.put(depth + 2, f"{self.words[1]} {after.steps} _ _ After found.3 ({after.go} found.0 found.1 found.2 found.3.whole)")
+        self.put(depth + 2, self.stepped(node, after, "found.3", f"{after.go} found.0 found.1 found.2 found.3.whole"))
 
-    def write_end(self, node: Node, depth: int, lemma: str, name: str = "", fact: Fact | None = None) -> None:
+    def write_end(self, node: Node, depth: int, lemma: str, name: str = "", end: Node | None = None) -> None:
         """Adds the return of the function, with the claims."""
         self.head(node, depth, name)
-        end = node.end
         self.put(depth, f"{name or node.go} =")
         self.put(depth + 2, f"let step = {lemma} in")
-        extra = node.steps - 1 if name and not self.result.is_exact else 0
-        begin = f"more_suffice 1 {node.steps} _ After (omega arith) (" if extra else "("
-        self.put(depth + 2, f"{begin}{self.words[1]} 0 _ _ After step ({self.words[2]} _ After (record {{")
+        is_more = node.steps > 1 or self.extra and self.after == "After"
+        begin = f"more_suffice 1 {self.count(node)} _ {self.after} (omega arith) (" if is_more else "("
+        inside = "(inl (record {" if self.after != "After" else "(record {"
+        self.put(depth + 2, f"{begin}{self.words[1]} 0 _ _ {self.after} step ({self.words[2]} _ {self.after} {inside}")
         self.put(depth + 3, "whole = step.whole;")
         self.put(depth + 3, "only = refl;")
-        for at, (claim, proof) in enumerate(zip(self.result.contract.ensures, end.proofs), 1):
+        for at, (claim, proof) in enumerate(zip(self.result.contract.ensures, (end or node.end).proofs), 1):
             self.line, self.claim = claim.line, claim.text
             self.put(depth + 3, f"claim_{at} = {proof};")
         self.line, self.claim = node.line, ""
-        self.put(depth + 2, "})))")
+        self.put(depth + 2, "}))))" if self.after != "After" else "})))")
+
+    # Loops.
+
+    def measure(self, loop: Loop, state: State) -> str:
+        """Returns the number that each round makes smaller, in a state."""
+        left, _ = negative_free(loop.contract.decreases or Sum(), Sum())
+        parts = [number(key_of(atom, state)) if many == 1 else f"{many} * {number(key_of(atom, state))}" for many, atom in left.parts]
+        return " + ".join([*parts, *([str(left.constant)] if left.constant or not parts else [])])
+
+    def write_loop(self, loop: Loop, depth: int) -> None:
+        """Adds what is true at the label of a loop, and a round."""
+        root = loop.root
+        if not root:
+            return
+        self.line, self.claim = loop.contract.line, ""
+        parts = {**root.state.terms, **{name: f"t.processor.{name}" for name in loop.names}, "pc": f"{loop.address:#06x}",
+                 "returns": stack(root.state.returns)}
+        self.put(depth, "record AtLoop (left : ℕ) (t : Nut) : Type 0 where")
+        self.put(depth + 1, "whole : IsWhole t")
+        self.put(depth + 1, f"is : t ≡ record s {{ processor = record s.processor {{ "
+                            f"{'; '.join(f'{name} = {text}' for name, text in parts.items())} }} }}")
+        here = State(0, (), {name: f"t.processor.{name}" for name in ("a", "b", "c", "m", "n", "g", "t", "p", "q", "status", "carry")})
+        self.put(depth + 1, f"counted : left ≡ {self.measure(loop, here)}")
+        for at, claim in enumerate(loop.contract.invariant, 1):
+            self.put(depth + 1, f"invariant_{at} : {claim_text(claim, 't.processor')}")
+        names = [name for name, _ in root.variables]
+        self.put(depth, "abbrev Round : ℕ → Nut → Type 0")
+        self.put(depth, f"Round left = AfterRound AtLoop ({self.after}) left")
+        self.after = f"(Round {names[0]})"
+        self.node(root, depth)
+        self.after = "After"
+        self.put(depth, f"round : (left : ℕ) (t : Nut) → AtLoop left t → Reaches {loop.steps} t (Round left)")
+        self.put(depth, f"round left t at = subst (λ v. Reaches {loop.steps} v (Round left)) (sym at.is) ({root.go} left t at (subst IsWhole "
+                        "at.is at.whole))")
+
+    def at_loop(self, loop: Loop, node: Node, depth: int) -> None:
+        """Adds the proof that the invariant is true in a state at the label."""
+        for row in (f"whole = {node.whole};", "is = refl;", "counted = refl;"):
+            self.put(depth, row)
+        for at, (claim, proof) in enumerate(zip(loop.contract.invariant, node.proofs), 1):
+            self.line, self.claim = claim.line, claim.text
+            self.put(depth, f"invariant_{at} = {proof};")
+        self.line, self.claim = node.line, ""
+
+    def write_again(self, node: Node, depth: int) -> None:
+        """Adds the end of a round after which there is another one."""
+        loop = self.result.loop
+        self.head(node, depth)
+        self.line, self.claim = loop.contract.line, "decreases"
+        self.put(depth, f"{node.go} = at_end _ {self.after} (inr ({self.measure(loop, node.state)}, {node.proofs[-1]}, record {{")
+        self.at_loop(loop, node, depth + 2)
+        self.put(depth, "}))")
+
+    def write_enter(self, node: Node, depth: int) -> None:
+        """Adds the rounds of a loop."""
+        loop = self.result.loop
+        measure = self.measure(loop, node.state)
+        self.head(node, depth)
+        self.line, self.claim = self.result.contract.steps.line, self.result.contract.steps.text
+        self.put(depth, f"{node.go} = more_suffice ({loop.steps} * ({measure} + 1)) {self.count(node)} _ After ({node.proofs[-1]})")
+        self.line, self.claim = node.line, ""
+        self.put(depth + 2, f"(loops_end AtLoop After {loop.steps} round ({measure}) {node.state.text()} (record {{")
+        self.at_loop(loop, node, depth + 2)
+        self.put(depth, "}))")
 
     def write_split(self, node: Node, depth: int, carry: str, forms) -> None:
         """Adds a jump that is taken on one way and not on the other."""
         names = {}
-        for value, (fact, lemma, after) in zip((True, False), forms):
-            proof = f"is_{node.number}_{int(value)}"
+        for value, way in zip((True, False), forms):
+            proof, after = f"is_{node.number}_{int(value)}", way.node
             self.put(depth, f"module _ ({proof} : {carry} ≡ {'true' if value else 'false'}) where")
-            if fact:
-                self.facts([fact], depth + 1)
+            if way.fact:
+                self.facts([way.fact], depth + 1)
             names[value] = f"way_{node.number}_{int(value)}"
+            if way.refuted is not None:
+                self.head(node, depth + 1, names[value])
+                self.put(depth + 1, f"{names[value]} = absurd (omega (arith{''.join(f', {one.name}' for one in way.refuted)}))")
+                continue
             if after is None:
-                self.write_end(node, depth + 1, lemma, names[value])
+                self.write_end(node, depth + 1, way.lemma, names[value], way.end)
                 continue
             self.node(after, depth + 1)
             self.head(node, depth + 1, names[value])
             self.put(depth + 1, f"{names[value]} =")
-            self.put(depth + 3, f"let step : StepsTo {node.state.text()} {after.state.text()} = {lemma} in")
-            went = f"{self.words[1]} {after.steps} _ _ After step ({after.go} step.whole)"
-            if after.steps + 1 < node.steps:
-                went = f"more_suffice {after.steps + 1} {node.steps} _ After (omega arith) ({went})"
-            self.put(depth + 3, went)
+            self.put(depth + 3, f"let step : StepsTo {node.state.text()} {after.state.text()} = {way.lemma} in")
+            self.put(depth + 3, self.stepped(node, after, "step", f"{after.go} step.whole"))
         self.head(node, depth)
         proofs = [f"{'inl' if value else 'inr'} is ↦ {names[value]} is" for value in (True, False)]
         self.put(depth, f"{node.go} = elim (either {term_of(carry)}) [")
@@ -310,9 +402,7 @@ class Proof:
         is_exact = self.result.is_exact
         stacks = " ".join(inner.returns)
         between = f"({done_name(callee.label)} {inner.text()} {stacks})"
-        count = callee.steps
-        if callee.contract.steps and not callee.contract.steps.is_exact:
-            count = callee.contract.steps.count.constant
+        count = callee.bound.constant
         needs = [f"({self.needed(claim, inner, node)})" for claim in plain(callee.contract.requires)]
         known = " ".join("refl" for _ in known_at_start(callee.contract))
         theorem = f"theorem_{callee.label} {inner.text()} {stacks} step.whole refl has refl refl {known} {' '.join(needs)}"

@@ -7,7 +7,7 @@ from typing import Iterable, Iterator, NamedTuple
 
 from claims import WIDE, Atom, Claim, Contract, Named, Steps, Sum
 from decks import BENCH, NO_ANSWER, Failure, ended
-from executing import Code, known_at_start, value_of
+from codes import Code, known_at_start
 from stubs import stub_of
 
 # How many states are tried, how many are drawn for each that meets the requirements, and the steps after which a call is ended.

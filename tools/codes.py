@@ -71,16 +71,18 @@ class Result:
 
 @dataclass
 class Loop:
-    """A loop: its label, address and contract, the components that a round may change, the node at the beginning of a round, the states
-    from which it is entered and to which a round leads, and the most steps of a round."""
+    """A loop: its label, address and contract, the components that a round may change, the nodes at the beginning of a round, the states
+    from which it is entered and to which a round leads, and the most steps of a round. If the number of steps is exact, the second node
+    is the beginning of the last round, in which `decreases` is zero, and `last_steps` are the steps of this round."""
     label: str
     address: int
     contract: Contract
     names: set[str] = field(default_factory=set)
-    root: Node | None = None
+    roots: list[Node] = field(default_factory=list)
     entries: list[Node] = field(default_factory=list)
     backs: list[Node] = field(default_factory=list)
     steps: int = 0
+    last_steps: int = 0
 
 
 def plain(claims: list[Claim | Named]) -> list[Claim]:

@@ -6,7 +6,7 @@ from typing import Callable
 from claims import Claim, Named, Sum
 from codes import Code, Loop, NotProved, Result, form_of, known_at_start, plain, register_of
 from linear import contradicts, row
-from symbols import Fact, Knowledge, Node, State, Value, Way, literal
+from symbols import WIDE, Fact, Knowledge, Node, State, Value, Way, literal
 from wordsteps import Step
 
 # How many states a function may reach.
@@ -42,7 +42,7 @@ class Execution:
         known = known_at_start(self.contract)
         state = State(self.code.labels[self.label], ("r0", "r1", "r2", "r3"), known)
         root = self.node(state, self.contract.line, [])
-        for name in ("a", "b", "c", "m", "n"):
+        for name in WIDE:
             self.knowledge.add(Value(f"s.processor.{name}", "start", root, register_of(root, name)))
         self.cut([*self.contract.requires, *self.contract.ensures])
         self.assume(root, plain(self.contract.requires), state, "required")
@@ -75,8 +75,8 @@ class Execution:
         if self.loop.address != address:
             raise NotProved(node.line, f"the function has two loops, {self.loop.label} and {self.loops[address]}, expected one: make a "
                                        "function with claims of its own of one of them")
-        node.form = ("enter",) if self.loop.root is None else ("again",)
-        (self.loop.entries if self.loop.root is None else self.loop.backs).append(node)
+        node.form = ("again",) if self.loop.roots else ("enter",)
+        (self.loop.backs if self.loop.roots else self.loop.entries).append(node)
 
     def run_rounds(self, loop: Loop, root: Node) -> None:
         """Executes a round, from a state in which every component that a round may change is unknown."""
@@ -88,33 +88,44 @@ class Execution:
             raise NotProved(loop.contract.line, f"the loop {loop.label} is in a subroutine without claims, expected a function: give the "
                                                 "subroutine claims")
         ended = len(self.ends)
-        while names != loop.names or loop.root is None:
+        while names != loop.names or not loop.roots:
             del self.ends[ended:]
             loop.names, loop.backs = set(names), []
-            loop.root = self.round_root(loop, firsts[0])
-            self.follow(loop.root, (loop.address,))
+            self.run_round(loop, firsts[0], None)
             names |= {name for state in [*firsts, *(back.state for back in loop.backs)] for name in state.terms
-                      if name not in names and state.of(name) != loop.root.state.of(name)}
-        for end in self.ends[ended:]:
-            end.is_in_round = True
+                      if name not in names and state.of(name) != loop.roots[0].state.of(name)}
+        if self.contract.steps and self.contract.steps.is_exact:
+            del self.ends[ended:]
+            loop.backs, loop.roots = [], []
+            self.run_round(loop, firsts[0], 1)
+            self.run_round(loop, firsts[0], 0)
         if any(back.state.returns != root.state.returns for back in loop.backs):
             raise NotProved(loop.contract.line, f"a round of {loop.label} changes the return addresses, expected the same")
 
-    def round_root(self, loop: Loop, first: State) -> Node:
+    def run_round(self, loop: Loop, first: State, left: int | None) -> None:
+        """Executes a round. `left` is 1 for a round in which `decreases` is one more than after it, 0 for the last one, in which it is
+        zero, and None for any round."""
+        node = self.round_root(loop, first, left)
+        loop.roots = [*loop.roots, node] if left == 0 else [node]
+        self.follow(node, (loop.address,))
+
+    def round_root(self, loop: Loop, first: State, left: int | None) -> Node:
         """Returns the node at the beginning of a round."""
         count = len(self.nodes)
         t, at = f"t_{count}", f"at_{count}"
         terms = {**first.terms, **{name: f"{t}.processor.{name}" for name in loop.names}}
         node = self.node(State(loop.address, first.returns, terms), loop.contract.line, [])
-        node.variables = [(f"left_{count}", "ℕ"), (t, "Nut"), (at, f"AtLoop left_{count} {t}")]
-        for name in ("a", "b", "c", "m", "n"):
-            if name in loop.names:
-                self.knowledge.add(Value(f"{t}.processor.{name}", "call", node, register_of(node, name)))
+        name = f"left_{count}"
+        node.variables = [*([(name, "ℕ")] if left != 0 else []), (t, "Nut"),
+                          (at, f"AtLoop {name if left is None else f'(suc {name})' if left else '0'} {t}")]
+        for one in WIDE:
+            if one in loop.names:
+                self.knowledge.add(Value(f"{t}.processor.{one}", "call", node, register_of(node, one)))
         node.passed = list(self.nodes[0].passed)
         measure = form_of(loop.contract.decreases or Sum(), node.state, node.state)
         keys = tuple(key for key in measure if key is not None)
-        left = f"left_{count}"
-        node.passed.append(Fact(f"{at}.counted", "", "", (*keys, left), node, row({left: 1}, "=", measure), True))
+        counted = {name: 1, None: left or 0} if left != 0 else {}
+        node.passed.append(Fact(f"{at}.counted", "", "", (*keys, *([name] if left != 0 else [])), node, row(counted, "=", measure), True))
         self.assume(node, loop.contract.invariant, self.nodes[0].state, f"{at}.invariant")
         return node
 
@@ -129,7 +140,7 @@ class Execution:
 
     def prune(self) -> None:
         """Finds the ways that no state takes, because facts contradict each other there, and removes them."""
-        left, dropped = [self.nodes[0], *([self.loop.root] if self.loop and self.loop.root else [])], []
+        left, dropped = [self.nodes[0], *(self.loop.roots if self.loop else [])], []
         while left:
             node = left.pop()
             if node.form[0] == "failed":
@@ -170,8 +181,12 @@ class Execution:
     def follow(self, node: Node, way: tuple[int, ...]) -> None:
         """Executes the instructions from a node to the end of the function."""
         while True:
-            if node.state.pc in self.loops and not (self.loop and node is self.loop.root):
-                return self.arrive(node)
+            if node.state.pc in self.loops and not (self.loop and node in self.loop.roots):
+                try:
+                    return self.arrive(node)
+                except NotProved as why:
+                    node.form = "failed", why
+                    return None
             if node.state.pc in way[:-1]:
                 node.form = "failed", NotProved(node.line, f"the instruction goes back to {node.state.pc:04X}, expected no loop: give the "
                                                 "label there an `invariant` and a `decreases`")
@@ -181,7 +196,7 @@ class Execution:
                 node.line = instruction.line
                 nexts = Step(self, node, instruction).nexts()
             except NotProved as why:
-                # It counts only if a state comes here.
+                # It counts only if a state comes here, which is decided later.
                 node.form = "failed", why
                 return None
             node.nexts = nexts
@@ -219,12 +234,12 @@ def summarise(result: Result) -> None:
 def bound_loop(result: Result, loop: Loop) -> None:
     """Gives each entry of a loop the steps that are left for it there."""
     claimed = result.contract.steps
-    if not claimed or claimed.is_exact:
-        raise NotProved(claimed.line if claimed else result.contract.line, f"{result.label} has a loop, expected a claim such as "
-                        "`within 4 * old C.SX + 6 steps`")
-    if loop.root:
-        count_steps(loop.root)
-        loop.steps = loop.root.steps
+    if not claimed:
+        raise NotProved(result.contract.line, f"{result.label} has a loop, expected a claim such as `within 4 * C.SX + 6 steps`")
+    counts = [count_steps(root) for root in loop.roots]
+    loop.steps, loop.last_steps = loop.roots[0].steps, loop.roots[-1].steps
+    if claimed.is_exact:
+        check_exact(result, loop, counts)
     depths = {result.root.number: 0}
     left = [result.root]
     while left:
@@ -236,6 +251,30 @@ def bound_loop(result: Result, loop: Loop) -> None:
         entry.steps = claimed.count.constant - depths[entry.number]
         if entry.steps < 0:
             raise NotProved(claimed.line, f"`{claimed.text}`: the function takes {depths[entry.number]} steps before its loop")
+
+
+def check_exact(result: Result, loop: Loop, counts: list[set[int]]) -> None:
+    """Checks that each round of a loop takes the same number of steps, and that the last round is the one in which `decreases` is
+    zero."""
+    steps = result.contract.steps
+    line, text = (steps.line, steps.text) if steps else (0, "")
+    if any(len(count) != 1 for count in counts):
+        raise NotProved(line, f"`{text}`: a round of {loop.label} takes {' or '.join(map(str, sorted(max(counts, key=len))))} steps, expected "
+                              "one number: claim `within`")
+    kinds = [{node.form[0] for node in reachable(root)} | {"end" for node in reachable(root) if node.form[0] == "split"
+             and any(way.end and way.refuted is None for way in node.form[2])} for root in loop.roots]
+    if "end" in kinds[0] or "again" in kinds[1]:
+        raise NotProved(line, f"`{text}`: the loop {loop.label} may end while `decreases` is not zero, or go on when it is, expected a count "
+                              "that falls by one in each round, down to zero: claim `within`")
+
+
+def reachable(root: Node) -> list[Node]:
+    """Returns the nodes that a run reaches from a node."""
+    found, left = [], [root]
+    while left:
+        found.append(left.pop())
+        left += found[-1].nexts
+    return found
 
 
 def count(result: Result) -> None:

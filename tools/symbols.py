@@ -109,7 +109,7 @@ class Node:
     """A state that a function reaches: the variables that are introduced there, abbreviations, facts, and the tests that were passed on
     the way. `form` says how the run continues, and `nexts` are the nodes after it. `steps` are the most steps from there to the end, and
     `cost` those to the next node. `test` is the test whose result is the carry. `end` is the state after the return of the function,
-    `proofs` are the proofs of the claims there, and `is_in_round` is set if it is in a round of a loop."""
+    and `proofs` are the proofs of the claims there."""
     number: int
     line: int
     state: State
@@ -124,7 +124,6 @@ class Node:
     end: Node | None = None
     test: tuple | None = None
     proofs: list[str] = field(default_factory=list)
-    is_in_round: bool = False
 
     @property
     def whole(self) -> str:

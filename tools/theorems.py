@@ -47,7 +47,7 @@ use Rattle.h41_reasoning.proofs.OneWord.{battery_tested, decimal_set, digit_load
 use Rattle.h41_reasoning.proofs.OneWord.{pointer_set, pointer_tested, pointer_up, registers_cleared, rotated, status_cleared, status_set}
 use Rattle.h41_reasoning.proofs.OneWord.{status_tested, transferred}
 use Rattle.h41_reasoning.specs.Rounds.{AfterRound}
-use Rattle.h41_reasoning.proofs.Rounds.{at_end, by_step, exactly, in_turn, loops_end, more_suffice, takes_in_turn, takes_none, takes_step}
+use Rattle.h41_reasoning.proofs.Rounds.{at_end, by_step, counts_down, exactly, in_turn, loops_end, more_suffice, takes_in_turn, takes_none, takes_step}
 use Rattle.h41_reasoning.proofs.Spans.{below, kept_above, kept_below, parts}
 use Rattle.h41_reasoning.proofs.TwoWords.{load_immediate}
 """
@@ -158,7 +158,7 @@ class Proof:
         self.code, self.result = code, result
         self.rows: list[tuple[str, int, str]] = []
         self.words = ("Takes", "takes_step", "takes_none") if result.is_exact else ("Reaches", "by_step", "at_end")
-        self.line, self.claim, self.after = result.contract.line, "", "After"
+        self.line, self.claim, self.after, self.is_in_round = result.contract.line, "", "After", False
         # The part of the number of steps that is not constant, in a function with a loop.
         steps = result.contract.steps
         self.extra = sum_text(Sum(steps.count.parts), "s.processor") if steps and steps.count.parts else ""
@@ -181,8 +181,8 @@ class Proof:
         found = [self.proof_of(claim, node) for claim in loop.contract.invariant]
         measure = loop.contract.decreases or Sum()
         keys = [key_of(one, node.state) for one in measure.atoms()]
-        if node in loop.backs and loop.root:
-            keys += [key_of(one, loop.root.state) for one in measure.atoms()]
+        if node in loop.backs:
+            keys += [key_of(one, loop.roots[0].state) for one in measure.atoms()]
         elif self.result.contract.steps:
             keys += [key_of(one, self.result.root.state) for one in self.result.contract.steps.count.atoms()]
         names = "".join(f", {one.name}" for one in self.result.knowledge.reach(keys, node.passed))
@@ -252,7 +252,11 @@ class Proof:
 
     def count(self, node: Node) -> str:
         """Returns the most steps from a node as a term."""
-        return f"({self.extra} + {node.steps})" if self.extra and self.after == "After" else str(node.steps)
+        return f"({self.extra} + {node.steps})" if self.is_open() else str(node.steps)
+
+    def is_open(self) -> bool:
+        """Returns whether the number of steps depends on the state: in a function with a loop, outside its rounds."""
+        return bool(self.extra) and not self.is_in_round
 
     def head(self, node: Node, depth: int, name: str = "") -> None:
         """Adds the type of the run from a node."""
@@ -263,7 +267,10 @@ class Proof:
     def stepped(self, node: Node, after: Node, step: str, rest: str) -> str:
         """Returns the run from a node by a step and the run after it."""
         went = f"{self.words[1]} {self.count(after)} _ _ {self.after} {step} ({rest})"
-        if after.steps + 1 < node.steps or self.extra and self.after == "After":
+        if self.result.is_exact and self.is_open():
+            return (f"let same : suc {self.count(after)} ≡ {self.count(node)} = omega arith in "
+                    f"subst (λ n. Takes n {node.state.text()} {self.after}) same ({went})")
+        if after.steps + 1 < node.steps or self.is_open():
             went = f"more_suffice (1 + {self.count(after)}) {self.count(node)} _ {self.after} (omega arith) ({went})"
         return went
 
@@ -290,7 +297,7 @@ class Proof:
         self.head(node, depth, name)
         self.put(depth, f"{name or node.go} =")
         self.put(depth + 2, f"let step = {lemma} in")
-        is_more = node.steps > 1 or self.extra and self.after == "After"
+        is_more = node.steps > 1 or self.is_open()
         begin = f"more_suffice 1 {self.count(node)} _ {self.after} (omega arith) (" if is_more else "("
         inside = "(inl (record {" if self.after != "After" else "(record {"
         self.put(depth + 2, f"{begin}{self.words[1]} 0 _ _ {self.after} step ({self.words[2]} _ {self.after} {inside}")
@@ -312,9 +319,7 @@ class Proof:
 
     def write_loop(self, loop: Loop, depth: int) -> None:
         """Adds what is true at the label of a loop, and a round."""
-        root = loop.root
-        if not root:
-            return
+        root = loop.roots[0]
         self.line, self.claim = loop.contract.line, ""
         parts = {**root.state.terms, **{name: f"t.processor.{name}" for name in loop.names}, "pc": f"{loop.address:#06x}",
                  "returns": stack(root.state.returns)}
@@ -326,19 +331,26 @@ class Proof:
         self.put(depth + 1, f"counted : left ≡ {self.measure(loop, here)}")
         for at, claim in enumerate(loop.contract.invariant, 1):
             self.put(depth + 1, f"invariant_{at} : {claim_text(claim, 't.processor')}")
-        names = [name for name, _ in root.variables]
-        self.put(depth, "abbrev Round : ℕ → Nut → Type 0")
-        self.put(depth, f"Round left = AfterRound AtLoop ({self.after}) left")
-        self.after = f"(Round {names[0]})"
-        self.node(root, depth)
-        self.after = "After"
-        self.put(depth, f"round : (left : ℕ) (t : Nut) → AtLoop left t → Reaches {loop.steps} t (Round left)")
-        self.put(depth, f"round left t at = subst (λ v. Reaches {loop.steps} v (Round left)) (sym at.is) ({root.go} left t at (subst IsWhole "
-                        "at.is at.whole))")
+        self.is_in_round = True
+        if self.result.is_exact:
+            self.after = f"(AtLoop {root.variables[0][0]})"
+            self.node(root, depth)
+            self.after = "After"
+            self.node(loop.roots[1], depth)
+        else:
+            self.put(depth, "abbrev Round : ℕ → Nut → Type 0")
+            self.put(depth, "Round left = AfterRound AtLoop After left")
+            self.after = f"(Round {root.variables[0][0]})"
+            self.node(root, depth)
+            self.after = "After"
+            self.put(depth, f"round : (left : ℕ) (t : Nut) → AtLoop left t → Reaches {loop.steps} t (Round left)")
+            self.put(depth, f"round left t at = subst (λ v. Reaches {loop.steps} v (Round left)) (sym at.is) ({root.go} left t at "
+                            "(subst IsWhole at.is at.whole))")
+        self.is_in_round = False
 
-    def at_loop(self, loop: Loop, node: Node, depth: int) -> None:
+    def at_loop(self, loop: Loop, node: Node, depth: int, counted: str) -> None:
         """Adds the proof that the invariant is true in a state at the label."""
-        for row in (f"whole = {node.whole};", "is = refl;", "counted = refl;"):
+        for row in (f"whole = {node.whole};", "is = refl;", f"counted = {counted};"):
             self.put(depth, row)
         for at, (claim, proof) in enumerate(zip(loop.contract.invariant, node.proofs), 1):
             self.line, self.claim = claim.line, claim.text
@@ -350,21 +362,38 @@ class Proof:
         loop = self.result.loop
         self.head(node, depth)
         self.line, self.claim = loop.contract.line, "decreases"
+        if self.result.is_exact:
+            self.put(depth, f"{node.go} = takes_none _ {self.after} (record {{")
+            self.at_loop(loop, node, depth + 2, node.proofs[-1])
+            self.put(depth, "})")
+            return
         self.put(depth, f"{node.go} = at_end _ {self.after} (inr ({self.measure(loop, node.state)}, {node.proofs[-1]}, record {{")
-        self.at_loop(loop, node, depth + 2)
+        self.at_loop(loop, node, depth + 2, "refl")
         self.put(depth, "}))")
 
     def write_enter(self, node: Node, depth: int) -> None:
         """Adds the rounds of a loop."""
-        loop = self.result.loop
-        measure = self.measure(loop, node.state)
+        loop, steps = self.result.loop, self.result.contract.steps
+        measure, state = self.measure(loop, node.state), node.state.text()
         self.head(node, depth)
-        self.line, self.claim = self.result.contract.steps.line, self.result.contract.steps.text
-        self.put(depth, f"{node.go} = more_suffice ({loop.steps} * ({measure} + 1)) {self.count(node)} _ After ({node.proofs[-1]})")
-        self.line, self.claim = node.line, ""
-        self.put(depth + 2, f"(loops_end AtLoop After {loop.steps} round ({measure}) {node.state.text()} (record {{")
-        self.at_loop(loop, node, depth + 2)
-        self.put(depth, "}))")
+        self.put(depth, f"{node.go} =")
+        self.line, self.claim = steps.line, steps.text
+        if self.result.is_exact:
+            self.put(depth + 2, f"let same : {loop.steps} * ({measure}) + {loop.last_steps} ≡ {self.count(node)} = {node.proofs[-1]} in")
+            self.line, self.claim = node.line, ""
+            self.put(depth + 2, f"subst (λ n. Takes n {state} After) same (counts_down AtLoop After {loop.steps} {loop.last_steps}")
+            more, last = (f"subst (λ v. Takes {count} v {after}) (sym at.is) ({root.go} {args} at (subst IsWhole at.is at.whole))"
+                          for root, count, after, args in zip(loop.roots, (loop.steps, loop.last_steps), ("(AtLoop left)", "After"),
+                                                              ("left t", "t")))
+            self.put(depth + 2, f"(λ left t at. {more})")
+            self.put(depth + 2, f"(λ t at. {last})")
+            self.put(depth + 2, f"({measure}) {state} (record {{")
+        else:
+            self.put(depth + 2, f"more_suffice ({loop.steps} * ({measure} + 1)) {self.count(node)} _ After ({node.proofs[-1]})")
+            self.line, self.claim = node.line, ""
+            self.put(depth + 2, f"(loops_end AtLoop After {loop.steps} round ({measure}) {state} (record {{")
+        self.at_loop(loop, node, depth + 3, "refl")
+        self.put(depth + 2, "}))")
 
     def write_split(self, node: Node, depth: int, carry: str, forms) -> None:
         """Adds a jump that is taken on one way and not on the other."""

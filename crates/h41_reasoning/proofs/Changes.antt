@@ -36,7 +36,8 @@ module _ (replaced : ReplacedIsDetermined) (into x : List ℕ) (lo hi : ℕ) (si
 
   pub copy_number : (base a b : ℕ) → lo ≤ a → b ≤ hi → number_of base (copy_of into x lo hi) a b ≡ number_of base x a b
   copy_number base a b from to =
-      same_number base a b x (copy_of into x lo hi) (λ place first last. copied.inside place (omega (arith, from, first)) (omega (arith, to, last)))
+      same_number base a b x (copy_of into x lo hi)
+      (λ place first last. copied.inside place (omega (arith, from, first)) (omega (arith, to, last)))
 
 -- A shift to the right: place hi becomes 0.
 module _ (replaced : ReplacedIsDetermined) (into x : List ℕ) (lo hi : ℕ) (size : length into ≡ 14) (inside : hi < 14) where

@@ -84,7 +84,7 @@ class Execution:
         names = {name for state in firsts for name in state.terms if state.of(name) != root.state.of(name)}
         self.cut([*loop.contract.invariant])
         self.cut([Claim(loop.contract.decreases or Sum(), "=", Sum(), "", 0)])
-        if any(state.returns != root.state.returns for state in firsts):
+        if any(state.returns != firsts[0].returns or state.returns[0] != "r0" for state in firsts):
             raise NotProved(loop.contract.line, f"the loop {loop.label} is in a subroutine without claims, expected a function: give the "
                                                 "subroutine claims")
         ended = len(self.ends)
@@ -99,7 +99,7 @@ class Execution:
             loop.backs, loop.roots = [], []
             self.run_round(loop, firsts[0], 1)
             self.run_round(loop, firsts[0], 0)
-        if any(back.state.returns != root.state.returns for back in loop.backs):
+        if any(back.state.returns != firsts[0].returns for back in loop.backs):
             raise NotProved(loop.contract.line, f"a round of {loop.label} changes the return addresses, expected the same")
 
     def run_round(self, loop: Loop, first: State, left: int | None) -> None:
@@ -159,7 +159,7 @@ class Execution:
         self.forget(dropped)
 
     def forget(self, dropped: list[Way]) -> None:
-        """Removes the ends, and the ends of rounds, on ways that no state takes."""
+        """Removes the returns, and the rounds, on ways that no state takes."""
         left = [way.node or way.end for way in dropped]
         while left:
             node = left.pop()

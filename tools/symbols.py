@@ -59,7 +59,8 @@ def literal(value: object) -> bool:
 
 @dataclass
 class Fact:
-    """A fact: its name, statement and proof, the numbers that it relates, and the node in whose module it stands."""
+    """A fact: its name, statement and proof, the numbers that it relates, and the node in whose module it is
+    written."""
     name: str
     statement: str
     proof: str
@@ -321,7 +322,7 @@ class Knowledge:
                             f"one_digit 16 {value.name} {key[1]} ∙ word_digit_{key[1]} {args}")
 
     def reach(self, keys: Iterable[Key], passed: list[Fact], is_needed: bool = True) -> list[Fact]:
-        """Returns the facts that may decide a claim about some numbers, and marks them as needed: those that define the numbers, tests
+        """Returns the facts that may decide a claim about some numbers, and notes that they are needed: those that define the numbers, tests
         and requirements that share a number with them, and so on."""
         wanted, seen, facts = list(keys), set(), {}
         while wanted:

@@ -44,8 +44,8 @@ use Rattle.h41_reasoning.proofs.Jumps.{long_jump_passed, long_jump_taken, return
 use Rattle.h41_reasoning.proofs.Jumps.{short_jump_taken}
 use Rattle.h41_reasoning.proofs.Numbers.{some_number, zero_number, zeros_number, zeros_register}
 use Rattle.h41_reasoning.proofs.OneWord.{battery_tested, decimal_set, digit_loaded, hexadecimal_set, nothing_done, pointer_down, pointer_selected}
-use Rattle.h41_reasoning.proofs.OneWord.{pointer_set, pointer_tested, pointer_up, registers_cleared, rotated, status_cleared, status_set}
-use Rattle.h41_reasoning.proofs.OneWord.{status_tested, transferred}
+use Rattle.h41_reasoning.proofs.OneWord.{pointer_set, pointer_tested, pointer_up, pointers_compared, registers_cleared, rotated, status_cleared}
+use Rattle.h41_reasoning.proofs.OneWord.{status_set, status_tested, transferred}
 use Rattle.h41_reasoning.specs.Rounds.{AfterRound}
 use Rattle.h41_reasoning.proofs.Rounds.{at_end, by_step, counts_down, exactly, in_turn, loops_end, more_suffice, takes_in_turn, takes_none, takes_step}
 use Rattle.h41_reasoning.proofs.Spans.{below, kept_above, kept_below, parts}

@@ -196,6 +196,9 @@ class Step:
             return self.step(f"{lemma} {begin} {self.at_next}", self.state.after(self.next_pc, base=base))
         if text in ("SLCT P", "SLCT Q"):
             return self.step(f"pointer_selected {begin} {operand} {self.at_next}", self.state.after(self.next_pc, active=operand))
+        if text == "?P=Q" and literal(self.state.of("p")) and literal(self.state.of("q")):
+            after.terms["carry"] = "true" if self.state.of("p") == self.state.of("q") else "false"
+            return self.step(f"pointers_compared {begin} {self.at_next}", after)
         if name in ("R=", "LD@R", "?R=") or text in ("R=R+1", "R=R-1"):
             return self.pointer(begin)
         if name in ("SETF", "CLRF", "?FSET"):

@@ -5,7 +5,7 @@ from dataclasses import dataclass, field
 from typing import NamedTuple
 
 from claims import Atom, Claim, Contract, Named, Sum
-from symbols import Key, Knowledge, Node, State
+from symbols import Key, Knowledge, Node, State, argument
 
 
 class NotProved(Exception):
@@ -127,7 +127,7 @@ def key_of(atom: Atom, state: State) -> Key:
     if atom.lo is not None:
         return state.of(name), atom.lo, atom.hi or 0
     if atom.name == "CY":
-        return f"carry_digit {term_of(state.of('carry'))}"
+        return f"carry_digit {argument(state.of('carry'))}"
     if atom.name.startswith("S"):
         return f"carry_digit (is_status_set {atom.name[1:]} (record s.processor {{ status = {state.of('status')} }}))"
     return state.of(name)
@@ -140,11 +140,6 @@ def form_of(one: Sum, now: State, before: State) -> dict:
         key = key_of(atom, before if atom.old else now)
         found[key] = found.get(key, 0) + many
     return found
-
-
-def term_of(term: str) -> str:
-    """Returns a term in parentheses if it needs them."""
-    return term if term.replace(".", "").replace("_", "").isalnum() else f"({term})"
 
 
 def negative_free(left: Sum, right: Sum) -> tuple[Sum, Sum]:

@@ -42,6 +42,7 @@ class Execution:
         known = known_at_start(self.contract)
         state = State(self.code.labels[self.label], ("r0", "r1", "r2", "r3"), known)
         root = self.node(state, self.contract.line, [])
+        self.knowledge.root = root
         for name in WIDE:
             self.knowledge.add(Value(f"s.processor.{name}", "start", root, register_of(root, name)))
         self.cut([*self.contract.requires, *self.contract.ensures])
@@ -259,13 +260,13 @@ def check_exact(result: Result, loop: Loop, counts: list[set[int]]) -> None:
     steps = result.contract.steps
     line, text = (steps.line, steps.text) if steps else (0, "")
     if any(len(count) != 1 for count in counts):
-        raise NotProved(line, f"`{text}`: a round of {loop.label} takes {' or '.join(map(str, sorted(max(counts, key=len))))} steps, expected "
-                              "one number: claim `within`")
+        taken = " or ".join(map(str, sorted(max(counts, key=len))))
+        raise NotProved(line, f"`{text}`: a round of {loop.label} takes {taken} steps, expected one number: claim `within`")
     kinds = [{node.form[0] for node in reachable(root)} | {"end" for node in reachable(root) if node.form[0] == "split"
              and any(way.end and way.refuted is None for way in node.form[2])} for root in loop.roots]
     if "end" in kinds[0] or "again" in kinds[1]:
-        raise NotProved(line, f"`{text}`: the loop {loop.label} may end while `decreases` is not zero, or go on when it is, expected a count "
-                              "that falls by one in each round, down to zero: claim `within`")
+        raise NotProved(line, f"`{text}`: the loop {loop.label} may end while `decreases` is not zero, or go on when it is, expected "
+                              "a count that falls by one in each round, down to zero: claim `within`")
 
 
 def reachable(root: Node) -> list[Node]:

@@ -15,7 +15,8 @@ LONG = ("LDI ", "?NC XQ ", "?C XQ ", "?NC GO ", "?C GO ")
 
 def listed(words: list[int]) -> list[str]:
     """Returns the text of each instruction of some words."""
-    ran = subprocess.run([BENCH, "dis", "-"], input="".join(f"{word:03X}\n" for word in words).encode(), stdout=subprocess.PIPE, check=False)
+    given = "".join(f"{word:03X}\n" for word in words)
+    ran = subprocess.run([BENCH, "dis", "-"], input=given.encode(), stdout=subprocess.PIPE, check=False)
     if ran.returncode == NO_ANSWER:
         raise Failure("./bench gave no answer: see its message above", NO_ANSWER)
     return [" ".join(line.split()) for line in ran.stdout.decode().splitlines()]
@@ -53,8 +54,8 @@ def check_names(source: Assembled, contracts: dict[str, Contract]) -> None:
     for label in contracts:
         other = names.setdefault(label.lower(), label)
         if other != label:
-            raise Wrong(contracts[label].line, 1, f"found the label {label}, expected another name, because {other} has claims too, and they "
-                                                  "differ only in upper and lower case")
+            raise Wrong(contracts[label].line, 1, f"found the label {label}, expected another name, because {other} has claims too, "
+                                                  "and they differ only in upper and lower case")
 
 
 def in_order(code: Code, report, labels: set[str]) -> list[Result]:

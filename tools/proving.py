@@ -43,16 +43,16 @@ def check_libraries(folder: str) -> None:
     """Raises Failure if a library is missing."""
     lacks = missing(folder)
     if lacks:
-        raise Failure(f"{folder}: the library {lacks[0]}.rlib is missing: make it with ./bench prove --all, or try the claims without a proof "
-                      "with --try", NO_ANSWER)
+        raise Failure(f"{folder}: the library {lacks[0]}.rlib is missing: make it with ./bench prove --all, or "
+                      "try the claims without a proof with --try", NO_ANSWER)
 
 
 def kit() -> str:
     """Returns the folder of the kit."""
     rt = shutil.which("rt")
     if not rt:
-        raise Failure("rt, the command of the Rattle kit, is not on PATH: install the kit, see README.md, or try the claims without a proof "
-                      "with --try", NO_ANSWER)
+        raise Failure("rt, the command of the Rattle kit, is not on PATH: install the kit, see README.md, or "
+                      "try the claims without a proof with --try", NO_ANSWER)
     return os.path.dirname(os.path.dirname(os.path.realpath(rt)))
 
 

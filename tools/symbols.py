@@ -139,7 +139,7 @@ class Node:
 
 def number(key: Key) -> str:
     """Returns a number as a term."""
-    return key if isinstance(key, str) else f"number_of 16 {atom(key[0])} {key[1]} {key[2]}"
+    return key if isinstance(key, str) else f"number_of 16 {argument(key[0])} {key[1]} {key[2]}"
 
 
 def form_text(form: Form) -> str:
@@ -149,9 +149,10 @@ def form_text(form: Form) -> str:
     return " + ".join([*parts, *([str(constant)] if constant or not parts else [])])
 
 
-def atom(term: str) -> str:
+def argument(term: str) -> str:
     """Returns a term in parentheses, if it needs them as an argument."""
-    return term if term.replace(".", "").replace("_", "").isalnum() or term.startswith("(") else f"({term})"
+    is_closed = term.startswith("(") and term.endswith(")")
+    return term if term.replace(".", "").replace("_", "").isalnum() or is_closed else f"({term})"
 
 
 def added_form(one: Form, other: Form) -> Form:
@@ -164,6 +165,7 @@ class Knowledge:
 
     def __init__(self) -> None:
         self.values: dict[str, Value] = {}
+        self.root: Node | None = None
         self.cuts = {0, PLACES}
         self.found: dict[Key, list[Fact]] = {}
         self.others: dict[str, list[Fact]] = {}
@@ -214,16 +216,18 @@ class Knowledge:
         """Yields the facts that define the number of some digits."""
         name, lo, hi = key
         if name == "zeros":
+            if self.root:
+                yield self.fact(self.root, {key: 1}, "=", {}, f"zeros_number 16 {lo} {hi}")
             return
         value = self.values[name]
         width = hi + 1 - lo
         yield self.fact(value.owner, {key: 1}, "<", {None: 16 ** width},
-                        f"below {lo} {hi} {atom(name)} {value.is_register} (omega arith) (omega arith)")
+                        f"below {lo} {hi} {argument(name)} {value.is_register} (omega arith) (omega arith)")
         middle = next((cut for cut in sorted(self.cuts) if lo < cut <= hi), None)
         if middle is not None:
             low, high = (name, lo, middle - 1), (name, middle, hi)
             yield self.fact(value.owner, {key: 1}, "=", {low: 1, high: 16 ** (middle - lo)},
-                            f"parts 16 {lo} {middle - 1} {hi} {atom(name)} (omega arith) (omega arith)")
+                            f"parts 16 {lo} {middle - 1} {hi} {argument(name)} (omega arith) (omega arith)")
         elif hi < value.lo or lo > value.hi:
             yield from self.kept(value, key)
         elif value.kind in ("copy", "right", "left", "digit", "word", "rotated"):
@@ -237,14 +241,14 @@ class Knowledge:
         before = value.into, lo, hi
         size = value.size(self.values) if value.into in self.values else ""
         keeps = {"sum": f"{value.rule}.outside", "difference": f"{value.rule}.outside",
-                 "copy": f"(copy_keeps replaced {atom(value.into)} {atom(value.x)} {value.lo} {value.hi} {size} (omega arith))",
-                 "right": f"(right_keeps replaced {atom(value.into)} {atom(value.into)} {value.lo} {value.hi} {size} (omega arith))",
-                 "left": f"(left_keeps replaced {atom(value.into)} {atom(value.into)} {value.lo} {value.hi} {size} (omega arith))",
-                 "digit": f"(loading_keeps {atom(value.into)} {value.lo} {' '.join(map(str, value.digits))})",
-                 "word": f"(word_keeps {atom(value.into)} {' '.join(map(str, value.digits))} {size})"}[value.kind]
+                 "copy": f"(copy_keeps replaced {argument(value.into)} {argument(value.x)} {value.lo} {value.hi} {size} (omega arith))",
+                 "right": f"(right_keeps replaced {argument(value.into)} {argument(value.into)} {value.lo} {value.hi} {size} (omega arith))",
+                 "left": f"(left_keeps replaced {argument(value.into)} {argument(value.into)} {value.lo} {value.hi} {size} (omega arith))",
+                 "digit": f"(loading_keeps {argument(value.into)} {value.lo} {' '.join(map(str, value.digits))})",
+                 "word": f"(word_keeps {argument(value.into)} {' '.join(map(str, value.digits))} {size})"}[value.kind]
         way = "kept_above" if lo > value.hi else "kept_below"
         yield self.fact(value.owner, {key: 1}, "=", {before: 1},
-                        f"{way} 16 {value.lo} {value.hi} {lo} {hi} {atom(value.into)} {atom(name)} (omega arith) {keeps}")
+                        f"{way} 16 {value.lo} {value.hi} {lo} {hi} {argument(value.into)} {argument(name)} (omega arith) {keeps}")
 
     def register(self, name: str) -> str:
         """Returns the proof that a register has 14 digits."""
@@ -260,7 +264,7 @@ class Knowledge:
         carry = f"carry_digit {value.carry}"
         power, bit = 16 ** (value.hi + 1 - value.lo), int(value.carry_in == "true")
         law = "sums" if value.kind == "sum" else "differences"
-        args = (f"16 {value.lo} {value.hi} {atom(value.into)} {atom(value.x)} {atom(value.y)} {value.name} {value.carry_in} {value.carry} "
+        args = (f"16 {value.lo} {value.hi} {argument(value.into)} {argument(value.x)} {argument(value.y)} {value.name} {value.carry_in} {value.carry} "
                 f"(omega arith) (omega arith) (inl (refl, {self.register(value.x)})) (inl (refl, {self.register(value.y)})) {value.rule}")
         zero = f", zeros_number 16 {value.lo} {value.hi}" if "zeros" in (value.x, value.y) else ""
         left, right = ({**added_form(x, y), None: bit}, {key: 1, carry: power}) if value.kind == "sum" else \
@@ -271,8 +275,8 @@ class Knowledge:
     def copy_facts(self, value: Value, key: tuple[str, int, int]) -> Iterable[Fact]:
         """Yields the fact that digits are copied."""
         name, lo, hi = key
-        copied = (f"copy_number replaced {atom(value.into)} {atom(value.x)} {value.lo} {value.hi} {value.size(self.values)} (omega arith) 16 "
-                  f"{lo} {hi} (omega arith) (omega arith)")
+        copied = (f"copy_number replaced {argument(value.into)} {argument(value.x)} {value.lo} {value.hi} {value.size(self.values)} "
+                  f"(omega arith) 16 {lo} {hi} (omega arith) (omega arith)")
         if value.x == "zeros":
             yield self.fact(value.owner, {key: 1}, "=", {}, f"{copied} ∙ zeros_number 16 {lo} {hi}")
         else:
@@ -282,14 +286,15 @@ class Knowledge:
     def shift_facts(self, value: Value, key: tuple[str, int, int], empty: int, step: int, way: str, end: str) -> Iterable[Fact]:
         """Yields the fact that a digit is shifted, or that it becomes 0 at the end of the field."""
         place = key[1]
-        args = f"replaced {atom(value.into)} {atom(value.into)} {value.lo} {value.hi} {value.size(self.values)} (omega arith)"
+        args = f"replaced {argument(value.into)} {argument(value.into)} {value.lo} {value.hi} {value.size(self.values)} (omega arith)"
         one = f"one_digit 16 {value.name} {place}"
         if place == empty:
             yield self.fact(value.owner, {key: 1}, "=", {}, f"{one} ∙ {end} {args} (omega arith)")
         else:
             source = value.into, place + step, place + step
             yield self.fact(value.owner, {key: 1}, "=", {source: 1},
-                            f"{one} ∙ {way} {args} {place} (omega arith) (omega arith) ∙ sym (one_digit 16 {atom(value.into)} {place + step})")
+                            f"{one} ∙ {way} {args} {place} (omega arith) (omega arith) ∙ sym (one_digit 16 {argument(value.into)} "
+                            f"{place + step})")
 
     def right_facts(self, value: Value, key: tuple[str, int, int]) -> Iterable[Fact]:
         """Yields the facts of a shift to the right."""
@@ -303,17 +308,17 @@ class Knowledge:
         """Yields the fact that a digit is rotated."""
         place, source = key[1], (key[1] + value.digits[0]) % PLACES
         yield self.fact(value.owner, {key: 1}, "=", {(value.into, source, source): 1},
-                        f"one_digit 16 {value.name} {place} ∙ sym (one_digit 16 {atom(value.into)} {source})")
+                        f"one_digit 16 {value.name} {place} ∙ sym (one_digit 16 {argument(value.into)} {source})")
 
     def digit_facts(self, value: Value, key: tuple[str, int, int]) -> Iterable[Fact]:
         """Yields the fact that a digit was loaded."""
         yield self.fact(value.owner, {key: 1}, "=", {None: value.digits[0]},
-                        f"one_digit 16 {value.name} {value.lo} ∙ loaded_digit {atom(value.into)} {value.lo} {value.digits[0]} "
+                        f"one_digit 16 {value.name} {value.lo} ∙ loaded_digit {argument(value.into)} {value.lo} {value.digits[0]} "
                         f"(omega (arith, {value.size(self.values)}))")
 
     def word_facts(self, value: Value, key: tuple[str, int, int]) -> Iterable[Fact]:
         """Yields the fact that a word was loaded, as a whole or digit by digit."""
-        args = f"{atom(value.into)} {' '.join(map(str, value.digits))} {value.size(self.values)}"
+        args = f"{argument(value.into)} {' '.join(map(str, value.digits))} {value.size(self.values)}"
         if key[1:] == (0, 2):
             total = sum(digit << 4 * place for place, digit in enumerate(value.digits))
             yield self.fact(value.owner, {key: 1}, "=", {None: total}, f"omega (arith, word_number {args})")
@@ -322,8 +327,8 @@ class Knowledge:
                             f"one_digit 16 {value.name} {key[1]} ∙ word_digit_{key[1]} {args}")
 
     def reach(self, keys: Iterable[Key], passed: list[Fact], is_needed: bool = True) -> list[Fact]:
-        """Returns the facts that may decide a claim about some numbers, and notes that they are needed: those that define the numbers, tests
-        and requirements that share a number with them, and so on."""
+        """Returns the facts that may decide a claim about some numbers: those that define the numbers, tests and requirements that share
+        a number with them, and so on. Also notes that they are needed."""
         wanted, seen, facts = list(keys), set(), {}
         while wanted:
             key = wanted.pop()

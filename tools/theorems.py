@@ -5,8 +5,8 @@ import os
 from typing import Iterable
 
 from claims import Atom, Claim, Named, Sum
-from codes import Code, Loop, Result, key_of, known_at_start, negative_free, plain, term_of, value_of
-from symbols import Fact, Node, State, number, stack
+from codes import Code, Loop, Result, key_of, known_at_start, negative_free, plain, value_of
+from symbols import Fact, Node, State, argument, number, stack
 
 RELATIONS = {"=": "≡", "<": "<", "<=": "≤", "<>": "≢"}
 
@@ -15,11 +15,13 @@ IMPORTS = """\
 use Rattle.std.proofs.Common.{◌≡◌, ◌≢◌, ℕ, suc, pos, negsuc, ◌+◌, ◌-◌, ◌*◌, ◌^◌, ◌<◌, ◌≤◌, Bool, true, false, not, List, [], ◌∷◌}
 use Rattle.std.proofs.Common.{length, slice_index, slice_set, refl, ap, subst, sym, ◌∙◌, inl, inr, arith, rules}
 use Rattle.std.specs.Int.Signed.{le_z_yes}
-use Rattle.h41_arith.specs.DigitRule.{DifferenceInto, SumInto, carry_digit, copy_of, is_different, is_less, is_nonzero, shifted_left, shifted_right, zeros}
+use Rattle.h41_arith.specs.DigitRule.{DifferenceInto, SumInto, carry_digit, copy_of, is_different, is_less, is_nonzero}
+use Rattle.h41_arith.specs.DigitRule.{shifted_left, shifted_right, zeros}
 use Rattle.h41_arith.specs.DigitRuleLaws.{DifferenceIsOfNumbers, DifferentAtAPlace, ReplacedIsDetermined, SumIsOfNumbers, number_of}
 use Rattle.h41_digits.specs.Register.{IsRegister}
 use Rattle.h41_fields.specs.Field.{first_place, last_place, places, register_places}
-use Rattle.h41_fields.specs.declared.field.Field.TheVariants.{All, AtPointer, ExponentSign, Mantissa, MantissaSign, PToQ, SignAndExponent, ToPointer}
+use Rattle.h41_fields.specs.declared.field.Field.TheVariants.{All, AtPointer, ExponentSign, Mantissa, MantissaSign, PToQ}
+use Rattle.h41_fields.specs.declared.field.Field.TheVariants.{SignAndExponent, ToPointer}
 use Rattle.h41_fields.specs.declared.field.Pointer.TheVariants.{P, Q}
 use Rattle.h41_laws_words.specs.WholeStates.{IsWhole}
 use Rattle.h41_nut.specs.Addresses.{is_closed}
@@ -43,11 +45,14 @@ use Rattle.h41_reasoning.proofs.FieldWords.{c_taken_from_a, operated}
 use Rattle.h41_reasoning.proofs.Jumps.{long_jump_passed, long_jump_taken, return_passed, return_taken, returned, short_jump_passed}
 use Rattle.h41_reasoning.proofs.Jumps.{short_jump_taken}
 use Rattle.h41_reasoning.proofs.Numbers.{some_number, zero_number, zeros_number, zeros_register}
-use Rattle.h41_reasoning.proofs.OneWord.{battery_tested, decimal_set, digit_loaded, hexadecimal_set, nothing_done, pointer_down, pointer_selected}
-use Rattle.h41_reasoning.proofs.OneWord.{pointer_set, pointer_tested, pointer_up, pointers_compared, registers_cleared, rotated, status_cleared}
+use Rattle.h41_reasoning.proofs.OneWord.{battery_tested, decimal_set, digit_loaded, hexadecimal_set, nothing_done, pointer_down}
+use Rattle.h41_reasoning.proofs.OneWord.{pointer_selected}
+use Rattle.h41_reasoning.proofs.OneWord.{pointer_set, pointer_tested, pointer_up, pointers_compared, registers_cleared, rotated}
+use Rattle.h41_reasoning.proofs.OneWord.{status_cleared}
 use Rattle.h41_reasoning.proofs.OneWord.{status_set, status_tested, transferred}
 use Rattle.h41_reasoning.specs.Rounds.{AfterRound}
-use Rattle.h41_reasoning.proofs.Rounds.{at_end, by_step, counts_down, exactly, in_turn, loops_end, more_suffice, takes_in_turn, takes_none, takes_step}
+use Rattle.h41_reasoning.proofs.Rounds.{at_end, by_step, counts_down, exactly, in_turn, loops_end, more_suffice, takes_in_turn}
+use Rattle.h41_reasoning.proofs.Rounds.{takes_none, takes_step}
 use Rattle.h41_reasoning.proofs.Spans.{below, kept_above, kept_below, parts}
 use Rattle.h41_reasoning.proofs.TwoWords.{load_immediate}
 """
@@ -379,7 +384,8 @@ class Proof:
         self.put(depth, f"{node.go} =")
         self.line, self.claim = steps.line, steps.text
         if self.result.is_exact:
-            self.put(depth + 2, f"let same : {loop.steps} * ({measure}) + {loop.last_steps} ≡ {self.count(node)} = {node.proofs[-1]} in")
+            self.put(depth + 2, f"let same : {loop.steps} * ({measure}) + {loop.last_steps} ≡ {self.count(node)} "
+                                f"= {node.proofs[-1]} in")
             self.line, self.claim = node.line, ""
             self.put(depth + 2, f"subst (λ n. Takes n {state} After) same (counts_down AtLoop After {loop.steps} {loop.last_steps}")
             more, last = (f"subst (λ v. Takes {count} v {after}) (sym at.is) ({root.go} {args} at (subst IsWhole at.is at.whole))"
@@ -418,7 +424,7 @@ class Proof:
             self.put(depth + 3, self.stepped(node, after, "step", f"{after.go} step.whole"))
         self.head(node, depth)
         proofs = [f"{'inl' if value else 'inr'} is ↦ {names[value]} is" for value in (True, False)]
-        self.put(depth, f"{node.go} = elim (either {term_of(carry)}) [")
+        self.put(depth, f"{node.go} = elim (either {argument(carry)}) [")
         for proof in proofs:
             self.put(depth + 2, f"| {proof}")
         self.put(depth, "]")

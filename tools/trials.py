@@ -195,8 +195,9 @@ def judged(contract: Contract, trial: Trial) -> Counterexample | None:
         count = total(contract.steps.count, trial.before, trial.before)
         if trial.steps > count or contract.steps.is_exact and trial.steps != count:
             names = named_in(contract, contract.steps)
-            return Counterexample(contract.steps.line, contract.steps.text, f"from {told(trial.before, names)} it takes {trial.steps} steps, "
-                                                                            f"expected {'' if contract.steps.is_exact else 'at most '}{count}")
+            most = f"{'' if contract.steps.is_exact else 'at most '}{count}"
+            return Counterexample(contract.steps.line, contract.steps.text,
+                                  f"from {told(trial.before, names)} it takes {trial.steps} steps, expected {most}")
     return None
 
 

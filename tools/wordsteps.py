@@ -4,8 +4,8 @@ from __future__ import annotations
 from typing import TYPE_CHECKING
 
 from claims import FIELDS
-from codes import Instruction, NotProved, Result, known_at_start, register_of, term_of
-from symbols import Fact, Node, State, Value, Way, literal
+from codes import Instruction, NotProved, Result, known_at_start, register_of
+from symbols import Fact, Node, State, Value, Way, argument, literal
 
 if TYPE_CHECKING:
     from executing import Execution
@@ -47,7 +47,8 @@ class Step:
 
     def unsupported(self, why: str = "") -> NotProved:
         """Returns the error that the instruction is not supported."""
-        return NotProved(self.instruction.line, f"`{self.instruction.text}`: {why or 'tools/prove-module does not support this instruction'}")
+        return NotProved(self.instruction.line, f"`{self.instruction.text}`: "
+                                                f"{why or 'tools/prove-module does not support this instruction'}")
 
     def nexts(self) -> list[Node]:
         """Returns the nodes after the step; none after the return of the function."""
@@ -124,7 +125,8 @@ class Step:
         base = 16 if self.state.of("base") == "Hexadecimal" else 10
         relation = "SumInto" if is_sum else "DifferenceInto"
         node.variables = [(z, "List ℕ"), (carry, "Bool"),
-                          (rule, f"{relation} {base} {term_of(before)} {term_of(x_term)} {term_of(y_term)} {carry_in} {lo} {hi} {z} {carry}")]
+                          (rule, f"{relation} {base} {argument(before)} {argument(x_term)} {argument(y_term)} {carry_in} {lo} {hi} {z} "
+                                 f"{carry}")]
         self.run.knowledge.add(Value(z, "sum" if is_sum else "difference", node, register_of(node, into), before, x_term, y_term, carry_in,
                                      carry if base == 16 else "", lo, hi, rule))
         return node
@@ -139,7 +141,7 @@ class Step:
         """Returns the node after copies."""
         operation, copied = COPIES[self.name]
         lo, hi = self.places()
-        terms = {into: f"copy_of {term_of(self.state.of(into))} {term_of(self.operand_of(x))} {lo} {hi}" for into, x in copied.items()}
+        terms = {into: f"copy_of {argument(self.state.of(into))} {argument(self.operand_of(x))} {lo} {hi}" for into, x in copied.items()}
         names = {into: self.fresh(into) for into in terms}
         node = self.operated(operation, self.state.after(self.next_pc, **names))
         for into, x in copied.items():
@@ -158,7 +160,7 @@ class Step:
         lo, hi = self.places()
         before, name = self.state.of(into), self.fresh(into)
         node = self.operated(operation, self.state.after(self.next_pc, **{into: name}))
-        self.put(node, into, name, f"shifted_{way} {term_of(before)} {term_of(before)} {lo} {hi}",
+        self.put(node, into, name, f"shifted_{way} {argument(before)} {argument(before)} {lo} {hi}",
                  Value(name, way, node, register_of(node, into), before, before, lo=lo, hi=hi))
         return node
 
@@ -168,8 +170,8 @@ class Step:
         lo, hi = self.places()
         self.run.knowledge.cut(lo, hi)
         one, other = self.state.of(x), self.operand_of(y)
-        answer = (f"is_nonzero {term_of(one)} {lo} {hi}" if not y else
-                  f"{'is_less' if '<' in self.name else 'is_different'} {term_of(one)} {term_of(other)} {lo} {hi}")
+        answer = (f"is_nonzero {argument(one)} {lo} {hi}" if not y else
+                  f"{'is_less' if '<' in self.name else 'is_different'} {argument(one)} {argument(other)} {lo} {hi}")
         state = self.state.after(self.next_pc)
         state.terms["carry"] = f"({answer})"
         node = self.operated(operation, state)
@@ -239,7 +241,7 @@ class Step:
         digit, before, name = int(self.operand), self.state.of("c"), self.fresh("c")
         node = self.step(f"digit_loaded {begin} {digit} (omega arith) {self.at_next}",
                          self.state.after(self.next_pc, c=name, **{pointer: str((place + 13) % 14)}))
-        self.put(node, "c", name, f"slice_set {term_of(before)} {place} {digit}",
+        self.put(node, "c", name, f"slice_set {argument(before)} {place} {digit}",
                  Value(name, "digit", node, register_of(node, "c"), before, lo=place, hi=place, digits=(digit,)))
         return node
 
@@ -250,7 +252,7 @@ class Step:
         lemma = (f"load_immediate straight {self.state_text()} {word} {self.node.whole} {self.at_next} (has {self.instruction.place + 1} "
                  "(omega arith)) refl")
         node = self.step(lemma, self.state.after(self.next_pc, c=name))
-        self.put(node, "c", name, f"slice_set (slice_set (slice_set {term_of(before)} 0 {digits[0]}) 1 {digits[1]}) 2 {digits[2]}",
+        self.put(node, "c", name, f"slice_set (slice_set (slice_set {argument(before)} 0 {digits[0]}) 1 {digits[1]}) 2 {digits[2]}",
                  Value(name, "word", node, register_of(node, "c"), before, lo=0, hi=2, digits=digits))
         return node
 
@@ -258,7 +260,7 @@ class Step:
         """Returns the node after RCR."""
         digits, before, name = int(self.operand), self.state.of("c"), self.fresh("c")
         node = self.step(f"rotated {begin} {digits} (omega arith) {self.at_next}", self.state.after(self.next_pc, c=name))
-        self.put(node, "c", name, f"rotated_register {term_of(before)} {digits}",
+        self.put(node, "c", name, f"rotated_register {argument(before)} {digits}",
                  Value(name, "rotated", node, register_of(node, "c"), before, before, digits=(digits,)))
         return node
 
@@ -308,20 +310,20 @@ class Step:
         """Returns the fact that a carry or a test says on one way; None if it says nothing about numbers."""
         proved, know = f"is_{self.node.number}_{int(value)}", self.run.knowledge
         if not self.node.test:
-            fact = know.fact(self.node, {f"carry_digit {term_of(carry)}": 1}, "=", {None: int(value)}, f"ap carry_digit {proved}")
+            fact = know.fact(self.node, {f"carry_digit {argument(carry)}": 1}, "=", {None: int(value)}, f"ap carry_digit {proved}")
         else:
             kind, x, y, lo, hi = self.node.test
             one, other = ({(name, lo, hi): 1} if name != "zeros" else {} for name in (x, y))
             if kind.endswith("#0"):
                 form = ({}, "<", one) if value else (one, "=", {})
-                proof = f"{'some' if value else 'zero'}_number at_a_place 16 {lo} {hi} {term_of(x)} (omega arith) {proved}"
+                proof = f"{'some' if value else 'zero'}_number at_a_place 16 {lo} {hi} {argument(x)} (omega arith) {proved}"
             elif "<" in kind:
                 form = (one, "<", other) if value else (other, "<=", one)
-                proof = f"{'less' if value else 'not_less'}_number {term_of(x)} {term_of(y)} {lo} {hi} {proved}"
+                proof = f"{'less' if value else 'not_less'}_number {argument(x)} {argument(y)} {lo} {hi} {proved}"
             elif value:
                 return None
             else:
-                form, proof = (one, "=", other), f"same_numbers at_a_place 16 {term_of(x)} {term_of(y)} {lo} {hi} {proved}"
+                form, proof = (one, "=", other), f"same_numbers at_a_place 16 {argument(x)} {argument(y)} {lo} {hi} {proved}"
             fact = know.fact(self.node, *form, proof)
         # It is written on its way, and not in the module of the node.
         self.node.facts.remove(fact)

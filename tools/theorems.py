@@ -481,7 +481,8 @@ def write_crate(folder: str, code: Code, results: list[Result], title: str) -> d
     files = {"src/lib.rt": f"//! Theorems about the functions of {title}.\n#![tactic(auto)]\n\npub mod functions;\n",
              "specs/Lib.antt": "".join(f"pub mod {name}\n" for name in ["Words", *(f"Of_{label}" for label in labels)]),
              "proofs/Lib.antt": "".join(f"pub mod Of_{label}\n" for label in labels),
-             "specs/Words.antt": f"-- The words of {title}, from {code.origin:04X} on.\nuse Rattle.std.specs.Prelude.{{ℕ, List, [], ◌∷◌}}\n\n"
+             "specs/Words.antt": f"-- The words of {title}, from {code.origin:04X} on.\n"
+                                 "use Rattle.std.specs.Prelude.{ℕ, List, [], ◌∷◌}\n\n"
                                  f"abbrev pub module_words : List ℕ\nmodule_words = {words}\n",
              "src/functions.rt": functions_of(code, results)}
     proofs = {}
@@ -518,7 +519,8 @@ def functions_of(code: Code, results: list[Result]) -> str:
     rows += ["", "use h41_arith::laws::{different_at_a_place, digit_rule_as_whole_numbers, replaced_is_determined};",
              "use h41_nut::laws::status_is_read;", "use h41_reasoning::words::word_is_executed;"]
     for result in results:
-        rows += ["", f"/// States what {result.label} leaves.", f"pub fn of_{result.label.lower()}()", f"    ensures {{ {result.label}_Returns }}",
+        rows += ["", f"/// States what {result.label} leaves.", f"pub fn of_{result.label.lower()}()",
+                 f"    ensures {{ {result.label}_Returns }}",
                  "{", "    word_is_executed();", "    digit_rule_as_whole_numbers();", "    replaced_is_determined();",
                  "    different_at_a_place();", "    status_is_read();", *(f"    of_{name.lower()}();" for name in result.calls), "}"]
     return "".join(f"{row}\n" for row in rows)

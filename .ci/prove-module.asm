@@ -60,7 +60,7 @@ POINT:  C=C+1 R<
         ?R= 4
         RTN
 ; requires C.SX <= 100
-; ensures C.SX = 0, within 4 * C.SX + 6 steps
+; ensures C.SX = 0, within 4 * C.SX + 7 steps
 CALLS:  ?NC XQ :PLAIN
 ; invariant C.M as before
 ; decreases C.SX
@@ -78,4 +78,8 @@ USES:   ?NC XQ :ADDS
 ; requires A.SX < 0FFE
 ; ensures A.SX = old A.SX + 1, within 3 steps
 ADDS:   A=A+1 S&X
+        RTN
+; ensures C.XS = 0, C[1] = 2, C[0] = 3, C.M as before, in 3 steps
+WORD:   LDI 123
+        C=0 XS
         RTN

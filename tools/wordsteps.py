@@ -365,7 +365,7 @@ class Step:
         if newest == "r0":
             return "may_return", None
         if not newest.startswith("0x"):
-            raise self.unsupported("the function returns to its caller's caller, expected a return to its caller")
+            raise self.unsupported()
         return "refl", self.popped()
 
     def returned(self, lemma: str) -> list[Node]:

@@ -114,7 +114,7 @@ class Execution:
         """Returns the node at the beginning of a round."""
         count = len(self.nodes)
         t, at = f"t_{count}", f"at_{count}"
-        terms = {**first.terms, **{name: f"{t}.processor.{name}" for name in loop.names}}
+        terms = {**first.terms, **{name: f"{t}.processor.{name}" for name in sorted(loop.names)}}
         node = self.node(State(loop.address, first.returns, terms), loop.contract.line, [])
         name = f"left_{count}"
         node.variables = [*([(name, "ℕ")] if left != 0 else []), (t, "Nut"),

@@ -326,7 +326,7 @@ class Proof:
         """Adds what is true at the label of a loop, and a round."""
         root = loop.roots[0]
         self.line, self.claim = loop.contract.line, ""
-        parts = {**root.state.terms, **{name: f"t.processor.{name}" for name in loop.names}, "pc": f"{loop.address:#06x}",
+        parts = {**root.state.terms, **{name: f"t.processor.{name}" for name in sorted(loop.names)}, "pc": f"{loop.address:#06x}",
                  "returns": stack(root.state.returns)}
         self.put(depth, "record AtLoop (left : ℕ) (t : Nut) : Type 0 where")
         self.put(depth + 1, "whole : IsWhole t")

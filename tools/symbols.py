@@ -238,12 +238,12 @@ class Knowledge:
     def kept(self, value: Value, key: tuple[str, int, int]) -> Iterable[Fact]:
         """Yields the fact that a word keeps digits outside its places."""
         name, lo, hi = key
-        before = value.into, lo, hi
+        before, into = (value.into, lo, hi), argument(value.into)
         size = value.size(self.values) if value.into in self.values else ""
         keeps = {"sum": f"{value.rule}.outside", "difference": f"{value.rule}.outside",
                  "copy": f"(copy_keeps replaced {argument(value.into)} {argument(value.x)} {value.lo} {value.hi} {size} (omega arith))",
-                 "right": f"(right_keeps replaced {argument(value.into)} {argument(value.into)} {value.lo} {value.hi} {size} (omega arith))",
-                 "left": f"(left_keeps replaced {argument(value.into)} {argument(value.into)} {value.lo} {value.hi} {size} (omega arith))",
+                 "right": f"(right_keeps replaced {into} {into} {value.lo} {value.hi} {size} (omega arith))",
+                 "left": f"(left_keeps replaced {into} {into} {value.lo} {value.hi} {size} (omega arith))",
                  "digit": f"(loading_keeps {argument(value.into)} {value.lo} {' '.join(map(str, value.digits))})",
                  "word": f"(word_keeps {argument(value.into)} {' '.join(map(str, value.digits))} {size})"}[value.kind]
         way = "kept_above" if lo > value.hi else "kept_below"
@@ -264,8 +264,9 @@ class Knowledge:
         carry = f"carry_digit {value.carry}"
         power, bit = 16 ** (value.hi + 1 - value.lo), int(value.carry_in == "true")
         law = "sums" if value.kind == "sum" else "differences"
-        args = (f"16 {value.lo} {value.hi} {argument(value.into)} {argument(value.x)} {argument(value.y)} {value.name} {value.carry_in} {value.carry} "
-                f"(omega arith) (omega arith) (inl (refl, {self.register(value.x)})) (inl (refl, {self.register(value.y)})) {value.rule}")
+        registers = " ".join(map(argument, (value.into, value.x, value.y)))
+        args = (f"16 {value.lo} {value.hi} {registers} {value.name} {value.carry_in} {value.carry} (omega arith) (omega arith) "
+                f"(inl (refl, {self.register(value.x)})) (inl (refl, {self.register(value.y)})) {value.rule}")
         zero = f", zeros_number 16 {value.lo} {value.hi}" if "zeros" in (value.x, value.y) else ""
         left, right = ({**added_form(x, y), None: bit}, {key: 1, carry: power}) if value.kind == "sum" else \
             ({**x, carry: power}, {**added_form({key: 1}, y), None: bit})

@@ -118,7 +118,8 @@ class Step:
         lo, hi = self.places()
         count = len(self.run.nodes)
         z, carry, rule = f"{into}_{count}", f"carry_{count}", f"rule_{count}"
-        self.node.form = "found", f"{lemma} arithmetic {FIELD_NAMES[self.operand]} {self.state_text()} {self.node.whole} refl {self.at_next}"
+        self.node.form = "found", (f"{lemma} arithmetic {FIELD_NAMES[self.operand]} {self.state_text()} {self.node.whole} refl "
+                                   f"{self.at_next}")
         x_term, y_term, before = self.operand_of(x), self.operand_of(y), self.state.of(into)
         node = self.go_on(self.state.after(self.next_pc, **{into: z}))
         node.state.terms["carry"] = carry

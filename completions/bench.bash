@@ -27,6 +27,7 @@ _bench_options() {
         bench-list) echo '--page --bank --help' ;;
         bench-module) echo '--out --images --junk --no-junk --trace --junit --table --call --write --values --help' ;;
         bench-play) echo '--size --memory --steps --skip --tone --workers --script --shard --join --help' ;;
+        bench-prove-module) echo '--page --try --keep --libraries --help' ;;
         bench-registers) echo '--memory --all --deck --page --help' ;;
         bench-trace) echo '--memory --labels --function --explain --watch --help' ;;
         bench-where) echo '--memory --brief --labels --help' ;;
@@ -58,4 +59,4 @@ _bench() {
     [[ -n $words ]] || mapfile -t COMPREPLY < <(compgen -f -- "$word")
 }
 
-complete -o filenames -F _bench bench bench-calculator tools/calculator bench-catalogue tools/catalogue bench-check tools/check bench-debug tools/debug bench-export tools/export bench-help tools/help bench-import tools/import bench-keyboard tools/keyboard bench-keys tools/keys bench-labels tools/labels bench-lint tools/lint bench-list tools/list bench-module tools/module bench-play tools/play bench-registers tools/registers bench-trace tools/trace bench-where tools/where
+complete -o filenames -F _bench bench bench-calculator tools/calculator bench-catalogue tools/catalogue bench-check tools/check bench-debug tools/debug bench-export tools/export bench-help tools/help bench-import tools/import bench-keyboard tools/keyboard bench-keys tools/keys bench-labels tools/labels bench-lint tools/lint bench-list tools/list bench-module tools/module bench-play tools/play bench-prove-module tools/prove-module bench-registers tools/registers bench-trace tools/trace bench-where tools/where

@@ -98,6 +98,11 @@ complete -c bench-play -l script
 complete -c bench-play -l shard
 complete -c bench-play -l join
 complete -c bench-play -l help
+complete -c bench-prove-module -l page -x -a '4 5 6 7 8 9 A B C D E F'
+complete -c bench-prove-module -l try
+complete -c bench-prove-module -l keep
+complete -c bench-prove-module -l libraries
+complete -c bench-prove-module -l help
 complete -c bench-registers -l memory -x -a '64 128 192 256 320'
 complete -c bench-registers -l all
 complete -c bench-registers -l deck

@@ -8,3 +8,5 @@ pub mod Jumps
 pub mod Numbers
 pub mod Calls
 pub mod Banks
+pub mod Spans
+pub mod Changes

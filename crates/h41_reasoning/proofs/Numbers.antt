@@ -35,7 +35,7 @@ no_digits_no_number base lo hi x none =
 pub zeros_number : (base lo hi : ℕ) → number_of base zeros lo hi ≡ 0
 zeros_number base lo hi = no_digits_no_number base lo hi zeros (λ place from to. zero_digit place)
 
-zeros_register : IsRegister 14 zeros
+pub zeros_register : IsRegister 14 zeros
 zeros_register = record { size = refl; each = λ k d less. subst (λ digit. digit < 16) (sym (get_or-replicate 14 k 0 d less)) (omega arith) }
 
 zeros_in : (base lo hi : ℕ) (x : List ℕ) → IsNumberIn base x lo hi → IsNumberIn base zeros lo hi

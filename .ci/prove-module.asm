@@ -1,0 +1,85 @@
+; Functions for .ci/prove-module: each instruction that tools/prove-module supports.
+; ensures C.SX = old C.SX, A.SX = old A.SX + 1, B.M = 0
+; requires A.SX < 0FFF
+ONE:    A=A+1 S&X
+        B=0 M
+        NOP
+        RTN
+; requires A.SX <= C.SX
+; ensures C.SX = old C.SX - old A.SX, A.SX = old C.SX, C[13:3] as before, in 3 steps
+SWAP:   A<>C S&X
+        C=A-C S&X
+        RTN
+; ensures M = old N, C = old N, N = old M, in 4 steps
+MOVE:   C<>M
+        C<>N
+        M=C
+        RTN
+; ensures S3 = 1, S4 = old S4, S5 = 0, CY = 0, MODE = DEC, PT = Q, within 9 steps
+FLAGS:  SETF 3
+        CLRF 5
+        ?FSET 3
+        JC :FLAGS_1
+        SETF 5
+FLAGS_1: SETDEC
+        SLCT Q
+        RTN
+; ensures C[12:0] = old C[13:1], C.MS = old C[0], in 2 steps
+ROTATE: RCR 1
+        RTN
+; ensures C.XS = 0, C[0] = old C[1], C[1] = old C.XS, other digits of C as before
+RIGHT:  RSHFC S&X
+        C=0 XS
+        RTN
+; ensures A.MS = old A[12], A[3] = 0, A[12:4] = old A[11:3], A[2:0] as before, in 3 steps
+; requires PT = Q, P = 3, Q = 0D
+LEFT:   LSHFA P-Q
+        ?P=Q
+        RTN
+; ensures A = 0, B = 0, C = 0, in 2 steps
+CLEAR:  CLRABC
+        RTN
+; ensures  C.SX <= old C.SX, C.SX <= old A.SX, A as before, within 4 steps
+LESS:   ?A<C S&X
+        ?NC RTN
+        C=0 S&X
+        RTN
+; ensures C.M = old C.M, C.SX >= old C.SX, A.SX = C.SX, within 7 steps
+; requires A.SX > C.SX
+EQUAL:  ?A#C S&X
+        ?C GO :EQUAL_1
+        A=C S&X
+        RTN
+EQUAL_1: C=0 S&X
+        C=A+C S&X
+        RTN
+; requires PT = P, P = 5, C[5:0] < 0FFFFFF
+; ensures C[5:0] = old C[5:0] + 1, other digits of C as before, P = 4, in 4 steps
+POINT:  C=C+1 R<
+        R=R-1
+        ?R= 4
+        RTN
+; requires C.SX <= 100
+; ensures C.SX = 0, within 4 * C.SX + 7 steps
+CALLS:  ?NC XQ :PLAIN
+; invariant C.M as before
+; decreases C.SX
+CALLS_1: ?C#0 S&X
+        ?NC RTN
+        C=C-1 S&X
+        JNC :CALLS_1
+PLAIN:  A=C S&X
+        RTN
+; requires A.SX = 1, CY = 0
+; ensures A.SX = 2, C.SX <> 124, within 6 steps
+USES:   ?NC XQ :ADDS
+        C=0 S&X
+        RTN
+; requires A.SX < 0FFE
+; ensures A.SX = old A.SX + 1, within 3 steps
+ADDS:   A=A+1 S&X
+        RTN
+; ensures C.XS = 0, C[1] = 2, C[0] = 3, C.M as before, in 3 steps
+WORD:   LDI 123
+        C=0 XS
+        RTN

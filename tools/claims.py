@@ -1,0 +1,368 @@
+"""The language of claims: what a comment before a label requires and ensures of registers, and in how many steps a function returns."""
+from __future__ import annotations
+
+import re
+from dataclasses import dataclass, field
+from typing import Iterator
+
+# The fields that a claim can name, with their places, and the registers of 14 digits.
+FIELDS = {"SX": (0, 2), "S&X": (0, 2), "XS": (2, 2), "M": (3, 12), "MS": (13, 13), "ALL": (0, 13)}
+WIDE = ("A", "B", "C", "M", "N")
+LAST_PLACE, LAST_STATUS = 13, 13
+
+# Registers whose value is a number, and those that have a name as their value.
+NUMBERS = ("G", "T", "P", "Q", "CY")
+NAMED = {"MODE": ("HEX", "DEC"), "PT": ("P", "Q")}
+
+RELATIONS = ("<=", ">=", "<>", "=", "<", ">")
+KEYWORDS = ("requires", "ensures", "invariant", "decreases")
+
+# A comment that begins a claim, or continues one that ends in a comma.
+COMMENT = re.compile(r"[ \t]*;[ \t]*(?:(" + "|".join(KEYWORDS) + r")\b)?")
+TOKEN = re.compile(r"[A-Za-z]+[0-9]*(?:\.[A-Za-z&]+)?|[0-9][0-9A-Fa-f]*|<=|>=|<>|[-+*=<>(),:\[\]]|\S")
+NUMBER = re.compile("[0-9][0-9A-Fa-f]*")
+STATUS = re.compile("S([0-9]+)")
+
+REGISTERS = "a register (A B C M N), with a field as in C.SX or places as in C[5:3], G, T, P, Q, CY or a status bit as in S8"
+
+
+class Wrong(Exception):
+    """An error in a claim: its source line, its column, and what was found and expected."""
+
+    def __init__(self, line: int, column: int, why: str) -> None:
+        super().__init__(why)
+        self.line, self.column, self.why = line, column, why
+
+
+@dataclass(frozen=True)
+class Atom:
+    """A number of a state: the digits `lo` to `hi` of a register of 14 digits, or a register or a bit as it is (`lo` is then None).
+    `old` is set for the state in which the function begins."""
+    name: str
+    lo: int | None = None
+    hi: int | None = None
+    old: bool = False
+
+    def __str__(self) -> str:
+        if self.lo is None:
+            text = self.name
+        else:
+            known = next((one for one, places in FIELDS.items() if places == (self.lo, self.hi)), None)
+            text = self.name if known == "ALL" else f"{self.name}.{known}" if known else f"{self.name}[{self.hi}:{self.lo}]"
+        return f"old {text}" if self.old else text
+
+
+@dataclass(frozen=True)
+class Sum:
+    """A sum of multiples of atoms, and a constant. Factors and the constant can be negative."""
+    parts: tuple[tuple[int, Atom], ...] = ()
+    constant: int = 0
+
+    def times(self, factor: int) -> Sum:
+        """Returns a multiple of the sum."""
+        return Sum(tuple((factor * many, atom) for many, atom in self.parts), factor * self.constant)
+
+    def plus(self, other: Sum) -> Sum:
+        """Returns the sum of both."""
+        counts: dict[Atom, int] = {}
+        for many, atom in (*self.parts, *other.parts):
+            counts[atom] = counts.get(atom, 0) + many
+        return Sum(tuple((many, atom) for atom, many in counts.items() if many), self.constant + other.constant)
+
+    def atoms(self) -> Iterator[Atom]:
+        """Yields the atoms."""
+        return (atom for _, atom in self.parts)
+
+
+@dataclass(frozen=True)
+class Claim:
+    """A comparison of two sums. `text` is its text in the source, `line` its source line, counted from 1."""
+    left: Sum
+    relation: str
+    right: Sum
+    text: str
+    line: int
+
+    def atoms(self) -> list[Atom]:
+        """Returns the atoms of both sides."""
+        return [*self.left.atoms(), *self.right.atoms()]
+
+
+@dataclass(frozen=True)
+class Named:
+    """A claim that MODE or PT has a value that is a name."""
+    name: str
+    value: str
+    text: str
+    line: int
+
+
+@dataclass(frozen=True)
+class Steps:
+    """A claim on the number of steps: exactly this many, or at most this many."""
+    count: Sum
+    is_exact: bool
+    text: str
+    line: int
+
+
+@dataclass
+class Contract:
+    """The claims before a label. `line` is the source line of the first of them."""
+    line: int
+    requires: list[Claim | Named] = field(default_factory=list)
+    ensures: list[Claim | Named] = field(default_factory=list)
+    invariant: list[Claim | Named] = field(default_factory=list)
+    decreases: Sum | None = None
+    steps: Steps | None = None
+
+    @property
+    def is_loop(self) -> bool:
+        """Returns whether the label begins a loop."""
+        return bool(self.invariant) or self.decreases is not None
+
+    @property
+    def is_function(self) -> bool:
+        """Returns whether the label begins a function. A label can begin both."""
+        return bool(self.requires or self.ensures or self.steps) or not self.is_loop
+
+
+@dataclass(frozen=True)
+class Token:
+    """A word of a claim, with its line and column, counted from 1."""
+    text: str
+    line: int
+    column: int
+
+
+END = "the end of the claims"
+
+
+class Reader:
+    """Reads the claims after one keyword."""
+
+    def __init__(self, keyword: str, tokens: list[Token], end: Token) -> None:
+        self.keyword, self.tokens, self.end, self.at = keyword, tokens, end, 0
+        self.is_counting = False
+
+    def now(self) -> Token:
+        """Returns the next word."""
+        return self.tokens[self.at] if self.at < len(self.tokens) else self.end
+
+    def fail(self, expected: str, at: Token | None = None) -> None:
+        """Raises the error that something else was expected."""
+        at = at or self.now()
+        found = END if at.text == END else f"`{at.text}`"
+        raise Wrong(at.line, at.column, f"found {found}, expected {expected}")
+
+    def take(self, *texts: str) -> str | None:
+        """Returns the next word and goes on, if it is one of these; otherwise None."""
+        if self.now().text in texts and self.at < len(self.tokens):
+            self.at += 1
+            return self.tokens[self.at - 1].text
+        return None
+
+    def want(self, *texts: str) -> str:
+        """Returns the next word, which must be one of these."""
+        found = self.take(*texts)
+        if found is None:
+            self.fail(" or ".join(f"`{text}`" for text in texts))
+        return found or ""
+
+    def number(self) -> int | None:
+        """Returns the number that is next: decimal in a number of steps, otherwise hexadecimal."""
+        word = self.now()
+        if self.at == len(self.tokens) or not NUMBER.fullmatch(word.text):
+            return None
+        if self.is_counting and not word.text.isdigit():
+            self.fail("a decimal number, because a number of steps is decimal")
+        self.at += 1
+        return int(word.text, 10 if self.is_counting else 16)
+
+    def place(self) -> int:
+        """Returns a place of a register, which is decimal."""
+        word = self.now()
+        if not word.text.isdigit() or int(word.text) > LAST_PLACE:
+            self.fail("a place from 0 to 13")
+        self.at += 1
+        return int(word.text)
+
+    def atom(self, old: bool) -> Atom:
+        """Returns the atom that is next."""
+        word = self.now()
+        name, dot, part = word.text.partition(".")
+        status = STATUS.fullmatch(word.text)
+        if status and int(status[1]) <= LAST_STATUS or word.text in NUMBERS:
+            self.at += 1
+            return Atom(word.text, old=old)
+        if name not in WIDE or self.at == len(self.tokens):
+            self.fail(REGISTERS)
+        if dot and part not in FIELDS:
+            self.fail("one of the fields SX, XS, M, MS and ALL after the point, or places as in C[5:3]")
+        self.at += 1
+        if dot:
+            return Atom(name, *FIELDS[part], old)
+        if not self.take("["):
+            return Atom(name, 0, LAST_PLACE, old)
+        hi = self.place()
+        lo = self.place() if self.take(":") else hi
+        if lo > hi:
+            self.fail("a place that is not higher than the one before it", self.tokens[self.at - 1])
+        self.want("]")
+        return Atom(name, lo, hi, old)
+
+    def term(self) -> Sum:
+        """Returns a term: a number, an atom, a multiple, or a sum in parentheses."""
+        number = self.number()
+        if number is not None:
+            return self.term().times(number) if self.take("*") else Sum((), number)
+        if self.take("("):
+            found = self.sum()
+            self.want(")")
+            return found
+        word = self.now()
+        old = bool(self.take("old"))
+        if old and self.keyword == "requires":
+            self.fail("no `old`, because `requires` is about the state in which the function begins", word)
+        if self.at == len(self.tokens):
+            self.fail(f"{REGISTERS}, or a number")
+        return Sum(((1, self.atom(old)),))
+
+    def sum(self) -> Sum:
+        """Returns a sum of terms."""
+        found = self.term()
+        while True:
+            sign = self.take("+", "-")
+            if not sign:
+                return found
+            found = found.plus(self.term().times(1 if sign == "+" else -1))
+
+    def text_from(self, first: int) -> str:
+        """Returns the words from one on, with single spaces."""
+        text = " ".join(token.text for token in self.tokens[first:self.at])
+        return re.sub(r" ?([\[\]:,)]) ?", r"\1 ", text).replace(" [", "[").replace("[ ", "[").replace(": ", ":").replace(" ]", "]").strip()
+
+    def steps(self) -> Steps:
+        """Returns a claim on the number of steps."""
+        first, line = self.at, self.now().line
+        is_exact = self.want("in", "within") == "in"
+        self.is_counting = True
+        count = self.sum()
+        self.is_counting = False
+        self.want("steps", "step")
+        before = Sum(tuple((many, Atom(atom.name, atom.lo, atom.hi, True)) for many, atom in count.parts), count.constant)
+        return Steps(before, is_exact, self.text_from(first), line)
+
+    def as_before(self, atom: Atom, first: int, line: int) -> Claim:
+        """Returns the claim that a number is as before."""
+        old = Atom(atom.name, atom.lo, atom.hi, True)
+        return Claim(Sum(((1, atom),)), "=", Sum(((1, old),)), self.text_from(first), line)
+
+    def comparison(self) -> list[Claim | Named]:
+        """Returns the claims of a comparison, or of `as before`."""
+        first, line = self.at, self.now().line
+        if self.now().text in NAMED:
+            name = self.want(*NAMED)
+            self.want("=")
+            return [Named(name, self.want(*NAMED[name]), self.text_from(first), line)]
+        left = self.sum()
+        if self.now().text == "as" and len(left.parts) == 1 and self.keyword != "requires":
+            self.want("as")
+            self.want("before")
+            return [self.as_before(next(left.atoms()), first, line)]
+        relation = self.take(*RELATIONS)
+        if not relation:
+            self.fail("one of the signs = <> < <= > >=" + ("" if self.keyword == "requires" else ", or `as before`"))
+        return [Claim(left, relation or "", self.sum(), self.text_from(first), line)]
+
+
+def others(reader: Reader, found: list[Claim | Named]) -> list[Claim | Named]:
+    """Returns the claims of `other digits of C as before`: the digits that no other claim names."""
+    first, line = reader.at, reader.now().line
+    for text in ("other", "digits", "of"):
+        reader.want(text)
+    word = reader.now()
+    atom = reader.atom(False)
+    if (atom.lo, atom.hi) != (0, LAST_PLACE):
+        reader.fail("a register without a field", word)
+    reader.want("as")
+    reader.want("before")
+    named = {place for claim in found if isinstance(claim, Claim) for one in claim.atoms()
+             if one.name == atom.name and one.lo is not None and not one.old for place in range(one.lo, (one.hi or 0) + 1)}
+    claims: list[Claim | Named] = []
+    for lo, hi in runs_of(sorted(set(range(LAST_PLACE + 1)) - named)):
+        claims.append(reader.as_before(Atom(atom.name, lo, hi), first, line))
+    return claims
+
+
+def runs_of(places: list[int]) -> list[tuple[int, int]]:
+    """Returns the runs of consecutive places, each with its first and last place."""
+    runs: list[tuple[int, int]] = []
+    for place in places:
+        if runs and runs[-1][1] == place - 1:
+            runs[-1] = runs[-1][0], place
+        else:
+            runs.append((place, place))
+    return runs
+
+
+def read_claims(reader: Reader, contract: Contract) -> None:
+    """Reads claims up to the end, and adds them to a contract."""
+    found = getattr(contract, reader.keyword)
+    later: list[int] = []
+    while True:
+        word = reader.now().text
+        if word in ("in", "within") and reader.keyword == "ensures":
+            contract.steps = reader.steps()
+        elif word == "returns" and reader.keyword == "ensures":
+            reader.want("returns")
+        elif word == "other" and reader.keyword != "requires":
+            later.append(reader.at)
+            others(reader, [])
+        else:
+            found += reader.comparison()
+        if reader.at == len(reader.tokens):
+            break
+        reader.want(",")
+    for at in later:
+        reader.at = at
+        found += others(reader, found)
+
+
+def read_keyword(keyword: str, tokens: list[Token], end: Token, contract: Contract) -> None:
+    """Reads what follows one keyword."""
+    reader = Reader(keyword, tokens, end)
+    if keyword != "decreases":
+        return read_claims(reader, contract)
+    contract.decreases = reader.sum()
+    if reader.at < len(tokens):
+        reader.fail(END)
+    return None
+
+
+def tokens_of(text: str, line: int, first: int) -> list[Token]:
+    """Returns the words of a comment from a column on."""
+    return [Token(found[0], line, found.start() + 1) for found in TOKEN.finditer(text, first)]
+
+
+def contract_before(lines: list[str], label: int) -> Contract | None:
+    """Returns the contract in the comments directly before a line, which is counted from 0; None if there is none. A keyword begins a
+    group of claims; a comment without a keyword continues it if the line before it ends with a comma."""
+    first = label
+    while first and lines[first - 1].lstrip(" \t").startswith(";"):
+        first -= 1
+    groups: list[tuple[str, list[Token], Token]] = []
+    for at in range(first, label):
+        found = COMMENT.match(lines[at])
+        tokens = tokens_of(lines[at], at + 1, found.end() if found else 0)
+        end = Token(END, at + 1, len(lines[at].rstrip()) + 1)
+        if found and found[1]:
+            groups.append((found[1], tokens, end))
+        elif groups and groups[-1][1][-1:] and groups[-1][1][-1].text == "," and tokens:
+            groups[-1] = (groups[-1][0], groups[-1][1] + tokens, end)
+    if not groups:
+        return None
+    contract = Contract((groups[0][1] or [groups[0][2]])[0].line)
+    for keyword, tokens, end in groups:
+        read_keyword(keyword, tokens, end, contract)
+    return contract

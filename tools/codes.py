@@ -1,0 +1,150 @@
+"""The code of a source, its functions with claims, and what is known of a function after its symbolic execution."""
+from __future__ import annotations
+
+from dataclasses import dataclass, field
+from typing import NamedTuple
+
+from claims import Atom, Claim, Contract, Named, Sum
+from symbols import Key, Knowledge, Node, State, argument
+
+
+class NotProved(Exception):
+    """The reason why a function cannot be proved: the source line and what was found and expected."""
+
+    def __init__(self, line: int, why: str) -> None:
+        super().__init__(why)
+        self.line, self.why = line, why
+
+
+class Instruction(NamedTuple):
+    """An instruction: its place in the list of words, its words, its text in the listing, and its source line, counted from 1."""
+    place: int
+    words: tuple[int, ...]
+    text: str
+    line: int
+
+
+@dataclass
+class Code:
+    """The instructions of a source by address, the address of its first word, and the addresses of labels with contracts."""
+    origin: int
+    words: list[int]
+    instructions: dict[int, Instruction]
+    labels: dict[str, int]
+    contracts: dict[str, Contract]
+    lines: dict[str, int] = field(default_factory=dict)
+
+    def line_of(self, label: str) -> int:
+        """Returns the source line of a label with a contract."""
+        return self.lines.get(label, 0)
+
+    def at(self, address: int, line: int) -> Instruction:
+        """Returns the instruction at an address."""
+        found = self.instructions.get(address)
+        if not found:
+            raise NotProved(line, f"the function continues at {address:04X}, expected an address of an instruction of this source")
+        return found
+
+
+@dataclass
+class Result:
+    """What is known of a function that is executed: its label, its nodes, the components that it changes, with their values at the end
+    if these are known, and the most steps that it takes."""
+    label: str
+    contract: Contract
+    root: Node
+    knowledge: Knowledge
+    ends: list[Node] = field(default_factory=list)
+    changed: dict[str, str | None] = field(default_factory=dict)
+    returns: tuple[str, ...] = ()
+    steps: int = 0
+    is_exact: bool = False
+    calls: list[str] = field(default_factory=list)
+    loop: Loop | None = None
+
+    @property
+    def bound(self) -> Sum:
+        """Returns the number of steps that the theorem states."""
+        claimed = self.contract.steps
+        return claimed.count if claimed else Sum((), self.steps)
+
+
+@dataclass
+class Loop:
+    """A loop: its label, address and contract, the components that a round may change, the nodes at the beginning of a round, the states
+    from which it is entered and to which a round leads, and the most steps of a round. If the number of steps is exact, the second node
+    is the beginning of the last round, in which `decreases` is zero, and `last_steps` are the steps of this round."""
+    label: str
+    address: int
+    contract: Contract
+    names: set[str] = field(default_factory=set)
+    roots: list[Node] = field(default_factory=list)
+    entries: list[Node] = field(default_factory=list)
+    backs: list[Node] = field(default_factory=list)
+    steps: int = 0
+    last_steps: int = 0
+
+
+def plain(claims: list[Claim | Named]) -> list[Claim]:
+    """Returns the claims that compare sums, without those that give a component a value."""
+    return [claim for claim in claims if isinstance(claim, Claim) and not value_of(claim)]
+
+
+def value_of(claim: Claim | Named) -> tuple[str, str] | None:
+    """Returns the component and the value that a requirement gives it."""
+    if isinstance(claim, Named):
+        values = {"HEX": "Hexadecimal", "DEC": "Decimal"}
+        return ("base", values[claim.value]) if claim.name == "MODE" else ("active", claim.value)
+    left, right = claim.left, claim.right
+    if claim.relation == "=" and len(left.parts) == 1 and not right.parts and not left.constant and left.parts[0][0] == 1:
+        name, count = left.parts[0][1].name, right.constant
+        if name == "CY" and count in (0, 1):
+            return "carry", "true" if count else "false"
+        if name in ("P", "Q") and 0 <= count < 14:
+            return name.lower(), str(count)
+    return None
+
+
+def known_at_start(contract: Contract) -> dict[str, str]:
+    """Returns the components that have a known value when the function begins: those that are required, else hexadecimal mode and a
+    clear carry."""
+    found = {"carry": "false", "base": "Hexadecimal"}
+    for claim in contract.requires:
+        given = value_of(claim)
+        if given:
+            found[given[0]] = given[1]
+    return found
+
+
+def register_of(node: Node, name: str) -> str:
+    """Returns the proof that a register has 14 digits in a state."""
+    return f"{node.whole}.processor.{'abc.' if name in 'abc' else ''}{name}"
+
+
+def key_of(atom: Atom, state: State) -> Key:
+    """Returns the number of an atom in a state."""
+    name = atom.name.lower()
+    if atom.lo is not None:
+        return state.of(name), atom.lo, atom.hi or 0
+    if atom.name == "CY":
+        return f"carry_digit {argument(state.of('carry'))}"
+    if atom.name.startswith("S"):
+        return f"carry_digit (is_status_set {atom.name[1:]} (record s.processor {{ status = {state.of('status')} }}))"
+    return state.of(name)
+
+
+def form_of(one: Sum, now: State, before: State) -> dict:
+    """Returns a sum with the factor of each number; the constant is the factor of None."""
+    found: dict = {None: one.constant} if one.constant else {}
+    for many, atom in one.parts:
+        key = key_of(atom, before if atom.old else now)
+        found[key] = found.get(key, 0) + many
+    return found
+
+
+def negative_free(left: Sum, right: Sum) -> tuple[Sum, Sum]:
+    """Returns both sides of a comparison without negative terms: these are moved to the other side."""
+    def split(one: Sum, sign: int) -> Sum:
+        return Sum(tuple((abs(many), atom) for many, atom in one.parts if many * sign > 0), max(one.constant * sign, 0))
+
+    return split(left, 1).plus(split(right, -1)), split(right, 1).plus(split(left, -1))

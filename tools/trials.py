@@ -1,0 +1,225 @@
+"""Tries claims on the bench: calls a function from states that meet its requirements, and compares what it leaves with what is claimed."""
+from __future__ import annotations
+
+import random
+import subprocess
+from typing import Iterable, Iterator, NamedTuple
+
+from claims import WIDE, Atom, Claim, Contract, Named, Steps, Sum
+from decks import BENCH, NO_ANSWER, Failure, ended
+from codes import Code, known_at_start
+from stubs import stub_of
+
+# How many states are tried, how many are drawn for each that meets the requirements, and the steps after which a call is ended.
+TRIALS, DRAWS, LIMIT = 150, 200, 100_000
+IN_A_LINE = 40
+SHOWN = ("A", "B", "C", "M", "N", "G", "T", "ST", "P", "Q", "PT", "CY", "MODE")
+BASES = {"Hexadecimal": "HEX", "Decimal": "DEC"}
+
+
+class Trial(NamedTuple):
+    """A call: the registers before and after it, its steps, and how it ended, as `run` prints it."""
+    before: dict[str, str]
+    after: dict[str, str]
+    steps: int
+    reason: str
+
+
+class Counterexample(NamedTuple):
+    """A claim that is false: its source line, its text, and a state from which it is false."""
+    line: int
+    claim: str
+    why: str
+
+
+def value_in(atom: Atom, cpu: dict[str, str]) -> int:
+    """Returns the value of an atom in the registers that `show cpu` prints."""
+    if atom.lo is not None:
+        return int(cpu[atom.name], 16) >> 4 * atom.lo & 16 ** ((atom.hi or 0) + 1 - atom.lo) - 1
+    if atom.name.startswith("S"):
+        return int(cpu["ST"], 16) >> int(atom.name[1:]) & 1
+    return int(cpu[atom.name], 16)
+
+
+def total(one: Sum, before: dict[str, str], after: dict[str, str]) -> int:
+    """Returns the value of a sum."""
+    return one.constant + sum(many * value_in(atom, before if atom.old else after) for many, atom in one.parts)
+
+
+def is_true(claim: Claim | Named, before: dict[str, str], after: dict[str, str]) -> bool:
+    """Returns whether a claim is true after a call."""
+    if isinstance(claim, Named):
+        return after[claim.name] == claim.value
+    left, right = total(claim.left, before, after), total(claim.right, before, after)
+    return {"=": left == right, "<>": left != right, "<": left < right, "<=": left <= right, ">": left > right,
+            ">=": left >= right}[claim.relation]
+
+
+class States:
+    """States that meet the requirements of a contract, first those at the bounds of its numbers."""
+
+    def __init__(self, contract: Contract, seed: int = 41) -> None:
+        self.contract, self.random = contract, random.Random(seed)
+        known = known_at_start(contract)
+        self.fixed = {"MODE": BASES[known["base"]]}
+        self.fixed.update((name, f"{int(known[name.lower()]):X}") for name in ("P", "Q") if name.lower() in known)
+        self.fixed.update({"PT": known["active"]} if "active" in known else {})
+        claims = [claim for claim in [*contract.requires, *contract.ensures] if isinstance(claim, Claim)]
+        self.spans = list({(one.name, one.lo, one.hi): one for claim in claims for one in claim.atoms() if one.lo is not None}.values())
+        numbers = {claim.left.constant for claim in claims} | {claim.right.constant for claim in claims}
+        self.bounds = sorted({max(0, number + more) for number in numbers for more in (-1, 0, 1)})
+
+    def number(self, width: int) -> int:
+        """Returns a number of some digits, often one at a bound."""
+        most = 16 ** width - 1
+        few = [*(number for number in self.bounds if number <= most), 0, 1, most, most - 1, 16 ** (width - 1), int("9" * width, 16)]
+        return self.random.choice(few) if self.random.random() < 0.6 else self.random.randint(0, most)
+
+    def draw(self) -> dict[str, str]:
+        """Returns a state that may not meet the requirements."""
+        values = {name: self.number(14) if self.random.random() < 0.3 else self.random.getrandbits(56) for name in WIDE}
+        for name, lo, hi in {(one.name, one.lo, one.hi): one for one in self.spans}:
+            width = hi + 1 - lo
+            mask = 16 ** width - 1 << 4 * lo
+            values[name] = values[name] & ~mask | self.number(width) << 4 * lo
+        found = {name: f"{value:014X}" for name, value in values.items()}
+        found.update(G=f"{self.number(2):02X}", ST=f"{self.random.getrandbits(14):04X}", P=f"{self.random.randrange(14):X}",
+                     Q=f"{self.random.randrange(14):X}", PT=self.random.choice("PQ"), T=f"{self.number(2):02X}", CY="0")
+        self.narrow(found)
+        return {**found, **self.fixed}
+
+    def narrow(self, found: dict[str, str]) -> None:
+        """Gives numbers that a requirement compares with a constant a value that meets it."""
+        for claim in self.contract.requires:
+            if not isinstance(claim, Claim) or len(claim.left.parts) != 1 or claim.right.parts or claim.left.parts[0][0] != 1:
+                continue
+            atom, limit = claim.left.parts[0][1], claim.right.constant - claim.left.constant
+            if atom.lo is None:
+                continue
+            most = 16 ** ((atom.hi or 0) + 1 - atom.lo) - 1
+            low, high = {"=": (limit, limit), "<=": (0, limit), "<": (0, limit - 1), ">=": (limit, most), ">": (limit + 1, most),
+                         "<>": (0, most)}[claim.relation]
+            if low <= min(high, most) and not is_true(claim, found, found):
+                chosen = self.random.choice([low, min(high, most), self.random.randint(low, min(high, most))])
+                digits = int(found[atom.name], 16) & ~(most << 4 * atom.lo) | chosen << 4 * atom.lo
+                found[atom.name] = f"{digits:014X}"
+
+    def all(self) -> Iterator[dict[str, str]]:
+        """Yields states that meet the requirements."""
+        for _ in range(TRIALS):
+            for _ in range(DRAWS):
+                state = self.draw()
+                if all(is_true(claim, state, state) for claim in self.contract.requires):
+                    yield state
+                    break
+            else:
+                return
+
+
+def block(page: str, words: Iterable[int]) -> str:
+    """Returns the block that plugs a page with words."""
+    words = list(words)
+    rows = [" ".join(f"{word:03X}" for word in words[at:at + IN_A_LINE]) for at in range(0, len(words), IN_A_LINE)]
+    return "".join(f"{row}\n" for row in [f"words {page}", *rows, "end"])
+
+
+def run_all(code: Code, label: str, states: list[dict[str, str]]) -> list[Trial]:
+    """Returns what calls of a function do from some states."""
+    page = f"{code.origin >> 12:X}"
+    free = "F" if page != "F" else "E"
+    deck = block(page, code.words)
+    for state in states:
+        cpu = {("cpu.T" if name == "T" else name): value for name, value in state.items() if name != "CY"}
+        stub = stub_of({}, cpu, code.labels[label])
+        deck += f"reset\nunplug {free}\nwords {free}\n{stub.text}end\ncall {free}000\nstep {stub.steps}\nshow cpu\nrun {LIMIT}\nshow cpu\n"
+    ran = subprocess.run([BENCH, "run", "-"], input=deck.encode(), stdout=subprocess.PIPE, check=False)
+    if ran.returncode == NO_ANSWER:
+        raise Failure("./bench gave no answer: see its message above", NO_ANSWER)
+    if ran.returncode not in (0, 1):
+        raise Failure(ended(ran.returncode, "when it was asked to try the claims"), 3)
+    lines = [line for line in ran.stdout.decode().splitlines() if not line.startswith("! 03 ")]
+    return list(trials_of(lines))
+
+
+def trials_of(lines: list[str]) -> Iterator[Trial]:
+    """Yields the calls whose replies are in some lines."""
+    at = next((number for number, line in enumerate(lines) if line.startswith("A=")), len(lines))
+    while at < len(lines):
+        before, at = registers(lines, at)
+        words = lines[at].split()
+        reason, at = lines[at], at + 1
+        if at < len(lines) and lines[at].startswith("! "):
+            reason, at = f"{lines[at]}", at + 1
+        after, at = registers(lines, at)
+        yield Trial(before, after, int(words[1]) if words[:1] == ["ran"] else -1, reason)
+        while at < len(lines) and not lines[at].startswith("A="):
+            at += 1
+
+
+def registers(lines: list[str], at: int) -> tuple[dict[str, str], int]:
+    """Returns the registers in the five lines of `show cpu`, and the line after them."""
+    found: dict[str, str] = {}
+    for line in lines[at:at + 4]:
+        found.update(part.split("=") for part in line.split())
+    return found, at + 5
+
+
+def told(state: dict[str, str], names: Iterable[str]) -> str:
+    """Returns some registers of a state as text."""
+    return " ".join(f"{name}={state[name]}" for name in names)
+
+
+def named_in(contract: Contract, claim: Claim | Named | Steps) -> list[str]:
+    """Returns the registers that a counterexample shows: those of the claim and of the requirements."""
+    claims = [one for one in [*contract.requires, claim] if isinstance(one, (Claim, Named))]
+    names = {("ST" if one.name[0] == "S" and one.lo is None else one.name)
+             for each in claims if isinstance(each, Claim) for one in each.atoms()}
+    names |= {each.name for each in claims if isinstance(each, Named)}
+    names |= {"C"} if not names else set()
+    return [name for name in SHOWN if name in names]
+
+
+def judged(contract: Contract, trial: Trial) -> Counterexample | None:
+    """Returns the first claim that a call shows to be false."""
+    if not trial.reason.endswith(" Idle"):
+        is_refused = trial.reason.startswith("! ")
+        line = contract.steps.line if contract.steps else contract.line
+        why = f"it is refused: {trial.reason}" if is_refused else f"it has not returned after {LIMIT:,} steps"
+        return Counterexample(line, "returns", f"from {told(trial.before, SHOWN)} {why}")
+    for claim in contract.ensures:
+        if not is_true(claim, trial.before, trial.after):
+            names = named_in(contract, claim)
+            return Counterexample(claim.line, claim.text, f"from {told(trial.before, names)} it leaves {told(trial.after, names)}"
+                                                          f"{sides(claim, trial)}")
+    if contract.steps:
+        count = total(contract.steps.count, trial.before, trial.before)
+        if trial.steps > count or contract.steps.is_exact and trial.steps != count:
+            names = named_in(contract, contract.steps)
+            most = f"{'' if contract.steps.is_exact else 'at most '}{count}"
+            return Counterexample(contract.steps.line, contract.steps.text,
+                                  f"from {told(trial.before, names)} it takes {trial.steps} steps, expected {most}")
+    return None
+
+
+def sides(claim: Claim | Named, trial: Trial) -> str:
+    """Returns the values of both sides of a comparison as text."""
+    if isinstance(claim, Named):
+        return ""
+    left, right = total(claim.left, trial.before, trial.after), total(claim.right, trial.before, trial.after)
+    return f": the left side is {left:X}, the right side is {right:X}"
+
+
+def counterexamples(code: Code, label: str) -> tuple[int, list[Counterexample]]:
+    """Returns how many calls were tried, and a counterexample for each claim that is false in one of them, the simplest one first
+    found."""
+    contract = code.contracts[label]
+    states = list(States(contract).all())
+    if not states:
+        return 0, []
+    found: dict[tuple[int, str], Counterexample] = {}
+    trials = run_all(code, label, states)
+    for trial in trials:
+        one = judged(contract, trial)
+        if one:
+            found.setdefault((one.line, one.claim), one)
+    return len(trials), sorted(found.values())

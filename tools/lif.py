@@ -48,7 +48,7 @@ def entry_at(data: bytes, at: int) -> Entry:
     found = LETTERS.match(raw)
     width = found.end() if found else 0
     if width < NAME:
-        raise Damaged(at + width, f"{raw[width]:02X}", f"a character of the name of a file, 20 to 7E, of which a name has {NAME}")
+        raise Damaged(at + width, f"{raw[width]:02X}", f"one of the {NAME} characters of a file name, 20 to 7E")
     return Entry(at, raw.decode().rstrip(" "), number_in(data, at + 10, 2), number_in(data, at + 12, 4), number_in(data, at + 16, 4),
                  number_in(data, at + LENGTH, 2))
 

@@ -137,7 +137,7 @@ def results_in(tool: str, parts: List[Tuple[str, str]]) -> List[object]:
     of, count = first or (1, 0)
     missing = [f"{number}/{of}" for number in range(1, of + 1) if number not in found]
     if missing:
-        raise Failure(f"found {of - len(missing)} of {of} shares, expected all: share {', '.join(missing[:4])} "
+        raise Failure(f"found {of - len(missing)} of {of} shares, expected all: share{'s' * (len(missing) > 1)} {', '.join(missing[:4])} "
                       f"{'and others are' if missing[4:] else 'is' if len(missing) == 1 else 'are'} missing")
     return [found[at % of + 1][at // of] for at in range(count)]
 

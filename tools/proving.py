@@ -34,9 +34,15 @@ class Verdict(NamedTuple):
     text: str
 
 
+def library(folder: str, name: str) -> str:
+    """Returns the path of a library. `rt ci` makes it in the folder of its crate, which is used if the folder of ./bench prove lacks it."""
+    path, of_rt = f"{os.path.abspath(folder)}/{name}.rlib", f"{TOP}/crates/{name}/out/rlib/{name}.rlib"
+    return of_rt if folder == LIBRARIES and not os.path.isdir(path) and os.path.isdir(of_rt) else path
+
+
 def missing(folder: str) -> list[str]:
     """Returns the libraries that a folder lacks."""
-    return [name for name in USED if not os.path.isdir(f"{folder}/{name}.rlib")]
+    return [name for name in USED if not os.path.isdir(library(folder, name))]
 
 
 def check_libraries(folder: str) -> None:
@@ -60,9 +66,12 @@ def command(folder: str) -> list[str]:
     """Returns the command that proves the crate in the current folder."""
     top = kit()
     words = [f"{top}/bin/rattle", "check", "--crate-name", CRATE, "src/lib.rt", "--extern", f"std={top}/rlibs/std.rlib"]
-    for name in USED:
-        words += ["--extern", f"{name}={os.path.abspath(folder)}/{name}.rlib"]
-    words += ["-L", f"dependency={os.path.abspath(folder)}", "-L", f"dependency={top}/rlibs", "--links", f"{CRATE}="]
+    paths = {name: library(folder, name) for name in USED}
+    for name, path in paths.items():
+        words += ["--extern", f"{name}={path}"]
+    for within in dict.fromkeys([*map(os.path.dirname, paths.values()), f"{top}/rlibs"]):
+        words += ["-L", f"dependency={within}"]
+    words += ["--links", f"{CRATE}="]
     return [*words, "--antt-project", f"{top}/rattle/logic/antt-project.json", "--logic-built", f"{top}/logic_built"]
 
 

@@ -310,7 +310,7 @@ class Debugger:
         part = self.places.part_at(address, bank or self.machine.banks.get(address >> 12, 1))
         row = part.row_at(address & 0xFFF) if part else None
         if row is None:
-            raise Failure(f"no source is known at {address:04X}")
+            raise Failure(f"no source is known at {address:04X}, expected an address in a page that was assembled from a source")
         at = part.rows.index(row)
         for path, number, text in part.rows[max(at - AROUND, 0):at + AROUND + 1]:
             print(f"{'>' if (path, number) == row[:2] else ' '} {number:>4}  {text}".rstrip())

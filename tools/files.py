@@ -27,7 +27,7 @@ def why_no_folder(folder):
     while part and not os.path.exists(part):
         part = os.path.dirname(part)
     if part and not os.path.isdir(part):
-        return f"{part} is not a folder: choose another output file"
+        return f"{part} is a file, expected a folder: choose another path"
     return f"the folder {folder} does not exist: create it first"
 
 

@@ -48,7 +48,9 @@ class Session:
         command = command.rstrip(b"\n")
         if not is_whole(command):
             first = command.decode(errors="replace").split("\n")[0]
-            raise Failure(f"`{first}`: expected one command, or one block with its line `end`", 2)
+            count = command.count(b"\n") + 1
+            raise Failure(f"`{first}`: found {count} line{'s' * (count > 1)} that are not one block, expected one command, or one block that ends "
+                          "with `end`", 2)
         return self.ask_all(command)
 
     def ask_all(self, commands):

@@ -6,6 +6,13 @@ const CHECKS = ["auto", "letters", "tall", "large", "zeros", "asking"];
 const CHOICES = ["pace", "theme", "panel"];
 
 let mayKeep = false;
+let isLeaving = false;      // the page is about to be loaded again: its requests are cancelled, which must not look like the end of a run
+
+addEventListener("beforeunload", () => {
+  isLeaving = true;
+  // (the user may decide to stay)
+  setTimeout(() => { isLeaving = false; }, 2000);
+});
 
 const cookieOf = (name) => document.cookie.split("; ").find((part) => part.startsWith(`${name}=`))?.slice(name.length + 1);
 
@@ -16,7 +23,7 @@ function keep() {
   const checks = CHECKS.filter((id) => by(id).checked);
   const choices = Object.fromEntries(CHOICES.map((id) => [id, by(id).value]));
   document.cookie = `${KEPT}=${encodeURIComponent(JSON.stringify({ open, checks, choices }))}; path=/; max-age=${A_YEAR}; samesite=strict`;
-  sessionStorage.setItem(DRIVEN, String(driver !== null));
+  if (!isLeaving) sessionStorage.setItem(DRIVEN, String(driver !== null));
 }
 
 function kept() {

@@ -1,4 +1,5 @@
 """The states of a session. They are kept and sent as differences, because a step changes little."""
+from typing import Any, Optional, TypedDict
 
 # How many states are kept.
 MOST_STATES = 2000
@@ -7,7 +8,18 @@ MOST_STATES = 2000
 LONG = 16
 
 
-def difference(old, new):
+# A state: what the views of the bench show, by name, as the page gets it.
+State = dict[str, Any]
+
+
+class Told(TypedDict):
+    """States that are sent: the number of the state before the changes, this state or None, and the changes."""
+    at: int
+    base: Optional[State]
+    changes: list[State]
+
+
+def difference(old: State, new: State) -> State:
     """Returns what differs between two states: by name the new value, or for a long list the items that have changed, with their places."""
     change = {}
     for name, value in new.items():
@@ -22,7 +34,7 @@ def difference(old, new):
     return change
 
 
-def applied(state, change):
+def applied(state: State, change: State) -> State:
     """Returns the state after a change."""
     result = dict(state)
     for name, value in change.items():
@@ -38,12 +50,16 @@ def applied(state, change):
 class History:
     """The last states, each with a number that it keeps; those before `first` are forgotten."""
 
-    def __init__(self):
-        self.first, self.base, self.last, self.changes = 0, None, None, []
+    def __init__(self) -> None:
+        """Begins without states."""
+        self.first = 0
+        self.base: Optional[State] = None
+        self.last: Optional[State] = None
+        self.changes: list[State] = []
 
-    def add(self, state):
+    def add(self, state: State) -> None:
         """Adds a state, if it differs from the last one."""
-        if self.last is None:
+        if self.last is None or self.base is None:
             self.base = self.last = state
             return
         change = difference(self.last, state)
@@ -56,11 +72,11 @@ class History:
             self.first += 1
 
     @property
-    def end(self):
+    def end(self) -> int:
         """The number of the last state."""
         return self.first + len(self.changes)
 
-    def at(self, number):
+    def at(self, number: int) -> Optional[State]:
         """Returns the state with a number; None if there is none, or none any more."""
         if self.base is None or not self.first <= number <= self.end:
             return None
@@ -69,7 +85,7 @@ class History:
             state = applied(state, change)
         return state
 
-    def told(self, known):
+    def told(self, known: Optional[int]) -> Told:
         """Returns the states after the one with the number `known`, or all of them if that one is forgotten or there is none: the
         number of the state before the changes, this state or None, and the changes."""
         if known is not None and self.first <= known <= self.end:

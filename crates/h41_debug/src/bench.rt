@@ -122,8 +122,13 @@ impl<const REGS: usize> Bench<REGS> {
     }
 
     /// Executes the next word while a function in microcode runs, as a single step, and returns whether the function
-    /// still runs. `caller` is what continues when the function ends. The errors are those of `step` for a word;
-    /// nothing is changed then. It is inlined so that the loop over words is compiled as one piece.
+    /// still runs. `caller` is what continues when the function ends. It is inlined so that the loop over words is
+    /// compiled as one piece.
+    ///
+    /// # Errors
+    ///
+    /// UndefinedWord (06), WordNotInProfile (07), SystemRom (08), EmptyPage (09), PeripheralNotHeld (10), Asleep (11) or
+    /// ReadOnly (12). Nothing is changed then.
     #[inline(always)]
     pub(crate) fn step_word(&mut self, caller: Caller) -> Result<bool, CalculatorRefusal>
         requires { self.old.state.calculator.mode ≡ Micro caller }

@@ -69,8 +69,12 @@ pub fn answer_line<W: Sink, const REGS: usize>(
 }
 
 /// Executes a command without a block, and writes its reply. `operands` are the words after the command's first word in
-/// `line`; commands for which they do not suffice are parsed from the line. The result and the errors are those of
-/// `answer_line`.
+/// `line`; commands for which they do not suffice are parsed from the line. Returns whether a refusal was printed.
+///
+/// # Errors
+///
+/// `OutOfMemory` (21), only for commands that allocate memory: nothing is written. `WriteFault` (23): a prefix of the
+/// reply is written.
 #[inline(always)]
 fn answer_plain<W: Sink, const REGS: usize>(
     alloc: Global,
@@ -104,8 +108,12 @@ fn answer_plain<W: Sink, const REGS: usize>(
     }
 }
 
-/// Parses a line of a deck as a command, executes it, and writes its reply. The result and the errors are those of
-/// `answer_line`.
+/// Parses a deck line as a command, executes it on `bench`, and writes its reply. Returns whether a refusal was printed.
+///
+/// # Errors
+///
+/// `OutOfMemory` (21), only for commands that allocate memory: nothing is written. `WriteFault` (23): a prefix of the
+/// reply is written.
 #[inline(never)]
 fn answer_whole<W: Sink, const REGS: usize>(
     alloc: Global,

@@ -108,8 +108,9 @@ impl Pages {
         None
     }
 
-    /// Returns the XROM number, 1 to 31, and the entry number, 0 to 63, of the first function with a name in one page,
-    /// 0 to 15, in the order of its table entries. `None` if bank 1 is not plugged or no function has the name.
+    /// Returns the XROM number, 1 to 31, and the number of the table entry, 0 to 63, of the first function of `page`, 0 to
+    /// 15, whose name is `name`. The functions are in the order of their table entries. `None` if bank 1 of the page is
+    /// not plugged or no function of it has the name.
     fn find_at(&self, page: usize, name: &[u8]) -> Option<(u8, u8)>
         requires { page < 16 }
         ensures found { result ≡ spec.found_in name.now (spec.functions_at self.now page) }

@@ -29,7 +29,8 @@ pub type Bytes = ArrayVec<u8, 2240>;
 /// Program lines one after another, as program memory stores them: without nulls, except between two numbers.
 #[derive(Drop)]
 pub struct Packer {
-    /// The bytes of the lines, if `full` is false. Otherwise those of the last lines are missing.
+    /// The bytes of the appended lines, in their order. If `full` is true, the bytes of the lines that did not fit are
+    /// missing.
     pub bytes: Bytes,
     /// Whether the lines have more than 2237 bytes.
     pub full: bool,

@@ -12,8 +12,8 @@ use std::io;
 /// The program's name, as it begins lines on standard error and appears in help.
 pub(crate) const NAME: &str = "bench";
 
-/// The most bytes of the operating system's message about a file: its text has up to 255, and the error
-/// number up to 11.
+/// The size in bytes of the buffer for the operating system's message about a file. The longest message has 278: 255 of
+/// text, 12 of ` (os error )`, and 11 of the error number.
 const CAUSE: usize = 288;
 
 /// Writes a line to `faults` with the program's name, the name of the file and the operating system's message, for

@@ -32,8 +32,9 @@ pub(crate) fn assemble_source<R: Source, W: Sink>(
     Ok(write_answer(writer, &answer)?)
 }
 
-/// Lists the words that `reader` delivers, the first of which is at the address `origin`, and writes the listing to
-/// `writer`. If a word is not a hexadecimal number up to 3FF, nothing is written and the result has its number.
+/// Reads the words of a program in microcode from `reader` and writes their listing to `writer`, a line for each word.
+/// `origin` is the address of the first word. If a word is not a hexadecimal number up to 3FF, nothing is written, and
+/// the result says which word it is, counted from 1.
 ///
 /// # Errors
 ///

@@ -16,8 +16,8 @@ pub enum Notation {
     Engineering,
 }
 
-/// The radix mark, which separates the digits before the decimals from the decimals. The other one of the point and the
-/// comma separates groups of three digits.
+/// The radix mark: the character before the decimals of a number. If it is the point, the comma separates groups of
+/// three digits, and the other way round.
 #[derive(Clone, Copy, Debug, PartialEq, Eq)]
 pub enum RadixMark {
     /// A point, `.`; a comma separates groups of digits.

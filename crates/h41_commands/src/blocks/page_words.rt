@@ -15,7 +15,8 @@ pub const PAGE_WORDS: usize = 4096;
 /// The greatest value of a word: 3FF (hexadecimal), because a word has ten bits.
 const GREATEST: u16 = 0x3FF;
 
-/// The words in the deck lines of a `words` block that were taken so far, at most 4,096.
+/// What the deck lines of a `words` block give, read line by line: the words of a page's image, at most 4,096, and the
+/// refusal if a line is wrong.
 #[derive(Debug, Drop)]
 pub struct PageWords {
     words: Vec<u16>,

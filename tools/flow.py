@@ -2,6 +2,7 @@
 
 Everything here is certain only as far as the words say it. A computed jump, a word for a peripheral, and data after a call of another
 ROM make it uncertain which words are executed; `Flow.is_uncertain` then says so."""
+import re
 from typing import NamedTuple, Optional
 
 CLEAR, SET, EITHER = "clear", "set", "either"
@@ -18,6 +19,10 @@ HANDS_OVER, OF_FLAGS, OF_POINTERS, OF_PERIPHERALS = 0x24, 0x0C, 0x14, 0x2C
 TESTS, NO_TEST = (0x120, 0x160, 0x3CC), 0x3D4
 # The numbers of operations on a field that set the carry by their result, and of the one that always sets it.
 FIRST_SUM, LAST_TEST, COMPLEMENT = 9, 27, 21
+
+# Instructions that set the pointer, and those that use it.
+SETS_POINTER = re.compile("R= ")
+USES_POINTER = re.compile(r"LD@R |\?R= |R=R[+-]1|G=C|C=G|C<>G|.* (?:@R|R<|P-Q)\Z")
 
 # Where HP's ROM continues after a function.
 NORMAL_END = 0x00F0
@@ -293,3 +298,36 @@ class Flow:
             return [(behind, CLEAR, UNKNOWN, None)]
         return [(behind, CLEAR, left, set_at or (since if left == DECIMAL else None))
                 for one in own for _, left, set_at in self.bases(one, base, True)]
+
+    # The pointer.
+
+    def text(self, node):
+        """Returns the instruction of a node."""
+        return self.units[node[0]].lines[self.line(node)].instruction()
+
+    def may_set_pointer(self, targets):
+        """Returns whether one of the called routines may set the pointer: a routine of another ROM may."""
+        own = [one for one in targets if not isinstance(one, int)]
+        return len(own) < len(targets) or any(SETS_POINTER.match(self.text(node)) for node in self.reached(own)[1])
+
+    def without_pointer(self, start):
+        """Returns the instructions of a routine that use the pointer, although none before them on any path sets it."""
+        seen, rest, found = set(), [(start, CLEAR, False)], {}
+        while rest:
+            state = rest.pop()
+            node, carry, is_set = state
+            if state in seen or not self.is_code(node):
+                continue
+            seen.add(state)
+            text = self.text(node)
+            if USES_POINTER.match(text):
+                found.setdefault(node, set()).add(is_set)
+            is_set |= bool(SETS_POINTER.match(text))
+            for what, into, carry in self.steps(node, carry):
+                if what == "call":
+                    own = [one for one in into if not isinstance(one, int)]
+                    rest += [(one, CLEAR, is_set) for one in own]
+                    rest.append((self.after_call(node, own), CLEAR, is_set or self.may_set_pointer(into)))
+                elif into is not None:
+                    rest.append((into, carry, is_set))
+        return [node for node, states in found.items() if states == {False}]

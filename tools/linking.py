@@ -230,7 +230,8 @@ class Linked:
             if not found:
                 continue
             page, name = found[1] and found[1].decode(), found[2].decode()
-            if page is None and name in self.project.equates and name not in self.labels:
+            is_number = words[0].decode(errors="replace") in NUMBERED
+            if page is None and name in self.project.equates and (is_number or name not in self.labels):
                 self.put(unit, at, self.project.equates[name].encode())
                 continue
             label = self.find(page, name, unit)

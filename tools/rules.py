@@ -17,6 +17,7 @@ STATUS_BIT = re.compile(r"(?:SETF|CLRF) (10|12)")
 ENBANK = re.compile("ENBANK([1-4])")
 SUM_OF_C = re.compile(r"[AC]=(?:C[+-]1|[AC][+-]C|C\+C|0-C) (?:S&X|ALL)")
 
+DIRECTIVE = re.compile(rb"(#[ \t]*(?:define|include|if|ifdef|ifndef|else|elif|endif|undef|macro|pragma|org|equ|set)\b)(?![^\w\s]*[.,:])", re.I)
 IGNORED = re.compile(r"\blint:\s*ignore\b[ \t]*([^;]*)")
 
 # What the status bits mean that a function leaves unchanged.
@@ -27,7 +28,7 @@ RETURN_ADDRESSES = 4
 
 NAMES = ("lost-answer", "never-taken", "always-taken", "setdec", "decimal-digit", "status-bit", "unreachable", "deep-calls",
          "endless-calls", "ldi-word", "middle", "bank-table", "bank-switch", "bank-return", "module-number", "function-count",
-         "function-name", "open-end", "unused-label", "polled-word", "ignore")
+         "function-name", "open-end", "unused-label", "polled-word", "pointer", "directive", "ignore")
 
 
 class Bank:
@@ -78,6 +79,7 @@ class Lint:
             self.polled(bank)
             self.status_bits(bank)
             self.unused(bank)
+            self.directives(bank)
         self.follow()
         self.judge_banks()
         self.found = sorted(one for one in set(self.found) if not self.is_ignored(*one))
@@ -158,13 +160,18 @@ class Lint:
         ends = {source.places[at] + len(source.words_of_line(at)): at for at in bank.lines if bank.code[at].startswith("NAME ")}
         focal = {source.labels[source.lines[at].reference] for at in bank.lines if self.enters_own(bank, at, "FOCAL ")}
         behind = {source.places[after]: at for at, after in bank.pairs()}
+        named = {}
         for place, at in ends.items():
+            first = named.setdefault(bank.code[at], at)
+            if first != at and place in entered:
+                self.tell(at, "function-name", f"line {first + 1} has this name already: the calculator finds only the first function of a name")
             if place not in entered and place not in focal:
                 self.tell(at, "function-name", "no ENTRY names the label after this name")
         for place, at in entered.items():
             before = behind.get(place)
             is_foreign = at in getattr(source, "entered", ())
-            if place not in ends and not is_foreign and not (before is not None and bank.code[before].startswith("CON ")):
+            is_data = before is not None and bank.code[before].startswith("CON ") and bank.code[before] != "CON 000"
+            if place not in ends and not is_foreign and not is_data:
                 self.tell(at, "function-name", f"no NAME is directly before the label {source.lines[at].reference}")
 
     @staticmethod
@@ -207,6 +214,14 @@ class Lint:
                 if self.is_module or not bank.is_entrance(at):
                     self.tell(at, "unused-label", f"no line refers to the label {name}")
 
+    def directives(self, bank):
+        """Finds directives of other assemblers that begin with #, which are read as comments."""
+        for at, text in enumerate(bank.source.texts):
+            found = DIRECTIVE.match(text)
+            if found:
+                self.tell(at, "directive", f"a line that begins with # is a comment, so {found[1].decode()} has no effect: a project of tools/module "
+                                           "names numbers in [equates], and several sources need no #include")
+
     # What is executed.
 
     def roots(self):
@@ -239,6 +254,8 @@ class Lint:
             if self.is_module or node not in called:
                 self.decimal_returns(node)
             self.depth(node)
+        for node in functions if self.is_module else ():
+            self.pointers(node)
         self.decimal_digits()
         for node, names in self.flow.endless(functions):
             self.tell(self.flow.line(node), "endless-calls", f"this chain of calls never ends: {' -> '.join(names)}", node[0])
@@ -312,6 +329,12 @@ class Lint:
                 bases = self.flow.modes.get((number, bank.source.places[behind]))
                 if bases == {DECIMAL} and not f"{word:X}".isdigit():
                     self.tell(behind, "decimal-digit", f"the base is 10 here, and {word:03X} of LDI has a digit above 9", number)
+
+    def pointers(self, node):
+        """Finds instructions of a function that use the pointer before it is set."""
+        for bank, place in self.flow.without_pointer(node):
+            self.tell(self.flow.line((bank, place)), "pointer", "this instruction uses the pointer, but no R= before it sets it, and it may be at any place "
+                                                                f"when {self.flow.name(node)} starts", bank)
 
     def depth(self, node):
         """Finds chains of calls that need more return addresses than there are. The first address is that of the function."""

@@ -72,7 +72,10 @@ def source_in(path):
            if path.lower().endswith(".rom") else
            "found a byte 00, which no text has, expected a source: bytes of a program and images are for tools/import" if b"\0" in data else
            "this is a deck, expected a source: run it with ./bench run" if path.lower().endswith(".deck") or is_deck(commands) else
-           "this is a project file, expected a source: use tools/module" if path.lower().endswith(".toml") else None)
+           "this is a project file, expected a source: use tools/module" if path.lower().endswith(".toml") else
+           "this is a file of cases, expected a source: `tests` of a project names it" if path.lower().endswith(".cases") else
+           "this is a file of commands, expected a source: give it to tools/import after the source" if path.lower().endswith(".calls") else
+           "this is a table of inputs, expected a source: tools/module test --table runs it" if path.lower().endswith(".csv") else None)
     if why:
         raise Faulty(f"{path}: {why}")
     return data
@@ -231,19 +234,22 @@ class Source:
     def known_of(self, fault, places):
         """Returns the causes of an error of a label or a reference."""
         line = self.lines[fault.at]
+        column = f"column {fault.text.rfind(b':' + (line.reference or '').encode()) + 1}: "
         if fault.refusal == "! 32 LabelTwice":
-            return [f"line {self.line_of(line.label) + 1} has the label {line.label} already"]
+            return [f"column {fault.text.find(line.label.encode()) + 1}: line {self.line_of(line.label) + 1} has the label {line.label} already"]
         if fault.refusal == "! 33 NoLabel" and line.reference:
-            other = next((name for name in self.labels if name.lower() == line.reference.lower()), None)
+            # Only errors need this module.
+            from projects import nearest
+            other = nearest(line.reference, [name for name in self.labels if name])
             is_long = line.code.startswith(b"?") and not other
-            return [f"no line has the label {line.reference}"
+            return [f"{column}no line has the label {line.reference}"
                     + (f"; line {self.line_of(other) + 1} has {other}" if other else "")
                     + ("; if it is in another page, name both sources, or use a project of tools/module; if it is in HP's ROM, "
                        "write its address" if is_long else "")]
         if fault.refusal == "! 34 TooFar" and line.reference:
             distance = places[line.reference] - self.places[fault.at]
             least = "at least " if any(other.refusal in OF_THE_LINE for other in self.faults) else ""
-            return [f"{line.reference} is {least}{abs(distance)} words {'back' if distance < 0 else 'ahead'}"]
+            return [f"{column}{line.reference} is {least}{abs(distance)} words {'back' if distance < 0 else 'ahead'}"]
         return []
 
     # Questions about a source without errors.
@@ -533,7 +539,7 @@ class Asked:
             return "a directive of others"
         if any(classes[name] for name in instructions_of(self.behind)):
             return "a label without its colon"
-        return "a comment" if re.match(rb"[*/.#!]", self.first) else None
+        return "a comment" if re.match(rb"[*/#!]", self.first) else None
 
     def may_be_as(self, row, kind):
         """Returns whether the cause in a row of the same kind can apply to this line. For a decimal operand, the row must have a number
@@ -568,7 +574,9 @@ def of_another_dialect(own):
 
 
 # Causes that are certain: characters that look like others, a colon that is missing, and a zero too many.
-CERTAIN = ("U+", "begins with a colon", "has a leading zero")
+CERTAIN = ("U+", "begins with a colon", "has a leading zero", "in upper case", "alone: write", "space is missing", "in place of a digit",
+           "a comment begins with ;", "the colon of ", "decimal number: write it", "no space is", "no spaces inside", "expected three:", "colon and a name:",
+           "two hexadecimal digits: write", "has no operand: it", "is not in memory:", "JC or JNC after it")
 
 
 def shown_causes(asked, others):

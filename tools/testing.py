@@ -176,7 +176,7 @@ def cases_of(linked: Linked, options: argparse.Namespace) -> list[Case]:
             wanted = [Setting(name, "", "") for name in names if reader_of(name)]
         except Wrong as why:
             raise Failure(f"--values: {why}", 2) from why
-        cases = table_in(options.table, options.call, common)
+        cases = table_in(options.table, options.call, common, options.write is not None)
         return [case._replace(after=[*case.after, *wanted]) for case in cases] if wanted else cases
     files = options.files or project.tests
     if not files:

@@ -164,6 +164,18 @@ def of_numbers(code: str) -> Iterator[tuple[int, str]]:
         yield digit.start(1), f"{digit[1]} has a leading zero: write LD@R {int(digit[1])}"
     elif digit and int(digit[1]) > 15:
         yield digit.start(1), f"{digit[1]} is not a digit: LD@R takes 0 to 15"
+    yield from of_operands(code)
+    yield from of_names(code)
+    reference, numbered = REFERENCE.fullmatch(code), NUMBERED.fullmatch(code)
+    if reference and not re.fullmatch("[0-9A-F]+", reference[1]):
+        yield reference.start(1), f"a reference begins with a colon: write :{reference[1]}"
+    if numbered:
+        digits = re.sub(r"^0x|\$|H$", "", numbered[1], flags=re.I)
+        yield numbered.start(1), f"an address is four hexadecimal digits alone: write {digits.upper():0>4}"
+
+
+def of_operands(code: str) -> Iterator[tuple[int, str]]:
+    """Yields what is wrong with the target of a jump, a rotation, a status bit, a register, or an equate."""
     here, offset, left = HERE.match(code), OFFSET.match(code), LEFT.match(code)
     if here:
         yield here.start(2), f"the address of this line has no sign: write the displacement alone, {here[3]}{here[4]:0>2}"
@@ -177,16 +189,9 @@ def of_numbers(code: str) -> Iterator[tuple[int, str]]:
     if beyond:
         yield beyond.start(1), f"the status bits are 0 to 13, found {beyond[1]}"
     if register:
-        number = REGISTERS.index(register[2])
-        own = f"WRIT {number}" if register[1] == "REGN=C" else f"READ {number or 'DATA'}"
-        yield register.start(2), f"{register[2]} is register {number}: write {own}"
+        place = REGISTERS.index(register[2])
+        own = f"WRIT {place}" if register[1] == "REGN=C" else f"READ {place or 'DATA'}"
+        yield register.start(2), f"{register[2]} is register {place}: write {own}"
     equate = EQUATE.fullmatch(code)
     if equate:
         yield equate.start(1), f"{equate[1]} is a label or an equate, expected a number: only a project of tools/module has equates"
-    yield from of_names(code)
-    reference, numbered = REFERENCE.fullmatch(code), NUMBERED.fullmatch(code)
-    if reference and not re.fullmatch("[0-9A-F]+", reference[1]):
-        yield reference.start(1), f"a reference begins with a colon: write :{reference[1]}"
-    if numbered:
-        digits = re.sub(r"^0x|\$|H$", "", numbered[1], flags=re.I)
-        yield numbered.start(1), f"an address is four hexadecimal digits alone: write {digits.upper():0>4}"

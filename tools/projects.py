@@ -61,6 +61,7 @@ class Reader:
     """Reads a project file. An error names the file, the line of the key, and what was expected."""
 
     def __init__(self, path: str) -> None:
+        """Reads a project file, or the one in a folder."""
         self.path = os.path.normpath(os.path.join(path, IN_A_FOLDER) if os.path.isdir(path) else path)
         self.text, self.table = toml_in(self.path)
 
@@ -207,7 +208,8 @@ def page_of(reader: Reader, name: str, table: Any) -> Page:
         raise reader.fail(section, name, "not a name: expected a letter and up to eleven letters, digits or _")
     if not isinstance(table, dict):
         raise reader.fail("page", name, f"found {shown(table)}, expected a table such as [page.MAIN]: [page] alone has no name")
-    reader.known(section, table, ("at", "bank", "source", "end", "writable", "module", "programs"), ("name", "tests", "memory", "size", "before", "include"))
+    reader.known(section, table, ("at", "bank", "source", "end", "writable", "module", "programs"),
+                 ("name", "tests", "memory", "size", "before", "include"))
     if "at" not in table:
         raise reader.fail(section, "at", 'found no such key, expected a page from "4" to "F", for example at = "8"')
     at = reader.value(section, table, "at", str, "", 'a page from "4" to "F"')
@@ -249,7 +251,8 @@ def project_in(path: str) -> Project:
     for page in pages:
         other = taken.setdefault((page.at, page.bank), page.name)
         if other != page.name:
-            raise reader.fail(f"page.{page.name}", "at", f"bank {page.bank} of page {page.at} is already {other}: choose another page or bank")
+            raise reader.fail(f"page.{page.name}", "at", f"bank {page.bank} of page {page.at} is already {other}: choose another page or "
+                              "bank")
     memory = str(reader.value("", table, "memory", int, 320, f"one of {', '.join(MEMORIES)}"))
     if memory not in MEMORIES:
         raise reader.fail("", "memory", f"found {memory}, expected one of {', '.join(MEMORIES)}")

@@ -28,6 +28,7 @@ class Wrong(Failure):
     """A setting cannot be read. The text says why, and `word` is the word of the row that is wrong."""
 
     def __init__(self, why: str, word: str = "") -> None:
+        """Takes the message and the word."""
         super().__init__(why)
         self.word = word
 
@@ -84,6 +85,7 @@ def register(value: str) -> str:
 def hexadecimal(width: int, most: int) -> Callable[[str], str]:
     """Returns the reader of a hexadecimal number, which is printed with so many digits."""
     def read(text: str) -> str:
+        """Returns a number with all its digits. Raises Wrong if it is none, or too great."""
         if not re.fullmatch(f"[0-9A-Fa-f]{{1,{width}}}", text) or int(text, 16) > most:
             from case_causes import of_hexadecimal
             raise Wrong(f"found `{text}`, expected 1 to {width} hexadecimal digits, at most {most:X}{of_hexadecimal(text, width)}")
@@ -101,6 +103,7 @@ def pointer(text: str) -> str:
 def one_of(*values: str) -> Callable[[str], str]:
     """Returns the reader of a value that is one of a few words."""
     def read(text: str) -> str:
+        """Returns the word. Raises Wrong if it is none of the values."""
         if text not in values:
             from case_causes import of_word
             raise Wrong(f"found `{text}`, expected {' or '.join(values)}{of_word(text, values)}")

@@ -89,7 +89,8 @@ def toml_in(path: str) -> tuple[str, dict[str, Any]]:
     except UnicodeDecodeError as error:
         # (the offset is after the byte order mark, if there is one)
         at = error.start + len(data) - len(error.object)
-        raise Failure(f"{path}:{data.count(10, 0, at) + 1}: byte {data[at]:02X} at offset {at} is not valid UTF-8: save the file as UTF-8") from error
+        raise Failure(f"{path}:{data.count(10, 0, at) + 1}: byte {data[at]:02X} at offset {at} is not valid UTF-8: save the file as "
+                      "UTF-8") from error
     except tomllib.TOMLDecodeError as error:
         lines = text.split("\n")
         why, number, column = place_of(lines, str(error))

@@ -125,8 +125,8 @@ def table_in(path: str, target: str | None, common: list[Setting], is_written: b
     if twice:
         raise failure(path, 1, ",".join(rows[0]), f"two columns are named {twice}: the names of expected values begin with ->")
     if not is_written and not any(name.startswith(ARROW) for name in names):
-        raise failure(path, 1, ",".join(rows[0]), "no name begins with ->, so nothing would be compared: name an expected value, for example ->X, or write "
-                      "the values with --write OUT --values X")
+        raise failure(path, 1, ",".join(rows[0]), "no name begins with ->, so nothing would be compared: name an expected value, for "
+                                                  "example ->X, or write the values with --write OUT --values X")
     if target is None and "call" not in names:
         raise Failure(f"{path}:1: `{','.join(names)}`: no column is named call: name the function with --call LABEL")
     for number, row in enumerate(rows[1:], 2):

@@ -15,7 +15,8 @@ PLACES, DIGITS = ("CLRF", "SETF", "?FSET", "R=", "?R=", "RCR"), ("LD@R", "WRIT",
 BITS, IN_MEMORY = ("CLRF", "SETF", "?FSET"), ("WRIT", "READ")
 
 # Names of fields in other words.
-OTHER_FIELDS = {"SX": "S&X", "S+X": "S&X", "SANDX": "S&X", "S/X": "S&X", "S_X": "S&X", "EXP": "S&X", "EXPONENT": "S&X", "EX": "S&X", "XP": "S&X",
+OTHER_FIELDS = {"SX": "S&X", "S+X": "S&X", "SANDX": "S&X", "S/X": "S&X", "S_X": "S&X", "EXP": "S&X", "EXPONENT": "S&X", "EX": "S&X",
+                "XP": "S&X",
                 "MANTISSA": "M", "MANT": "M", "MAN": "M", "SIGN": "MS", "SGN": "MS", "SM": "MS", "WORD": "ALL", "A": "ALL", "FULL": "ALL",
                 "R": "@R", "@P": "@R", "P": "@R", "AT": "@R", "<R": "R<", "R->": "R<", "WP": "R<", "TOR": "R<", "P_Q": "P-Q", "P..Q": "P-Q",
                 "P:Q": "P-Q", "PTOQ": "P-Q", "XSIGN": "XS", "SX2": "XS", "S&XS": "XS"}
@@ -113,7 +114,8 @@ def of_field(name: str, text: str) -> str:
     if text in ("X", "S", "W", "WPT", "PT", "PQ", "@PT"):
         return ""
     prefix = next((own for other, own in OTHER_FIELDS.items() if len(other) > 2 and upper.startswith(other[:3])), None)
-    own = upper if upper in FIELDS else OTHER_FIELDS.get(upper.replace(" ", ""), prefix if upper.isalpha() and len(upper) > 3 else None)
+    usual = prefix if upper.isalpha() and len(upper) > 3 else None
+    own = upper if upper in FIELDS else OTHER_FIELDS.get(upper.replace(" ", "")) or usual
     if bare in FIELDS and bare != text:
         return f"a field is its name alone: write {name} {bare}"
     if own and own == upper and bare == text:
@@ -149,7 +151,8 @@ def of_number(name: str, text: str) -> str:
         number = REGISTERS.index(NAMES[text.upper()]) if NAMES.get(text.upper(), "") == "L" else NAMES.get(text.upper())
         return f"{text} is register {number}: write {name} {number}" if number is not None else ""
     if name in IN_MEMORY and text in ("A", "B", "C", "M", "N", "G"):
-        return f"{text} is not in memory: {name} takes the number of a register of memory, and {'its value goes to' if name == 'READ' else 'writes'} C"
+        what = "which it reads into C" if name == "READ" else "to which it writes C"
+        return f"{text} is not in memory: {name} takes the number of a register of memory, {what}"
     digits, signs, is_hexadecimal, _ = marked(text)
     confused = text.translate(LETTERS)
     if confused != text and confused.isdecimal() and int(confused) <= most:
@@ -188,7 +191,8 @@ def of_word(name: str, text: str) -> str:
     decimal = re.fullmatch("([0-9]{1,4})[dD]", text)
     if decimal and int(decimal[1]) <= GREATEST_WORD:
         return f"{text} is a decimal number: write it in hexadecimal, {name} {int(decimal[1]):03X}"
-    if digits and (signs or is_hexadecimal) and int(digits, 16) <= GREATEST_WORD and not re.search("[@%]", signs) and not re.match("0[bo]", text):
+    is_other_base = re.search("[@%]", signs) or re.match("0[bo]", text)
+    if digits and (signs or is_hexadecimal) and int(digits, 16) <= GREATEST_WORD and not is_other_base:
         return f"found {text}, expected three hexadecimal digits alone: write {name} {int(digits, 16):03X}"
     if re.fullmatch("-[0-9A-Fa-f]+", text) and int(text[1:], 16) <= 0x400:
         return f"a word has no sign: {text} is {name} {0x400 - int(text[1:], 16):03X}, if its ten bits are meant"
@@ -216,8 +220,8 @@ def of_target(name: str, text: str) -> str:
         return f"an address is four hexadecimal digits alone: write {name} {(numbered[1] or numbered[2]).upper():0>4}"
     distance = re.fullmatch(r"[*$.]?([-+]?)(?:0[xX]|\$)?([0-9A-Fa-f]+)[hH]?", text)
     if name in SHORT and distance and len(distance[2]) < 3 and (distance[1] or text.isdecimal()):
-        return (f"a displacement has a sign and two hexadecimal digits: write {name} {distance[1] or '+'}{distance[2].upper():0>2}, or a label, "
-                f"{name} :LOOP")
+        own = f"{distance[1] or '+'}{distance[2].upper():0>2}"
+        return f"a displacement has a sign and two hexadecimal digits: write {name} {own}, or a label, {name} :LOOP"
     if name in SHORT and distance and distance[1]:
         return f"{text} is out of reach: a short jump reaches -40 to +3F: write ?{name[1:]} GO and a label"
     if label and f":{label[1]}" != text:

@@ -20,7 +20,7 @@ AROUND = 40
 
 
 def pieces(bench: Bench, part: Part) -> Iterator[None]:
-    """Executes a run, or steps, in pieces; yields after each. A trace prints nothing that is needed here, and so it is executed as steps."""
+    """Executes a run, or steps, in pieces; yields after each. A trace prints nothing that is needed here, so it is executed as steps."""
     left = part.left
     while left:
         count = min(left, MOST_PIECE)

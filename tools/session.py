@@ -58,8 +58,8 @@ class Session:
         if not is_whole(command):
             first = command.decode(errors="replace").split("\n")[0]
             count = command.count(b"\n") + 1
-            raise Failure(f"`{first}`: found {count} line{'s' * (count > 1)} that are not one block, expected one command, or one block that ends "
-                          "with `end`", 2)
+            raise Failure(f"`{first}`: found {count} line{'s' * (count > 1)} that are not one block, expected one command, or one block "
+                          "that ends with `end`", 2)
         return self.ask_all(command)
 
     def ask_all(self, commands: bytes) -> list[bytes]:

@@ -6,13 +6,13 @@ import re
 from difflib import get_close_matches
 from functools import lru_cache
 
+from decks import OPENERS
 from documents import codes_of, section_of, tables_of
 from keyboard import KEYS
 
 Cause = tuple[int, str]
 
 COMMENT = re.compile(r";|//|--|/\*|\*|REM\b|#|'")
-OPENERS = ("words", "image", "asm", "load", "program")
 
 # Commands and views in other words.
 OTHER_COMMANDS = {"print": "show", "display": "show display", "view": "show", "get": "show", "execute": "run", "exec": "run", "go": "run",
@@ -106,7 +106,7 @@ def of_operands(name: str, words: list[Cause], wanted: list[str], end: int) -> C
     for column, word in words[len([one for one in wanted if one != ".."]):]:
         if COMMENT.match(word):
             return column, "a comment has a line of its own, with # as its first character"
-    if name in OPENERS and any(re.search(r"\.\w+\Z", word) for _, word in words):
+    if name.encode() in OPENERS and any(re.search(r"\.\w+\Z", word) for _, word in words):
         column, word = next(one for one in words if re.search(r"\.\w+\Z", one[1]))
         return column, f"a block reads no file: tools/import {word} makes a deck of it"
     needed = [one for one in wanted if one[0] != "["]

@@ -5,11 +5,12 @@ from __future__ import annotations
 import time
 from typing import TYPE_CHECKING, Iterator, Optional
 
+from benches import Bench
 from history import History, Place, State, Told, difference
 from parts import NO_END, Part, parts_of
 
 if TYPE_CHECKING:
-    from desk import Bench, Desk
+    from desk import Desk
 
 # How many bytes of commands a bench is given before it is asked. The bench must be able to read them while its replies wait.
 MOST_BYTES = 30_000

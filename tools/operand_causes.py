@@ -142,6 +142,11 @@ def marked(text: str) -> tuple[str, str, bool, bool]:
     return found[2], signs or (found[3] or "") or text[len(found[2]):], bool(found[1]) or found[3] in ("h", "H"), found[3] in ("d", "D")
 
 
+def written(name: str, digits: str) -> str:
+    """Returns an instruction with a decimal number."""
+    return "READ DATA" if name == "READ" and not int(digits) else f"{name} {int(digits)}"
+
+
 def of_number(name: str, text: str) -> str:
     """Returns what is wrong with a decimal number."""
     most = 13 if name in PLACES else 15
@@ -155,28 +160,28 @@ def of_number(name: str, text: str) -> str:
         return f"{text} is not in memory: {name} takes the number of a register of memory, {what}"
     digits, signs, is_hexadecimal, _ = marked(text)
     confused = text.translate(LETTERS)
+    if name == "READ" and (digits if digits.isdecimal() else confused).strip("0") == "":
+        return "the word for 0 is READ DATA"
     if confused != text and confused.isdecimal() and int(confused) <= most:
-        return f"{text} has a letter in place of a digit: write {name} {int(confused)}"
+        return f"{text} has a letter in place of a digit: write {written(name, confused)}"
     if digits and (is_hexadecimal or re.fullmatch("[A-Fa-f]", digits)) and digits.upper() == digits and int(digits, 16) <= most:
-        return f"{takes}: write {name} {int(digits, 16)}" if signs or int(digits, 16) > 9 else ""
+        return f"{takes}: write {written(name, str(int(digits, 16)))}" if signs or int(digits, 16) > 9 else ""
     if digits and digits.isdecimal() and signs and int(digits) <= most:
-        if name == "READ" and not int(digits):
-            return "that word is READ DATA"
-        return f"found {text}, expected the number alone: write {name} {int(digits)}"
+        return f"found {text}, expected the number alone: write {written(name, digits)}"
     if digits and digits.isdecimal() and not signs and int(digits) <= most and digits[0] == "0" and len(digits) > 1:
-        return f"{text} has a leading zero: write {name} {int(digits)}"
+        return f"{text} has a leading zero: write {written(name, digits)}"
     if text.isdecimal() and int(text) > most:
         return f"{text} is out of range: {takes}" if name not in BITS else ""
     if re.fullmatch(r"[-+][0-9.]+", text):
         return f"{text} has a sign: {takes}"
     found = re.fullmatch(r"([0-9]+)[(,/](.).*", text)
     if found and int(found[1]) <= 15:
-        return f"{text} is two names of a register: write the number alone, {name} {int(found[1])}"
+        return f"{text} is two names of a register: write the number alone, {written(name, found[1])}"
     if re.fullmatch(r"[0-9]+\.[0-9]*", text):
         return f"{text} has a point: {takes}"
     parts = re.findall("[0-9]+", text)
     if len(parts) == 1 and int(parts[0]) <= most and not text.startswith(":"):
-        return f"found {text}, expected the number alone: write {name} {int(parts[0])}"
+        return f"found {text}, expected the number alone: write {written(name, parts[0])}"
     return f"found {text}: {takes}" if not text.startswith(":") else ""
 
 

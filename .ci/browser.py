@@ -9,6 +9,8 @@ import tempfile
 import time
 import urllib.error
 import urllib.request
+from collections.abc import Callable
+from typing import Any
 
 # The timeout of each request, in seconds. Only a request that fails takes as long.
 PATIENCE = 300
@@ -19,7 +21,7 @@ SHIFT_KEYS = {"Enter": "\ue007", "Backspace": "\ue003", "Tab": "\ue004", "Escape
               "F9": "\ue039"}
 
 
-def missing():
+def missing() -> list[str]:
     """What a browser lacks here; nothing where it is installed."""
     programs = [("chromium", "chromium-browser", "google-chrome"), ("chromedriver",)]
     return [names[0] for names in programs if not any(map(shutil.which, names))]
@@ -28,17 +30,19 @@ def missing():
 class Browser:
     """One browser with one window, of a size."""
 
-    def __init__(self):
+    def __init__(self) -> None:
+        """Starts the browser. Tries it three times."""
         self.asking = urllib.request.build_opener(urllib.request.ProxyHandler({}))
         for tries in (1, 2, 3):
             try:
-                return self.begin()
+                self.begin()
+                break
             except (OSError, ValueError):
                 self.close()
                 if tries == 3:
                     raise
 
-    def begin(self):
+    def begin(self) -> None:
         """Starts the driver, and the browser as soon as the driver answers."""
         with socket.socket() as free:
             free.bind(("127.0.0.1", 0))
@@ -57,14 +61,14 @@ class Browser:
                   "timeouts": {"script": PATIENCE * 1000, "pageLoad": PATIENCE * 1000}}
         self.session = "/session/" + self.ask("POST", "/session", {"capabilities": {"alwaysMatch": wanted}})["sessionId"]
 
-    def answers(self):
+    def answers(self) -> bool:
         """Whether the driver answers."""
         try:
-            return self.ask("GET", "/status")["ready"]
+            return bool(self.ask("GET", "/status")["ready"])
         except OSError:
             return False
 
-    def ask(self, method, path, body=None):
+    def ask(self, method: str, path: str, body: object = None) -> Any:
         """What the driver answers."""
         data = None if body is None else json.dumps(body).encode()
         request = urllib.request.Request(f"http://127.0.0.1:{self.port}{self.session}{path}", data, {"Content-Type": "application/json"},
@@ -75,33 +79,35 @@ class Browser:
         except urllib.error.HTTPError as error:
             raise ValueError(json.load(error)["value"]["message"].splitlines()[0]) from error
 
-    def open(self, address):
+    def open(self, address: str) -> None:
+        """Opens an address."""
         self.ask("POST", "/url", {"url": address})
 
-    def run(self, script, *words):
+    def run(self, script: str, *words: object) -> Any:
         """What a script answers, or the promise that it answers."""
         return self.ask("POST", "/execute/sync", {"script": script, "args": list(words)})
 
-    def until(self, script, is_wanted=bool):
+    def until(self, script: str, is_wanted: Callable[[Any], bool] = bool) -> Any:
         """What a script answers as soon as it is what is wanted, which is something at all; else its last answer."""
         end = time.monotonic() + PATIENCE
         while not is_wanted(found := self.run(script)) and time.monotonic() < end:
             time.sleep(0.02)
         return found
 
-    def click(self, selector):
+    def click(self, selector: str) -> None:
         """A click of the mouse in the middle of an element, as soon as it can be clicked there."""
         end = time.monotonic() + PATIENCE
         while True:
             try:
                 element = self.ask("POST", "/element", {"using": "css selector", "value": selector})
-                return self.ask("POST", f"/element/{element[ELEMENT]}/click", {})
+                self.ask("POST", f"/element/{element[ELEMENT]}/click", {})
+                break
             except ValueError:
                 if time.monotonic() > end:
                     raise
             time.sleep(0.02)
 
-    def saved(self, selector, name):
+    def saved(self, selector: str, name: str) -> bytes:
         """The bytes of the file of this name that a click on a link saves."""
         with tempfile.TemporaryDirectory() as room:
             self.tell("Browser.setDownloadBehavior", {"behavior": "allow", "downloadPath": room})
@@ -112,31 +118,32 @@ class Browser:
             with open(f"{room}/{name}", "rb") as file:
                 return file.read()
 
-    def type(self, *keys):
+    def type(self, *keys: str) -> None:
         """Keys of the computer's keyboard, each pressed and released."""
         actions = [{"type": kind, "value": SHIFT_KEYS.get(key, key)} for key in keys for kind in ("keyDown", "keyUp")]
         self.ask("POST", "/actions", {"actions": [{"type": "key", "id": "keyboard", "actions": actions}]})
 
-    def look(self, width, height, is_dark=False):
+    def look(self, width: int, height: int, is_dark: bool = False) -> None:
         """Sets the size of the page, and whether it is dark."""
         self.tell("Emulation.setDeviceMetricsOverride", {"width": width, "height": height, "deviceScaleFactor": 1, "mobile": False})
         scheme = {"name": "prefers-color-scheme", "value": "dark" if is_dark else "light"}
         self.tell("Emulation.setEmulatedMedia", {"features": [scheme]})
 
-    def tell(self, command, words):
+    def tell(self, command: str, words: Any) -> Any:
         """A command of the DevTools."""
         return self.ask("POST", "/goog/cdp/execute", {"cmd": command, "params": words})
 
-    def picture(self):
+    def picture(self) -> bytes:
         """The page as it is seen, a PNG."""
         return base64.b64decode(self.ask("GET", "/screenshot"))
 
-    def complaints(self):
+    def complaints(self) -> list[str]:
         """What the browser has complained of."""
         log = self.ask("POST", "/se/log", {"type": "browser"})
         return [entry["message"] for entry in log if entry["level"] in ("WARNING", "SEVERE")]
 
-    def close(self):
+    def close(self) -> None:
+        """Ends the browser and its driver."""
         try:
             if self.session:
                 self.ask("DELETE", "")

@@ -1,7 +1,8 @@
-"""Texts among keys, as the state of the calculator needs them. A text is typed between two ALPHA; but if ALPHA is on already, as after AON in
-a program, or if a name is being typed, it is typed as its letters alone. The bench reports the state: the flags, and what the display
+"""Texts among keys, as the state of the calculator needs them. A text is typed between two ALPHA; but if ALPHA is on already, as after AON
+in a program, or if a name is being typed, it is typed as its letters alone. The bench reports the state: the flags, and what the display
 shows."""
 import re
+from typing import Callable, Union
 
 from typed import Text, letters_of, text_keys
 
@@ -19,19 +20,19 @@ TOGETHER = 20
 UNREADABLE = (b"load", b"words", b"image", b"asm")
 
 
-def takes_letters(flags, display):
+def takes_letters(flags: str, display: str) -> bool:
     """Returns whether keys are letters, by the answers to the probes."""
     if NAME_OPEN.fullmatch(display):
         return True
     return ALPHA_ON in flags.split() and not PROMPT_OPEN.fullmatch(display)
 
 
-def typed_keys(text, are_letters):
+def typed_keys(text: str, are_letters: bool) -> list[str]:
     """Returns the keys of a text, in a state in which keys are letters, or are not."""
     return letters_of(text) if are_letters else text_keys(text)
 
 
-def may_be_on(openers, words_of_keys, lines):
+def may_be_on(openers: set[bytes], words_of_keys: set[bytes], lines: list[bytes]) -> bool:
     """Returns whether ALPHA can be on in a deck. It cannot, if no key is ALPHA, no line is AON, and all programs are texts."""
     return bool(openers.intersection(UNREADABLE)) or b"ALPHA" in words_of_keys or any(b"AON" in line for line in lines)
 
@@ -39,30 +40,32 @@ def may_be_on(openers, words_of_keys, lines):
 class Row:
     """A key line of a deck, in which texts are separated from other keys."""
 
-    def __init__(self, pieces):
-        self.parts = []
+    def __init__(self, pieces: list[str]) -> None:
+        """Separates the keys of a line, as the names of keys and texts, into parts."""
+        self.parts: list[Union[Text, list[str]]] = []
         for piece in pieces:
-            if isinstance(piece, Text) or not self.parts or isinstance(self.parts[-1], Text):
+            last = self.parts[-1] if self.parts else None
+            if isinstance(piece, Text) or last is None or isinstance(last, Text):
                 self.parts.append(piece if isinstance(piece, Text) else [piece])
             else:
-                self.parts[-1].append(piece)
+                last.append(piece)
         self.letters = [False] * len(self.parts)
         # How many parts are pressed before one of them is refused.
         self.pressed = len(self.parts)
 
-    def keys_at(self, at):
+    def keys_at(self, at: int) -> list[str]:
         """Returns the keys of a part."""
         part = self.parts[at]
         return typed_keys(part, self.letters[at]) if isinstance(part, Text) else part
 
-    def keys(self):
+    def keys(self) -> list[str]:
         """Returns all keys of the line."""
         return [key for at in range(len(self.parts)) for key in self.keys_at(at)]
 
-    def commands(self):
+    def commands(self) -> list[tuple[int, bool, str]]:
         """Returns the commands that press the keys, and ask for the state before each text: each with the number of its part, and whether
         it presses keys."""
-        found = []
+        found: list[tuple[int, bool, str]] = []
         for at in range(self.pressed):
             if isinstance(self.parts[at], Text):
                 found += [(at, False, probe) for probe in PROBES]
@@ -70,9 +73,9 @@ class Row:
             found += [(at, True, f"key {' '.join(keys[first:first + TOGETHER])}") for first in range(0, len(keys), TOGETHER)]
         return found
 
-    def learn(self, answers):
+    def learn(self, answers: list[list[bytes]]) -> bool:
         """Takes the answers to the commands. Returns whether the keys have changed, so that later answers do not count."""
-        state = []
+        state: list[str] = []
         for (at, presses, _), answer in zip(self.commands(), answers):
             if presses and answer and self.pressed > at + 1:
                 self.pressed = at + 1
@@ -88,12 +91,13 @@ class Row:
         return False
 
 
-def resolve(lines, rows, ask):
+def resolve(lines: list[bytes], rows: dict[int, Row], ask: Callable[[bytes], dict[int, list[bytes]]]) -> None:
     """Finds out which texts in key lines of a deck are typed as letters alone. `rows` has the key lines by their numbers, counted from 0.
     `ask` runs a deck, and returns the answer to each command with the number of its line."""
     is_changed = bool(rows)
     while is_changed:
-        deck, places = [], {}
+        deck: list[bytes] = []
+        places = {}
         for at, line in enumerate(lines[:max(rows) + 1]):
             if at in rows:
                 commands = rows[at].commands()

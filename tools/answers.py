@@ -8,14 +8,14 @@ import subprocess
 import sys
 import tempfile
 import threading
-from importlib.machinery import SourceFileLoader
-from importlib.util import module_from_spec, spec_from_loader
+from typing import Any, Callable, Optional, Protocol
 
 from decks import MARKS_OF_UTF16, NO_ANSWER, TOP, Failure, bytes_of, lines_of, shown
 from branches import Branches
 from desk import PAGES, Desk
 from keyboard import ROWS, places
-from lessons import grouped, lessons
+from lessons import Lesson, grouped, lessons
+from loading import tool as load
 from parts import parts_of, refusal_of
 from recorded import recorded
 from repeating import Repeat
@@ -31,21 +31,32 @@ MOST_FILES = 16
 QUOTES = re.compile("[“”„‘’«»]")
 
 
+# A request of the page, and its answer, as JSON has them.
+Request = dict[str, Any]
+Reply = dict[str, Any]
+
+
+class Documents(Protocol):
+    """What the documents say about refusals, as tools/where reads them."""
+
+    def causes_of(self, one: Refused) -> dict[str, Optional[str]]:
+        """Returns the causes of a refusal: what is printed first for each, and the explanation, if there is one."""
+
+
 class Causes:
     """The usual causes of refusals, as tools/where prints them. A thread reads its tables, so that the page does not have to wait."""
 
-    def __init__(self):
-        self.documents = None
+    def __init__(self) -> None:
+        """Starts the thread."""
+        self.documents: Optional[Documents] = None
         self.reader = threading.Thread(target=self.read, daemon=True)
         self.reader.start()
 
-    def read(self):
-        loader = SourceFileLoader("where", os.path.join(TOOLS, "where"))
-        where = module_from_spec(spec_from_loader("where", loader))
-        loader.exec_module(where)
-        self.documents = where.Documents()
+    def read(self) -> None:
+        """Reads the tables."""
+        self.documents = load("where").Documents()
 
-    def of(self, text, refusal):
+    def of(self, text: bytes, refusal: str) -> tuple[str, list[list[str]]]:
         """Returns the refused line of a command or block, and the usual causes of the refusal: a list of pairs, what is printed first and
         its explanation."""
         self.reader.join()
@@ -63,27 +74,30 @@ class Causes:
 class Answers:
     """The desk with the bench, and the answers to the requests of the page."""
 
-    def __init__(self, memory, found=None):
+    def __init__(self, memory: Optional[str], found: Optional[dict[str, Lesson]] = None) -> None:
         """`found` are the lessons; without them the examples are."""
         self.lock, self.causes, self.lessons = threading.RLock(), Causes(), lessons() if found is None else found
         self.branches = Branches()
-        self.number, self.ended, self.last_id = 0, None, None
-        self.desk, self.repeat = Desk(memory), None
+        self.number = 0
+        self.ended: Optional[str] = None
+        self.last_id: Any = None
+        self.desk = Desk(memory)
+        self.repeat: Optional[Repeat] = None
         self.unsupported = unsupported()
 
-    def close(self):
+    def close(self) -> None:
         """Ends the bench, after the thread that reads the tables: its own run of the bench would otherwise report a closed pipe."""
         self.causes.reader.join()
         self.desk.beside.close()
         self.forget()
         self.desk.bench.close()
 
-    def calls(self):
+    def calls(self) -> dict[str, Callable[..., Any]]:
         """Returns the functions that answer requests, by the names of the requests."""
         return {"state": self.state, "do": self.do, "import": self.bring_in, "export": self.take_out, "deck": self.deck,
                 "version": self.version, "recorded": self.recorded}
 
-    def version(self):
+    def version(self) -> Reply:
         """Returns what the page gets twice a second: the number of the last change, and how the bench has ended, or None.
         While another request uses the bench, its end is not looked for."""
         if self.lock.acquire(blocking=False):
@@ -94,24 +108,24 @@ class Answers:
                 self.lock.release()
         return {"version": self.number, "ended": self.ended}
 
-    def deck(self, asked=()):
+    def deck(self, asked: Optional[Request] = None) -> bytes:
         """Returns the session as the bytes of a deck, or a branch that was left."""
         with self.lock:
-            return self.branches.deck(int(asked["branch"])) if "branch" in asked else self.desk.deck()
+            return self.branches.deck(int(asked["branch"])) if asked and "branch" in asked else self.desk.deck()
 
-    def recorded(self):
+    def recorded(self) -> bytes:
         """Returns the session as a page that needs no server, as bytes."""
         with self.lock:
             return recorded({**self.told({}), "branches": [], "lesson": None})
 
     # The state of the session.
 
-    def state(self, asked):
+    def state(self, asked: Request) -> Reply:
         """Returns the state of the bench, and the entries of the session that the page does not have yet."""
         with self.lock:
             return self.told(asked)
 
-    def told(self, asked):
+    def told(self, asked: Request) -> Reply:
         """Returns the answer to a request: the states and the entries after those that the page has."""
         desk = self.desk
         is_known = asked.get("session") in (desk.number, str(desk.number))
@@ -131,24 +145,26 @@ class Answers:
             answer["unsupported"] = self.unsupported
         return answer
 
-    def lesson_told(self, is_known):
+    def lesson_told(self, is_known: bool) -> Optional[Reply]:
         """Returns the lesson: its name and position, and its parts if the page does not have them; None without a lesson."""
         lesson = self.desk.lesson
         if lesson is None:
             return None
-        told = {"name": lesson["name"], "title": lesson["title"], "at": len(lesson["parts"]) - len(lesson["left"])}
+        told: Reply = {"name": lesson["name"], "title": lesson["title"], "at": len(lesson["parts"]) - len(lesson["left"])}
         if not is_known:
             told["parts"] = [[part.shown(), part.is_command, part.paragraphs()] for part in lesson["parts"]]
         return told
 
     # Requests that change the session.
 
-    def do(self, asked):
+    def do(self, asked: Request) -> Reply:
         """Executes a request of the page, and returns the answer."""
         name = asked["do"]
-        call = {"give": self.give, "go": self.go, "stop": self.stop, "next": self.next, "lesson": self.open_lesson,
-                "open": self.open, "again": self.again, "begin": self.begin, "causes": self.causes_of, "list": self.listed,
-                "pages": self.pages, "branch": self.branch, "past": self.past}.get(name)
+        calls: dict[str, Callable[[Request], Optional[Reply]]] = {
+            "give": self.give, "go": self.go, "stop": self.stop, "next": self.next, "lesson": self.open_lesson,
+            "open": self.open, "again": self.again, "begin": self.begin, "causes": self.causes_of, "list": self.listed,
+            "pages": self.pages, "branch": self.branch, "past": self.past}
+        call = calls.get(name)
         if call is None:
             raise ValueError(name)
         seconds, steps, _ = asked.get("seconds", 0.05), asked.get("steps"), int(asked.get("since", 0))
@@ -169,7 +185,7 @@ class Answers:
                 return self.end(asked)
             return self.told(asked) if answer is None else answer
 
-    def end(self, asked):
+    def end(self, asked: Request) -> Reply:
         """Records that the bench has ended, drops the commands that wait, and returns the answer."""
         self.number += 1
         self.desk.stop()
@@ -177,18 +193,18 @@ class Answers:
         self.ended = self.desk.bench.why() or "The bench has ended."
         return self.told(asked)
 
-    def look(self):
+    def look(self) -> None:
         """Reads the state of the bench again."""
         self.desk.look()
         self.number += 1
 
-    def give(self, asked):
+    def give(self, asked: Request) -> None:
         """Adds commands and blocks after those that wait, or before them if the request says so, and starts executing."""
         is_first, waited = asked.get("first") is True, len(self.desk.queue)
         self.desk.give(asked["deck"].encode(), is_first, asked.get("on") is True)
         self.go(asked, len(self.desk.queue) - waited if is_first else None)
 
-    def go(self, asked, parts=None):
+    def go(self, asked: Request, parts: Optional[int] = None) -> None:
         """Executes commands that wait, for a limited time, or only the first parts of them."""
         if self.desk.queue:
             self.desk.go(min(max(asked.get("seconds", 0.05), 0.001), LONGEST_GO), asked.get("steps"), parts)
@@ -197,7 +213,7 @@ class Answers:
             else:
                 self.look()
 
-    def stop(self, _):
+    def stop(self, _: Request) -> None:
         """Drops the commands that wait. Those of a lesson that have not been started go back to the lesson."""
         waiting, lesson = [part for part in self.desk.queue if part.entry is None], self.desk.lesson
         self.desk.stop()
@@ -205,13 +221,13 @@ class Answers:
             lesson["left"] = [part for part in waiting if any(part is other for other in lesson["parts"])] + lesson["left"]
         self.look()
 
-    def begin(self, _):
+    def begin(self, _: Request) -> None:
         """Starts an empty bench."""
         self.desk.begin()
         self.ended = None
         self.look()
 
-    def open(self, asked):
+    def open(self, asked: Request) -> None:
         """Opens a deck on an empty bench. Its commands wait until the page asks for them."""
         deck = base64.b64decode(asked["data"], validate=True)
         if deck.startswith(MARKS_OF_UTF16):
@@ -220,16 +236,16 @@ class Answers:
         self.begin(asked)
         self.desk.queue = parts
 
-    def again(self, asked):
+    def again(self, asked: Request) -> None:
         """Repeats the session on a new bench."""
         parts = parts_of(self.desk.deck(), True)
         self.begin(asked)
         self.desk.queue = parts
 
-    def branch(self, asked):
+    def branch(self, asked: Request) -> None:
         """Goes on from a past state, from the end of an entry of the session, or from the end of a branch that was left. The session so
         far is kept as a branch."""
-        desk, deck = self.desk, None
+        desk = self.desk
         if "branch" in asked:
             deck = self.branches.deck(int(asked["branch"]))
             self.branches.drop(int(asked["branch"]))
@@ -241,7 +257,7 @@ class Answers:
         self.begin(asked)
         desk.queue = parts
 
-    def past(self, asked):
+    def past(self, asked: Request) -> Reply:
         """Returns states of the session that are not kept, around the one with a number; before they are found, how many entries of the
         session were executed again."""
         number, end = int(asked["state"]), self.desk.history.end
@@ -257,13 +273,13 @@ class Answers:
             self.forget()
             raise Failure(f"the session cannot be executed again: {failure}") from failure
 
-    def forget(self):
+    def forget(self) -> None:
         """Ends the bench that executes the session again."""
         if self.repeat:
             self.repeat.close()
         self.repeat = None
 
-    def open_lesson(self, asked):
+    def open_lesson(self, asked: Request) -> None:
         """Opens a lesson at its first step."""
         name = asked["name"]
         if name not in self.lessons:
@@ -273,7 +289,7 @@ class Answers:
         self.begin(asked)
         self.desk.lesson = {"name": name, "title": lesson.title, "parts": parts, "left": list(parts)}
 
-    def next(self, asked):
+    def next(self, asked: Request) -> None:
         """Executes the next step or the next command of the lesson, or all the rest of it."""
         lesson, how = self.desk.lesson, asked["how"]
         if lesson is None:
@@ -293,18 +309,18 @@ class Answers:
 
     # What is listed.
 
-    def pages(self, _):
+    def pages(self, _: Request) -> Reply:
         """Returns the plugged banks."""
         return {"pages": self.desk.plugged()}
 
-    def listed(self, asked):
+    def listed(self, asked: Request) -> Reply:
         """Returns the instructions of a bank, or the lines of the programs in a page."""
         page, bank, kind = asked["page"], asked["bank"], asked["kind"]
         if page not in list(PAGES) or bank not in list("1234") or kind not in ("words", "lines"):
             raise ValueError(page)
         return {"rows": self.desk.listed(page, bank, kind == "words")}
 
-    def causes_of(self, asked):
+    def causes_of(self, asked: Request) -> Reply:
         """Returns the usual causes for the refusal of an entry of the session."""
         entry = self.desk.log[int(asked["entry"])]
         refusal = refusal_of(entry.reply)
@@ -316,7 +332,7 @@ class Answers:
 
     # Files.
 
-    def bring_in(self, asked):
+    def bring_in(self, asked: Request) -> Reply:
         """Imports files with tools/import. Returns its messages, and adds the deck that it makes to the commands that wait."""
         if len(asked["files"]) > MOST_FILES:
             raise Failure(f"found {len(asked['files'])} files: at most {MOST_FILES} can be imported at once")
@@ -333,17 +349,18 @@ class Answers:
         with tempfile.TemporaryDirectory() as room:
             for name, data in files:
                 write_file(os.path.join(room, name), data)
-            page = asked.get("page") if asked.get("page") in list(PAGES) else free[0]
+            page = str(asked["page"]) if asked.get("page") in list(PAGES) else free[0]
             ran = tool("import", [*self.desk.words, "--page", page, *(name for name, _ in files)], room)
         told = ran.stderr.decode(errors="replace")
         if ran.returncode:
-            return {"told": told or f"tools/import ended with status {ran.returncode} and printed no message: please report it", "good": False}
+            why = f"tools/import ended with status {ran.returncode} and printed no message: please report it"
+            return {"told": told or why, "good": False}
         with self.lock:
             if not self.ended:
                 self.desk.give(ran.stdout, True)
             return {"told": told, "good": True}
 
-    def take_out(self, asked):
+    def take_out(self, asked: Request) -> bytes:
         """Exports a page or the programs with tools/export. Returns the bytes of the file."""
         kind, page, label = asked["kind"], asked.get("page") or "", asked.get("label") or ""
         if kind not in ("rom", "source", "raw", "text") or page and page not in list(PAGES):
@@ -360,12 +377,12 @@ class Answers:
         return ran.stdout
 
 
-def file_name(name):
+def file_name(name: str) -> str:
     """Returns a safe name for a file: without its folder, and with only letters, digits, `.`, `_` and `-`."""
     return re.sub(r"[^A-Za-z0-9._-]", "_", os.path.basename(name.replace("\\", "/")))[-100:].lstrip(".-")
 
 
-def write_file(path, data):
+def write_file(path: str, data: bytes) -> None:
     """Writes a file of an import. If the disk is full, that is reported."""
     try:
         with open(path, "wb") as file:
@@ -374,7 +391,7 @@ def write_file(path, data):
         raise Failure(f"{os.path.basename(path)} cannot be written for the import: {error.strerror}") from error
 
 
-def tool(name, words, folder, given=b""):
+def tool(name: str, words: list[str], folder: Optional[str], given: bytes = b"") -> subprocess.CompletedProcess[bytes]:
     """Runs a tool of tools/, and returns its status and both outputs."""
     try:
         return subprocess.run([sys.executable, os.path.join(os.path.realpath(TOOLS), name), *words], cwd=folder, input=given,

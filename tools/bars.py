@@ -2,7 +2,7 @@
 import re
 from typing import Iterator, List, Tuple
 
-from records import PROGRAM, Damaged, Part, ends_of, length_at
+from records import PROGRAM, Part, ends_of, length_at
 
 MOST_IN_ROW = 13
 HEAD_OF_ROW = 3
@@ -17,6 +17,7 @@ class Unreadable(Exception):
     """A text that does not add up: the number of its line, the column, and what was found and expected."""
 
     def __init__(self, line: int, column: int, found: str, expected: str) -> None:
+        """Takes the place, and what was found and expected."""
         super().__init__(f"{line}:{column}: found {found}, expected {expected}")
 
 
@@ -38,7 +39,7 @@ def bytes_in(line: str, number: int, column: int) -> Iterator[Tuple[int, int]]:
             continue
         pair = line[at:at + 2]
         if not re.fullmatch("[0-9A-Fa-f]{2}", pair):
-            wrong = at + (re.match("[0-9A-Fa-f]?", pair).end() if pair else 0)
+            wrong = at + int(re.match("[0-9A-Fa-f]", pair) is not None)
             found = f"`{line[wrong]}`" if wrong < len(line) else "the end of the line"
             raise Unreadable(number, wrong + 1, found, "two hexadecimal digits for each byte")
         yield int(pair, 16), at + 1

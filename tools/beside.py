@@ -1,4 +1,6 @@
 """Finds out what an instruction will do: a bench beside the session executes it with the same registers of the processor."""
+from typing import Callable, Optional, Protocol
+
 from decks import Failure
 from explaining import values_of
 from settings import CPU
@@ -8,14 +10,26 @@ from stubs import stub_of
 SETTING, INSTRUCTION = "8", "9"
 
 
+class Bench(Protocol):
+    """A bench that is asked several commands at a time."""
+
+    def ask_all(self, commands: list[bytes]) -> list[list[str]]:
+        """Returns the lines that each of some whole commands prints."""
+
+    def close(self) -> None:
+        """Ends the bench."""
+
+
 class Beside:
     """A bench beside the session. It is started when it is first asked."""
 
-    def __init__(self, start):
+    def __init__(self, start: Callable[[], Bench]) -> None:
         """`start` starts a bench."""
-        self.start, self.bench, self.known = start, None, {}
+        self.start = start
+        self.bench: Optional[Bench] = None
+        self.known: dict[tuple[str, ...], Optional[list[str]]] = {}
 
-    def after(self, words, cpu):
+    def after(self, words: str, cpu: list[str]) -> Optional[list[str]]:
         """Returns the lines of `show cpu` after an instruction, given by its words; `cpu` are these lines before it."""
         key = (words, *cpu)
         if key not in self.known:
@@ -24,12 +38,12 @@ class Beside:
             self.known[key] = self.asked(words, values_of(cpu))
         return self.known[key]
 
-    def asked(self, words, values):
+    def asked(self, words: str, values: dict[str, str]) -> Optional[list[str]]:
         """Asks the bench; None if it does not answer."""
         registers = {name: values[name.removeprefix("cpu.")] for name in CPU if name not in ("CY",)}
         stub = stub_of({}, registers, int(f"{INSTRUCTION}000", 16))
-        block = [f"words {SETTING}\n{stub.text}end", f"words {INSTRUCTION}\n{words}\nend", f"call {SETTING}000", f"step {stub.steps}", "step",
-                 "show cpu"]
+        block = [f"words {SETTING}\n{stub.text}end", f"words {INSTRUCTION}\n{words}\nend", f"call {SETTING}000", f"step {stub.steps}",
+                 "step", "show cpu"]
         try:
             self.bench = self.bench or self.start()
             commands = [f"unplug {SETTING}", f"unplug {INSTRUCTION}", *block]
@@ -38,7 +52,7 @@ class Beside:
             self.bench = None
             return None
 
-    def close(self):
+    def close(self) -> None:
         """Ends the bench."""
         if self.bench:
             self.bench.close()

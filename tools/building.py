@@ -1,12 +1,11 @@
 """What tools/module does with a linked module: writes its deck or its images, lists it, and prints what looks wrong in it."""
 import os
-import sys
 
-from decks import MEMORY, Failure
+from decks import MEMORY, Failure, escape_output
 from files import put, why_no_folder
 from linking import LONG, Linked, Unit
+from loading import tool
 from rules import Lint, lines_of
-from stepping import tool
 
 PAGE_SIZE = 4096
 
@@ -53,7 +52,7 @@ def target_of(linked: Linked, unit: Unit, at: int) -> str:
 def listing(linked: Linked) -> int:
     """Prints the listing of all banks, and their labels."""
     rows_of = tool("list").rows_of
-    sys.stdout.reconfigure(errors="backslashreplace")
+    escape_output()
     for unit in linked.units:
         print(f"{heading(unit)}\n")
         for at in range(len(unit.lines)):

@@ -1,5 +1,6 @@
 """Calls of a module's functions in one process of the bench: each begins with a reset, sets registers, and prints what is wanted."""
-import re
+from __future__ import annotations
+
 import subprocess
 from collections.abc import Iterable, Iterator
 from typing import NamedTuple
@@ -8,6 +9,7 @@ from cases import TARGET, Case
 from decks import BENCH, LONGEST_DECK, NO_ANSWER, Failure, bytes_of, ended, hexadecimal, lines_of, refused, running, shown, with_keys
 from keyboard import KEYS
 from linking import Linked
+from matches import whole
 from programs import broken
 from projects import Project, nearest
 from refusals import OF_A_LINE
@@ -37,6 +39,7 @@ class Views:
     """The commands that print the values of some settings, and how their answers are read."""
 
     def __init__(self, names: Iterable[str], sizes: Sizes) -> None:
+        """Takes the names of the settings, and the sizes of the calculator."""
         self.names = list(names)
         self.cpu = any(name in CPU for name in self.names)
         self.stack = any(name in STACK for name in self.names)
@@ -59,11 +62,11 @@ class Views:
         found: dict[str, str] = {}
         if self.cpu:
             for _ in range(4):
-                found.update(part.split("=") for part in next(lines).split())
+                found.update((name, value) for part in next(lines).split() for name, value in [part.split("=")])
             next(lines)
             found["cpu.T"] = found.pop("T")
         if self.stack:
-            found.update(next(lines).split("=") for _ in range(5))
+            found.update((name, value) for _ in range(5) for name, value in [next(lines).split("=")])
         answers = {view: next(lines) for view in self.others if view}
         for name, view in self.asked.items():
             if view == "flags":
@@ -77,11 +80,12 @@ class Call:
     """A call: what it sets, the lines that perform it, and the steps that the bench needs before the function begins."""
 
     def __init__(self, caller: "Caller", case: Case, junk: dict[str, str] | None = None) -> None:
+        """Makes the lines of a call. `junk` fills the registers that the case does not set."""
         self.case = case
         cpu = {one.name: one.value for one in case.before if one.name in CPU}
         check_registers(case, caller.sizes.data)
         self.junked = [name for name in JUNK if name not in cpu and junk and name in junk]
-        cpu.update((name, junk[name]) for name in self.junked)
+        cpu.update((name, value) for name, value in (junk or {}).items() if name in self.junked)
         target = caller.target(case)
         stub = stub_of(memory_of(case.before, caller.sizes), cpu, target)
         if stub.words > 0x1000:
@@ -108,6 +112,7 @@ class Caller:
     """Performs calls of a linked module."""
 
     def __init__(self, linked: Linked) -> None:
+        """Checks the programs in memory. Raises Failure if the bench refuses one."""
         project = linked.project
         self.linked, self.page = linked, project.free_page()
         self.sizes = sizes_of(project.memory, project.size)
@@ -125,7 +130,7 @@ class Caller:
         if case.target.startswith('"'):
             return None
         if case.target not in self.addresses:
-            page, name = TARGET.fullmatch(case.target).groups()
+            page, name = whole(TARGET, case.target).groups()
             label = self.linked.called(page, name)
             if isinstance(label, str):
                 raise Failure(f"{case.path}:{case.number}: `{case.target}`: {label}")
@@ -147,8 +152,8 @@ class Caller:
             unknown = [piece for piece in pieces if not isinstance(piece, Text) and piece not in KEYS]
             if unknown:
                 near = nearest(unknown[0], KEYS)
-                raise NoKeys(f"no key is named {unknown[0]}{near and f', the nearest is {near}'}: `tools/keyboard text` shows the names; a text "
-                             "is in quotes")
+                raise NoKeys(f"no key is named {unknown[0]}{near and f', the nearest is {near}'}: `tools/keyboard text` shows the names; a "
+                             "text is in quotes")
         except NoKeys as why:
             raise Failure(f"{case.path}:{case.number}: `{asked if what == 'call' else f'{what}={asked}'}`: {why}") from why
         if "ALPHA" not in pieces and sum(isinstance(piece, Text) for piece in pieces) < 2:
@@ -221,7 +226,7 @@ def check_programs(project: Project, before: str) -> None:
         first -= text.count(b"\n")
     numbered = OF_A_LINE.fullmatch(refusal)
     if numbered:
-        number, empty = int(numbered[1]), re.match(rb"\n*", text_in(path))[0].count(b"\n")
+        number, empty = int(numbered[1]), len(text_in(path)) - len(text_in(path).lstrip(b"\n"))
         line = shown(lines_of(text)[number].strip())
         raise Failure(f"{path}:{number + empty}: `{line}`: {refusal.rsplit(' ', 1)[0]}: expected a program line in the bench's spelling: "
                       "tools/import converts other spellings")

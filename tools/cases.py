@@ -62,7 +62,8 @@ def is_target(text: str) -> bool:
 def row_of(words: list[str], common: list[Setting]) -> tuple[str, list[Setting], list[Setting]]:
     """Returns the target of a row, and its settings before and after the call."""
     if words[0] != ARROW and not is_target(words[0]):
-        raise Wrong(f"found `{words[0]}`, expected {CALLED}", words[0])
+        from case_causes import of_target
+        raise Wrong(f"found `{words[0]}`, expected {CALLED}{of_target(words[0])}", words[0])
     at = words.index(ARROW) if ARROW in words else len(words)
     return words[0], joined(common, settings_in(words[1:at], True)), settings_in(words[at + 1:], False)
 
@@ -77,13 +78,16 @@ def cases_in(path: str, common: list[Setting]) -> list[Case]:
         if not words:
             continue
         if words[0] == ARROW or ARROW not in words:
-            raise failure(path, number, row, FORM)
+            from case_causes import of_arrow
+            raise failure(path, number, row, of_arrow(row) + FORM)
         try:
             target, before, after = row_of(words, common)
         except Wrong as why:
             column = next((f"column {place.start() + 1}: " for place, word in zip(places, words) if word is why.word), "")
             quote = missing_quote(row[:row.find("#")] if title else row)
-            raise failure(path, number, row, f"{column}{why}{quote}") from why
+            cause = str(why).replace("; the value is missing, or a space is before it", "") if quote else str(why)
+            more = quote or ("; # begins a comment, and only = compares a value" if re.search(r"\w#\S", row) else "")
+            raise failure(path, number, row, f"{column}{cause}{more}") from why
         cases.append(Case(path, number, title, target, before, after))
     return cases
 
@@ -102,13 +106,8 @@ def rows_in(path: str) -> list[list[str]]:
     return rows
 
 
-def table_in(path: str, target: str | None, common: list[Setting]) -> list[Case]:
-    """Returns the cases of a table in CSV. Its first row names the settings; those wanted after the call begin with ->. A column `call` has
-    the target. Empty cells are not set, or not compared."""
-    rows = rows_in(path)
-    if target is not None and not is_target(target):
-        raise Failure(f"--call {target}: expected {CALLED}", 2)
-    names, cases = [name.strip() for name in rows[0]], []
+def check_names(path: str, names: list[str], row: str, is_written: bool) -> None:
+    """Checks the names in the first row of a table. If the values found are written, none needs to be expected."""
     other = re.search("[;\t|]", names[0]) if len(names) == 1 else None
     if other:
         raise Failure(f"{path}:1: `{names[0]}`: found {other[0]!r} between names, expected commas: save the table with commas")
@@ -116,14 +115,32 @@ def table_in(path: str, target: str | None, common: list[Setting]) -> list[Case]
         try:
             _ = name in ("", "call") or reader_of(name.removeprefix(ARROW).strip())
         except Wrong as why:
-            raise failure(path, 1, ",".join(rows[0]), str(why)) from why
+            raise failure(path, 1, row, str(why)) from why
+    twice = next((name for name in names if name and names.count(name) > 1), None)
+    if twice:
+        raise failure(path, 1, row, f"two columns are named {twice}: the names of expected values begin with ->")
+    if not is_written and not any(name.startswith(ARROW) for name in names):
+        raise failure(path, 1, row, "no name begins with ->, so nothing would be compared: name an expected value, for example ->X, or "
+                                    "write the values with --write OUT --values X")
+
+
+def table_in(path: str, target: str | None, common: list[Setting], is_written: bool = False) -> list[Case]:
+    """Returns the cases of a table in CSV. Its first row names the settings; those wanted after the call begin with ->. A column `call` has
+    the target. Empty cells are not set, or not compared. If the values found are written, none needs to be expected."""
+    rows = rows_in(path)
+    if target is not None and not is_target(target):
+        raise Failure(f"--call {target}: expected {CALLED}", 2)
+    names, cases = [name.strip() for name in rows[0]], []
+    check_names(path, names, ",".join(rows[0]), is_written)
     if target is None and "call" not in names:
         raise Failure(f"{path}:1: `{','.join(names)}`: no column is named call: name the function with --call LABEL")
     for number, row in enumerate(rows[1:], 2):
         if not any(cell.strip() for cell in row):
             continue
         if len(row) > len(names):
-            raise failure(path, number, ",".join(row), f"found {len(row)} cells, expected at most {len(names)}")
+            is_comma = sum(re.fullmatch(r"-?\d+", cell.strip()) is not None for cell in row) > len(names)
+            hint = "; if a comma is a decimal sign, write a point" if is_comma else ""
+            raise failure(path, number, ",".join(row), f"found {len(row)} cells, expected at most {len(names)}{hint}")
         cells = [(name, cell.strip()) for name, cell in zip(names, row) if cell.strip()]
         try:
             before = [setting(name, "=", cell, True) for name, cell in cells if name != "call" and not name.startswith(ARROW)]

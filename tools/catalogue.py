@@ -5,7 +5,7 @@ import hashlib
 import os
 import re
 from dataclasses import dataclass, field
-from typing import Callable, Dict, Iterable, Iterator, List, NamedTuple, Optional, Set, Tuple
+from typing import Callable, Dict, Iterable, Iterator, List, NamedTuple, Optional, Set, Tuple, TypeVar, Union
 
 import listings
 import programs
@@ -17,7 +17,7 @@ from functions import Functions, table
 from modules import lines_of_bytes, lines_of_texts
 from programs import LOCAL, broken
 from records import DATA, END, LISTING, OTHER, ends_of, length_at, programs_in
-from spellings import read_tables
+from spellings import Tables, read_tables
 
 # The names of files that can have a program. Files without an ending are tried too.
 LISTING_NAMES = (".txt", ".lst", ".lines", ".prg")
@@ -64,7 +64,7 @@ class Row:
 
 class Program(NamedTuple):
     """A program that was found: its file, its number among the programs of the file and the byte at which it begins, its bytes or its
-    lines, and doubts."""
+    lines, doubts, and the head of a listing of Free42."""
 
     file: str
     number: int
@@ -72,13 +72,18 @@ class Program(NamedTuple):
     data: Optional[bytes]
     texts: List[str]
     doubts: List[str]
-    count: Optional[Count]
+    head: Optional[Count]
+
+
+Item = TypeVar("Item")
+Result = TypeVar("Result")
 
 
 class Answers:
     """What the bench says of lines. Unknown lines are collected, and asked for together."""
 
     def __init__(self) -> None:
+        """Begins without answers."""
         self.lines: Dict[str, bool] = {}
         self.fates: Dict[str, Tuple[bool, bool]] = {}
         self.unknown: Set[str] = set()
@@ -113,9 +118,9 @@ class Answers:
             left_out, nowhere = FATES(fates, b"")
             self.fates.update((text, (text in left_out, text in nowhere)) for text in fates)
 
-    def complete(self, work: Callable[[object], object], items: List[object]) -> List[object]:
+    def complete(self, work: Callable[[Item], Result], items: List[Item]) -> List[Result]:
         """Returns the results of `work` for all items. An item whose lines were unknown is worked on again."""
-        results: List[object] = [None] * len(items)
+        results: Dict[int, Result] = {}
         left = list(range(len(items)))
         while left:
             again = []
@@ -126,7 +131,7 @@ class Answers:
                     again.append(at)
             self.ask()
             left = again
-        return results
+        return [results[at] for at in range(len(items))]
 
 
 READABLE, FATES = listings.readable, programs.fates
@@ -134,7 +139,7 @@ ANSWERS = Answers()
 
 
 @functools.lru_cache(None)
-def tables() -> object:
+def tables() -> Tables:
     """Returns the tables of spellings, which are read once."""
     return read_tables()
 
@@ -153,8 +158,8 @@ def modules() -> Dict[str, str]:
 
 def share_answers() -> None:
     """Lets the reader of listings ask for its lines together with those of other listings."""
-    listings.readable, listings.fates = ANSWERS.readable, ANSWERS.fates_of
-    listings.read_tables = tables
+    for name, function in (("readable", ANSWERS.readable), ("fates", ANSWERS.fates_of), ("read_tables", tables)):
+        setattr(listings, name, function)
 
 
 # Files.
@@ -209,7 +214,7 @@ def text_of(member: Member) -> Optional[List[str]]:
         return None
 
 
-def programs_of(member: Member) -> List[object]:
+def programs_of(member: Member) -> List[Union[Program, Row]]:
     """Returns the programs of a member, or a row that says why it has none."""
     suffix = os.path.splitext(member.path)[1].lower()
     if member.kind in (DATA, OTHER):
@@ -225,9 +230,9 @@ def programs_of(member: Member) -> List[object]:
     return programs_of_listing(member, lines)
 
 
-def programs_of_bytes(member: Member) -> List[object]:
+def programs_of_bytes(member: Member) -> List[Union[Program, Row]]:
     """Returns the programs in the bytes of a member, or a row if there are none."""
-    found: List[object] = []
+    found: List[Union[Program, Row]] = []
     begin = 0
     doubts = [*(Doubt(PRIVATE, 1, 1, note) for note in member.notes if note == PRIVATE_ROWS), *of_bytes(member.data)]
     for number, data in enumerate(programs_in(member.data), 1):
@@ -242,7 +247,7 @@ def in_row(doubt: Doubt) -> str:
     return f"line {doubt.line}: {doubt.text} [{doubt.name}]"
 
 
-def programs_of_listing(member: Member, lines: List[str]) -> List[object]:
+def programs_of_listing(member: Member, lines: List[str]) -> List[Union[Program, Row]]:
     """Returns the programs of a listing, or a row that says why it has none."""
     listing = listings.Listing(lines, functions=functions())
     if listing.bad:
@@ -252,11 +257,12 @@ def programs_of_listing(member: Member, lines: List[str]) -> List[object]:
                     f"line {number}: `{shown(line)}`: not a program line{f': {reason}' if reason else ''}{more}")]
     doubts = [in_row(doubt) for doubt in parted(listing.doubts, ())[0]]
     counts = counts_in(lines) if member.container == FREE42 else []
-    found, texts = [], []
+    found: List[Union[Program, Row]] = []
+    texts: List[str] = []
     for text in [*(text for text in listing.texts if text and not text.startswith("#")), None]:
         if text is None and not texts:
             break
-        if text in (None, "END", ".END."):
+        if text is None or text in ("END", ".END."):
             at = len(found)
             own = [] if at else doubts
             found.append(Program(member.path, at + 1, 0, None, texts, own if text else [*own, "no END"],
@@ -354,7 +360,7 @@ def row_of(program: Program, lines: Optional[List[Tuple[int, str]]]) -> Row:
 
 def wrong_count(program: Program, lines: List[Tuple[int, str]]) -> str:
     """Returns an error if the head of a listing of Free42 counts other bytes than the program has."""
-    if program.count is None:
+    if program.head is None:
         return ""
     sized = []
     for (at, text), (after, following) in zip(lines, lines[1:]):
@@ -362,8 +368,8 @@ def wrong_count(program: Program, lines: List[Tuple[int, str]]) -> str:
         nulls = int(is_number and NUMBER.fullmatch(following) is not None)
         sized.append((text, bytes([0x10 if is_number else 0x40]) * (after - at - nulls)))
     wanted = wanted_counts(sized)
-    return "" if program.count.bytes in wanted else (
-        f"line {program.count.line}: `{program.count.text}`: found {program.count.bytes} bytes in the head, expected {wanted[0]}")
+    return "" if program.head.bytes in wanted else (
+        f"line {program.head.line}: `{program.head.text}`: found {program.head.bytes} bytes in the head, expected {wanted[0]}")
 
 
 def hashed(data: bytes) -> str:
@@ -414,12 +420,18 @@ def judge(row: Row, texts: List[str]) -> None:
 def rows_of(paths: List[str]) -> List[List[Row]]:
     """Returns the rows of each file: one for each program, or one if it has none."""
     share_answers()
-    found: List[List[object]] = []
+    found: List[List[Union[Member, Row]]] = []
     for path in paths:
-        own, row = found_in(path)
-        found.append([row] if row else list(own))
+        members, row = found_in(path)
+        found.append([row] if row else [*members])
     read = iter(ANSWERS.complete(programs_of, [one for own in found for one in own if isinstance(one, Member)]))
-    items = [[item for one in own for item in ([one] if isinstance(one, Row) else next(read))] for own in found]
+    items: List[List[Union[Program, Row]]] = [[] for _ in found]
+    for into, own in zip(items, found):
+        for one in own:
+            if isinstance(one, Row):
+                into.append(one)
+            else:
+                into += next(read)
     programs_found = [item for own in items for item in own if isinstance(item, Program)]
     pairs = list(zip(programs_found, lines_in(programs_found) if programs_found else []))
     dropped = after_refused(pairs)

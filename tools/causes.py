@@ -8,6 +8,7 @@ from itertools import combinations
 from typing import Dict, Iterator, List, Tuple
 
 from documents import codes_of, section_of, tables_of
+from spellings import Speller
 
 DOCUMENT = "PROGRAMS.md"
 Cause = Tuple[Tuple[str, ...], str]
@@ -71,14 +72,14 @@ SIGNS = {"==": "=", "!=": "#", "=!": "#", "=<": "<=", "≤": "<=", "≠": "#"}
 MOST_WORDS, FEWEST_LETTERS = 6, 4
 
 
-def causes(text: str, speller: object) -> Iterator[Cause]:
+def causes(text: str, speller: Speller) -> Iterator[Cause]:
     """Yields the causes of a line in plain signs, the likeliest first."""
     for form in (of_other_calculators, of_modules, of_module_numbers, of_operands, of_comparisons, of_several_steps, of_no_line,
                  of_mistyped):
         yield from form(text, speller)
 
 
-def read(text: str, speller: object) -> List[str]:
+def read(text: str, speller: Speller) -> List[str]:
     """Returns the texts that a line may be read as."""
     return [found for found, _ in speller.spellings(text) or []]
 
@@ -100,7 +101,7 @@ def own_functions() -> List[str]:
             "XROM"]
 
 
-def of_other_calculators(text: str, speller: object) -> Iterator[Cause]:
+def of_other_calculators(text: str, speller: Speller) -> Iterator[Cause]:
     """Yields that a line is a function of another calculator, alone or with an operand."""
     table, name = other_calculators(), re.sub(r"\s+", " ", text.upper())
     first = re.split('[ "]', name)[0]
@@ -110,7 +111,7 @@ def of_other_calculators(text: str, speller: object) -> Iterator[Cause]:
         yield (), f"a function of {calculator}, not of the HP-41{f': {here}' if here else ''}"
 
 
-def of_modules(text: str, speller: object) -> Iterator[Cause]:
+def of_modules(text: str, speller: Speller) -> Iterator[Cause]:
     """Yields that a line is a function of a module, by its name, whose number is not known here."""
     module = speller.functions.without_number(speller.tables.key(text)) if speller.functions else None
     if module:
@@ -121,7 +122,7 @@ def of_modules(text: str, speller: object) -> Iterator[Cause]:
 
 # Numbers.
 
-def of_numbers(text: str, speller: object) -> Iterator[Cause]:
+def of_numbers(text: str, speller: Speller) -> Iterator[Cause]:
     """Yields how to write a number."""
     for pattern, proposal, reason in NUMBERS:
         found = re.fullmatch(pattern, text)
@@ -130,7 +131,7 @@ def of_numbers(text: str, speller: object) -> Iterator[Cause]:
         parts = [part or "" for part in found.groups()]
         first = parts[0] if parts else ""
         words = {"text": "", "raised": first.translate(RAISED), "digits": re.sub("[^0-9]", "", first),
-                 "decimal": int(first, 16) if "decimal" in proposal else "", "zeros": re.sub("[Oo]", "0", first)}
+                 "decimal": str(int(first, 16)) if "decimal" in proposal else "", "zeros": re.sub("[Oo]", "0", first)}
         words["text"] = proposal.format(*parts, **words)
         yield (words["text"],) if words["text"] else (), reason.format(*parts, **words)
     for sign, written in PARTS_OF_ONE.items():
@@ -139,7 +140,7 @@ def of_numbers(text: str, speller: object) -> Iterator[Cause]:
             yield (f"{whole[1]}{written}",), f"{sign} is no digit: write {whole[1]}{written}"
 
 
-def of_module_numbers(text: str, _speller: object) -> Iterator[Cause]:
+def of_module_numbers(text: str, _speller: Speller) -> Iterator[Cause]:
     """Yields what is wrong with the numbers after XROM."""
     found = MODULE.fullmatch(text)
     if not found:
@@ -160,7 +161,7 @@ def of_module_numbers(text: str, _speller: object) -> Iterator[Cause]:
 
 # Texts and operands.
 
-def of_texts(text: str, speller: object) -> Iterator[Cause]:
+def of_texts(text: str, speller: Speller) -> Iterator[Cause]:
     """Yields that a text has other signs around it."""
     for pattern, reason in AROUND:
         found = re.fullmatch(pattern, text, re.I)
@@ -179,7 +180,7 @@ def of_texts(text: str, speller: object) -> Iterator[Cause]:
                                                                                  f" before {after[1].upper()}")
 
 
-def of_operands(text: str, speller: object) -> Iterator[Cause]:
+def of_operands(text: str, speller: Speller) -> Iterator[Cause]:
     """Yields what is wrong with an operand."""
     touching = TOUCHING_LETTER.fullmatch(text)
     if touching:
@@ -213,7 +214,7 @@ def operands_of(name: str, indirect: str) -> str:
     return "00 to 99" if indirect else "0 to 9" if name in OF_ONE_DIGIT else "00 to 55" if name in OF_FLAGS else "00 to 99"
 
 
-def of_one_operand(name: str, operand: str, speller: object, indirect: str) -> Iterator[Cause]:
+def of_one_operand(name: str, operand: str, speller: Speller, indirect: str) -> Iterator[Cause]:
     """Yields what is wrong with the operand of a function, if the function has one."""
     fits, begin = (f"{name} {indirect}00",), f"{name} {indirect}"
     bare = re.fullmatch(r"[\[({<]*([0-9]{1,3})[\])}>]*", operand)
@@ -241,7 +242,7 @@ def of_one_operand(name: str, operand: str, speller: object, indirect: str) -> I
         yield (f"{begin}{stack[1].upper()}",), f"{operand} is not a valid operand here: write {begin}{stack[1].upper()}"
 
 
-def of_comparisons(text: str, _speller: object) -> Iterator[Cause]:
+def of_comparisons(text: str, _speller: Speller) -> Iterator[Cause]:
     """Yields what a test can compare."""
     found = COMPARED.fullmatch(text)
     if not found:
@@ -261,7 +262,7 @@ def of_comparisons(text: str, _speller: object) -> Iterator[Cause]:
 
 # Lines that are none.
 
-def of_no_line(text: str, speller: object) -> Iterator[Cause]:
+def of_no_line(text: str, speller: Speller) -> Iterator[Cause]:
     """Yields that a line is a comment, a rule, or a column of another listing."""
     if RULE.fullmatch(text):
         yield (), "a rule of signs is no program line: begin it with ;"
@@ -275,7 +276,7 @@ def of_no_line(text: str, speller: object) -> Iterator[Cause]:
         yield (), "words that are no function: begin a comment with ;, and write a text in quotes"
 
 
-def several(text: str, speller: object) -> List[Tuple[str, ...]]:
+def several(text: str, speller: Speller) -> List[Tuple[str, ...]]:
     """Returns the ways to separate a line into several lines, those of fewest lines first."""
     words = [word for word in re.split(r"[\s,;:|]+", text) if word]
     if not 2 <= len(words) <= MOST_WORDS:
@@ -289,7 +290,7 @@ def several(text: str, speller: object) -> List[Tuple[str, ...]]:
     return found
 
 
-def of_several_steps(text: str, speller: object) -> Iterator[Cause]:
+def of_several_steps(text: str, speller: Speller) -> Iterator[Cause]:
     """Yields that a line has several steps."""
     if '"' in text or KEY_CODES.fullmatch(text):
         return
@@ -299,7 +300,7 @@ def of_several_steps(text: str, speller: object) -> Iterator[Cause]:
         yield tuple(one[0] for one in texts), f"{len(parts)} steps on one line: write {written} on lines of their own"
 
 
-def of_mistyped(text: str, speller: object) -> Iterator[Cause]:
+def of_mistyped(text: str, speller: Speller) -> Iterator[Cause]:
     """Yields functions whose name is nearly that of the line."""
     if not re.search("[^\\W_]", text):
         yield (), "signs alone, which are no function"

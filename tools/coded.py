@@ -11,14 +11,14 @@ NUMBER = re.compile(rb"[\x10-\x1c]+")
 ENDS = ("END", ".END.")
 
 
-def bytes_at(data, at, end):
+def bytes_at(data: bytes, at: int, end: int) -> bytes:
     """Returns the bytes of the line that begins at `at`, without the nulls after it. The next line begins at `end`."""
     number = NUMBER.match(data, at, end)
     return data[at:min(number.end() if number else at + length_at(data, at), end)] if at < len(data) else b""
 
 
 @lru_cache(maxsize=4096)
-def keys_of(text):
+def keys_of(text: str) -> str:
     """Returns the keys that type a line in program mode; an empty text if no keys do."""
     if text in ENDS:
         # GTO . . adds an END to the last program.
@@ -29,9 +29,10 @@ def keys_of(text):
         return ""
 
 
-def coded(lines, data):
+def coded(lines: list[tuple[int, str]], data: bytes) -> list[list[str]]:
     """Returns for each line its number, its bytes and its keys. `lines` are pairs of a place in `data` and a text."""
-    found, number = [], 0
+    found: list[list[str]] = []
+    number = 0
     ends = [place for place, _ in lines[1:]] + [len(data)]
     for (place, text), end in zip(lines, ends):
         number += 1

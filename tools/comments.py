@@ -48,7 +48,8 @@ def split(line: str, plain: str) -> Tuple[str, str]:
 def heads_in(lines: Sequence[str], is_line: Callable[[List[str]], Set[str]]) -> List[int]:
     """Returns the places of the lines above programs that say what they are: their title, author, registers. `is_line` returns which of
     some texts are program lines."""
-    found, is_top = [], True
+    found: List[int] = []
+    is_top = True
     for at, line in enumerate(lines):
         if not line or is_whole(line) or BRACED.fullmatch(line):
             continue

@@ -10,7 +10,7 @@ from decks import MARK_OF_UTF8, Failure, bytes_of
 from functions import Functions
 from lif import is_headed, is_image, read_headed, read_image, write_headed, write_image
 from listings import Listing
-from mods import FIXED, FORMAT, PAGES, Image, read_mod
+from mods import FIXED, PAGES, Image, read_mod
 from modules import lines_of_texts
 from records import IMAGE, LISTING, OTHER, PROGRAM, Damaged, Part, ends_of, sum_of, without_sum
 from spellings import read_tables
@@ -38,6 +38,7 @@ class Member:
 
     def __init__(self, path: str, data: bytes, kind: Optional[str] = None, notes: Optional[List[str]] = None,
                  container: Optional[str] = None) -> None:
+        """Begins without an image."""
         self.path, self.data, self.kind, self.notes, self.container = path, data, kind, notes or [], container
 
 
@@ -132,6 +133,7 @@ def read_p41(data: bytes) -> List[Part]:
 def listing_reader(kind: str) -> Callable[[bytes], List[Part]]:
     """Returns the reader for a listing of another program."""
     def read(data: bytes) -> List[Part]:
+        """Returns the listing in the spellings of the bench. Bytes that are no UTF-8 are not changed."""
         try:
             text = data.removeprefix(MARK_OF_UTF8).decode("utf-8")
         except UnicodeDecodeError:

@@ -1,4 +1,6 @@
 """The commands of the debugger: steps forwards and backwards, breakpoints, watched registers, and views."""
+from __future__ import annotations
+
 import re
 import sys
 from collections.abc import Callable
@@ -6,9 +8,10 @@ from typing import Any
 
 from debugging import DIGITS, FIELDS, RETURNS, Machine, Point, Taken, Watch
 from decks import NO_ANSWER, Failure
+from loading import tool
 from settings import DATA_NAME, MEMORY_NAME, STACK, WIDE
 from sourcing import Places
-from stepping import VIEWS, tool
+from stepping import VIEWS
 from typed import NoKeys, keys_of
 
 # A command that runs ends after so many steps, if it has no other limit.
@@ -18,8 +21,8 @@ LIMIT, MOST_STEPS = 100_000, 9_999_999
 DONE = "."
 
 SMALL = ("G", "T", "ST", "P", "Q", "PT", "CY", "MODE", "RAM", "KY", "KF")
-GROUPS = (WIDE[:3], WIDE[3:], SMALL[:6], SMALL[6:], ("RTN",), ("stack T", "stack Z", "stack Y", "stack X", "stack L"), ("flags",), ("ALPHA",),
-          ("display",))
+GROUPS = (WIDE[:3], WIDE[3:], SMALL[:6], SMALL[6:], ("RTN",), ("stack T", "stack Z", "stack Y", "stack X", "stack L"), ("flags",),
+          ("ALPHA",), ("display",))
 AROUND = 5
 
 HELP = """\
@@ -62,13 +65,16 @@ class Debugger:
     """A debugger of a machine. `rest` are the commands of the deck that were not executed yet."""
 
     def __init__(self, machine: Machine, places: Places, rest: list[bytes]) -> None:
+        """Begins at the point at which the machine is."""
         self.machine, self.places, self.rest = machine, places, rest
         self.breaks: dict[int, tuple[str, Any]] = {}
         self.trace = tool("trace")
-        self.state, self.changed = self.views(), set()
-        self.commands = {name: getattr(self, f"do_{name}") for name in
-                         ("step", "next", "finish", "continue", "back", "break", "watch", "breaks", "delete", "registers", "returns", "list",
-                          "explain", "deck", "more", "restart", "help")}
+        self.state = self.views()
+        self.changed: set[str] = set()
+        self.commands: dict[str, Callable[[list[str]], None]] = {
+            name: getattr(self, f"do_{name}") for name in
+            ("step", "next", "finish", "continue", "back", "break", "watch", "breaks", "delete", "registers", "returns", "list", "explain",
+             "deck", "more", "restart", "help")}
         self.short = {"s": "step", "n": "next", "f": "finish", "c": "continue", "b": "back", "r": "registers", "l": "list", "e": "explain",
                       "h": "help"}
 
@@ -76,11 +82,16 @@ class Debugger:
 
     def views(self) -> dict[str, Any]:
         """Returns the values of all registers."""
-        return self.trace.parts_of(self.machine.ask(VIEWS))
+        found: dict[str, Any] = self.trace.parts_of(self.machine.ask(VIEWS))
+        return found
 
     def name(self, address: int, bank: int | None = None) -> str:
         """Returns the label of an address."""
-        return self.places.name_of(address, bank or self.machine.banks.get(address >> 12, 1))
+        return self.places.name_of(address, self.bank_at(address, bank))
+
+    def bank_at(self, address: int, bank: int | None) -> int:
+        """Returns a bank, or the active bank of the page of an address if none is given."""
+        return bank if bank else self.machine.banks.get(address >> 12, 1)
 
     def next_line(self) -> str:
         """Returns the position with its label, the next instruction with its words, and its source line."""
@@ -124,7 +135,7 @@ class Debugger:
         """Returns why the machine stops after a step; an empty text if it does not."""
         before, after = taken.before, taken.after
         lost = taken.lost()
-        if lost:
+        if lost and before.address is not None:
             return f"the fourth return address was lost at {self.name(before.address, before.bank)}: it was {lost}"
         for number, (kind, what) in self.breaks.items():
             if kind == "watch":
@@ -217,10 +228,12 @@ class Debugger:
         if words[:1] in (["l"], ["p"]) and len(words) == 2:
             is_line = words[0] == "l"
             if not re.fullmatch("[0-9]{1,4}" if is_line else "[0-9A-Fa-f]{4}", words[1]):
-                raise Failure(f"found `{words[1]}`, expected {'a position of up to four decimal digits' if is_line else 'an address of four hexadecimal digits'}")
+                wanted = "a position of up to four decimal digits" if is_line else "an address of four hexadecimal digits"
+                raise Failure(f"found `{words[1]}`, expected {wanted}")
             return self.add("break", f"{int(words[1]):04}" if is_line else f"P{words[1].upper()}")
         if len(words) != 1:
-            raise Failure(f"{given(words)}, expected a label, an address, a line of a source, or a program line (l 41, p 8006), for example: break LOOP")
+            raise Failure(f"{given(words)}, expected a label, an address, a line of a source, or a program line (l 41, p 8006), for "
+                          "example: break LOOP")
         return self.add("break", self.places.find(words[0]))
 
     def do_watch(self, words: list[str]) -> None:
@@ -252,7 +265,8 @@ class Debugger:
         found = re.fullmatch("([0-9]{1,2})(?:-([0-9]{1,2}))?", text)
         first, last = (int(found[1]), int(found[2] or found[1])) if found else (0, 1)
         if not DIGITS > first >= last:
-            raise Failure(f"found `{text}`, expected ALL, M, S&X, XS, MS, a place from 0 to 13, or two places, the higher one first, such as 12-3")
+            raise Failure(f"found `{text}`, expected ALL, M, S&X, XS, MS, a place from 0 to 13, or two places, the higher one first, such "
+                          "as 12-3")
         return first, last
 
     def add(self, kind: str, what: Any) -> None:
@@ -304,12 +318,12 @@ class Debugger:
     def do_list(self, words: list[str]) -> None:
         """Prints the source around an address."""
         point = self.machine.point
-        if words[1:] or not words and point.address is None:
+        address, bank = self.places.find(words[0]) if len(words) == 1 else (point.address, point.bank)
+        if words[1:] or address is None:
             raise Failure(f"{given(words)}, expected a place, for example: list LOOP")
-        address, bank = self.places.find(words[0]) if words else (point.address, point.bank)
-        part = self.places.part_at(address, bank or self.machine.banks.get(address >> 12, 1))
+        part = self.places.part_at(address, self.bank_at(address, bank))
         row = part.row_at(address & 0xFFF) if part else None
-        if row is None:
+        if part is None or row is None:
             raise Failure(f"no source is known at {address:04X}, expected an address in a page that was assembled from a source")
         at = part.rows.index(row)
         for path, number, text in part.rows[max(at - AROUND, 0):at + AROUND + 1]:
@@ -345,7 +359,7 @@ class Debugger:
         """Executes the deck up to its next step, run or trace."""
         self.none(words)
         if not self.rest:
-            raise Failure("the deck has no further commands")
+            raise Failure("every command of the deck is already executed: use `deck COMMAND` for another one, or `restart`")
         ran = (b"step", b"run", b"trace")
         self.rest = self.rest[1:] if self.rest[0].split()[0] in ran else self.rest
         while self.rest and self.rest[0].split()[0] not in ran:
@@ -400,7 +414,8 @@ def loop(debugger: Debugger) -> int:
     if is_terminal:
         import readline
         readline.set_completer_delims(" ")
-        readline.set_completer(lambda text, state: dict(enumerate(debugger.completed(text, readline.get_line_buffer().lstrip()))).get(state))
+        readline.set_completer(
+            lambda text, state: dict(enumerate(debugger.completed(text, readline.get_line_buffer().lstrip()))).get(state))
         readline.parse_and_bind("tab: complete")
     print(*debugger.machine.told, sep="\n", end="\n" if debugger.machine.told else "")
     print(debugger.next_line())

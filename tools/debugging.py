@@ -97,6 +97,7 @@ class Machine:
     `banks` are the banks of those pages that have several."""
 
     def __init__(self, start: list[bytes], memory: str, banks: dict[str, set[int]]) -> None:
+        """Starts a bench, which executes the commands of the deck."""
         self.start, self.memory = start, memory
         # The events since the start: numbers of steps, and commands.
         self.events: list[int | bytes] = []

@@ -3,31 +3,30 @@
 Everything about the calculator is computed by the bench; this module only splits its replies into parts. Runs, steps and traces are
 executed in pieces, so that they can be stopped."""
 import re
-import subprocess
-import tempfile
-import threading
 import time
+from typing import Optional, TypedDict
 
+from addresses import Labels
 from alpha import PROBES, takes_letters, typed_keys
+from benches import Bench
 from beside import Beside
 from coded import coded
-from decks import BENCH, LONGEST_DECK, MARK, MARK_ANSWER, MEMORY, NO_ANSWER, Failure, lines_of
+from decks import LONGEST_DECK, MEMORY, NO_ANSWER, Failure, lines_of
 from decks import text_of as text_of_line
 from keyboard import KEYS
 from explaining import is_carrying, of_line, of_word
-from history import History, Place
+from history import History, Place, State
 from lights import AFTER, BEFORE, PROMPT, Lights, Seen
+from matches import whole
 from memory import MAIN_START, Memory
 from paging import Pages
 from parts import MOST_STEPS, NO_END, Entry, Part, parts_of, refusal_of
 from repeating import Renewal
-from session import Session
-from sources import Labels
 from typed import Text
 from values import text_of
 
-# The longest time in seconds to wait for an answer of the bench, even on a busy machine, and the intended time for a piece of a run.
-PATIENCE, PIECE = 120, 0.02
+# The intended time for a piece of a run, in seconds.
+PIECE = 0.02
 
 # How many of the last steps of a long trace are read one by one, and after how many of the last commands that wait the state is read.
 LAST_STEPS = 200
@@ -46,129 +45,49 @@ VIEWS = ("cpu", "stack", "flags", "alpha", "display", "pos", "lines", "functions
 WORDS_BEFORE, WORDS_BEHIND = 16, 32
 
 
-def read(lines):
-    """Returns lines of the bench as texts."""
-    return [line.decode("latin-1") for line in lines]
-
-
-class Watchdog:
-    """Kills each bench that does not answer in time. One thread watches all of them, because to start a thread takes time."""
-
-    def __init__(self):
-        self.lock, self.until, self.thread = threading.Lock(), {}, None
-
-    def begin(self, process):
-        """Watches a process from now on."""
-        with self.lock:
-            self.until[process] = time.monotonic() + PATIENCE
-            if self.thread is None:
-                self.thread = threading.Thread(target=self.watch, daemon=True)
-                self.thread.start()
-
-    def end(self, process):
-        """Watches a process no more."""
-        with self.lock:
-            self.until.pop(process, None)
-
-    def watch(self):
-        """Kills processes that are late."""
-        while True:
-            time.sleep(0.5)
-            with self.lock:
-                for process in [one for one, until in self.until.items() if time.monotonic() > until]:
-                    process.kill()
-
-
-WATCHDOG = Watchdog()
-
-
-class Bench(Session):
-    """A bench that answers several commands at a time. If it does not answer in time, it is killed."""
-
-    def __init__(self, words):
-        self.told, self.sent = tempfile.TemporaryFile(), 0
-        self.bench = subprocess.Popen([BENCH, "run", *words, "-"], stdin=subprocess.PIPE, stdout=subprocess.PIPE, stderr=self.told)
-
-    def ask_all(self, commands):
-        """Returns the lines that each of some whole commands prints."""
-        WATCHDOG.begin(self.bench)
-        try:
-            data = b"".join(command + b"\n" + MARK for command in commands)
-            self.sent += len(data)
-            self.bench.stdin.write(data)
-            self.bench.stdin.flush()
-            return [self.answer() for _ in commands]
-        except (OSError, ValueError) as error:
-            raise self.failure() from error
-        finally:
-            WATCHDOG.end(self.bench)
-
-    def answer(self):
-        """Returns the lines up to the next marker."""
-        lines = []
-        while lines[-2:] != MARK_ANSWER:
-            line = self.bench.stdout.readline()
-            if not line:
-                raise self.failure()
-            lines.append(line[:-1])
-        return read(lines[:-2])
-
-    def failure(self):
-        """Returns the error for a bench that has ended before it answered. It repeats the message of the bench, which is in a file."""
-        self.close_input()
-        return Failure(self.why(), NO_ANSWER)
-
-    def why(self):
-        """Returns how the bench has ended; None while it runs."""
-        status = self.bench.poll()
-        if status is None:
-            return None
-        self.told.seek(0)
-        told = self.told.read(1000).decode(errors="replace").partition("\n")[0]
-        how = f"by signal {-status}" if status < 0 else f"with status {status}"
-        return f"The bench has ended {how}{': ' + told if told else '.'}"
-
-    def close_input(self):
-        """Closes the input of the bench and waits until it ends, so that its status is known."""
-        try:
-            self.bench.stdin.close()
-            self.bench.wait(2)
-        except (OSError, subprocess.TimeoutExpired):
-            self.bench.kill()
-            self.bench.wait()
-
-    def close(self):
-        """Ends the bench, even if it does not answer."""
-        self.close_input()
-        self.bench.stdout.close()
+class OpenLesson(TypedDict):
+    """A lesson that is open: its name and title, its parts, and those that are left."""
+    name: str
+    title: str
+    parts: list[Part]
+    left: list[Part]
 
 
 class Desk:
     """The bench, the commands that it was given, the commands that wait, and the state of the bench."""
 
-    def __init__(self, memory=None, beside=None):
+    def __init__(self, memory: Optional[str] = None, beside: Optional[Beside] = None) -> None:
         """Starts a bench with `memory` registers of main memory; None means the default. `beside` is the bench that is asked about
         instructions, if there is one already."""
         self.words = [] if memory is None else ["--memory", memory]
         self.top = MAIN_START + (int(memory) if memory and memory.isdigit() else MOST_REGISTERS)
-        self.number, self.bench, self.renewal, self.pages = 0, None, None, Pages()
+        self.number, self.pages = 0, Pages()
         # Its command line differs from that of the session's bench, so that a list of processes shows which one it is.
         self.beside = beside or Beside(lambda: Bench(["--memory", MEMORY]))
-        self.begin()
+        self.start()
 
-    def another(self):
+    def another(self) -> "Desk":
         """Returns an empty desk with the same memory. The command line of its bench differs too."""
-        return Desk(*(self.words[1:] or [MEMORY]), self.beside)
+        return Desk(self.words[1] if self.words else MEMORY, self.beside)
 
-    def begin(self):
+    def begin(self) -> None:
+        """Starts an empty bench in place of the one that runs."""
+        self.bench.close()
+        if self.renewal:
+            self.renewal.bench.close()
+        self.start()
+
+    def start(self) -> None:
         """Starts an empty bench."""
-        for one in (self.bench, self.renewal and self.renewal.bench):
-            if one:
-                one.close()
-        self.bench, self.renewal, self.most = Bench(self.words), None, MOST_SENT
+        self.bench, self.most = Bench(self.words), MOST_SENT
+        self.renewal: Optional[Renewal] = None
         self.number += 1
-        self.log, self.queue, self.lesson = [], [], None
-        self.breaks, self.lights, self.labels, self.coded = set(), Lights(), Labels(), ([], b"", [])
+        self.log: list[Entry] = []
+        self.queue: list[Part] = []
+        self.lesson: Optional[OpenLesson] = None
+        self.breaks: set[tuple[str, str]] = set()
+        self.lights, self.labels = Lights(), Labels()
+        self.coded: tuple[list[str], bytes, list[list[str]]] = ([], b"", [])
         # The last states, and how often pages were plugged or unplugged.
         self.history, self.plugs = History(), 0
         # The number of steps in a piece, the number of steps that were made, and how many of them were made before the last look.
@@ -181,18 +100,19 @@ class Desk:
 
     # Commands that are given.
 
-    def deck(self):
+    def deck(self) -> bytes:
         """Returns the session as a deck. Of a command that is being executed in pieces, it has the steps that were made."""
         texts = [entry.text for entry in self.log]
-        if self.doing() is not None:
-            texts[-1] = self.doing()
+        doing = self.doing()
+        if doing is not None:
+            texts[-1] = doing
         return b"".join(text if text.endswith(b"\n") else text + b"\n" for text in texts)
 
-    def deck_to(self, entry):
+    def deck_to(self, entry: int) -> bytes:
         """Returns the session up to the end of an entry as a deck."""
         return b"".join(one.text if one.text.endswith(b"\n") else one.text + b"\n" for one in self.log[:entry + 1])
 
-    def deck_at(self, number):
+    def deck_at(self, number: int) -> bytes:
         """Returns the deck that leads to the state with a number."""
         if not 0 <= number <= self.history.end:
             raise Failure(f"there is no state {number}: the last one of the session is {self.history.end}")
@@ -202,14 +122,14 @@ class Desk:
         kind = self.log[place.entries - 1].text.split()[0]
         return self.deck_to(place.entries - 2) + b"%s %d\n" % (kind, place.steps)
 
-    def doing(self):
+    def doing(self) -> Optional[bytes]:
         """Returns the command that is being executed in pieces, with the number of steps that were made; None if there is none."""
         part = self.queue[0] if self.queue else None
         if part and part.kind and part.entry:
             return b"%s %d\n" % (part.kind.encode(), part.asked)
         return None
 
-    def give(self, deck, is_first=False, goes_on=False):
+    def give(self, deck: bytes, is_first: bool = False, goes_on: bool = False) -> None:
         """Adds the parts of a deck after those that wait. If `is_first` is set, they are added before all others, and a running command
         is split. If `goes_on` is set, a run that ends at its limit is followed by another one."""
         parts = parts_of(deck)
@@ -221,22 +141,22 @@ class Desk:
         else:
             self.queue += parts
 
-    def part_here(self):
+    def part_here(self) -> None:
         """Splits a command that is executed in pieces: its entry gets the number of steps that were made, and the rest becomes a command
         of its own."""
-        part = self.queue[0] if self.queue else None
-        if part and part.kind and part.entry:
-            part.entry.text = self.doing()
+        part, doing = self.queue[0] if self.queue else None, self.doing()
+        if part and part.kind and part.entry and doing is not None:
+            part.entry.text = doing
             self.queue[0] = Part(b"%s %d\n" % (part.kind.encode(), part.left), True, part.goes_on)
 
-    def stop(self):
+    def stop(self) -> None:
         """Drops the commands that wait."""
         self.part_here()
         self.queue = []
 
     # Commands that are executed.
 
-    def go(self, seconds, steps=None, parts=None):
+    def go(self, seconds: float, steps: Optional[int] = None, parts: Optional[int] = None) -> None:
         """Executes commands that wait for about `seconds`: at most so many steps and parts, and at least one command or a piece of one.
         Each step of a trace adds a state to the history."""
         until, has_asked = time.monotonic() + seconds, False
@@ -254,20 +174,23 @@ class Desk:
             if part.left == 0:
                 self.queue.pop(0)
                 if part.is_command and part.kind != "trace":
-                    self.look() if len(self.queue) <= LAST_STEPS else self.skip()
+                    if len(self.queue) <= LAST_STEPS:
+                        self.look()
+                    else:
+                        self.skip()
                 parts = None if parts is None else parts - 1
                 if part.goes_on and part.reason == "Limit":
                     self.queue.insert(0, Part(b"run %d\n" % MOST_STEPS, True, True))
 
     @staticmethod
-    def piece(part, steps):
+    def piece(part: Part, steps: Optional[int]) -> Optional[int]:
         """Returns the most steps of the next piece of a part; None if there is no limit. The last steps of a trace are made one by one."""
         if part.kind != "trace":
             return steps
         most = 1 if part.left <= LAST_STEPS else part.left - LAST_STEPS
         return most if steps is None else min(most, steps)
 
-    def is_renewed(self, until):
+    def is_renewed(self, until: Optional[float]) -> bool:
         """Has another bench go on, if this one has read nearly as many bytes as it reads. Returns whether commands can be executed."""
         if self.renewal is None:
             if self.bench.sent < self.most:
@@ -282,38 +205,38 @@ class Desk:
         self.most = MOST_SENT if self.bench.sent < MOST_SENT // 2 else LONGEST_DECK
         return True
 
-    def carry_out(self, part, most):
+    def carry_out(self, part: Part, most: Optional[int]) -> None:
         """Executes a part, or its next piece."""
         self.is_seen = False
-        if part.entry is None:
+        entry = part.entry
+        if entry is None:
             if self.log and self.log[-1].reply == [NO_END]:
                 self.history.withdraw(len(self.log))
                 self.log.pop()
-            part.entry = Entry(part.text)
-            self.log.append(part.entry)
+            entry = part.entry = Entry(part.text)
+            self.log.append(entry)
         if part.is_open:
             # The bench would wait for the `end`. At the end of its input it would print this refusal.
-            part.entry.reply = [NO_END]
+            entry.reply = [NO_END]
         elif part.kind:
-            self.carry_piece(part, most)
+            self.carry_piece(part, part.kind, entry, most)
         elif part.pieces and all(isinstance(piece, Text) or piece in KEYS for piece in part.pieces):
-            self.press(part)
+            self.press(part, entry)
         elif part.is_command:
-            part.entry.reply = self.bench.ask_all([part.text.rstrip(b"\n")])[0]
-            self.keep_up(part)
+            entry.reply = self.bench.ask_all([part.text.rstrip(b"\n")])[0]
+            self.keep_up(part, entry)
 
-    def carry_piece(self, part, most):
+    def carry_piece(self, part: Part, kind: str, entry: Entry, most: Optional[int]) -> None:
         """Executes the next piece of a run, of a step with a count, or of a trace. Pieces become longer while they are fast."""
         count = min(part.left, self.size, most or self.size)
         begun = time.monotonic()
-        reply = self.bench.ask_all([b"%s %d" % (part.kind.encode(), count)])[0]
+        reply = self.bench.ask_all([b"%s %d" % (kind.encode(), count)])[0]
         took = time.monotonic() - begun
         if count == self.size:
             self.size = min(2 * count, 1_000_000) if took < PIECE else max(count // 2, 16) if took > 4 * PIECE else count
         part.left, part.asked = part.left - count, part.asked + count
-        entry = part.entry
-        if part.kind == "run":
-            ran, reason = RAN.fullmatch(reply[0]).groups()
+        if kind == "run":
+            ran, reason = whole(RAN, reply[0]).groups()
             part.reason = reason
             part.ran, self.made = part.ran + int(ran), self.made + int(ran)
             entry.reply = [f"ran {part.ran} {reason}", *reply[1:]]
@@ -324,9 +247,9 @@ class Desk:
             entry.add(reply)
             part.left = 0 if is_refused else part.left
 
-    def press(self, part):
+    def press(self, part: Part, entry: Entry) -> None:
         """Presses keys in turn, up to the first one that is refused. In the session, the names of keys replace texts and numbers."""
-        entry, names = part.entry, []
+        names: list[str] = []
         for piece in part.pieces:
             keys = [piece]
             if isinstance(piece, Text):
@@ -338,7 +261,7 @@ class Desk:
         if names != part.words[1:]:
             entry.text = f"key {' '.join(names)}".encode("latin-1") + part.text[len(text_of_line(part.text)):]
 
-    def press_names(self, entry, names):
+    def press_names(self, entry: Entry, names: list[str]) -> None:
         """Presses keys by their names, up to the first one that is refused."""
         for name in names:
             asked = [*BEFORE, b"key " + name.encode(), *AFTER]
@@ -350,9 +273,9 @@ class Desk:
                 return
             self.lights.press(name, Seen(*views[:len(BEFORE)]), Seen(*views[len(BEFORE):]))
 
-    def keep_up(self, part):
+    def keep_up(self, part: Part, entry: Entry) -> None:
         """Records what an accepted command changes if no command shows it."""
-        if refusal_of(part.entry.reply) or not part.words:
+        if refusal_of(entry.reply) or not part.words:
             return
         word, words = part.words[0], part.words
         if word == "reset":
@@ -366,14 +289,15 @@ class Desk:
 
     # The state of the bench.
 
-    def look(self):
+    def look(self) -> State:
         """Reads the views of the bench. Returns its state, which is then the last one of the history."""
         asked = [*(f"show {view}" for view in VIEWS), *(f"list {page}000 1" for page in PAGES)]
         *replies, printed = self.bench.ask_all([*(command.encode() for command in asked), Memory.command(self.top)])
-        views, memory = dict(zip(VIEWS, replies)), Memory([line[4:] for line in printed], self.top)
+        views: State = dict(zip(VIEWS, replies))
+        memory = Memory([line[4:] for line in printed], self.top)
         mode, place = views["pos"][0].split()
         lists = self.lists_at(int(place, 16)) if mode == "Micro" else []
-        views["memory"], views["divided"] = memory.digits, memory.divided()
+        views["memory"], views["divided"] = memory.digits, [*memory.divided()]
         views["registers"] = memory.data_registers()
         views["values"] = [text_of(digits) for digits in views["registers"]]
         views["numbers"] = [text_of(line[2:]) for line in views["stack"]]
@@ -387,28 +311,28 @@ class Desk:
         self.history.add(state, self.place(views["made"]))
         return state
 
-    def place(self, made):
+    def place(self, made: int) -> Place:
         """Returns the place of the state in the session; `made` are the steps since the state before."""
         steps = self.queue[0].asked if self.doing() is not None else 0
         return Place(len(self.log), steps, made, self.lights.shift, self.lights.program)
 
-    def skip(self):
+    def skip(self) -> None:
         """Notes where the state is, without reading it."""
         self.history.skip(self.place(self.made - self.seen))
         self.seen = self.made
 
-    def coded_lines(self, lines, data):
+    def coded_lines(self, lines: list[str], data: bytes) -> list[list[str]]:
         """Returns the number, the bytes and the keys of each line in memory. They are kept until lines or bytes change."""
         if self.coded[:2] != (lines, data):
             self.coded = lines, data, coded([(int(line[:4]), line[5:]) for line in lines], data)
         return self.coded[2]
 
-    def paged(self, page):
+    def paged(self, page: str) -> list[list[str]]:
         """Returns the lines of the programs in a page."""
         image, = self.bench.ask_all([b"show image %s" % page.encode()])
         return [] if refusal_of(image) else self.pages.lines(page, tuple(image))
 
-    def lists_at(self, at):
+    def lists_at(self, at: int) -> list[bytes]:
         """Returns the commands that list the words around an address. The words before it are listed from several start addresses,
         because instructions have one word or two."""
         start, end = at & 0xF000, (at | 0x0FFF) + 1
@@ -416,9 +340,10 @@ class Desk:
         return [b"list %04X %d" % (begin, at - begin) for begin in begins] + \
             [b"list %04X %d" % (at, min(WORDS_BEHIND, end - at))]
 
-    def listing(self, lists, place):
+    def listing(self, lists: list[list[str]], place: str) -> list[list[str]]:
         """Returns the lines around an address, taken from the first of these lists in which an instruction ends at the address."""
-        def ends(lines):
+        def ends(lines: list[str]) -> bool:
+            """Returns whether the last instruction of a list ends at the address."""
             last = lines[-1]
             return int(last[:4], 16) + len(last[6:13].split()) == int(place, 16)
 
@@ -426,17 +351,17 @@ class Desk:
         lines = next((some for some in before if some and ends(some)), []) + behind
         return [[line[:4], self.labels.of(line[:4]), line[6:]] for line in lines]
 
-    def state(self):
+    def state(self) -> State:
         """Returns the state for the page."""
         display = self.views["display"][0]
         spells = NAME.search(display) is not None or "48" in self.views["flags"][0].split() and not PROMPT.fullmatch(display)
-        return {**self.views, "shift": self.lights.shift, "program": self.lights.program, "breaks": sorted(map(list, self.breaks)),
-                "spells": spells,
+        return {**self.views, "shift": self.lights.shift, "program": self.lights.program,
+                "breaks": sorted([kind, place] for kind, place in self.breaks), "spells": spells,
                 "label": self.labels.of(self.views["pos"][0].split()[1]) if self.views["listing"] else "",
                 "last": self.log[-1].told() if self.log else ["", []], "entries": len(self.log),
                 "doing": (self.doing() or b"").decode(), **self.explained()}
 
-    def explained(self):
+    def explained(self) -> dict[str, str]:
         """Returns what the next instruction or line is, what it does, in a sentence, and the name of a register that it changes; empty
         texts if this is not known."""
         views, (mode, place) = self.views, self.views["pos"][0].split()
@@ -444,19 +369,20 @@ class Desk:
             words, text = next(((text[:9].strip(), text[9:]) for at, _, text in views["listing"] if at == place), ("", ""))
             one = of_word(text, views["cpu"], self.beside.after(words, views["cpu"]) if is_carrying(text) else None)
             return {"word": text, "next": one.sentence(), "asks": one.asks()}
-        lines = [(f"P{at}", text) for at, text, *_ in views["paged"]] if place[0] == "P" else [(line[:4], line[5:]) for line in views["lines"]]
+        lines = ([(f"P{at}", text) for at, text, *_ in views["paged"]] if place[0] == "P" else
+                 [(line[:4], line[5:]) for line in views["lines"]])
         # Null bytes before a line are skipped.
         text = next((text for at, text in lines if at >= place), "")
         one = of_line(text, views["numbers"], views["values"], views["alpha"][0], views["flags"][0])
         return {"word": text, "next": one.sentence(), "asks": one.asks()}
 
-    def plugged(self):
+    def plugged(self) -> list[tuple[str, str]]:
         """Returns the plugged banks: pairs of a page and a bank."""
         asked = [(page, bank) for page in PAGES for bank in "1234"]
         replies = self.bench.ask_all([f"show image {page} b{bank}".encode() for page, bank in asked])
         return [one for one, reply in zip(asked, replies) if refusal_of(reply) is None]
 
-    def listed(self, page, bank, is_words):
+    def listed(self, page: str, bank: str, is_words: bool) -> list[list[str]]:
         """Returns the instructions in a bank of a page, or the lines of its programs, whether they run or not."""
         image, = self.bench.ask_all([f"show image {page} b{bank}".encode()])
         if refusal_of(image):
@@ -467,7 +393,7 @@ class Desk:
 
     # Exports.
 
-    def leaves(self, kind, page):
+    def leaves(self, kind: str, page: str) -> bytes:
         """Returns a deck for tools/export, with the image of a page or with the bytes of the programs."""
         if kind in ("rom", "source"):
             image, = self.bench.ask_all([b"show image %s" % page.encode()])

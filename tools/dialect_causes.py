@@ -9,8 +9,9 @@ from dialects import GREATEST_WORD, REGISTERS
 
 # Directives of other assemblers, and what is done here. A name may be before them.
 DIRECTIVES = {
-    r"\.?EQU|\.?EQUS|\.DEFINE|#define|\.SET|SET|\.DEF":
+    r"\.?EQU|\.?EQUS|ALIAS|DEFINE|SYMBOL|EQUATE|DEFC|\.DEFINE|#define|\.SET|SET|\.DEF":
         "a source defines no names for numbers: a project of tools/module does, in [equates]",
+    r"\.(?:BYTE|WORD|DB|DW|DCB|DCW|DATA|CONST|LONG|HWORD|INT)": "words are written CON 005, one in each line",
     r"\.?BSS|\.?DS|\.SPACE|\.BLOCK": "no directive reserves words: write a line CON 000 for each word",
     r"\.?FILL(?:TO)?|\.ALIGN|ALIGN": "a source does not fill its page: a description does, FILE.page, with `fill` and `at`",
     r"\.?ORG|\*=": "a source has no origin: --page, `asm P` or a project gives the page, and `at` of a FILE.page a place in it",
@@ -57,6 +58,12 @@ FORMS = [
     (r"(?P<r>[mn])\s+exchange\s+c", "C<>{r}"),
     (r"goyes\s+:?(?P<l>[a-z]\w*)", "JC :{l}, after a test"),
     (r"clear\s+registers", "CLRABC"), (r"clear\s+status", "ST=0"), (r"c\s*->\s*data\s+address", "RAM SLCT"),
+    (r"no\s+operation", "NOP"), (r"display\s+off", "DISOFF"), (r"display\s+toggle", "DISTOG"), (r"keys\s*->\s*rom\s+address", "GOTO KEY"),
+    (r"(?P<r>[mn])[12]?\s+exchange\s+c", "C<>{r}"), (r"c\s*->\s*addr(?:ess)?", "RAM SLCT"),
+    (r"c\s*->\s*data\s+register\s*(?P<n>\d+)", "WRIT {n}"), (r"data\s+register\s*(?P<n>\d+)\s*->\s*c", "READ {n}"),
+    (r"(?P<r>[mn])[12]?\s*->\s*c", "C={r}"), (r"c\s*->\s*(?P<r>[mn])[12]?", "{r}=C"),
+    (r"(?:delayed|select)\s+rom\s+\d+", "?NC GO or ?NC XQ and a label of the other page"),
+    (r"rom\s+address\s*->\s*c|c\s*->\s*rom\s+address", "FETCH S&X"),
     (r"data\s*->\s*c", "READ DATA"), (r"c\s*->\s*data", "WRIT DATA"), (r"(?:return|ret)", "RTN"),
     (r"if\s+s\s*(?P<b>\d+)\s*(?:=|#|<>)\s*[01]", "?FSET {b}, and JC or JNC after it"),
     (r"if\s+p\s*(?:=|#|<>)\s*(?P<n>\d+)", "?R= {n}, and JC or JNC after it"),
@@ -65,7 +72,7 @@ FORMS = [
 ]
 FIELDS = {"P": "@R", "PT": "@R", "X": "S&X", "WP": "R<", "WPT": "R<", "W": "ALL", "PQ": "P-Q", "XS": "XS", "M": "M", "S": "MS", "MS": "MS"}
 
-OCTAL = re.compile(r"(?:LDI|CON|LDI\s+S&X)\s+(@([0-7]+)|([0-7]+)[OoQq]|0o([0-7]+))")
+OCTAL = re.compile(r"(?:LDI|CON|LDI\s+S&X)\s+(@([0-7]+)|([0-7]+)[OoQq](?!\w)|0o([0-7]+))")
 BINARY = re.compile(r"(?:LDI|CON|LDI\s+S&X)\s+((?:%|0b)([01]+)|([01]{5,})B)", re.I)
 CHARACTER = re.compile(r"""(?:LDI|CON|LDI\s+S&X)\s+(["']([ -~])["']?|["'][^"']*["']?)""")
 OFFSET = re.compile(r"(?:\S+:?\s+)*?(?:\?\s?N?C\s?(?:XQ|GO)|JN?C|GO\w+|GSUB\w*|GOL\w+)\s+(:?\[?[A-Za-z]\w*\]?\s*[-+]\s*\w+)", re.I)
@@ -103,7 +110,7 @@ def causes(code: str) -> Iterator[tuple[int, str]]:
     directive, assigned = DIRECTIVE.match(code), ASSIGNED.fullmatch(code)
     if directive:
         yield directive.start(1), next(why for names, why in DIRECTIVES.items() if re.fullmatch(names, directive[1], re.I))
-    if assigned and not re.fullmatch(r"R|P|PT|[ABCMNG]|ST|S\d+", assigned[1], re.I):
+    if assigned and not re.fullmatch(r"R|P|Q|PT|[ABCMNG]|C?ST|S\d+|CY|CARRY|CF|PC", assigned[1], re.I):
         yield 0, DIRECTIVES[next(iter(DIRECTIVES))]
     if PERIPHERAL.match(code) or DISPLAY.match(code):
         yield 0, f"a word for {'peripherals' if PERIPHERAL.match(code) else 'the display'} has no mnemonic here: write CON and the word"
@@ -159,6 +166,18 @@ def of_numbers(code: str) -> Iterator[tuple[int, str]]:
         yield digit.start(1), f"{digit[1]} has a leading zero: write LD@R {int(digit[1])}"
     elif digit and int(digit[1]) > 15:
         yield digit.start(1), f"{digit[1]} is not a digit: LD@R takes 0 to 15"
+    yield from of_operands(code)
+    yield from of_names(code)
+    reference, numbered = REFERENCE.fullmatch(code), NUMBERED.fullmatch(code)
+    if reference and not re.fullmatch("[0-9A-F]+", reference[1]):
+        yield reference.start(1), f"a reference begins with a colon: write :{reference[1]}"
+    if numbered:
+        digits = re.sub(r"^0x|\$|H$", "", numbered[1], flags=re.I)
+        yield numbered.start(1), f"an address is four hexadecimal digits alone: write {digits.upper():0>4}"
+
+
+def of_operands(code: str) -> Iterator[tuple[int, str]]:
+    """Yields what is wrong with the target of a jump, a rotation, a status bit, a register, or an equate."""
     here, offset, left = HERE.match(code), OFFSET.match(code), LEFT.match(code)
     if here:
         yield here.start(2), f"the address of this line has no sign: write the displacement alone, {here[3]}{here[4]:0>2}"
@@ -172,16 +191,9 @@ def of_numbers(code: str) -> Iterator[tuple[int, str]]:
     if beyond:
         yield beyond.start(1), f"the status bits are 0 to 13, found {beyond[1]}"
     if register:
-        number = REGISTERS.index(register[2])
-        own = f"WRIT {number}" if register[1] == "REGN=C" else f"READ {number or 'DATA'}"
-        yield register.start(2), f"{register[2]} is register {number}: write {own}"
+        place = REGISTERS.index(register[2])
+        own = f"WRIT {place}" if register[1] == "REGN=C" else f"READ {place or 'DATA'}"
+        yield register.start(2), f"{register[2]} is register {place}: write {own}"
     equate = EQUATE.fullmatch(code)
     if equate:
         yield equate.start(1), f"{equate[1]} is a label or an equate, expected a number: only a project of tools/module has equates"
-    yield from of_names(code)
-    reference, numbered = REFERENCE.fullmatch(code), NUMBERED.fullmatch(code)
-    if reference and not re.fullmatch("[0-9A-F]+", reference[1]):
-        yield reference.start(1), f"a reference begins with a colon: write :{reference[1]}"
-    if numbered:
-        digits = re.sub(r"^0x|\$|H$", "", numbered[1], flags=re.I)
-        yield numbered.start(1), f"an address is four hexadecimal digits alone: write {digits.upper():0>4}"

@@ -5,6 +5,7 @@ from dataclasses import dataclass, replace
 from typing import Dict, Iterable, Iterator, List, Tuple, Union
 
 from documents import codes_of, section_of, tables_of
+from matches import whole
 from records import is_end, length_at
 
 DOCUMENT, SECTION = "OLD-PROGRAMS.md", "Doubts"
@@ -139,10 +140,10 @@ def of_number(text: str, comma_is_point: bool) -> Iterator[Tuple[str, str]]:
     if not TYPED.fullmatch(text):
         yield NUMBER_FORM, why_untyped(text)
         return
-    whole, behind, exponent = PARTS.fullmatch(text).groups()
+    before, behind, exponent = whole(PARTS, text).groups()
     if comma_is_point and THOUSAND_OF_POINT.fullmatch(text.lstrip("-")):
         yield COMMA, f"the point is read as the decimal point; if it separates thousands, write {text.replace('.', '')}"
-    digits = len(whole.lstrip("0") + behind)
+    digits = len(before.lstrip("0") + behind)
     if digits > MOST_DIGITS:
         yield NUMBER, f"a number with {digits} digits; a calculator takes {MOST_DIGITS}"
     if exponent and len(exponent) > MOST_OF_EXPONENT:
@@ -202,8 +203,8 @@ def of_bytes(data: bytes) -> Iterator[Doubt]:
         at += length
     yield from wrong_distances(data, jumps if removed else [], program)
     if line:
-        yield Doubt(OPEN, line, 1, f"the bytes end at byte {end}, after line {line}, without an END: is the rest of the program missing? One is "
-                    "added", program)
+        yield Doubt(OPEN, line, 1, f"the bytes end at byte {end}, after line {line}, without an END: is the rest of the program missing? "
+                    "One is added", program)
 
 
 def wrong_distances(data: bytes, jumps: List[Tuple[int, int]], program: int) -> Iterator[Doubt]:
@@ -211,8 +212,8 @@ def wrong_distances(data: bytes, jumps: List[Tuple[int, int]], program: int) -> 
     for line, at in jumps:
         own = data[at:at + length_at(data, at)].hex(" ").upper()
         yield Doubt(DISTANCE, line, 1 if data[at] >= 0xD0 and data[at] & 0xF else 2,
-                    f"byte {at}: the distance in {own} is kept, but it no longer leads to its label, because nulls were removed from the program; on "
-                    "a calculator, execute PACK, so that the label is searched for again", program)
+                    f"byte {at}: the distance in {own} is kept, but it no longer leads to its label, because nulls were removed from the "
+                    "program; on a calculator, execute PACK, so that the label is searched for again", program)
 
 
 def private_end(data: bytes, at: int, end: int) -> str:

@@ -8,9 +8,9 @@ TABLE = os.path.join(os.path.dirname(os.path.realpath(__file__)), "entries.toml"
 ROW = re.compile(r'(\w+) = "([0-9A-F]{4})" +# (\S+): (.*)')
 
 
-def entries():
+def entries() -> dict[str, str]:
     """Returns the addresses of entry points by their names, both those of VASM and those that a source can have here."""
-    found = {}
+    found: dict[str, str] = {}
     for row in filter(None, map(ROW.fullmatch, bytes_of(TABLE).decode("utf-8").splitlines())):
         found[row[1]] = found[row[3]] = row[2]
     return found

@@ -31,8 +31,7 @@ class Count(NamedTuple):
 
 def counts_in(lines: List[str]) -> List[Count]:
     """Returns the counts in a listing of Free42. Lines are counted from 1."""
-    heads = [(number, HEAD.fullmatch(line)) for number, line in enumerate(lines, 1)]
-    heads = [(number, found) for number, found in heads if found]
+    heads = [(number, found) for number, line in enumerate(lines, 1) for found in [HEAD.fullmatch(line)] if found]
     lasts = [number - 1 for number, _ in heads[1:]] + [len(lines)]
     return [Count(number, found[0].strip(), int(found[1]), last) for (number, found), last in zip(heads, lasts)]
 
@@ -125,7 +124,7 @@ def write_hp41uc(lines: List[Tuple[str, bytes]]) -> List[str]:
 
 def write_v41(lines: List[Tuple[str, bytes]]) -> List[str]:
     """Returns the lines of a program as V41's printer lists them."""
-    name = next((re.fullmatch(r'LBL "(.*)"', text)[1] for text, _ in lines if re.fullmatch(r'LBL "(.*)"', text)), None)
+    name = next((found[1] for text, _ in lines for found in [re.fullmatch(r'LBL "(.*)"', text)] if found), None)
     texts = [re.sub(r'\A>"', '⊢"', text) for text, _ in lines]
     texts = [re.sub(r"\A([0-9]+) LBL ", "\\1♦LBL ", f" {line}".lstrip()) for line in numbered(texts)]
     return [*([f'PRP "{name}"'] if name else []), *texts]

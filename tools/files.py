@@ -2,11 +2,12 @@
 import os
 import sys
 import tempfile
+from typing import Iterable, Optional
 
 from decks import Failure, end_with_reader
 
 
-def check_out(out, sources):
+def check_out(out: str, sources: Iterable[tuple[str, str]]) -> None:
     """Checks that OUT can be written, and that it is not one of the files that are read. `-` is standard output."""
     if out == "-":
         return
@@ -21,7 +22,7 @@ def check_out(out, sources):
         raise Failure(f"{out}: {why_no_folder(folder)}")
 
 
-def why_no_folder(folder):
+def why_no_folder(folder: str) -> str:
     """Returns why a path is not a folder: it or a part of it is a file, or does not exist."""
     part = folder
     while part and not os.path.exists(part):
@@ -31,7 +32,7 @@ def why_no_folder(folder):
     return f"the folder {folder} does not exist: create it first"
 
 
-def make_folder(path, option):
+def make_folder(path: str, option: str) -> None:
     """Makes the folder of an option, with those above it, if it does not exist."""
     try:
         os.makedirs(path, exist_ok=True)
@@ -41,21 +42,22 @@ def make_folder(path, option):
         raise Failure(f"{option} {path}: cannot be made: {error.strerror}") from error
 
 
-def is_same(one, other):
+def is_same(one: str, other: str) -> bool:
     """Returns whether two paths lead to the same file, even if it does not exist yet."""
     if os.path.exists(one) and os.path.exists(other):
         return os.path.samefile(one, other)
     return os.path.realpath(one) == os.path.realpath(other)
 
 
-def put(data, out):
+def put(data: bytes, out: str) -> None:
     """Writes a new file in the folder of OUT, and renames it to OUT."""
     if out == "-":
         end_with_reader()
         sys.stdout.buffer.write(data)
-        return sys.stdout.buffer.flush()
+        sys.stdout.buffer.flush()
+        return
     path = os.path.realpath(out)
-    new = None
+    new: Optional[str] = None
     try:
         handle, new = tempfile.mkstemp(prefix=f".{os.path.basename(path)[:100]}.", dir=os.path.dirname(path))
         with open(handle, "wb") as file:
@@ -72,7 +74,7 @@ def put(data, out):
             os.unlink(new)
 
 
-def mask():
+def mask() -> int:
     """Returns the permission bits that a new file does not get."""
     bits = os.umask(0)
     os.umask(bits)

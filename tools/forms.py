@@ -13,11 +13,12 @@ COMMENT = re.compile(r"\s*(?:[;*#]|//).*")
 SIGNED = re.compile(r"[#*][A-Za-z0-9_]+")
 
 
-def without_columns(texts):
+def without_columns(texts: list[str]) -> tuple[list[str], bool]:
     """Returns the lines of a source without addresses, words and line numbers before them, and whether it had them. The number of lines
     does not change."""
     if any(map(ROW_OF_LIST.fullmatch, texts)):
-        found, is_over = [], False
+        found: list[str] = []
+        is_over = False
         for text in texts:
             row = ROW_OF_LIST.fullmatch(text)
             is_over |= LABELS_OF_LIST.fullmatch(text) is not None
@@ -33,12 +34,13 @@ def without_columns(texts):
             for text in texts for row in [ROW_OF_OTHERS.fullmatch(text)]], True
 
 
-def with_letters(texts):
+def with_letters(texts: list[str]) -> tuple[list[str], dict[str, str]]:
     """Returns the lines of a source in which names begin with a letter in place of # or *, and the new name of each. A word with such a
     sign is a name if it begins a line, and another line has it as a later word."""
     firsts = {words[0].rstrip(":") for words in (text.split() for text in texts) if words and SIGNED.fullmatch(words[0].rstrip(":"))}
     later = {word for text in texts for word in text.split(";")[0].split()[1:]}
-    names, taken = {}, {word.rstrip(":") for text in texts for word in text.split()[:1]}
+    names: dict[str, str] = {}
+    taken = {word.rstrip(":") for text in texts for word in text.split()[:1]}
     for name in sorted(firsts & later):
         plain = name[1:] if name[1].isalpha() else f"L{name[1:]}"
         new = next(one for one in (plain[:12], *(f"{plain[:9]}_{number}" for number in range(2, 100))) if one not in taken)
@@ -46,5 +48,11 @@ def with_letters(texts):
         taken.add(new)
     if not names:
         return texts, names
-    return [re.sub(r"(?<!\S)([#*][A-Za-z0-9_]+)(?=[:\s]|\Z)", lambda found: names.get(found[1], found[1]), text.split(";")[0])
-            + text[len(text.split(";")[0]):] for text in texts], names
+
+
+    def renamed(found: re.Match[str]) -> str:
+        """Returns the new name of a name; a word that is none is not changed."""
+        return names.get(found[1], found[1])
+
+    return [re.sub(r"(?<!\S)([#*][A-Za-z0-9_]+)(?=[:\s]|\Z)", renamed, text.split(";")[0]) + text[len(text.split(";")[0]):]
+            for text in texts], names

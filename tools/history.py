@@ -1,7 +1,7 @@
 """The states of a session. The last ones are kept, and sent as differences, because a step changes little. Of each earlier one only its
 place in the session is kept: tools/repeating.py executes the session again up to there."""
 from array import array
-from typing import NamedTuple
+from typing import Any, NamedTuple, Optional, TypedDict
 
 # How many states are kept.
 MOST_STATES = 2000
@@ -10,7 +10,18 @@ MOST_STATES = 2000
 LONG = 16
 
 
-def difference(old, new):
+# A state: what the views of the bench show, by name, as the page gets it.
+State = dict[str, Any]
+
+
+class Told(TypedDict):
+    """States that are sent: the number of the state before the changes, this state or None, and the changes."""
+    at: int
+    base: Optional[State]
+    changes: list[State]
+
+
+def difference(old: State, new: State) -> State:
     """Returns what differs between two states: by name the new value, or for a long list the items that have changed, with their places."""
     change = {}
     for name, value in new.items():
@@ -25,7 +36,7 @@ def difference(old, new):
     return change
 
 
-def applied(state, change):
+def applied(state: State, change: State) -> State:
     """Returns the state after a change."""
     result = dict(state)
     for name, value in change.items():
@@ -52,26 +63,31 @@ class Place(NamedTuple):
 class History:
     """The states of a session, numbered from 0. The last ones are kept, from `first` on; of the others, only the places are."""
 
-    def __init__(self):
-        self.first, self.base, self.last, self.changes = 0, None, None, []
+    def __init__(self) -> None:
+        """Begins without states."""
+        self.first = 0
+        self.base: Optional[State] = None
+        self.last: Optional[State] = None
+        self.changes: list[State] = []
         self.places = [array("I") for _ in Place._fields]
 
     @property
-    def end(self):
+    def end(self) -> int:
         """The number of the last state."""
         return len(self.places[0]) - 1
 
-    def place(self, number):
+    def place(self, number: int) -> Place:
         """Returns the place of a state."""
-        return Place(*(column[number] for column in self.places))
+        entries, steps, made, shift, program = (column[number] for column in self.places)
+        return Place(entries, steps, made, bool(shift), bool(program))
 
-    def is_read(self):
+    def is_read(self) -> bool:
         """Returns whether the last state is kept."""
         return self.base is not None and self.first + len(self.changes) == self.end
 
-    def add(self, state, place):
+    def add(self, state: State, place: Place) -> None:
         """Adds a state, if it differs from the last one. If the last one was skipped, the state is that one, or the next."""
-        if self.is_read():
+        if self.is_read() and self.base is not None and self.last is not None:
             change = difference(self.last, state)
             if not change:
                 return
@@ -87,19 +103,19 @@ class History:
         # Those that are kept have no gaps.
         self.first, self.base, self.last, self.changes = self.end, state, state, []
 
-    def skip(self, place):
+    def skip(self, place: Place) -> None:
         """Adds the place of a state that is not read."""
         for column, value in zip(self.places, place):
             column.append(value)
 
-    def withdraw(self, entries):
+    def withdraw(self, entries: int) -> None:
         """Notes that the last entry, number `entries`, is replaced, because it was not executed: its states have the place before it."""
         for at in range(self.end, -1, -1):
             if self.places[0][at] != entries:
                 break
             self.places[0][at] -= 1
 
-    def told(self, known):
+    def told(self, known: Optional[int]) -> Told:
         """Returns the states after the one with the number `known`, or all that are kept if that one is not kept or there is none: the
         number of the state before the changes, this state or None, and the changes."""
         if known is not None and self.first <= known <= self.first + len(self.changes):

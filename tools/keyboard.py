@@ -1,6 +1,6 @@
 """The keys of the calculator: what is printed on each key, above it and below it, and its code. The picture in docs/KEYBOARD.md and
 docs/keyboard.svg are made from this table, and `.ci/keys` checks by it what each key does."""
-from typing import NamedTuple, Optional
+from typing import Iterable, Iterator, NamedTuple, Optional
 
 
 class Key(NamedTuple):
@@ -12,7 +12,7 @@ class Key(NamedTuple):
     column: int
 
     @property
-    def code(self):
+    def code(self) -> int:
         """The code of the key for microcode: a digit for the row and a digit for the column."""
         return 16 * self.row + self.column
 
@@ -32,10 +32,12 @@ ENTER none N     CHS ISG O        EEX RTN P        BACK CLX none
 """
 
 
-def rows():
+def rows() -> list[list[Key]]:
     """Returns the rows of keys, from the top."""
-    def each(words, row, column):
-        name, shifted, letter = (None if word == "none" else word for word in words)
+    def each(words: list[str], row: int, column: int) -> Key:
+        """Returns the key of three words of the layout."""
+        name = words[0]
+        shifted, letter = (None if word == "none" else word for word in words[1:])
         return Key(name, shifted, " " if letter == "space" else letter, row, column)
 
     found = []
@@ -49,14 +51,15 @@ ROWS = rows()
 KEYS = {key.name: key for row in ROWS for key in row}
 
 
-def letter_text(key):
+def letter_text(key: Key) -> str:
     """Returns the letter of a key for a picture."""
     return "space" if key.letter == " " else key.letter or ""
 
 
-def picture():
+def picture() -> str:
     """Returns the keyboard in characters, as in docs/KEYBOARD.md: for each row the functions after SHIFT, the keys, and the letters."""
-    def line(texts):
+    def line(texts: Iterable[str]) -> str:
+        """Returns a line of texts, each in the middle of its column."""
         return "  ".join(text.center(9) for text in texts).rstrip()
 
     parts = []
@@ -71,7 +74,7 @@ def picture():
 LETTERS_ON_A_LINE = 8
 
 
-def letters():
+def letters() -> str:
     """Returns the keys by their letters, as in docs/KEYBOARD.md."""
     found = sorted((not key.letter.isalpha(), letter_text(key), key.name) for key in KEYS.values() if key.letter)
     pairs = [f"{letter} {name}" for _, letter, name in found]
@@ -97,12 +100,12 @@ text { font-family: Verdana, Helvetica, Arial, sans-serif; text-anchor: middle; 
 """
 
 
-def escaped(text):
+def escaped(text: str) -> str:
     """Returns a text for SVG."""
     return text.replace("&", "&amp;").replace("<", "&lt;").replace(">", "&gt;")
 
 
-def places(row):
+def places(row: list[Key]) -> list[tuple[float, float]]:
     """Returns the middle and the width of each key of a row. Rows of four keys are as wide as rows of five: ENTER is two keys wide, and
     in the other rows the keys are further apart."""
     if len(row) == 5:
@@ -112,9 +115,10 @@ def places(row):
     return [(MARGIN + COLUMN * 1.25 * (at + 0.5), KEY_WIDTH) for at in range(4)]
 
 
-def drawn(key, middle, width, top):
+def drawn(key: Key, middle: float, width: float, top: float) -> Iterator[str]:
     """Yields the elements of a key: its function after SHIFT above it, its name on it, its letter below it, and its code at the right."""
-    def text(kind, x, y, words):
+    def text(kind: str, x: float, y: float, words: Optional[str]) -> str:
+        """Returns a text as an element, or an empty text if there are no words."""
         return f'<text class="{kind}" x="{x:g}" y="{y:g}">{escaped(words)}</text>' if words else ""
 
     kind = "shift" if key.name == "SHIFT" else "key"
@@ -126,7 +130,7 @@ def drawn(key, middle, width, top):
     yield text("code", left + width - 8, top + KEY_HEIGHT + 15, f"{key.code:02X}")
 
 
-def svg():
+def svg() -> str:
     """Returns docs/keyboard.svg."""
     height = TOP + ROW * len(ROWS)
     parts = [f'<svg xmlns="http://www.w3.org/2000/svg" width="{WIDTH}" height="{height}" viewBox="0 0 {WIDTH} {height}">',

@@ -1,7 +1,7 @@
 """The lessons of tools/calculator: the examples in their groups, the decks of a folder of one's own, and a deck that is given."""
 import os
 import re
-from typing import NamedTuple
+from typing import NamedTuple, Optional
 
 from decks import TOP, Failure, bytes_of, lines_of
 
@@ -24,12 +24,12 @@ class Lesson(NamedTuple):
     path: str
 
 
-def example(name):
+def example(name: str) -> str:
     """Returns the path of the deck of an example."""
     return os.path.join(EXAMPLES, f"{name}.deck")
 
 
-def examples():
+def examples() -> dict[str, Lesson]:
     """Returns the examples as lessons, by their names, in the order of the list of examples/README.md."""
     found, group = {name: Lesson(GUIDED, title, example(name)) for name, title in WALKS.items()}, ""
     for heading, name, path, title in PLACE.findall(bytes_of(os.path.join(EXAMPLES, "README.md")).decode("utf-8")):
@@ -39,14 +39,14 @@ def examples():
     return found
 
 
-def title_of(path):
+def title_of(path: str) -> str:
     """Returns the title of a deck: the words of its first comment, or its name."""
     line = next(iter(lines_of(bytes_of(path))), b"").decode("utf-8", "replace").strip()
     title = line.lstrip("# ") if line.startswith("#") else ""
     return title[:LONGEST_TITLE] or os.path.basename(path)
 
 
-def decks_in(folder):
+def decks_in(folder: str) -> dict[str, Lesson]:
     """Returns the decks of a folder as lessons, by their names, in the order of these names."""
     try:
         names = sorted(name for name in os.listdir(folder) if name.endswith(".deck"))
@@ -58,15 +58,15 @@ def decks_in(folder):
     return {f"own/{name}": Lesson(OWN, title_of(path), path) for name, path in paths.items()}
 
 
-def lessons(folder=None, given=None):
+def lessons(folder: Optional[str] = None, given: Optional[str] = None) -> dict[str, Lesson]:
     """Returns all lessons by their names: a deck that is given, those of a folder, and the examples."""
     found = {"given": Lesson(GIVEN, title_of(given), given)} if given else {}
     return {**found, **(decks_in(folder) if folder else {}), **examples()}
 
 
-def grouped(found):
+def grouped(found: dict[str, Lesson]) -> list[tuple[str, list[list[str]]]]:
     """Returns lessons in their groups: for each group its name, and the names and titles of its lessons."""
-    groups = {}
+    groups: dict[str, list[list[str]]] = {}
     for name, lesson in found.items():
         groups.setdefault(lesson.group, []).append([name, lesson.title])
     return list(groups.items())

@@ -130,7 +130,8 @@ def program_of(entry: Entry, data: bytes, begin: int) -> bytes:
 
 def texts_of(data: bytes, begin: int) -> List[str]:
     """Returns the lines of a text: each has its length in two bytes before it, and a null after it if the length is odd."""
-    lines, at = [], 0
+    lines: List[str] = []
+    at = 0
     while at + 2 <= len(data):
         length = number_in(data, at, 2)
         if length == END_OF_TEXT:
@@ -157,7 +158,8 @@ def read_headed(data: bytes) -> List[Part]:
         program_of(entry, body, ENTRY)
         rest = rest[1:]
     elif ends_of(body[:entry.length])[-1:] != [entry.length]:
-        raise Damaged(LENGTH, f"{entry.length} as the number of the program's bytes, and no checksum after them", "a number that leads to an END")
+        raise Damaged(LENGTH, f"{entry.length} as the number of the program's bytes, and no checksum after them",
+                      "a number that leads to an END")
     if rest.strip(b"\0"):
         at = ENTRY + len(body) - len(rest.lstrip(b"\0"))
         raise Damaged(at, f"{data[at]:02X}", "nulls alone after the checksum")

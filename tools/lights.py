@@ -26,12 +26,12 @@ class Seen(NamedTuple):
     x: str = ""
 
     @property
-    def is_idle(self):
+    def is_idle(self) -> bool:
         """Whether neither a program nor a function runs, so that keys have their effects."""
         return self.pos.startswith("Idle")
 
     @property
-    def is_alpha(self):
+    def is_alpha(self) -> bool:
         """Whether the display may show a text: that of ALPHA, if flag 48 is set, or that of X."""
         is_x = text_of(self.x[2:]) == f'"{self.display}"'
         return is_x or "48" in self.flags.split() and self.display == self.alpha
@@ -40,10 +40,11 @@ class Seen(NamedTuple):
 class Lights:
     """SHIFT and program mode, as they are after the last key."""
 
-    def __init__(self):
+    def __init__(self) -> None:
+        """Begins with both off."""
         self.shift = self.program = False
 
-    def press(self, name, before, after):
+    def press(self, name: str, before: Seen, after: Seen) -> None:
         """Reads the state after an accepted key. While something runs, keys have no effect on it."""
         if not before.is_idle:
             return

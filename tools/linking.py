@@ -55,6 +55,7 @@ class Unit(Assembled):
     assembled source of tools/list and tools/lint."""
 
     def __init__(self, bank: Page) -> None:
+        """Reads the lines of a bank, and counts their words."""
         self.bank, self.name, self.page, self.number, self.faults = bank, bank.name, bank.at, bank.bank, []
         self.whole = text_of_bank(bank)
         self.texts = list(self.whole.lines)
@@ -68,7 +69,8 @@ class Unit(Assembled):
                 self.labels.setdefault(line.label, place)
             place += 1 if at in fills else length_of(line)
         self.places.append(place)
-        self.size, self.words, self.foreign = place, [], []
+        self.size, self.words = place, []
+        self.foreign: list[str] = []
         # The table entries whose labels are in other banks of the page, by their lines.
         self.entered: dict[int, Label] = {}
         # The lines for the bench, in which addresses replace labels of other banks.
@@ -117,7 +119,7 @@ def text_of_bank(bank: Page) -> Whole:
         if found is None:
             raise Failure(f"{path}:{why_not_read(texts)}")
         lines += found if not found or found[-1][0] == "END" else [*found, ("END", bytes.fromhex("C0000D"))]
-    source = "\n".join(Module(bank.module, programs_of(lines)).source())
+    source = "\n".join(Module(bank.module or 0, programs_of(lines)).source())
     return Text(bank.programs[0], source.encode() + b"\n", bank.end)
 
 
@@ -152,6 +154,7 @@ class Linked:
     """The pages and banks of a project, with the labels of all of them."""
 
     def __init__(self, project: Project) -> None:
+        """Links the pages. Raises Faulty with all errors if there are some."""
         self.project = project
         self.units = [Unit(page) for page in project.pages]
         self.labels: dict[str, list[Label]] = {}
@@ -229,8 +232,9 @@ class Linked:
             found = TARGET.match(words[-1]) if words[1:] and b'"' not in line.code else None
             if not found:
                 continue
-            page, name = found[1] and found[1].decode(), found[2].decode()
-            if page is None and name in self.project.equates and name not in self.labels:
+            page, name = found[1].decode() if found[1] else None, found[2].decode()
+            is_number = words[0].decode(errors="replace") in NUMBERED
+            if page is None and name in self.project.equates and (is_number or name not in self.labels):
                 self.put(unit, at, self.project.equates[name].encode())
                 continue
             label = self.find(page, name, unit)
@@ -311,7 +315,9 @@ class Linked:
             # A line that became two words keeps one line here, of two words.
             unit.whole.lines = [b"        LDI 000" if b"\n" in line else line for line in unit.linked]
             faults += unit.whole.faults_of(Source(unit.whole.data()))
-        return Faulty("\n".join(faults)) if faults else Failure(f"{self.project.path}: the bench refused a block: {refusal}: please report it", 3)
+        if faults:
+            return Faulty("\n".join(faults))
+        return Failure(f"{self.project.path}: the bench refused a block: {refusal}: please report it", 3)
 
     def faults_of_lines(self) -> list[str]:
         """Returns the errors of lines whose references are no errors. An error of a label is the cause of errors of references to it."""

@@ -1,5 +1,5 @@
 """Files .mod: a module with its pages and banks. Reads and writes them, and finds a page for each; docs/MODULES.md has the layout."""
-from typing import List, NamedTuple, Tuple
+from typing import Dict, List, NamedTuple, Tuple
 
 from records import Damaged
 from sources import CHECKSUM_PLACE, ID_PLACE, checksum_of
@@ -129,7 +129,7 @@ def pages_of(images: List[Image], first: str) -> List[str]:
     taken = {f"{one.position:X}" for one in images if one.position in FIXED}
     free = [page for page in PAGES[PAGES.index(first):] if page not in taken]
     found: List[str] = []
-    banks: dict = {}
+    banks: Dict[int, str] = {}
     for one in images:
         shared = banks.get(one.bank_group) if one.bank_group else None
         if one.position in FIXED:

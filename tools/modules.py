@@ -1,6 +1,7 @@
 """Modules of keystroke programs: makes a page from programs with a table of functions, and reads the programs of such a page. The bench
 decides which bytes a line has, and which line some bytes are."""
 import re
+from typing import Iterator, Optional
 
 from decks import MAIN_START, Failure, block, hexadecimal, run
 from programs import OF_NUMBERS, PIECE, is_cut, loadable, piece_of, whole_lines
@@ -29,7 +30,10 @@ FINAL_END = re.compile(rb"[\xc0-\xcd].[\x20-\x3f\x60-\x7f\xa0-\xbf\xe0-\xef]", r
 
 # Lines and their bytes.
 
-def with_bytes(opener, lines):
+ProgramLine = tuple[str, bytes]
+
+
+def with_bytes(opener: bytes, lines: list[bytes]) -> Optional[list[ProgramLine]]:
     """Returns the lines that a block loads, each with its bytes; None if the bench refuses the block."""
     registers = range(0x1FF, MAIN_START - 1, -1)
     status, output = run(b"size 0\n" + block(opener, lines) + b"show lines\n"
@@ -44,9 +48,9 @@ def with_bytes(opener, lines):
     return [(text, data.rstrip(b"\0") if data[0] in OF_NUMBERS else data) for text, data in found]
 
 
-def lines_of_texts(texts):
+def lines_of_texts(texts: list[str]) -> Optional[list[ProgramLine]]:
     """Returns the lines of a listing with their bytes; None if the bench cannot read one of them."""
-    found = []
+    found: list[ProgramLine] = []
     for at in range(0, len(texts), LINES):
         lines = with_bytes(b"program", [text.encode() for text in [*texts[at:at + LINES], SENTINEL]])
         if lines is None:
@@ -55,7 +59,7 @@ def lines_of_texts(texts):
     return found
 
 
-def lines_of_program(data):
+def lines_of_program(data: bytes) -> Optional[list[ProgramLine]]:
     """Returns the lines in some bytes. An .END. at the end becomes an END. None if they are not lines."""
     front = data.rstrip(b"\0")[:-3]
     if not FINAL_END.fullmatch(data.rstrip(b"\0")[-3:]):
@@ -64,9 +68,10 @@ def lines_of_program(data):
     return lines_of_bytes(data) if lines is None else [*lines, ("END", END)]
 
 
-def lines_of_bytes(data):
+def lines_of_bytes(data: bytes) -> Optional[list[ProgramLine]]:
     """Returns the lines in some bytes without null bytes; None if they are not lines, or have an .END. inside."""
-    found, at = [], 0
+    found: list[ProgramLine] = []
+    at = 0
     while at < len(data):
         length = piece_of(data[at:])
         lines = with_bytes(b"load", hexadecimal(data[at:at + length] + SENTINEL_BYTE)) if length else None
@@ -77,9 +82,9 @@ def lines_of_bytes(data):
     return found
 
 
-def programs_of(lines):
+def programs_of(lines: list[ProgramLine]) -> list[list[ProgramLine]]:
     """Splits lines into programs, each with its END. If the last one has none, it gets that of archives."""
-    programs = [[]]
+    programs: list[list[ProgramLine]] = [[]]
     for text, data in lines:
         programs[-1].append((text, data))
         if text == "END":
@@ -94,9 +99,12 @@ def programs_of(lines):
 class Module:
     """A module of programs: its words, its functions with names and offsets, and the lines of its source."""
 
-    def __init__(self, number, programs):
+    def __init__(self, number: int, programs: list[list[ProgramLine]]) -> None:
         """Makes a module from programs; a program is a list of lines with their bytes."""
-        self.number, self.rows, self.functions, self.ends = number, [], [], []
+        self.number = number
+        self.rows: list[tuple[int, Optional[str], list[int]]] = []
+        self.functions: list[tuple[str, int]] = []
+        self.ends: list[int] = []
         # The names of the labels of each program.
         self.names = [[found[1] for found in map(LABEL.fullmatch, (text for text, _ in program)) if found] for program in programs]
         self.length = 2 + 2 * sum(map(len, self.names)) + 2
@@ -104,7 +112,7 @@ class Module:
             self.add(program)
             self.ends.append(self.length)
 
-    def add(self, program):
+    def add(self, program: list[ProgramLine]) -> None:
         """Adds a program: a null byte separates two numbers, the first byte of each line is marked, and so is the END."""
         last = None
         for text, data in program:
@@ -119,20 +127,20 @@ class Module:
             self.put(text, words)
             last = data
 
-    def put(self, text, words):
+    def put(self, text: Optional[str], words: list[int]) -> None:
         """Adds the words of a line."""
         self.rows.append((self.length, text, words))
         self.length += len(words)
 
-    def labels(self):
+    def labels(self) -> dict[int, str]:
         """Returns a label of the source for each function: its name if that is possible and unique."""
-        found = {}
+        found: dict[int, str] = {}
         for at, (name, place) in enumerate(self.functions):
             label = name if re.fullmatch("[A-Z][0-9A-Z_]{0,11}", name) else f"F{at:02}"
             found[place] = next(one for one in (label, f"F{at:02}", f"F{at:02}_") if one not in found.values())
         return found
 
-    def source(self):
+    def source(self) -> list[str]:
         """Returns the lines of a source for the page."""
         labels = self.labels()
         front = [f"CON {self.number:03X}", f"CON {len(self.functions):03X}", *(f"FOCAL :{label}" for label in labels.values()),
@@ -145,14 +153,14 @@ class Module:
             lines += [f"        CON {word:03X}" for word in words[1:]]
         return lines
 
-    def shown(self):
+    def shown(self) -> list[str]:
         """Returns the lines that `show functions` prints for it."""
         return [f"XROM {self.number:02},{at:02} {name}" for at, (name, _) in enumerate(self.functions)]
 
 
 # Reading a page.
 
-def end_of(data):
+def end_of(data: bytes) -> Optional[int]:
     """Returns how many of the first bytes are a program with its END or .END.; None if whole lines do not lead to one."""
     at = 0
     while True:
@@ -168,7 +176,7 @@ def end_of(data):
         at += length
 
 
-def programs_in(page, image):
+def programs_in(page: str, image: bytes) -> list[tuple[list[ProgramLine], bytes]]:
     """Returns the programs of a module's page in the order of the page: for each program its lines with their bytes, and its bytes with
     the null bytes between them."""
     words = [image[at] << 8 | image[at + 1] for at in range(0, len(image), 2)]
@@ -179,7 +187,9 @@ def programs_in(page, image):
     entries = [(at, (words[2 + 2 * at] & 0xF) << 8 | words[3 + 2 * at] & 0xFF) for at in range(count) if words[2 + 2 * at] & 0x200]
     if not entries:
         raise Failure(f"the module at page {page} has no function written in keystrokes: export it as source")
-    data, found, behind, inside = bytes(word & 0xFF for word in words), [], 0, set()
+    data, behind = bytes(word & 0xFF for word in words), 0
+    found: list[tuple[list[ProgramLine], bytes]] = []
+    inside: set[int] = set()
     for at, place in sorted(entries, key=lambda entry: entry[1]):
         if place in inside:
             raise Failure(f"XROM {number:02},{at:02}: the table entry points into the middle of a program line, at {page}{place:03X}")
@@ -188,13 +198,13 @@ def programs_in(page, image):
         length = end_of(data[place:])
         if length is None:
             raise Failure(f"XROM {number:02},{at:02}: the program at {page}{place:03X} has no END: {why_none(data[place:])}")
-        lines = lines_of_bytes(data[place:place + length - 3])
+        lines = lines_of_bytes(data[place:place + length - 3]) or []
         found.append(ended(data[place:place + length], lines))
         behind, inside = place + length, set(inside_lines(data, place, found[-1][0]))
     return found
 
 
-def inside_lines(data, place, lines):
+def inside_lines(data: bytes, place: int, lines: list[ProgramLine]) -> Iterator[int]:
     """Yields the places inside these lines of a page, except those of their first bytes. Null bytes may be between lines."""
     for _, own in lines:
         place += next(at for at, byte in enumerate(data[place:]) if byte)
@@ -202,13 +212,13 @@ def inside_lines(data, place, lines):
         place += len(own)
 
 
-def ended(data, lines):
+def ended(data: bytes, lines: list[ProgramLine]) -> tuple[list[ProgramLine], bytes]:
     """Returns a program with an END in place of an .END."""
     end = END if data[-1] & 0x20 else data[-3:]
     return lines + [("END", end)], data[:-3] + end
 
 
-def why_none(data):
+def why_none(data: bytes) -> str:
     """Returns why bytes do not lead to an END: the first byte that does not begin a line, or that the page ends."""
     at = 0
     while at < len(data):

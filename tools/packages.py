@@ -6,6 +6,7 @@ import re
 import shutil
 import subprocess
 import tempfile
+from typing import Iterator
 
 from crates import NAME
 from decks import Failure
@@ -59,18 +60,18 @@ OVERRIDES = """\
 """
 
 
-def squeezed(text):
+def squeezed(text: bytes) -> bytes:
     """Returns a compressed text, as Debian wants it for manual pages and changes."""
     return gzip.compress(text, compresslevel=9, mtime=0)
 
 
-def libc_of(program):
+def libc_of(program: bytes) -> str:
     """Returns the oldest version of the C library with which the program starts."""
     found = re.findall(rb"GLIBC_(\d+)\.(\d+)", program)
     return ".".join(map(str, max((int(major), int(minor)) for major, minor in found)))
 
 
-def links(release):
+def links(release: Release) -> Iterator[tuple[str, str]]:
     """Yields the path of each link in the package, and the file of the release that it leads to."""
     yield "usr/bin/bench", "bench"
     for file in release.files:
@@ -83,7 +84,7 @@ def links(release):
         yield f"usr/share/doc/{PACKAGE}/{path}", path
 
 
-def files_of(release, fields):
+def files_of(release: Release, fields: dict[str, str]) -> Iterator[tuple[str, bytes, int]]:
     """Yields the path, the bytes and the mode of each file of the package."""
     for file in release.files:
         yield f"{FOLDER}/{file.path}", file.data, 0o755 if file.is_program else 0o644
@@ -96,7 +97,7 @@ def files_of(release, fields):
     yield f"usr/share/lintian/overrides/{PACKAGE}", OVERRIDES.format(**fields).encode(), 0o644
 
 
-def write(path, data, mode=0o644):
+def write(path: str, data: bytes, mode: int = 0o644) -> None:
     """Writes a file, with the folders above it."""
     os.makedirs(os.path.dirname(path), exist_ok=True)
     with open(path, "wb") as file:
@@ -104,7 +105,7 @@ def write(path, data, mode=0o644):
     os.chmod(path, mode)
 
 
-def fill(root, release, fields):
+def fill(root: str, release: Release, fields: dict[str, str]) -> None:
     """Writes all files and links of the package into a folder."""
     sums = []
     for path, data, mode in files_of(release, fields):

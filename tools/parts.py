@@ -1,5 +1,8 @@
 """The parts of a deck that the desk executes one after the other, and the entries of the session with their replies."""
+from __future__ import annotations
+
 import re
+from typing import Optional, Union
 
 from decks import Failure, items_of, lines_of, spelled_lines, words_of
 from session import is_whole
@@ -16,7 +19,7 @@ IN_PIECES = re.compile(r"(run|step|trace)(?: 0*([0-9]{1,7}))?")
 NO_END = "! 52 NoEnd"
 
 
-def refusal_of(reply):
+def refusal_of(reply: list[str]) -> Optional[str]:
     """Returns the refusal at the end of a reply, or None."""
     return reply[-1] if reply and reply[-1].startswith("! ") else None
 
@@ -24,31 +27,34 @@ def refusal_of(reply):
 class Part:
     """A command, a block, or the comments and empty lines between two of them, as the bytes of a deck."""
 
-    def __init__(self, text, is_command, goes_on=False):
+    def __init__(self, text: bytes, is_command: bool, goes_on: bool = False) -> None:
+        """Reads the words of a part, and how much a command in pieces has to do."""
         self.text, self.is_command = text, is_command
         # Whether a run that ends at its limit is followed by another one.
         self.goes_on = goes_on
         self.words = [word.decode("latin-1") for word in words_of(lines_of(text)[0])] if is_command else []
         found = IN_PIECES.fullmatch(" ".join(self.words))
         count = int(found[2] or 1) if found else 0
-        self.kind = found[1] if found and count <= MOST_STEPS and (found[2] or found[1] == "step") else None
+        self.kind: Optional[str] = found[1] if found and count <= MOST_STEPS and (found[2] or found[1] == "step") else None
         # For a command in pieces: how many steps are left, how many were requested so far, and how many lines or words a run has
         # executed.
         self.left, self.asked, self.ran = count if self.kind else 0, 0, 0
         # The keys of a key line, with texts among them.
         self.pieces = [] if self.words[:1] != ["key"] else spelled_lines([text]).get(0, self.words[1:])
         # The entry of this part in the session, and whether it is a block without `end` at the end of the deck.
-        self.entry, self.is_open = None, False
+        self.entry: Optional[Entry] = None
+        self.is_open = False
         # Why a run stopped, as the bench printed it.
-        self.reason = None
+        self.reason: Optional[str] = None
 
-    def shown(self):
+    def shown(self) -> str:
         """Returns the part as text."""
         return self.text.decode("utf-8", "replace").replace("\r\n", "\n")
 
-    def paragraphs(self):
+    def paragraphs(self) -> list[str]:
         """Returns the comments as paragraphs. An indented line is a paragraph of its own."""
-        found, is_open = [], False
+        found: list[str] = []
+        is_open = False
         for line in [] if self.is_command else self.shown().split("\n"):
             words = re.sub("^# ?", "", line)
             is_set_in = words[:1].isspace()
@@ -60,7 +66,7 @@ class Part:
         return found
 
 
-def parts_of(deck, may_be_open=False):
+def parts_of(deck: bytes, may_be_open: bool = False) -> list[Part]:
     """Returns the parts of a deck; their texts together are the deck. The last block may lack its `end` if `may_be_open` is set."""
     if deck.endswith(b"\r"):
         raise Failure("the deck ends in CR without LF, which makes the CR part of its last line: end the line with LF")
@@ -84,19 +90,22 @@ class Entry:
     """An entry of the session: its text, its reply, and the refused key if there were several. Of a long reply, the lines in the middle
     are dropped."""
 
-    def __init__(self, text):
-        self.text, self.reply, self.key = text, [], None
+    def __init__(self, text: bytes) -> None:
+        """Begins with an empty reply."""
+        self.text = text
+        self.reply: list[str] = []
+        self.key: Optional[str] = None
         # How many lines were dropped. They were between the first FIRST_LINES lines and the others.
         self.dropped = 0
 
-    def add(self, lines):
+    def add(self, lines: list[str]) -> None:
         """Adds lines to the reply."""
         self.reply = self.reply + lines
         if len(self.reply) > MOST_LINES:
             self.dropped += len(self.reply) - 2 * FIRST_LINES
             self.reply = self.reply[:FIRST_LINES] + self.reply[-FIRST_LINES:]
 
-    def told(self):
+    def told(self) -> list[Union[str, list[str]]]:
         """Returns the text without its last newline, with a character for each byte, and the reply, which is shortened if it is long."""
         reply, dropped = self.reply, self.dropped
         if len(reply) > MOST_LINES or dropped:

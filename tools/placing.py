@@ -1,13 +1,19 @@
 """Pages and banks of several files in one command line: --page P, --bank N and --rw apply to the files after them. Also runs the tools
 that take sources."""
+from __future__ import annotations
+
 import argparse
 import os
 import re
 import sys
-from typing import NamedTuple, Optional
+from typing import TYPE_CHECKING, Callable, NamedTuple, Optional, Sequence
 
-from decks import Failure
+from decks import Failure, escape_output
 from sources import PAGES, Assembled, Faulty
+
+if TYPE_CHECKING:
+    from linking import Linked
+    from mods import Image
 
 BANKS = 4
 FIRST_PAGE = "8"
@@ -23,15 +29,29 @@ class Group(NamedTuple):
     writable: bool
 
 
-def split(words, valued):
+class Place(NamedTuple):
+    """The place of an image or a source: its page, its bank if that is given, and whether microcode may write the page."""
+    page: str
+    bank: Optional[int]
+    writable: bool
+
+
+# An option with its value, if it has one.
+Option = tuple[str, ...]
+
+
+def split(words: list[str], valued: Sequence[str]) -> tuple[list[str], list[str], list[list[Option]]]:
     """Returns the words of a command line that are options with their values, the files, and the options directly before each file.
     `valued` are the options with a value. Options after the last file apply to all files, as if they were before the first one."""
-    options, files, before, now = [], [], [], []
+    options: list[str] = []
+    files: list[str] = []
+    before: list[list[Option]] = []
+    now: list[Option] = []
     rest = iter(words)
     for word in rest:
         if word.startswith("-") and word != "-":
-            name, _, value = word.partition("=")
-            value = [value] if "=" in word else [one for one in [next(rest, None)] if one is not None] if word in valued else []
+            name, _, given = word.partition("=")
+            value = [given] if "=" in word else [one for one in [next(rest, None)] if one is not None] if word in valued else []
             options += [word] if "=" in word else [word, *value]
             now.append((name, *value))
         else:
@@ -45,7 +65,7 @@ def split(words, valued):
     return options, files, before
 
 
-def group_of(before, parser):
+def group_of(before: list[Option], parser: argparse.ArgumentParser) -> Optional[Group]:
     """Returns the group that some options begin; None if none of them places a file."""
     page, bank, writable, is_placed = None, None, False, False
     for name, *value in before:
@@ -62,7 +82,7 @@ def group_of(before, parser):
     return Group(page, bank, writable) if is_placed else None
 
 
-def counted(count, one, more):
+def counted(count: int, one: str, more: str) -> str:
     """Returns a text for a count, which replaces {}."""
     return (one if count == 1 else more).format(count)
 
@@ -70,11 +90,16 @@ def counted(count, one, more):
 class Places:
     """Gives each image or source its page and bank, in the order of the command line."""
 
-    def __init__(self):
-        self.page, self.bank, self.writable, self.start, self.number, self.taken = FIRST_PAGE, None, False, (FIRST_PAGE, None), 0, {}
-        self.last = FIRST_PAGE
+    def __init__(self) -> None:
+        """Begins at page 8."""
+        self.page: Optional[str] = FIRST_PAGE
+        self.bank: Optional[int] = None
+        self.writable, self.number, self.last = False, 0, FIRST_PAGE
+        self.taken: dict[tuple[str, int], str] = {}
+        # The page and the bank of the first file of the group.
+        self.start = FIRST_PAGE, 1
 
-    def begin(self, group):
+    def begin(self, group: Optional[Group]) -> None:
         """Begins a group: its page and bank are those of the next file."""
         if group is None:
             return
@@ -84,9 +109,9 @@ class Places:
             self.page, self.bank, self.writable = self.last, group.bank, group.writable
         else:
             self.writable = True
-        self.start = self.page, self.bank
+        self.start = self.page or self.last, self.bank or 1
 
-    def next(self, path):
+    def next(self, path: str) -> Place:
         """Returns the page of the next file, its bank if that is given, and whether it is writable."""
         self.number += 1
         if self.bank is not None and self.bank > BANKS:
@@ -97,7 +122,7 @@ class Places:
             count = len(PAGES) - PAGES.index(self.start[0])
             raise Failure(f"{path}: no page is left for it: it is image or source {self.number}, and from page {self.start[0]} on there "
                           f"{counted(count, 'is {} page', 'are {} pages')}")
-        found = self.page, self.bank, self.writable
+        found = Place(self.page, self.bank, self.writable)
         other = self.taken.setdefault((self.page, self.bank or 1), path)
         if other is not path:
             raise Failure(f"{path}: bank {self.bank or 1} of page {self.page} is already {other}: choose another page or bank")
@@ -108,14 +133,14 @@ class Places:
             self.bank += 1
         return found
 
-    def fixed(self, path, page, image, first):
+    def fixed(self, path: str, page: str, image: Image, first: str) -> Place:
         """Returns the page, the bank and whether it is writable for an image that has its own place. Later files get the pages after it."""
         if not page:
             raise Failure(f"{path}: no page is free for it from page {first} on: choose an earlier one with --page")
         if self.bank is None and self.page is not None and PAGES.index(self.page) <= PAGES.index(page):
             self.page = PAGES[PAGES.index(page) + 1] if page != PAGES[-1] else None
-        return page, image.bank if image.bank_group or image.bank != 1 else None, \
-            self.writable or image.is_ram and not image.is_protected
+        return Place(page, image.bank if image.bank_group or image.bank != 1 else None,
+                     self.writable or image.is_ram and not image.is_protected)
 
 
 class Given(NamedTuple):
@@ -126,9 +151,10 @@ class Given(NamedTuple):
     bank: int
 
 
-def given_in(files, before, parser):
+def given_in(files: list[str], before: list[list[Option]], parser: argparse.ArgumentParser) -> list[Given]:
     """Returns the sources of a command line with their pages. A description of the end of a page follows its source."""
-    found, places = [], Places()
+    found: list[Given] = []
+    places = Places()
     for path, options in zip(files, before):
         places.begin(group_of(options, parser))
         is_end = os.path.splitext(path)[1].lower() == ".page"
@@ -142,14 +168,14 @@ def given_in(files, before, parser):
     return found
 
 
-def names_of(given):
+def names_of(given: list[Given]) -> list[str]:
     """Returns a name for the page of each source: that of its file, in capitals, if it can be a name and is used once."""
     names = [re.sub("[^0-9A-Za-z_]", "_", os.path.splitext(os.path.basename(one.path))[0])[:12].upper() for one in given]
     return [name if NAME.fullmatch(name) and names.count(name) == 1 else f"P{one.page}{f'B{one.bank}' if one.bank > 1 else ''}"
             for name, one in zip(names, given)]
 
 
-def linked_of(given):
+def linked_of(given: list[Given]) -> Linked:
     """Returns several sources as one module, in which a long jump can name labels of all sources."""
     from linking import Linked
     from projects import Page, Project
@@ -159,13 +185,13 @@ def linked_of(given):
     return linked
 
 
-def run_tool(name, usage, tell, words):
+def run_tool(name: str, usage: str, tell: Callable[[Sequence[Assembled], Optional[Linked]], int], words: list[str]) -> int:
     """Runs a tool that takes sources and their pages. `tell` gets the sources, and if there are several of them, the module that they
     are. Returns the status of the tool."""
     if words in (["-h"], ["--help"]):
         print(usage.strip())
         return 0
-    head = re.search(r"usage: (.*?)(?:  +\(|\n)", usage)[1]
+    head = re.split(r"  +\(|\n", usage.split("usage: ")[1])[0]
     parser = argparse.ArgumentParser(prog=name, add_help=False, allow_abbrev=False, usage=head)
     parser.add_argument("--page", action="append")
     parser.add_argument("--bank", action="append")
@@ -174,7 +200,7 @@ def run_tool(name, usage, tell, words):
     parser.parse_args([*options, *files])
     if files.count("-") > 1:
         parser.error(f"found - {files.count('-')} times: standard input can be read only once")
-    sys.stdout.reconfigure(errors="backslashreplace")
+    escape_output()
     try:
         given = given_in(files, before, parser)
         if len(given) == 1:

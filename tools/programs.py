@@ -1,10 +1,12 @@
 """Checks programs before they run: which lines are not supported, which calls lead nowhere, which names no keys can type, whether bytes
 are lines, and how many data registers leave enough room. The bench decides all of this."""
 import re
+from typing import Container, Iterable, Optional, Sequence, Union
 
 from decks import MEMORY, Failure, answered, block, ended, hexadecimal, refused, run
 from doubts import CALL as NOWHERE
 from doubts import MODULE, PAGE
+from functions import Functions
 from typed import LONGEST_NAME, why_no_name
 
 LEFT_OUT = "not supported, so these lines are refused when they are executed: "
@@ -24,7 +26,12 @@ LONGEST_LINE_BYTES = 18
 PIECE, OF_NUMBERS, RTN = 2000, range(0x10, 0x1D), b"\x85"
 
 
-def listed(data):
+# The place of a line in words, and a line with its place.
+Place = Union[int, str]
+Line = tuple[Place, str]
+
+
+def listed(data: bytes) -> Optional[list[str]]:
     """Returns the texts of the lines in the bytes of a program, with `.END.`; None if the bench refuses the bytes."""
     status, output = run(b"size 0\n" + block(b"load", hexadecimal(data)) + b"show lines\n")
     return [line[5:] for line in output.decode().splitlines()] if status == 0 else None
@@ -32,9 +39,10 @@ def listed(data):
 
 # Lines.
 
-def parted(lines):
+def parted(lines: Iterable[Line]) -> list[list[Line]]:
     """Splits lines into programs at each END. A line is a place and a text."""
-    program, programs = [], []
+    program: list[Line] = []
+    programs = []
     for place, text in lines:
         if text in ("END", ".END."):
             programs.append(program)
@@ -44,7 +52,7 @@ def parted(lines):
     return [program for program in [*programs, program] if program]
 
 
-def fates(texts, front):
+def fates(texts: Iterable[str], front: bytes) -> tuple[set[str], set[str]]:
     """Returns which of these lines are not supported, and which are calls that lead nowhere. Each is executed alone, after the deck
     `front` that plugs pages."""
     asked = sorted(set(texts))
@@ -58,15 +66,15 @@ def fates(texts, front):
     return left_out, nowhere
 
 
-def told(found):
+def told(found: Iterable[Line]) -> str:
     """Returns lines with their places, each line once."""
-    places = {}
+    places: dict[str, list[Place]] = {}
     for place, text in found:
         places.setdefault(text, []).append(place)
     return ", ".join(f"{text} ({placed(of)})" for text, of in places.items())
 
 
-def placed(places):
+def placed(places: Sequence[Place]) -> str:
     """Returns the places of a line in words."""
     names = [str(place) for place in places]
     if len(names) > MOST_PLACES:
@@ -74,24 +82,31 @@ def placed(places):
     return f"line{'s' if len(names) > 1 else ''} {', '.join(names[:-1])}{' and ' if len(names) > 1 else ''}{names[-1]}"
 
 
-def names_in(lines):
+def names_in(lines: Iterable[Line]) -> set[str]:
     """Returns the names of the labels in lines."""
     return {found[0].partition(" ")[2] for found in map(LABEL.fullmatch, (text for _, text in lines)) if found}
+
+
+def name_called(text: str) -> Optional[str]:
+    """Returns the name in quotes that a line calls; None if it calls none."""
+    found = NAMED.fullmatch(text)
+    return found[1] if found else None
 
 
 class Judged:
     """What is noted about the lines of a file, and which of them lead nowhere."""
 
-    def __init__(self, notes, lost, called):
+    def __init__(self, notes: list[str], lost: list[Line], called: set[str]) -> None:
+        """Takes the notes, the lines that lead nowhere, and the names that only XEQ finds."""
         # Notes; the lines that lead nowhere, each with its place; and the names that GTO does not find, but XEQ does: functions of pages.
         self.notes, self.lost, self.called = notes, lost, called
 
 
-def judged(lines, labels, front, functions):
+def judged(lines: Sequence[Line], labels: set[str], front: bytes, functions: Functions) -> Judged:
     """Returns what is noted about the lines of a file. `labels` are all labels with names that memory will have, and the deck `front` plugs
     pages. Functions of modules are printed with their names."""
     asked = [text for _, text in lines if not text.startswith(('"', '>"', "LBL")) and not LOCAL.fullmatch(text)
-             and (not NAMED.fullmatch(text) or NAMED.fullmatch(text)[1] not in labels)]
+             and name_called(text) not in labels]
     left_out, nowhere = fates(asked, front)
     lost = [line for program in parted(lines) for line in program if is_lost(line[1], program) or line[1] in nowhere]
     jumps = {f"XEQ {text[4:]}" for _, text in lost if text.startswith('GTO "')}
@@ -99,14 +114,14 @@ def judged(lines, labels, front, functions):
     notes = []
     if left_out:
         notes.append(LEFT_OUT + told((place, functions.told(text)) for place, text in lines if text in left_out))
-    names = [(place, LABEL.fullmatch(text)[1]) for place, text in lines if LABEL.fullmatch(text)]
+    names = [(place, found[1]) for place, text in lines for found in [LABEL.fullmatch(text)] if found]
     names = [(place, f'"{name}", {why_no_name(name)}') for place, name in names if why_no_name(name)]
     if names:
         notes.append(f"labels that no keys can call (keys type at most {LONGEST_NAME} letters): {told(names)}")
     return Judged(notes, lost, called)
 
 
-def why_lost(text, program, called, functions):
+def why_lost(text: str, program: Container[str], called: set[str], functions: Functions) -> tuple[str, str]:
     """Returns the name of the doubt about a line that leads nowhere, and what it is about. `program` has the lines of its program."""
     if text.startswith("XROM "):
         return MODULE, f"{functions.told(text)} (a function of a module that is not given with this file)"
@@ -114,13 +129,13 @@ def why_lost(text, program, called, functions):
         own = " of its program" if LOCAL.fullmatch(text) else ""
         return NOWHERE, f"{text} (leads nowhere: no line{own} is LBL {text[4:]})"
     if f"LBL {text[4:]}" not in program:
-        return PAGE, f"{text} (in a page, GTO finds no label with a name: write XEQ {text[4:]} and RTN, or put both programs into one and " \
-                     "use a local label)"
+        return PAGE, f"{text} (in a page, GTO finds no label with a name: write XEQ {text[4:]} and RTN, or put both programs into one " \
+                     "and use a local label)"
     free = next(f"{number:02}" for number in range(1, 100) if f"LBL {number:02}" not in program)
     return PAGE, f"{text} (in a page, GTO finds no label with a name: write LBL {free} after LBL {text[4:]}, and GTO {free} here)"
 
 
-def is_lost(text, program):
+def is_lost(text: str, program: Iterable[Line]) -> bool:
     """Returns whether a line calls a numeric or one-letter label that its program does not have."""
     found = LOCAL.fullmatch(text)
     return found is not None and f"LBL {found[1]}" not in (other for _, other in program)
@@ -128,7 +143,7 @@ def is_lost(text, program):
 
 # Bytes.
 
-def loadable(prefixes):
+def loadable(prefixes: list[bytes]) -> list[bool]:
     """Returns which of these sequences of bytes are whole lines."""
     deck = b"".join(b"reset\n" + block(b"load", hexadecimal(data)) for data in prefixes)
     status, answers = answered(deck)
@@ -137,7 +152,7 @@ def loadable(prefixes):
     return [answer != [b"! 14 BrokenProgram"] for _, _, answer in answers[1::2]]
 
 
-def whole_lines(data):
+def whole_lines(data: bytes) -> int:
     """Returns how many of the first bytes are whole lines. A binary search over the lengths works, because no line is longer than 18
     bytes: among any 18 lengths below a good one there is a good one."""
     low, high = 0, len(data)
@@ -151,7 +166,7 @@ def whole_lines(data):
     return good[-1] if good else low
 
 
-def piece_of(data):
+def piece_of(data: bytes) -> int:
     """Returns how many of the first bytes are whole lines and fit into memory. The last line is not a number that may continue."""
     if len(data) <= PIECE:
         return len(data)
@@ -161,9 +176,10 @@ def piece_of(data):
     return length
 
 
-def listed_in_pieces(data):
+def listed_in_pieces(data: bytes) -> Optional[list[str]]:
     """Returns the texts of whole lines, which may be too long for memory; None if an .END. is among them."""
-    texts, at = [], 0
+    texts: list[str] = []
+    at = 0
     while at < len(data):
         piece = data[at:at + (piece_of(data[at:]) or PIECE)]
         found = listed(piece + RTN)
@@ -174,7 +190,7 @@ def listed_in_pieces(data):
     return texts
 
 
-def broken(data):
+def broken(data: bytes) -> str:
     """Returns where bytes that the bench refuses are not a line, and the line before them."""
     at = whole_lines(data)
     texts = listed_in_pieces(data[:at])
@@ -186,12 +202,12 @@ def broken(data):
     return f"byte {data[at]:02X} at offset {at} {what}; {behind}"
 
 
-def is_cut(data):
+def is_cut(data: bytes) -> bool:
     """Returns whether bytes are the beginning of one line."""
     return len(data) < LONGEST_LINE_BYTES and any(loadable([data + b"A" * more for more in range(1, LONGEST_LINE_BYTES)]))
 
 
-def numbered(lines):
+def numbered(lines: Iterable[tuple[Place, str]]) -> list[tuple[str, str]]:
     """Returns lines with their numbers in their programs. From the second program on, the number of the program follows."""
     program, number, found = 1, 0, []
     for _, text in lines:
@@ -204,7 +220,7 @@ def numbered(lines):
 
 # Room.
 
-def greatest_size(deck, memory=MEMORY):
+def greatest_size(deck: bytes, memory: str = MEMORY) -> Optional[int]:
     """Returns the greatest number of data registers with which all programs of a deck fit; None if they do not fit with none."""
     most = int(memory) - 1
     sizes = range(most, -1, -1)

@@ -61,6 +61,7 @@ class Reader:
     """Reads a project file. An error names the file, the line of the key, and what was expected."""
 
     def __init__(self, path: str) -> None:
+        """Reads a project file, or the one in a folder."""
         self.path = os.path.normpath(os.path.join(path, IN_A_FOLDER) if os.path.isdir(path) else path)
         self.text, self.table = toml_in(self.path)
 
@@ -68,10 +69,10 @@ class Reader:
         """Returns the line number of a key in a section, or of the section; None if the text does not have it in this form."""
         now, found = "", None
         for number, line in enumerate(self.text.split("\n"), 1):
-            head = re.match(r"\s*\[\s*(.*?)\s*\]", line)
+            head = re.match(r"\s*\[+\s*(.*?)\s*\]", line)
             if head:
                 now = head[1].replace('"', "")
-                found = number if section in (now, "") and now.partition(".")[0] in (key, section.partition(".")[0]) else found
+                found = found or number if section in (now, "") and now.partition(".")[0] in (key, section.partition(".")[0]) else found
             elif now == section and re.match(rf'\s*"?{re.escape(key)}"?\s*=', line):
                 return number
         return found
@@ -86,7 +87,7 @@ class Reader:
         """Returns the value of a key, or the usual one if the key is missing."""
         found = table.get(key, usual)
         if found is not usual and (not isinstance(found, kind) or kind is int and isinstance(found, bool)):
-            raise self.fail(section, key, f"found {shown(found)}, expected {wanted}")
+            raise self.fail(section, key, f"found {shown(found)}, expected {wanted}{in_kind(key, found, kind)}")
         return found
 
     def known(self, section: str, table: dict[str, Any], keys: tuple[str, ...], others: tuple[str, ...] = ()) -> None:
@@ -95,8 +96,11 @@ class Reader:
             if key in others:
                 raise self.fail(section, key,
                                 f"this is no key of [{section}], but of the whole project: write it before the first line [..]")
+            is_table = not section and "page" in keys and isinstance(table[key], (dict, list)) and bool(table[key])
+            if key not in keys and is_table and not nearest(key, keys):
+                raise self.fail(section, key, f"unknown table: a page is [page.{key}]")
             if key not in keys:
-                near = nearest(key, keys)
+                near = next((name for name in (OTHER_KEYS.get(key.lower()),) if name in keys), None) or nearest(key, keys)
                 raise self.fail(section, key, f"unknown key{near and f', the nearest is {near}'}: expected one of {', '.join(keys)}")
 
     def files(self, section: str, table: dict[str, Any], key: str) -> list[str]:
@@ -122,10 +126,34 @@ class Reader:
 
 
 def nearest(name: str, names: Iterable[str]) -> str:
-    """Returns the name that is most like another one; an empty text if none is."""
+    """Returns the name that is most like another one; an empty text if none is. Names that differ only in case or order come first."""
     # Only errors need this module.
     from difflib import get_close_matches
-    return next(iter(get_close_matches(name, names, 1)), "")
+    known = list(names)
+    alike = [one for one in known if one.lower() == name.lower()] or [one for one in known if len(one) > 2 and sorted(one) == sorted(name)]
+    return next(iter(alike or get_close_matches(name, known, 1)), "")
+
+
+# Keys in the words of other projects.
+OTHER_KEYS = {"page": "at", "address": "at", "origin": "at", "addr": "at", "slot": "at", "port": "at", "file": "source", "path": "source",
+              "code": "source", "asm": "source", "ram": "memory", "registers": "size", "regs": "size", "cases": "tests",
+              "includes": "include", "title": "name", "setup": "before", "constants": "equates", "equ": "equates", "defines": "equates",
+              "symbols": "equates", "rw": "writable", "xrom": "module", "id": "module", "number": "module", "listing": "programs"}
+
+
+def in_kind(key: str, found: Any, kind: type) -> str:
+    """Returns what to write for a value of another kind; an empty text if the value does not show it."""
+    if kind is int and isinstance(found, str) and re.fullmatch("b?[0-9]+", found):
+        return f": write {key} = {int(found.lstrip('b'))}, without quotes"
+    if kind is str and isinstance(found, int) and not isinstance(found, bool):
+        return f': write {key} = "{found}", in quotes'
+    if kind is str and isinstance(found, list) and len(found) == 1:
+        return f': write {key} = "{found[0]}", without brackets'
+    if kind is list and isinstance(found, str):
+        return f': write {key} = ["{found}"], in brackets'
+    if kind is bool:
+        return f": write {key} = true or {key} = false, without quotes"
+    return ""
 
 
 def shown(value: Any) -> str:
@@ -133,6 +161,18 @@ def shown(value: Any) -> str:
     if value is None:
         return "nothing"
     return f'"{value}"' if isinstance(value, str) else str(value).lower() if isinstance(value, bool) else str(value)
+
+
+def in_digits(name: str, value: Any) -> str:
+    """Returns how an equate is written; an empty text if its value does not show it."""
+    bare = re.fullmatch(r"(?:0x|\$|#)?([0-9A-Fa-f]{1,4})[Hh]?", value) if isinstance(value, str) else None
+    if bare and (len(bare[1]) != len(value) or len(bare[1]) < 3):
+        number = int(bare[1], 16)
+        small = f" for a register, place or bit, and {name} = \"{number:03X}\" for a word" if number < 16 and bare[1] == value else ""
+        return f": write {name} = {number}{small}" if small else f': write {name} = "{bare[1].upper():0>3}"'
+    if isinstance(value, int) and not isinstance(value, bool) and 15 < value < 1024:
+        return f': for the word write its three hexadecimal digits, {name} = "{value:03X}"'
+    return ""
 
 
 def equates_of(reader: Reader) -> dict[str, str]:
@@ -146,7 +186,7 @@ def equates_of(reader: Reader) -> dict[str, str]:
         number = isinstance(value, int) and not isinstance(value, bool) and 0 <= value <= 15
         if not digits and not number:
             raise reader.fail("equates", name, f'found {shown(value)}, expected an address like "27F3", a word like "0C0", or a decimal '
-                              "number from 0 to 15 like 3")
+                              f"number from 0 to 15 like 3{in_digits(name, value)}")
         found[name] = str(value)
     return found
 
@@ -168,8 +208,9 @@ def page_of(reader: Reader, name: str, table: Any) -> Page:
     if not NAME.fullmatch(name):
         raise reader.fail(section, name, "not a name: expected a letter and up to eleven letters, digits or _")
     if not isinstance(table, dict):
-        raise reader.fail("page", name, f"found {shown(table)}, expected a table such as [page.MAIN]")
-    reader.known(section, table, ("at", "bank", "source", "end", "writable", "module", "programs"), ("name", "tests", "memory", "size", "before", "include"))
+        raise reader.fail("page", name, f"found {shown(table)}, expected a table such as [page.MAIN]: [page] alone has no name")
+    reader.known(section, table, ("at", "bank", "source", "end", "writable", "module", "programs"),
+                 ("name", "tests", "memory", "size", "before", "include"))
     if "at" not in table:
         raise reader.fail(section, "at", 'found no such key, expected a page from "4" to "F", for example at = "8"')
     at = reader.value(section, table, "at", str, "", 'a page from "4" to "F"')
@@ -179,7 +220,9 @@ def page_of(reader: Reader, name: str, table: Any) -> Page:
     end = reader.value(section, table, "end", str, None, "the name of a file")
     programs = reader.files(section, table, "programs")
     if len(at) != 1 or at.upper() not in PAGES:
-        raise reader.fail(section, "at", f'found {shown(at)}, expected a page from "4" to "F"')
+        digit = re.fullmatch(r"(?:0X|\$)?([4-9A-F])(?:000)?H?", at.upper())
+        own = f': write at = "{digit[1]}"' if digit else ""
+        raise reader.fail(section, "at", f'found {shown(at)}, expected a page from "4" to "F"{own}')
     if bank not in BANKS:
         raise reader.fail(section, "bank", f"found {bank}, expected a bank from 1 to 4")
     if (source is None) == (not programs):
@@ -200,6 +243,8 @@ def project_in(path: str) -> Project:
     reader = Reader(path)
     table = reader.table
     reader.known("", table, ("name", "memory", "size", "programs", "tests", "before", "include", "equates", "page"))
+    if isinstance(table.get("page"), list):
+        raise reader.fail("", "page", "found [[page]], expected a table with a name in single brackets, for example [page.MAIN]")
     tables = reader.value("", table, "page", dict, {}, "tables such as [page.MAIN]")
     pages = [page_of(reader, name, one) for name, one in tables.items()]
     if not pages:
@@ -208,7 +253,8 @@ def project_in(path: str) -> Project:
     for page in pages:
         other = taken.setdefault((page.at, page.bank), page.name)
         if other != page.name:
-            raise reader.fail(f"page.{page.name}", "at", f"bank {page.bank} of page {page.at} is already {other}: choose another page or bank")
+            raise reader.fail(f"page.{page.name}", "at", f"bank {page.bank} of page {page.at} is already {other}: choose another page or "
+                              "bank")
     memory = str(reader.value("", table, "memory", int, 320, f"one of {', '.join(MEMORIES)}"))
     if memory not in MEMORIES:
         raise reader.fail("", "memory", f"found {memory}, expected one of {', '.join(MEMORIES)}")

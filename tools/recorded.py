@@ -2,6 +2,7 @@
 import json
 import os
 import re
+from typing import Any
 
 from decks import bytes_of
 from serving import FILES, FOLDER
@@ -13,13 +14,14 @@ STYLE = re.compile(r'<link rel="stylesheet" href="([a-z]+\.css)">')
 SCRIPT = re.compile(r'<script src="([a-z]+\.js)" defer></script>\n')
 
 
-def text_of(name):
+def text_of(name: str) -> str:
     """Returns the text of a file of the page."""
     return bytes_of(os.path.join(FOLDER, FILES[name][0])).decode("utf-8")
 
 
-def recorded(answer):
-    """Returns the page with an answer of the server, as the bytes of a file. The scripts follow what they use, because nothing is deferred."""
+def recorded(answer: dict[str, Any]) -> bytes:
+    """Returns the page with an answer of the server, as the bytes of a file. The scripts follow what they use, because nothing is
+    deferred."""
     page = text_of("")
     scripts = SCRIPT.findall(page)
     # In a script element, no text can end it.

@@ -14,6 +14,7 @@ class Damaged(Exception):
     """A container that does not add up: the byte, what was found there, and what was expected."""
 
     def __init__(self, at: int, found: str, expected: str) -> None:
+        """Takes the place, and what was found and expected."""
         super().__init__(f"byte {at}: found {found}, expected {expected}")
         self.at, self.found, self.expected = at, found, expected
 
@@ -82,8 +83,8 @@ def last_end(data: bytes) -> bytes:
 
 
 def with_its_end(data: bytes) -> bytes:
-    """Returns the bytes of a program after which another one is loaded, with the END of archives. `load` drops the last END, so there is one
-    more."""
+    """Returns the bytes of a program after which another one is loaded, with the END of archives. `load` drops the last END, so there is
+    one more."""
     return (data[:ends_of(data)[-1] - len(END)] if last_end(data) else data) + END + END
 
 

@@ -1,5 +1,6 @@
 """The refusals of a deck: the place of each, and the refused line of a block."""
 import re
+from typing import Optional
 
 from decks import (KEY_NOT_HELD, LONGEST_LINE, MARK_OF_UTF8, MARKS_OF_UTF16, MEMORY, Failure, block, is_skipped, lines_of, refused,
                    refused_key, shown, text_of, words_of)
@@ -27,50 +28,51 @@ class Refused:
 
     `inner` is the refused line of the block if it is known, and `told` are remarks about it."""
 
-    def __init__(self, lines, first, last, refusal, memory=MEMORY):
+    def __init__(self, lines: list[bytes], first: int, last: int, refusal: str, memory: str = MEMORY) -> None:
+        """Finds the line of a block that the refusal names."""
         self.lines, self.first, self.last, self.refusal, self.memory = lines, first, last, refusal, memory
         numbered = OF_A_LINE.fullmatch(refusal)
         self.inner = first + int(numbered[1]) if numbered else None
-        self.told = []
+        self.told: list[str] = []
         if refusal == LINE_TOO_LONG and first != last:
             self.inner = next(at for at in range(first, last + 1) if len(text_of(lines[at])) > LONGEST_LINE)
         if self.inner is not None and self.line() != self.line().rstrip(BLANKS):
             self.told.append("with spaces at its end")
 
-    def place(self):
+    def place(self) -> str:
         """Returns the place of the command or block in words."""
         return f"line {self.first + 1}" if self.first == self.last else f"lines {self.first + 1}-{self.last + 1}"
 
-    def name(self):
+    def name(self) -> str:
         """Returns the refusal without its details."""
         return " ".join(self.refusal.split()[:3])
 
-    def at(self):
+    def at(self) -> int:
         """Returns the refused line: that of the block if it is known, otherwise the first one."""
         return self.first if self.inner is None else self.inner
 
-    def inside(self):
+    def inside(self) -> list[int]:
         """Returns the lines of the block, without comments and empty lines."""
         return [at for at in range(self.first + 1, self.last) if not is_skipped(self.lines[at])]
 
-    def line(self):
+    def line(self) -> bytes:
         """Returns the text of the refused line."""
         return text_of(self.lines[self.at()])
 
-    def opener(self):
+    def opener(self) -> bytes:
         """Returns the first word of the command or block."""
         return (words_of(self.lines[self.first]) or [b""])[0]
 
-    def words(self):
+    def words(self) -> list[bytes]:
         """Returns the words of the refused line. For a line of a source they begin after the label."""
         words = words_of(self.line())
         return words[1:] if self.inner is not None and words and words[0].endswith(b":") else words
 
-    def word(self):
+    def word(self) -> bytes:
         """Returns the first of these words."""
         return (self.words() or [b""])[0]
 
-    def sign(self):
+    def sign(self) -> Optional[tuple[str, str]]:
         """Returns what a reader may not see in the line, and the name that docs/DECK.md has for it; None if there is no such thing."""
         line = self.line()
         if self.lines[0].startswith(MARKS_OF_UTF16):
@@ -83,7 +85,7 @@ class Refused:
             return "with a character that looks like a space", "Characters that look like spaces"
         return None
 
-    def shown(self):
+    def shown(self) -> str:
         """Returns the refused line and the remarks about it."""
         line, sign = self.line(), self.sign()
         if sign and sign[0] == "in UTF-16":
@@ -92,7 +94,7 @@ class Refused:
         behind = f" ({', '.join(told)})" if told else ""
         return (shown(line.strip(BLANKS)) + behind).lstrip(" ")
 
-    def quoted(self):
+    def quoted(self) -> str:
         """Returns the refused line in backquotes, the refusal and the remarks, for an error message."""
         line, sign = self.line(), self.sign()
         if sign and sign[0] == "in UTF-16":
@@ -101,27 +103,29 @@ class Refused:
         known = ", ".join(self.told + ([sign[0]] if sign else []) + ([key] if key else []))
         return f"`{shown(line.strip(BLANKS))}`: {self.refusal}{f': {known}' if known else ''}"
 
-    def key(self):
+    def key(self) -> str:
         """Returns a line that says which key is refused; an empty text if the line has only one key."""
         found = refused_key(self.lines, self.first, self.memory)
         return f"\n  {found}" if found else ""
 
 
-def refusals_of(deck, memory=MEMORY):
+def refusals_of(deck: bytes, memory: str = MEMORY) -> tuple[int, list[Refused]]:
     """Returns the status of a deck and its refusals. For blocks of words or bytes, the refused line is searched."""
     lines = lines_of(deck)
-    status, found = refused(deck, memory)
-    found = [Refused(lines, *one, memory) for one in found]
+    status, refusals = refused(deck, memory)
+    found = [Refused(lines, *one, memory) for one in refusals]
     look_into_blocks(found)
     return status, found
 
 
-def look_into_blocks(found):
+def look_into_blocks(found: list[Refused]) -> None:
     """Finds the refused lines in blocks of words or bytes. The bench is asked for each line in a block of its own, and first for the
     first line of the block."""
-    deck, places = [], {}
+    deck: list[bytes] = []
+    places: dict[int, tuple[Refused, int]] = {}
 
-    def ask(one, at, opener, lines):
+    def ask(one: Refused, at: int, opener: bytes, lines: list[bytes]) -> None:
+        """Adds a block with these lines to the deck, for a line of a refused block."""
         places[len(deck)] = (one, at)
         deck.extend(lines_of(block(opener, lines)))
 
@@ -144,7 +148,7 @@ def look_into_blocks(found):
             look_into(one, {at: answers.get((one, at)) for at in one.inside()})
 
 
-def look_into(one, answers):
+def look_into(one: Refused, answers: dict[int, Optional[str]]) -> None:
     """Finds the refused line of a block from the answers for each of its lines."""
     counts = {at: len(words_of(one.lines[at])) for at in answers}
     if one.refusal == BAD_IMAGE and one.opener() == b"image":
@@ -163,7 +167,7 @@ def look_into(one, answers):
         one.told.append(f"found {sum(counts.values()):,} words in the block, expected at most {MOST_WORDS:,}")
 
 
-def look_into_bytes(one):
+def look_into_bytes(one: Refused) -> None:
     """Finds the refused line in a block of a program's bytes."""
     parts = {at: bytes.fromhex(text_of(one.lines[at]).decode()) for at in one.inside()}
     data = b"".join(parts.values())
@@ -173,7 +177,7 @@ def look_into_bytes(one):
         one.told.append(broken(data))
 
 
-def line_of(number, counts):
+def line_of(number: int, counts: dict[int, int]) -> Optional[int]:
     """Returns the line that has the element with this number, counted from 0. `counts` has the number of elements of each line."""
     for at, count in counts.items():
         if number < count:

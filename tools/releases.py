@@ -10,6 +10,7 @@ import subprocess
 import tarfile
 import zlib
 from dataclasses import dataclass
+from typing import Iterator
 
 from crates import NAME, TOP, crates_of_program
 from decks import Failure
@@ -72,7 +73,7 @@ class File:
     is_program: bool = False
 
 
-def git(*words):
+def git(*words: str) -> bytes:
     """Returns what git prints for some words, in the repository."""
     try:
         ran = subprocess.run(["git", "-C", TOP, *words], stdin=subprocess.DEVNULL, capture_output=True, check=False)
@@ -83,7 +84,7 @@ def git(*words):
     return ran.stdout
 
 
-def check_clean():
+def check_clean() -> None:
     """Checks that the files of the repository are those of its commit."""
     changed = git("status", "--porcelain", "--untracked-files=no").decode(errors="replace").splitlines()
     if changed:
@@ -91,14 +92,14 @@ def check_clean():
                       "first, because a release is made from a commit", NOT_BUILT)
 
 
-def check_built():
+def check_built() -> None:
     """Checks that the proved program was built from the sources of the commit."""
     ready = subprocess.run([f"{TOP}/bench", "prove", "--check"], stdin=subprocess.DEVNULL, capture_output=True, check=False)
     if ready.returncode != 0:
         raise Failure("there is no proved program for this commit: prove and build it with ./bench prove --all", NOT_BUILT)
 
 
-def said_version():
+def said_version() -> tuple[str, str]:
     """Returns the version of the program, and the line of the kit that proved it, as the program prints them."""
     ran = subprocess.run([PROGRAM, "--version"], stdin=subprocess.DEVNULL, stdout=subprocess.PIPE, check=False)
     found = re.fullmatch(r"bench ([0-9.]+), proved with (.*)\n", ran.stdout.decode(errors="replace"))
@@ -107,7 +108,7 @@ def said_version():
     return found[1], found[2]
 
 
-def verdicts():
+def verdicts() -> tuple[dict[str, str], list[str]]:
     """Returns the last lines of the prover for the crates, by crate, and the crates for whose present sources none is stored."""
     kept = {}
     if os.path.exists(VERDICTS):
@@ -115,30 +116,31 @@ def verdicts():
             for line in file:
                 name, stamp, verdict = line.rstrip("\n").split(" ", 2)
                 kept[name, stamp] = verdict
-    found, missing = {}, []
+    found: dict[str, str] = {}
+    missing: list[str] = []
     if not shutil.which("rt"):
         raise Failure("rt, the command of the Rattle kit, is not on PATH: install the kit, see README.md", NOT_BUILT)
     for crate in crates_of_program(laws=True):
-        verdict = kept.get((crate.name, crate.stamp()))
-        if verdict:
-            found[crate.name] = verdict
+        stored = kept.get((crate.name, crate.stamp()))
+        if stored:
+            found[crate.name] = stored
         else:
             missing.append(crate.name)
     return found, missing
 
 
-def program_crates():
+def program_crates() -> set[str]:
     """Returns the names of the crates from which the program is built."""
     return {crate.name for crate in crates_of_program()}
 
 
-def assumed():
+def assumed() -> list[str]:
     """Returns the names of the C functions whose contracts are assumed, from docs/PROOFS.md."""
     table = tables_of(section_of("PROOFS.md", "C functions"))[0]
     return [name for _, names, _ in table for name in codes_of(names)]
 
 
-def wrapped(names):
+def wrapped(names: list[str]) -> str:
     """Returns names as lines of at most 96 characters."""
     lines = [""]
     for name in names:
@@ -148,20 +150,23 @@ def wrapped(names):
     return "\n".join(lines)
 
 
-def manual_page(name, text, version):
+def manual_page(name: str, text: str, version: str) -> str:
     """Returns the manual page of an installed tool, which has the text of its help."""
     head, _, rest = text.strip().partition("\n")
     lines = [line.replace("\\", "\\e").replace("-", "\\-") for line in [head, *rest.strip("\n").split("\n")]]
     lines = [f"\\&{line}" if line[:1] in (".", "'") else line for line in lines]
-    return "\n".join(['.\\" Written by tools/release from the help of the tool.', f'.TH BENCH-{name.upper()} 1 "" "bench {version}" "An HP\\-41 bench"',
-                      ".SH NAME", f"bench\\-{name} \\- {lines[0][0].lower()}{lines[0][1:].rstrip('.')}", ".SH DESCRIPTION",
-                      f"bench\\-{name} is tools/{name} of the bench.", ".PP", ".nf", *lines[1:], ".fi", ".SH SEE ALSO", ".BR bench (1)", ""])
+    return "\n".join(['.\\" Written by tools/release from the help of the tool.',
+                      f'.TH BENCH-{name.upper()} 1 "" "bench {version}" "An HP\\-41 bench"', ".SH NAME",
+                      f"bench\\-{name} \\- {lines[0][0].lower()}{lines[0][1:].rstrip('.')}", ".SH DESCRIPTION",
+                      f"bench\\-{name} is tools/{name} of the bench.", ".PP", ".nf", *lines[1:], ".fi", ".SH SEE ALSO", ".BR bench (1)",
+                      ""])
 
 
 class Release:
     """What a release of the present commit has."""
 
-    def __init__(self):
+    def __init__(self) -> None:
+        """Reads the files of the commit and the program. Raises Failure if there is no proved program for it."""
         check_clean()
         check_built()
         self.version, self.kit = said_version()
@@ -171,20 +176,20 @@ class Release:
         self.verdicts, self.missing = verdicts()
         self.files = self.collected()
 
-    def collected(self):
+    def collected(self) -> list[File]:
         """Returns the files, sorted by path, with the manifest, which has the checksums of all others."""
-        with open(PROGRAM, "rb") as file:
-            program = file.read()
+        with open(PROGRAM, "rb") as opened:
+            program = opened.read()
         files = [*self.committed(), File(f"program/{NAME}", program, True)]
         for file in [file for file in files if file.is_program and file.path.startswith("tools/")]:
-            name, text = file.path.partition("/")[2], ast.get_docstring(ast.parse(file.data))
+            name, text = file.path.partition("/")[2], ast.get_docstring(ast.parse(file.data)) or ""
             files.append(File(f"docs/man/bench-{name}.1", manual_page(name, text, self.version).encode()))
         files.append(File("RELEASE", self.text(program).encode()))
         files.sort(key=path_of)
         lines = [f"{hashlib.sha256(file.data).hexdigest()}  {file.path}\n" for file in files]
         return sorted([*files, File("MANIFEST", "".join(lines).encode())], key=path_of)
 
-    def committed(self):
+    def committed(self) -> Iterator[File]:
         """Yields the files that a release has of the commit."""
         listed = git("ls-tree", "--name-only", "HEAD").decode().split("\n")
         archive = git("archive", "--format=tar", "HEAD", "--", *(path for path in PATHS if path in listed))
@@ -193,9 +198,9 @@ class Release:
                 path = entry.name
                 if not entry.isfile() or path in FOR_CONTRIBUTORS or path.startswith("crates/") and not OF_CRATES.fullmatch(path):
                     continue
-                yield File(path, packed.extractfile(entry).read(), bool(entry.mode & 0o100))
+                yield File(path, content_of(packed, entry), bool(entry.mode & 0o100))
 
-    def text(self, program):
+    def text(self, program: bytes) -> str:
         """Returns the text of the file RELEASE."""
         lines = [f"{name}: {verdict}" for name, verdict in self.verdicts.items()]
         if self.missing:
@@ -209,7 +214,7 @@ class Release:
                                    checksum=hashlib.sha256(program).hexdigest(), verdicts="\n".join(lines).strip(), count=len(names),
                                    axioms=len(names), assumed=wrapped(names))
 
-    def archive(self):
+    def archive(self) -> bytes:
         """Returns the bytes of the archive: the files in the order of their paths, with the time of the commit and no owner."""
         packed = io.BytesIO()
         with tarfile.open(fileobj=packed, mode="w", format=tarfile.USTAR_FORMAT) as into:
@@ -218,26 +223,32 @@ class Release:
                 entry.size, entry.mtime, entry.mode = len(file.data), self.seconds, 0o755 if file.is_program else 0o644
                 into.addfile(entry, io.BytesIO(file.data))
         squeezed = io.BytesIO()
-        with gzip.GzipFile(filename="", mode="wb", compresslevel=9, fileobj=squeezed, mtime=self.seconds) as file:
-            file.write(packed.getvalue())
+        with gzip.GzipFile(filename="", mode="wb", compresslevel=9, fileobj=squeezed, mtime=self.seconds) as out:
+            out.write(packed.getvalue())
         return squeezed.getvalue()
 
 
-def path_of(file):
+def path_of(file: File) -> bytes:
     """Returns the sort key of a file."""
     return file.path.encode()
 
 
-def packed_files(path, data):
+def content_of(packed: tarfile.TarFile, entry: tarfile.TarInfo) -> bytes:
+    """Returns the bytes of a regular file in an archive."""
+    file = packed.extractfile(entry)
+    return file.read() if file else b""
+
+
+def packed_files(path: str, data: bytes) -> dict[str, bytes]:
     """Returns the bytes of the files in an archive, which is at a path, by their paths without the first folder."""
     try:
         with tarfile.open(fileobj=io.BytesIO(data), mode="r:gz") as packed:
-            return {entry.name.partition("/")[2]: packed.extractfile(entry).read() for entry in packed if entry.isfile()}
+            return {entry.name.partition("/")[2]: content_of(packed, entry) for entry in packed if entry.isfile()}
     except (tarfile.TarError, EOFError, OSError, zlib.error) as error:
         raise Failure(f"{path}: not an archive of a release: {error}", 1) from error
 
 
-def commit_of(files):
+def commit_of(files: dict[str, bytes]) -> str:
     """Returns the commit that an archive names; an empty text if it names none."""
     found = re.search(rb"^commit: (\w+)$", files.get("RELEASE", b""), re.M)
     return found[1].decode() if found else ""

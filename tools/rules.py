@@ -3,10 +3,11 @@ docs/ASSEMBLER.md; a comment such as `; lint: ignore setdec` in a line switches 
 
 A rule that would have to guess reports only what is certain."""
 import re
+from typing import Iterator, NamedTuple, Optional
 
 from decks import shown
-from flow import DECIMAL, Flow
-from sources import ASKS, ASKS_FOR_SET, BLANKS, ENDS, FIRST_POLLED, GOES, ID_PLACE, SUM, TEST
+from flow import DECIMAL, Flow, Node
+from sources import ASKS, ASKS_FOR_SET, BLANKS, ENDS, FIRST_POLLED, GOES, ID_PLACE, SUM, TEST, Assembled
 
 ASKS_FOR_CLEAR = re.compile(r"JNC \S+|\?NC (?:XQ|GO) \S+(?: \S+)?|\?NC RTN")
 SHORT_OR_RETURN = re.compile(r"JNC \S+|\?NC RTN")
@@ -17,6 +18,8 @@ STATUS_BIT = re.compile(r"(?:SETF|CLRF) (10|12)")
 ENBANK = re.compile("ENBANK([1-4])")
 SUM_OF_C = re.compile(r"[AC]=(?:C[+-]1|[AC][+-]C|C\+C|0-C) (?:S&X|ALL)")
 
+DIRECTIVE = re.compile(rb"(#[ \t]*(?:define|include|if|ifdef|ifndef|else|elif|endif|undef|macro|pragma|org|equ|set)\b)(?![^\w\s]*[.,:])",
+                       re.I)
 IGNORED = re.compile(r"\blint:\s*ignore\b[ \t]*([^;]*)")
 
 # What the status bits mean that a function leaves unchanged.
@@ -27,13 +30,14 @@ RETURN_ADDRESSES = 4
 
 NAMES = ("lost-answer", "never-taken", "always-taken", "setdec", "decimal-digit", "status-bit", "unreachable", "deep-calls",
          "endless-calls", "ldi-word", "middle", "bank-table", "bank-switch", "bank-return", "module-number", "function-count",
-         "function-name", "open-end", "unused-label", "polled-word", "ignore")
+         "function-name", "open-end", "unused-label", "polled-word", "pointer", "directive", "ignore")
 
 
 class Bank:
     """The lines of a source for the rules."""
 
-    def __init__(self, source):
+    def __init__(self, source: Assembled) -> None:
+        """Finds the lines that have words."""
         self.source = source
         # The lines with words; of lines that only fill the page the first one. And the instruction of each of these lines.
         self.fills = {at for at in source.whole.fills if at - 1 not in source.whole.fills}
@@ -41,15 +45,15 @@ class Bank:
         self.code = {at: source.lines[at].instruction() for at in self.lines}
         self.has_table = any(code.startswith(("ENTRY ", "FOCAL ")) for code in self.code.values())
 
-    def sets(self, at):
+    def sets(self, at: int) -> bool:
         """Returns whether the instruction of a line sets the carry by its result."""
         return bool(TEST.fullmatch(self.code[at]) or SUM.fullmatch(self.code[at]))
 
-    def pairs(self):
+    def pairs(self) -> Iterator[tuple[int, int]]:
         """Returns pairs of lines: each line with words, and the next one."""
         return zip(self.lines, self.lines[1:])
 
-    def continues(self, before, at):
+    def continues(self, before: Optional[int], at: int) -> bool:
         """Returns whether execution can continue after a line. `before` is the line before it, or None."""
         code = self.code[at]
         into = ENBANK.fullmatch(code)
@@ -57,17 +61,27 @@ class Bank:
             return False
         return not GOES.fullmatch(code) or before is not None and self.sets(before)
 
-    def is_entrance(self, at):
+    def is_entrance(self, at: int) -> bool:
         """Returns whether a label is where others begin: no instruction before its line continues there."""
-        last = [None, None, *(line for line in self.lines if line < at)][-2:]
-        return last[1] is None or not self.continues(*last)
+        before, last = [None, None, *(line for line in self.lines if line < at)][-2:]
+        return last is None or not self.continues(before, last)
+
+
+class Finding(NamedTuple):
+    """A finding: the number of its source, its line, the name of the rule, and the text."""
+    bank: int
+    line: int
+    rule: str
+    text: str
 
 
 class Lint:
     """The findings in a source, or in several sources that belong together."""
 
-    def __init__(self, *sources):
-        self.sources, self.found, self.at = sources, [], 0
+    def __init__(self, *sources: Assembled) -> None:
+        """Applies all rules."""
+        self.sources, self.at = sources, 0
+        self.found: list[Finding] = []
         self.banks = [Bank(source) for source in sources]
         self.is_module = any(bank.has_table for bank in self.banks)
         for self.at, bank in enumerate(self.banks):
@@ -78,26 +92,27 @@ class Lint:
             self.polled(bank)
             self.status_bits(bank)
             self.unused(bank)
+            self.directives(bank)
         self.follow()
         self.judge_banks()
         self.found = sorted(one for one in set(self.found) if not self.is_ignored(*one))
         self.ignores()
         self.found.sort()
 
-    def tell(self, at, name, what, bank=None):
+    def tell(self, at: int, name: str, what: str, bank: Optional[int] = None) -> None:
         """Adds a finding about a line: the number of the source, the line, the name of the rule, and the text."""
-        self.found.append((self.at if bank is None else bank, at, name, what))
+        self.found.append(Finding(self.at if bank is None else bank, at, name, what))
 
-    def names_off(self, bank, at):
+    def names_off(self, bank: int, at: int) -> list[str]:
         """Returns the names of rules that the comment of a line switches off."""
         found = IGNORED.search(self.sources[bank].lines[at].comment)
         return re.findall(r"[^\s,]+", found[1]) if found else []
 
-    def is_ignored(self, bank, at, name, _what):
+    def is_ignored(self, bank: int, at: int, name: str, _what: str) -> bool:
         """Returns whether a comment in the line of a finding switches the rule off."""
         return name in self.names_off(bank, at)
 
-    def ignores(self):
+    def ignores(self) -> None:
         """Finds comments that switch off a rule that does not exist."""
         for number, source in enumerate(self.sources):
             for at in range(len(source.lines)):
@@ -107,7 +122,7 @@ class Lint:
 
     # The carry.
 
-    def carries(self, bank):
+    def carries(self, bank: Bank) -> None:
         """Finds lost answers, and conditions that are never or always true."""
         for at, behind in bank.pairs():
             code, next_code = bank.code[at], bank.code[behind]
@@ -127,7 +142,7 @@ class Lint:
 
     # The table of a module.
 
-    def table(self, bank):
+    def table(self, bank: Bank) -> None:
         """Checks the number of a module and the count of its functions."""
         source, lines = bank.source, bank.lines
         entries = [at for at in lines if re.match("(?:ENTRY|FOCAL) ", bank.code[at])]
@@ -146,35 +161,42 @@ class Lint:
                                                   f"lines: write {len(entries):03X}")
 
     @staticmethod
-    def is_decimal(source, at, number):
+    def is_decimal(source: Assembled, at: int, number: int) -> bool:
         """Returns whether a number may have been written as a decimal number."""
         digits = f"{number:X}"
         return number > 9 and digits.isdigit() and not re.search(rf"(?<!\d){number}(?!\d)", source.lines[at].comment)
 
-    def names(self, bank):
+    def names(self, bank: Bank) -> None:
         """Finds names without functions, and functions without names."""
         source = bank.source
-        entered = {source.labels[source.lines[at].reference]: at for at in bank.lines if self.enters_own(bank, at, "ENTRY ")}
+        entered = {place: at for at in bank.lines for place in self.entry_of(bank, at, "ENTRY ")}
         ends = {source.places[at] + len(source.words_of_line(at)): at for at in bank.lines if bank.code[at].startswith("NAME ")}
-        focal = {source.labels[source.lines[at].reference] for at in bank.lines if self.enters_own(bank, at, "FOCAL ")}
+        focal = {place for at in bank.lines for place in self.entry_of(bank, at, "FOCAL ")}
         behind = {source.places[after]: at for at, after in bank.pairs()}
+        named: dict[str, int] = {}
         for place, at in ends.items():
+            first = named.setdefault(bank.code[at], at)
+            if first != at and place in entered:
+                self.tell(at, "function-name", f"line {first + 1} has this name already: the calculator finds only the first function of a "
+                                               "name")
             if place not in entered and place not in focal:
                 self.tell(at, "function-name", "no ENTRY names the label after this name")
         for place, at in entered.items():
             before = behind.get(place)
             is_foreign = at in getattr(source, "entered", ())
-            if place not in ends and not is_foreign and not (before is not None and bank.code[before].startswith("CON ")):
+            is_data = before is not None and bank.code[before].startswith("CON ") and bank.code[before] != "CON 000"
+            if place not in ends and not is_foreign and not is_data:
                 self.tell(at, "function-name", f"no NAME is directly before the label {source.lines[at].reference}")
 
     @staticmethod
-    def enters_own(bank, at, directive):
-        """Returns whether a line is a table entry whose label has a place in the page."""
-        return bank.code[at].startswith(directive) and bank.source.lines[at].reference in bank.source.labels
+    def entry_of(bank: Bank, at: int, directive: str) -> list[int]:
+        """Returns the place of the label of a table entry; none if the line is no such entry, or if its label has no place in the page."""
+        label = bank.source.lines[at].reference
+        return [bank.source.labels[label]] if bank.code[at].startswith(directive) and label in bank.source.labels else []
 
     # Ends, words that are read by themselves, status bits and labels.
 
-    def ends(self, bank):
+    def ends(self, bank: Bank) -> None:
         """Finds instructions after which execution continues past the source or into a name."""
         for before, at, behind in zip([None, *bank.lines], bank.lines, [*bank.lines[1:], None]):
             if behind is not None and behind not in bank.fills and not bank.code[behind].startswith("NAME "):
@@ -184,7 +206,7 @@ class Lint:
                           "execution continues into the words that fill the page" if behind in bank.fills else
                           f"execution continues into {bank.code[behind]}")
 
-    def polled(self, bank):
+    def polled(self, bank: Bank) -> None:
         """Finds instructions of two words where each word is read by itself."""
         for at in bank.lines:
             place, words = bank.source.places[at], bank.source.words_of_line(at)
@@ -192,14 +214,14 @@ class Lint:
                 self.tell(at, "polled-word", f"the calculator reads the word at {bank.source.address(place + 1)} by itself: use "
                                              "instructions of one word here")
 
-    def status_bits(self, bank):
+    def status_bits(self, bank: Bank) -> None:
         """Finds changes of status bits that a function leaves unchanged."""
         for at in bank.lines if self.is_module else []:
             found = STATUS_BIT.fullmatch(bank.code[at])
             if found:
                 self.tell(at, "status-bit", f"the calculator needs S{found[1]}, which says that {MEANING[found[1]]}: use S0 to S9")
 
-    def unused(self, bank):
+    def unused(self, bank: Bank) -> None:
         """Finds labels that no line refers to. Without a table, a label where execution begins may be for others."""
         for at, line in enumerate(bank.source.lines):
             name = line.label
@@ -207,25 +229,34 @@ class Lint:
                 if self.is_module or not bank.is_entrance(at):
                     self.tell(at, "unused-label", f"no line refers to the label {name}")
 
+    def directives(self, bank: Bank) -> None:
+        """Finds directives of other assemblers that begin with #, which are read as comments."""
+        for at, text in enumerate(bank.source.texts):
+            found = DIRECTIVE.match(text)
+            if found:
+                self.tell(at, "directive", f"a line that begins with # is a comment, so {found[1].decode()} has no effect: a project of "
+                                           "tools/module names numbers in [equates], and several sources need no #include")
+
     # What is executed.
 
-    def roots(self):
+    def roots(self) -> tuple[list[Node], list[Node]]:
         """Returns where execution begins: the functions of tables, words that the calculator reads by itself, labels that no line refers
         to, and the first word of a source without a table. And those of them that are functions, or whose caller is not known."""
-        functions, others = [], []
+        functions: list[Node] = []
+        others: list[Node] = []
         for number, bank in enumerate(self.banks):
             source = bank.source
             entries = [source.words_of_line(at) for at in bank.lines if bank.code[at].startswith("ENTRY ")]
             functions += [(number, (high & 0xF) << 8 | low & 0xFF) for high, low in entries]
             others += [(number, place) for place in range(FIRST_POLLED, min(ID_PLACE, len(source.words))) if source.words[place]]
-            others += [(number, source.labels[source.lines[at].reference]) for at in bank.lines if self.enters_own(bank, at, "FOCAL ")]
+            others += [(number, place) for at in bank.lines for place in self.entry_of(bank, at, "FOCAL ")]
             unused = [(number, place) for name, place in source.labels.items() if not source.uses_of(name)]
             begins = [] if bank.has_table else [(number, 0)]
             others += [*unused, *begins]
             functions += [] if self.is_module else [*unused, *begins]
         return functions, others
 
-    def follow(self):
+    def follow(self) -> None:
         """Finds what depends on the flow of control."""
         self.flow = Flow(self.sources)
         functions, others = self.roots()
@@ -239,11 +270,13 @@ class Lint:
             if self.is_module or node not in called:
                 self.decimal_returns(node)
             self.depth(node)
+        for node in functions if self.is_module else ():
+            self.pointers(node)
         self.decimal_digits()
         for node, names in self.flow.endless(functions):
             self.tell(self.flow.line(node), "endless-calls", f"this chain of calls never ends: {' -> '.join(names)}", node[0])
 
-    def unreachable(self, places):
+    def unreachable(self, places: set[Node]) -> None:
         """Finds instructions that nothing reaches; of several after each other the first one. If the line before always jumps because the
         carry is clear, the condition may be meant otherwise."""
         for number, bank in enumerate(self.banks):
@@ -255,15 +288,15 @@ class Lint:
                     continue
                 if was_reached and before is not None and GOES_ON.fullmatch(bank.code[before]):
                     if not any(one[:3] == (number, before, "always-taken") for one in self.found):
-                        self.tell(before, "always-taken", f"always taken, because the carry is clear: nothing reaches {bank.code[at]} after it",
-                                  number)
+                        self.tell(before, "always-taken", f"always taken, because the carry is clear: nothing reaches {bank.code[at]} "
+                                                          "after it", number)
                 elif was_reached:
                     self.tell(at, "unreachable", "nothing reaches this instruction", number)
                 was_reached, before = False, at
 
-    def middles(self, begins):
+    def middles(self, begins: set[Node]) -> None:
         """Finds labels on the second word of an instruction, and jumps to it."""
-        seconds = {}
+        seconds: dict[Node, tuple[str, int]] = {}
         for number, bank in enumerate(self.banks):
             for at in bank.lines:
                 words, place = bank.source.words_of_line(at), bank.source.places[at]
@@ -282,17 +315,17 @@ class Lint:
                 if DATA.fullmatch(bank.code[at]) or at in bank.fills:
                     continue
                 word = self.flow.word((number, bank.source.places[at]))
-                for node in self.flow.nodes_at(number, word.target) if word.what in ("go", "call") else []:
+                for node in self.flow.nodes_at(number, word.target) if word.what in ("go", "call") and word.target is not None else []:
                     if node in seconds:
                         rule, line = seconds[node]
                         self.tell(at, rule, f"this jump leads to the second word of {self.what_is(rule)}, in line {line + 1}", number)
 
     @staticmethod
-    def what_is(rule):
+    def what_is(rule: str) -> str:
         """Returns what has the second word."""
         return "LDI, which is a number" if rule == "ldi-word" else "a long jump"
 
-    def decimal_returns(self, node):
+    def decimal_returns(self, node: Node) -> None:
         """Finds returns of a function in base 10."""
         for (bank, place), base, since in self.flow.bases(node):
             if base == DECIMAL and since is not None:
@@ -301,7 +334,7 @@ class Lint:
                 self.tell(self.flow.line((bank, place)), "setdec", f"the base is still 10 at this return, by SETDEC in line {where}: write "
                                                                    "SETHEX before it", bank)
 
-    def decimal_digits(self):
+    def decimal_digits(self) -> None:
         """Finds sums of C in base 10 directly after LDI with a digit above 9."""
         for number, bank in enumerate(self.banks):
             for index, at in enumerate(bank.lines):
@@ -313,18 +346,25 @@ class Lint:
                 if bases == {DECIMAL} and not f"{word:X}".isdigit():
                     self.tell(behind, "decimal-digit", f"the base is 10 here, and {word:03X} of LDI has a digit above 9", number)
 
-    def depth(self, node):
+    def pointers(self, node: Node) -> None:
+        """Finds instructions of a function that use the pointer before it is set."""
+        for bank, place in self.flow.without_pointer(node):
+            self.tell(self.flow.line((bank, place)), "pointer",
+                      "this instruction uses the pointer, but no R= before it sets it, and it may be at any place when "
+                      f"{self.flow.name(node)} starts", bank)
+
+    def depth(self, node: Node) -> None:
         """Finds chains of calls that need more return addresses than there are. The first address is that of the function."""
         chain = self.flow.deepest(node)
         if len(chain) >= RETURN_ADDRESSES and self.flow.routines[node].can_return and not self.flow.routines[node].is_tricky:
             names = [self.flow.name(one) for one in [node, *(target for _, target in chain[:RETURN_ADDRESSES])]]
             call = chain[RETURN_ADDRESSES - 1][0]
-            self.tell(self.flow.line(call), "deep-calls", f"calls are nested {len(chain)} deep, {' -> '.join(names)}: there are four return "
-                                                          f"addresses, and the first is that of {names[0]}", call[0])
+            self.tell(self.flow.line(call), "deep-calls", f"calls are nested {len(chain)} deep, {' -> '.join(names)}: there are four "
+                                                          f"return addresses, and the first is that of {names[0]}", call[0])
 
     # Banks of a page.
 
-    def judge_banks(self):
+    def judge_banks(self) -> None:
         """Compares the banks of each page."""
         for number, bank in enumerate(self.banks):
             others = {one.number: at for at, one in enumerate(self.sources) if one.page == bank.source.page}
@@ -336,7 +376,7 @@ class Lint:
                 if found and (len(others) > 1 or len(self.sources) > 1):
                     self.switch(number, at, int(found[1]), others)
 
-    def compare(self, first, number):
+    def compare(self, first: Bank, number: int) -> None:
         """Compares the table of a bank with that of bank 1."""
         bank = self.banks[number]
         length = 2 + 2 * sum(code.startswith(("ENTRY ", "FOCAL ")) for code in first.code.values()) + 2
@@ -345,26 +385,29 @@ class Lint:
         for place, (word, other) in enumerate(zip(first.source.words[:length], bank.source.words)):
             if word != other:
                 at = next(at for at in bank.lines if bank.source.places[at] <= place < bank.source.places[at + 1])
-                return self.tell(at, "bank-table", f"bank {bank.source.number} has {other:03X} at {bank.source.address(place)}, and bank 1 has "
-                                                   f"{word:03X}: all banks begin with the same table", number)
+                self.tell(at, "bank-table", f"bank {bank.source.number} has {other:03X} at {bank.source.address(place)}, and bank 1 has "
+                                            f"{word:03X}: all banks begin with the same table", number)
+                return
 
-    def switch(self, number, at, target, others):
+    def switch(self, number: int, at: int, target: int, others: dict[int, int]) -> None:
         """Judges a word that activates a bank."""
         bank = self.banks[number]
         page, place = bank.source.page, bank.source.places[at] + 1
         if target not in others:
-            return self.tell(at, "bank-switch", f"page {page} has no bank {target} in these sources", number)
+            self.tell(at, "bank-switch", f"page {page} has no bank {target} in these sources", number)
+            return
         other = self.banks[others[target]]
         begins = {other.source.places[one] for one in other.lines if not re.match("NAME |ENTRY |FOCAL ", other.code[one])}
         if place not in begins or any(other.source.places[one] == place for one in other.fills):
-            return self.tell(at, "bank-switch", f"the next word is read at {bank.source.address(place)} of bank {target}, and no instruction "
-                                                "begins there", number)
+            self.tell(at, "bank-switch", f"the next word is read at {bank.source.address(place)} of bank {target}, and no instruction "
+                                         "begins there", number)
+            return
         leaves = {found[1] for found in map(ENBANK.fullmatch, other.code.values()) if found} - {str(target)}
         if not leaves and target not in (1, bank.source.number):
             self.tell(at, "bank-return", f"bank {target} has no ENBANK of another bank, so it stays active after the function", number)
 
 
-def lines_of(lint):
+def lines_of(lint: Lint) -> list[str]:
     """Returns the findings as lines."""
     return [f"{lint.sources[bank].whole.place(at)}: {name}: {what}: {shown(lint.sources[bank].texts[at].strip(BLANKS))}"
             for bank, at, name, what in lint.found]

@@ -1,10 +1,10 @@
 """Single calls for tools/module run and trace."""
-from calls import LIMIT, Call, Caller, Views, ended_well
-from cases import Case, joined, row_of
+from calls import Call, Caller, Views, ended_well
+from cases import Case, row_of
 from decks import Failure
 from linking import Linked
-from settings import STACK, Setting, Wrong
-from stepping import MOST_TRACED, place_of, rows_of, traced
+from settings import STACK, Wrong
+from stepping import MOST_TRACED, rows_of, traced
 from testing import usual
 from values import text_of
 

@@ -3,7 +3,6 @@ the keys that it asks for, and says what is wanted afterwards."""
 from __future__ import annotations
 
 import re
-from functools import partial
 from typing import NamedTuple
 
 from cases import ARROW, WORDS, missing_quote, text_in
@@ -70,8 +69,8 @@ def error_of(value: str) -> str:
 def setting_of(name: str, sign: str, value: str, is_before: bool) -> Setting:
     """Returns a setting of a register, a flag, ALPHA, the display, the steps or a refusal."""
     if name in CPU and name not in STACK:
-        raise Wrong(f"{name}: a register of the processor, which programs do not use: expected a register of the stack, a data register like "
-                    "R05, a flag like F22, or ALPHA")
+        raise Wrong(f"{name}: a register of the processor, which programs do not use: expected a register of the stack, a data register "
+                    "like R05, a flag like F22, or ALPHA")
     return setting(name, sign, value, is_before)
 
 
@@ -79,9 +78,13 @@ class Words:
     """The settings in the words of a row, before or after the arrow."""
 
     def __init__(self, words: list[str], is_before: bool) -> None:
-        self.settings, self.keys, self.input, self.texts, self.error = [], [], [], None, None
+        """Reads settings."""
+        self.settings: list[Setting] = []
+        self.keys: list[str] = []
+        self.input: list[str] = []
+        self.texts: list[str] | None = None
+        self.error: str | None = None
         before: dict[str, str] = {}
-        own = {"keys": "keys", INPUT: "input"} if is_before else {SHOWS: "texts", ERROR: "error"}
         for word in words:
             parts = SETTING.fullmatch(word)
             if not parts:
@@ -90,15 +93,25 @@ class Words:
             if name in before:
                 raise Wrong(f"found two settings of {name}, `{before[name]}` and `{word}`, expected one")
             before[name] = word
-            if name in own and sign == "=":
-                read = {"keys": partial(keys_in, name), INPUT: partial(keys_in, name), ERROR: error_of,
-                        SHOWS: lambda text: unquoted(text).split(BETWEEN_TEXTS) if unquoted(text) else []}[name]
-                setattr(self, own[name], read(value))
+            if name in (("keys", INPUT) if is_before else (SHOWS, ERROR)) and sign == "=":
+                self.read(name, value)
             elif name in (INPUT, SHOWS, ERROR):
                 raise Wrong(f"found `{word}` {'before' if is_before else 'after'} ->, expected {name}=\"..\" "
                             f"{'before' if name == INPUT else 'after'} it")
             else:
                 self.settings.append(setting_of(name, sign, value, is_before))
+
+
+    def read(self, name: str, value: str) -> None:
+        """Reads a setting of programs alone."""
+        if name == "keys":
+            self.keys = keys_in(name, value)
+        elif name == INPUT:
+            self.input = keys_in(name, value)
+        elif name == SHOWS:
+            self.texts = unquoted(value).split(BETWEEN_TEXTS) if unquoted(value) else []
+        else:
+            self.error = error_of(value)
 
 
 def case_of(path: str, number: int, words: list[str], title: str) -> Case:
@@ -109,7 +122,8 @@ def case_of(path: str, number: int, words: list[str], title: str) -> Case:
     at = words.index(ARROW)
     before, after = Words(words[1:at], True), Words(words[at + 1:], False)
     start = ["XEQ", Text(target[1])] if target[1] is not None else ["R/S"]
-    return Case(path, number, title, words[0], before.keys, [*start, *before.input], before.settings, after.settings, after.texts, after.error)
+    return Case(path, number, title, words[0], before.keys, [*start, *before.input], before.settings, after.settings, after.texts,
+                after.error)
 
 
 def cases_in(path: str) -> list[Case]:
@@ -129,10 +143,15 @@ def cases_in(path: str) -> list[Case]:
     return cases
 
 
+# The name of a case, and the reasons why it failed.
+CaseResult = tuple[str, list[str]]
+
+
 class Tester:
     """Runs cases after the deck that loads the programs."""
 
     def __init__(self, front: bytes, steps: int, memory: str, skipped: dict[int, str]) -> None:
+        """Finds a free page, and the sizes of memory after the deck."""
         self.front, self.steps, self.memory, self.skipped = front, steps, memory, skipped
         lines = lines_of(front)
         used = {words_of(lines[first])[1:2][0].upper() for first, _ in items_of(lines)
@@ -152,12 +171,13 @@ class Tester:
         if not memory:
             return b"reset\n" + self.front
         if self.page is None:
-            raise Failure(f"{case.name()}: no page is free for the words that set registers: pages 8 to F are used: unplug one of them in the deck")
+            raise Failure(f"{case.name()}: no page is free for the words that set registers: pages 8 to F are used: unplug one of them in "
+                          "the deck")
         stub = stub_of(memory, {}, None)
         return (b"reset\n" + self.front + f"words {self.page}\n{stub.text}end\ncall {self.page}000\nstep {stub.steps}\n"
                 f"unplug {self.page}\n".encode())
 
-    def results(self, cases: list[Case]) -> list[list[object]]:
+    def results(self, cases: list[Case]) -> list[CaseResult]:
         """Runs cases. Returns for each its name and the reasons why it failed; none if it passed."""
         views = [self.views(case) for case in cases]
         rounds = [Round(self.begin(case), [*case.keys, *case.called], len(case.keys)) for case in cases]
@@ -169,7 +189,7 @@ class Tester:
                     for one, own in zip(rounds, views)]
         answers = player.asked(rounds, commands)
         found = [[line[0].decode("latin-1") for line in own[len(own) - len(asked):]] for own, asked in zip(answers, views)]
-        return [[case.name(), self.faults(case, one, lines, dict(zip(asked, shown_)))]
+        return [(case.name(), self.faults(case, one, lines, dict(zip(asked, shown_))))
                 for case, one, (lines, _, _), asked, shown_ in zip(cases, rounds, played, views, found)]
 
     def views(self, case: Case) -> list[str]:
@@ -236,7 +256,7 @@ def printed(name: str, value: str) -> str:
     return f'"{value}"' if name in ("ALPHA", "display", "refusal") else value
 
 
-def tap(results: list[list[object]]) -> str:
+def tap(results: list[CaseResult]) -> str:
     """Returns results in the Test Anything Protocol."""
     lines = [f"1..{len(results)}"]
     for number, (name, faults) in enumerate(results, 1):

@@ -11,6 +11,7 @@ import sys
 import threading
 import time
 from http.server import BaseHTTPRequestHandler, ThreadingHTTPServer
+from typing import Any, Callable, Optional, Sequence, Union
 from urllib.parse import parse_qs
 
 from decks import NO_ANSWER, Failure
@@ -47,15 +48,21 @@ HEADERS = {
 }
 
 
+# A connection, and the functions that answer requests, by name.
+Request = Union[socket.socket, tuple[bytes, socket.socket]]
+Answers = dict[str, Callable[..., Any]]
+
+
 class Refusal(Exception):
     """The reason why a request is refused, and its HTTP status."""
 
-    def __init__(self, status, why):
+    def __init__(self, status: int, why: str) -> None:
+        """Takes the HTTP status and the message."""
         super().__init__(why)
         self.status = status
 
 
-def quoted(values):
+def quoted(values: Optional[Sequence[str]]) -> str:
     """Returns the values of a header for a message, each in quotes and at most 100 characters of it."""
     return ", ".join(f"'{value[:100]}'" for value in values) if values else "nothing"
 
@@ -65,23 +72,24 @@ class Server(ThreadingHTTPServer):
     daemon_threads = True
     request_queue_size = 64
 
-    def __init__(self, port, answers):
+    def __init__(self, port: int, answers: Answers) -> None:
         """`answers` are the functions that answer requests, by name."""
         super().__init__(("127.0.0.1", port), Handler)
         self.answers = answers
-        self.token, self.cookie = secrets.token_urlsafe(24), None
+        self.token = secrets.token_urlsafe(24)
+        self.cookie: Optional[str] = None
         self.port = self.server_address[1]
         # The connections: for each when it began, and whether its request has arrived.
-        self.connections = {}
+        self.connections: dict[Request, tuple[float, bool]] = {}
         # The number of open pages, for how long there may be none, and until when.
         self.pages, self.patience, self.until = 0, FIRST, time.monotonic() + FIRST
         self.lock, self.closing, self.warned = threading.RLock(), False, False
 
-    def address(self):
+    def address(self) -> str:
         """Returns the address of the page."""
         return f"http://127.0.0.1:{self.port}/{self.token}/"
 
-    def process_request(self, request, client_address):
+    def process_request(self, request: Request, client_address: Any) -> None:
         """Handles a connection. If there are too many, the oldest one whose request has not arrived is closed, so that connections that
         are idle cannot keep others away."""
         with self.lock:
@@ -97,23 +105,24 @@ class Server(ThreadingHTTPServer):
         else:
             self.shutdown_request(request)
 
-    def drop(self, request):
+    def drop(self, request: Request) -> None:
         """Closes a connection; its thread then ends."""
         self.connections.pop(request, None)
         try:
-            request.shutdown(socket.SHUT_RDWR)
+            if isinstance(request, socket.socket):
+                request.shutdown(socket.SHUT_RDWR)
         except OSError:
             pass
 
-    def arrived(self, request):
+    def arrived(self, request: Request) -> bool:
         """Notes that the request of a connection has arrived. Returns whether the connection is still there."""
         with self.lock:
-            begun, _ = self.connections.get(request, (None, False))
-            if begun is not None:
-                self.connections[request] = (begun, True)
-            return begun is not None
+            if request not in self.connections:
+                return False
+            self.connections[request] = (self.connections[request][0], True)
+            return True
 
-    def process_request_thread(self, request, client_address):
+    def process_request_thread(self, request: Request, client_address: Any) -> None:
         """Handles a connection in its thread, and forgets it afterwards."""
         try:
             super().process_request_thread(request, client_address)
@@ -121,10 +130,10 @@ class Server(ThreadingHTTPServer):
             with self.lock:
                 self.connections.pop(request, None)
 
-    def handle_error(self, request, client_address):
+    def handle_error(self, request: Request, client_address: Any) -> None:
         """Ignores a broken connection."""
 
-    def service_actions(self):
+    def service_actions(self) -> None:
         """Closes connections whose request takes too long, and ends the server when no page has been open for some time."""
         now = time.monotonic()
         with self.lock:
@@ -138,14 +147,14 @@ class Server(ThreadingHTTPServer):
         elif self.warned and not is_warned:
             self.warn(f"no page is open: the session ends in {WARNING} seconds; open {self.address()} to keep it")
 
-    def warn(self, text):
+    def warn(self, text: str) -> None:
         """Prints a warning, if standard error can be written."""
         try:
             print(f"calculator: {text}", file=sys.stderr, flush=True)
         except (OSError, ValueError):
             pass
 
-    def open_page(self, count):
+    def open_page(self, count: int) -> None:
         """Counts a page that opens or closes."""
         with self.lock:
             if self.pages + count > MOST_PAGES:
@@ -153,12 +162,12 @@ class Server(ThreadingHTTPServer):
             self.pages += count
             self.patience, self.until = AWAY, time.monotonic() + AWAY
 
-    def stay(self):
+    def stay(self) -> None:
         """Notes that a page is there, or that it comes back."""
         with self.lock:
             self.until = time.monotonic() + self.patience
 
-    def take_cookie(self, given):
+    def take_cookie(self, given: str) -> Optional[str]:
         """Returns the cookie for the first browser that opens the page. Other browsers are refused."""
         with self.lock:
             if self.cookie is None:
@@ -171,22 +180,23 @@ class Server(ThreadingHTTPServer):
 
 class Handler(BaseHTTPRequestHandler):
     """A connection."""
+    server: Server
     protocol_version = "HTTP/1.1"
     server_version, sys_version = "bench", ""
     timeout = SLOWEST
 
-    def log_message(self, *_):
+    def log_message(self, *_: object) -> None:
         """Logs nothing."""
 
-    def do_GET(self):
+    def do_GET(self) -> None:
         """Answers a GET request."""
         self.answer(self.get)
 
-    def do_POST(self):
+    def do_POST(self) -> None:
         """Answers a POST request."""
         self.answer(self.post)
 
-    def answer(self, how):
+    def answer(self, how: Callable[[str, dict[str, str]], None]) -> None:
         """Answers a request, or says why it is refused."""
         try:
             how(*self.checked())
@@ -200,7 +210,7 @@ class Handler(BaseHTTPRequestHandler):
         except Exception as fault:
             self.reply(500, "text/plain; charset=utf-8", f"internal error in tools/calculator: {fault!r}: please report it\n".encode())
 
-    def turn_away(self):
+    def turn_away(self) -> None:
         """Closes a connection whose request may not have been read completely. The rest is ignored for a moment, so that the answer is
         not lost."""
         self.close_connection = True
@@ -213,13 +223,14 @@ class Handler(BaseHTTPRequestHandler):
         except OSError:
             pass
 
-    def checked(self):
+    def checked(self) -> tuple[str, dict[str, str]]:
         """Returns what a request names after the token, and its query. Requests that do not come from the page itself are refused."""
         host = f"127.0.0.1:{self.server.port}"
         if self.headers.get_all("Host") not in ([host], [f"localhost:{self.server.port}"]):
             raise Refusal(403, f"found {quoted(self.headers.get_all('Host'))} as the Host header, expected {host}")
         if self.headers.get_all("Origin") not in (None, [f"http://{self.headers['Host']}"]):
-            raise Refusal(403, f"found {quoted(self.headers.get_all('Origin'))} as the Origin header, expected http://{self.headers['Host']}")
+            raise Refusal(403, f"found {quoted(self.headers.get_all('Origin'))} as the Origin header, expected "
+                               f"http://{self.headers['Host']}")
         if len(self.path) > LONGEST_PATH:
             raise Refusal(414, f"the path has {len(self.path)} characters: at most {LONGEST_PATH} are allowed")
         begin = f"/{self.server.token}/"
@@ -234,19 +245,19 @@ class Handler(BaseHTTPRequestHandler):
         self.server.stay()
         return name, {key: values[-1] for key, values in parse_qs(query).items()}
 
-    def want_arrival(self):
+    def want_arrival(self) -> None:
         """Notes that the request has arrived, unless its connection was closed because it took too long."""
         if not self.server.arrived(self.connection):
             raise Refusal(408, f"the request did not arrive within {SLOWEST} seconds")
 
-    def given_cookie(self):
+    def given_cookie(self) -> str:
         """Returns the cookie of the browser for this server."""
         parts = (part.strip().partition("=") for part in self.headers.get("Cookie", "").split(";"))
         return next((value for name, _, value in parts if name == f"bench-{self.server.port}"), "")
 
-    def get(self, name, asked):
+    def get(self, name: str, asked: dict[str, str]) -> None:
         """Answers a GET request for a path after the token."""
-        more = {}
+        more: dict[str, str] = {}
         if name == "":
             cookie = self.server.take_cookie(self.given_cookie())
             if cookie:
@@ -268,11 +279,11 @@ class Handler(BaseHTTPRequestHandler):
         else:
             raise Refusal(404, f"unknown path '{name[:100]}'")
 
-    def save(self, kind, data, name):
+    def save(self, kind: str, data: bytes, name: str) -> None:
         """Sends bytes that the browser saves as a file of this name."""
         self.reply(200, f"{kind}; charset=utf-8", data, {"Content-Disposition": f'attachment; filename="{name}"'})
 
-    def post(self, name, _):
+    def post(self, name: str, _: dict[str, str]) -> None:
         """Answers a POST request for a path after the token."""
         self.want_cookie()
         length = self.headers.get("Content-Length", "")
@@ -297,27 +308,27 @@ class Handler(BaseHTTPRequestHandler):
         else:
             self.tell(answer)
 
-    def want_cookie(self):
+    def want_cookie(self) -> None:
         """Refuses a browser that has not opened the page."""
         if self.server.cookie is None or not hmac.compare_digest(self.given_cookie().encode(), self.server.cookie.encode()):
             raise Refusal(403, "this browser has not opened the calculator: open the address that tools/calculator printed")
 
-    def tell(self, answer):
+    def tell(self, answer: object) -> None:
         """Sends an answer as JSON."""
         self.reply(200, "application/json", json.dumps(answer).encode())
 
-    def reply(self, status, kind, body, more=()):
+    def reply(self, status: int, kind: str, body: bytes, more: Optional[dict[str, str]] = None) -> None:
         """Sends a whole reply. If the browser has closed the connection, nothing is sent."""
         try:
             self.send_response(status)
-            for name, value in {**HEADERS, "Content-Type": kind, "Content-Length": str(len(body)), **dict(more)}.items():
+            for name, value in {**HEADERS, "Content-Type": kind, "Content-Length": str(len(body)), **(more or {})}.items():
                 self.send_header(name, value)
             self.end_headers()
             self.wfile.write(body)
         except OSError:
             self.close_connection = True
 
-    def events(self):
+    def events(self) -> None:
         """Sends the number of the last change to a page, whenever it changes and twice a second. The page counts as open as long as it
         reads this."""
         self.server.open_page(1)
@@ -337,7 +348,7 @@ class Handler(BaseHTTPRequestHandler):
             self.server.open_page(-1)
 
 
-def serve(server):
+def serve(server: Server) -> None:
     """Serves until no page is open any more, or until Ctrl-C."""
     try:
         server.serve_forever(0.2)
@@ -347,7 +358,7 @@ def serve(server):
         server.server_close()
 
 
-def listen(port, answers):
+def listen(port: int, answers: Answers) -> Server:
     """Returns a server on a port; with port 0 on any free port."""
     try:
         return Server(port, answers)

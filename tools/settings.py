@@ -28,6 +28,7 @@ class Wrong(Failure):
     """A setting cannot be read. The text says why, and `word` is the word of the row that is wrong."""
 
     def __init__(self, why: str, word: str = "") -> None:
+        """Takes the message and the word."""
         super().__init__(why)
         self.word = word
 
@@ -75,16 +76,19 @@ def register(value: str) -> str:
         return f"10{characters(value, 6).encode().hex().upper():0>12}"
     digits = digits_of(value)
     if digits is None:
+        from case_causes import of_register
         raise Wrong(f"found `{value}`, expected a number of at most ten digits with an exponent from -99 to 99, 14 hexadecimal digits, or "
-                    'a text of at most six characters like "ABC"')
+                    f'a text of at most six characters like "ABC"{of_register(value)}')
     return digits
 
 
 def hexadecimal(width: int, most: int) -> Callable[[str], str]:
     """Returns the reader of a hexadecimal number, which is printed with so many digits."""
     def read(text: str) -> str:
+        """Returns a number with all its digits. Raises Wrong if it is none, or too great."""
         if not re.fullmatch(f"[0-9A-Fa-f]{{1,{width}}}", text) or int(text, 16) > most:
-            raise Wrong(f"found `{text}`, expected 1 to {width} hexadecimal digits, at most {most:X}")
+            from case_causes import of_hexadecimal
+            raise Wrong(f"found `{text}`, expected 1 to {width} hexadecimal digits, at most {most:X}{of_hexadecimal(text, width)}")
         return f"{int(text, 16):0{width}X}"
     return read
 
@@ -92,15 +96,18 @@ def hexadecimal(width: int, most: int) -> Callable[[str], str]:
 def pointer(text: str) -> str:
     """Returns a pointer as the bench prints it, from its decimal number."""
     if not text.isdecimal() or int(text) > 13:
-        raise Wrong(f"found `{text}`, expected a place from 0 to 13")
+        own = f", in decimal: {int(text, 16)}" if re.fullmatch("[A-Da-d]", text) else ""
+        raise Wrong(f"found `{text}`, expected a place from 0 to 13{own}")
     return f"{int(text):X}"
 
 
 def one_of(*values: str) -> Callable[[str], str]:
     """Returns the reader of a value that is one of a few words."""
     def read(text: str) -> str:
+        """Returns the word. Raises Wrong if it is none of the values."""
         if text not in values:
-            raise Wrong(f"found `{text}`, expected {' or '.join(values)}")
+            from case_causes import of_word
+            raise Wrong(f"found `{text}`, expected {' or '.join(values)}{of_word(text, values)}")
         return text
     return read
 
@@ -120,7 +127,9 @@ def refusal(value: str) -> str:
     name, known = text(value), refusals()
     if not {*known, *known.values()} & {*name.split()} and not re.search(r"\b[0-9A-F]{4}\b", name):
         from difflib import get_close_matches
-        near = get_close_matches(name, known, 1)
+        numbers = {number: one for one, number in known.items()}
+        is_number = name.isdecimal() and name.zfill(2) in numbers
+        near = [f"{name:0>2} {numbers[name.zfill(2)]}"] if is_number else get_close_matches(name, known, 1)
         raise Wrong(f"found `{value}`, expected a refusal{f', the nearest is {near[0]}' if near else ''}: docs/DECK.md has all of them")
     return name
 
@@ -135,7 +144,8 @@ def refusals() -> dict[str, str]:
 def steps(value: str) -> str:
     """Returns a number of steps."""
     if not value.isdecimal() or int(value) > MOST_STEPS:
-        raise Wrong(f"found `{value}`, expected a number of steps up to {MOST_STEPS:,}")
+        hint = "; a limit is written steps<=40" if value[:1] in "<>" else ""
+        raise Wrong(f"found `{value}`, expected a number of steps up to {MOST_STEPS:,}{hint}")
     return str(int(value))
 
 
@@ -160,8 +170,9 @@ def reader_of(name: str) -> Callable[[str], str]:
         raise Wrong(f"{name}: a register or flag has two digits: write {name[0]}0{name[1]}")
     if any(other.lower() == name.lower() for other in READERS):
         raise Wrong(f"{name}: upper and lower case differ: write {next(other for other in READERS if other.lower() == name.lower())}")
-    raise Wrong(f"{name}: no such register: expected one of {', '.join([*STACK, *CPU, *ALONE])}, a data register like R05, a flag like "
-                "F22, or an address of memory like 00D")
+    from case_causes import of_name
+    raise Wrong(f"{name}: no such register{of_name(name, READERS)}: expected one of {', '.join([*STACK, *CPU, *ALONE])}, a data register "
+                "like R05, a flag like F22, or an address of memory like 00D")
 
 
 def setting(name: str, sign: str, value: str, is_before: bool) -> Setting:
@@ -185,8 +196,8 @@ def settings_in(words: list[str], is_before: bool) -> list[Setting]:
     for word in words:
         parts = SETTING.fullmatch(word)
         if not parts:
-            is_text = words.index(word) and re.match("(?:ALPHA|keys|display)=", words[words.index(word) - 1])
-            hint = "; a text with spaces is in quotes" if is_text else "; a limit is written steps<=20" if word.startswith("steps") else ""
+            from case_causes import of_setting
+            hint = of_setting(words, words.index(word), is_before and not found)
             raise Wrong(f"found `{word}`, expected a setting like X=5 or C=00F{hint}", word)
         try:
             found.append(setting(parts[1], parts[2], parts[3], is_before))

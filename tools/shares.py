@@ -10,11 +10,13 @@ import subprocess
 import sys
 import tempfile
 from concurrent.futures import ProcessPoolExecutor
-from typing import Callable, Iterator, List, NamedTuple, Optional, Sequence, Tuple, TypeVar
+from typing import Any, Callable, Dict, Iterator, List, NamedTuple, Optional, Sequence, Tuple, TypeVar
 
 from decks import MARK_OF_UTF8, Failure, bytes_of
+from matches import whole
 
-Item, Result = TypeVar("Item"), TypeVar("Result")
+Item = TypeVar("Item")
+Result = TypeVar("Result")
 
 HEAD = re.compile(r"share ([0-9]+)/([0-9]+) of ([0-9]+) items by (\w+)")
 PARALLEL = "parallel"
@@ -30,6 +32,7 @@ class Progress:
     """A bar on standard error, if that is a terminal."""
 
     def __init__(self, count: int, what: str, may_be_shown: bool = True) -> None:
+        """Takes the number of items, and what they are."""
         self.count, self.what, self.done, self.is_shown = count, what, 0, may_be_shown and sys.stderr.isatty()
 
     def add(self, count: int) -> None:
@@ -122,9 +125,10 @@ def part_text(tool: str, share: Share, count: int, results: Sequence[object]) ->
     return "".join(f"{line}\n" for line in [head, *(json.dumps(result, ensure_ascii=True) for result in results)])
 
 
-def results_in(tool: str, parts: List[Tuple[str, str]]) -> List[object]:
+def results_in(tool: str, parts: List[Tuple[str, str]]) -> List[Any]:
     """Returns the results of all items in their order, from parts with their names. Raises Failure if a part is missing or incomplete."""
-    found, first = {}, None
+    found: Dict[int, List[Any]] = {}
+    first: Optional[Tuple[int, int]] = None
     for path, text in parts:
         for share, count, results in shares_in(tool, path, text):
             first = first or (share.of, count)
@@ -142,7 +146,7 @@ def results_in(tool: str, parts: List[Tuple[str, str]]) -> List[object]:
     return [found[at % of + 1][at // of] for at in range(count)]
 
 
-def shares_in(tool: str, path: str, text: str) -> Iterator[Tuple[Share, int, List[object]]]:
+def shares_in(tool: str, path: str, text: str) -> Iterator[Tuple[Share, int, List[Any]]]:
     """Yields each share in a text, which may have several: the number of items in all, and its results."""
     if not text:
         raise Failure(f"{path}: the file is empty, expected the output of tools/{tool} --shard I/N")
@@ -151,7 +155,7 @@ def shares_in(tool: str, path: str, text: str) -> Iterator[Tuple[Share, int, Lis
     if not heads or heads[0]:
         raise Failure(f"{path}:1: `{lines[0][:200]}`: expected the output of tools/{tool} --shard I/N")
     for at, after in zip(heads, [*heads[1:], len(lines)]):
-        number, of, count, by = HEAD.fullmatch(lines[at]).groups()
+        number, of, count, by = whole(HEAD, lines[at]).groups()
         share = Share(int(number), int(of))
         own = [(place, line) for place, line in enumerate(lines[at + 1:after], at + 2) if line]
         wanted = len(range(int(count))[share.number - 1::share.of])
@@ -163,7 +167,7 @@ def shares_in(tool: str, path: str, text: str) -> Iterator[Tuple[Share, int, Lis
         yield share, int(count), [result_in(path, place, line) for place, line in own]
 
 
-def result_in(path: str, place: int, line: str) -> object:
+def result_in(path: str, place: int, line: str) -> Any:
     """Returns the result in a line of a part."""
     try:
         return json.loads(line)
@@ -171,14 +175,14 @@ def result_in(path: str, place: int, line: str) -> object:
         raise Failure(f"{path}:{place}: `{line[:200]}`: expected a result in JSON, on one line: run this share again") from error
 
 
-def joined(tool: str, paths: List[str]) -> List[object]:
+def joined(tool: str, paths: List[str]) -> List[Any]:
     """Returns the results of all items, from the files of parts."""
     return results_in(tool, [(path, bytes_of(path).removeprefix(MARK_OF_UTF8).decode("utf-8", "replace")) for path in paths])
 
 
 # Machines.
 
-def by_machines(tool: str, words: List[str], machines: List[str], what: str) -> List[object]:
+def by_machines(tool: str, words: List[str], machines: List[str], what: str) -> List[Any]:
     """Returns the results of all items. GNU parallel runs the shares on machines; each has the same files at the same paths."""
     parallel = shutil.which(PARALLEL)
     if parallel is None:
@@ -196,12 +200,12 @@ def by_machines(tool: str, words: List[str], machines: List[str], what: str) -> 
             given.seek(0)
             # (without SHELL and PARALLEL_SHELL it executes nothing, and ends with status 0)
             with subprocess.Popen(command, stdin=given, stdout=subprocess.PIPE, env=os.environ | {"PARALLEL_SHELL": "/bin/sh"}) as ran:
-                for line in ran.stdout:
+                for line in ran.stdout or ():
                     lines.append(line.decode("utf-8", "replace"))
                     progress.add(int(HEAD.fullmatch(lines[-1].rstrip("\n")) is not None))
     finally:
         progress.end()
     if ran.returncode:
-        raise Failure(f"GNU parallel ended with status {ran.returncode}: {ran.returncode if ran.returncode <= 100 else 'some'} of {of} shares "
-                      "failed: see the messages above")
+        raise Failure(f"GNU parallel ended with status {ran.returncode}: {ran.returncode if ran.returncode <= 100 else 'some'} of {of} "
+                      "shares failed: see the messages above")
     return results_in(tool, [("GNU parallel", "".join(lines))])

@@ -5,7 +5,12 @@ Only errors need this module."""
 import re
 import unicodedata
 from difflib import get_close_matches
+from functools import lru_cache
+from typing import Collection, Optional
 
+import line_causes
+import operand_causes
+from arithmetic import meant
 from dialect_causes import causes
 from dialects import FIELDS, LONG, OF_NUMBERS, REGISTERS, own_names, pairs
 from documents import codes_of, section_of, tables_of
@@ -15,12 +20,7 @@ GREATEST_WORD = 0x3FF
 # Instructions with a status bit, and with a place.
 OF_BITS, OF_PLACES = ("CLRF", "SETF", "?FSET"), ("R=", "?R=", "RCR")
 
-# Instructions of other processors, and what is written here.
-ELSEWHERE = {"CALL": "?NC XQ", "JSR": "?NC XQ", "BSR": "?NC XQ", "XEQ": "?NC XQ", "JMP": "?NC GO", "BRA": "?NC GO", "GO": "?NC GO",
-             "RET": "RTN", "RTS": "RTN", "RETURN": "RTN", "JZ": "JNC after ?C#0", "JNZ": "JC after ?C#0",
-             "BEQ": "JNC after ?C#0", "BNE": "JC after ?C#0", "BCC": "JNC", "BCS": "JC", "DB": "CON", "DW": "CON",
-             "BYTE": "CON", "WORD": "CON", "DEC": "SETDEC", "HEX": "SETHEX", "CLC": "NOP, which clears the carry", "PUSH": "PUSH ADR",
-             "POP": "POP ADR", "HALT": "RTN", "CLR": "C=0"}
+# Instructions of other processors that copy a register.
 OF_MOVES = ("MOV", "LD", "LDA", "STA", "LOAD", "STORE")
 
 # Operations that the processor does not have, and what comes near.
@@ -31,7 +31,8 @@ NEAREST = {
     "LSHFC": "RCR 13 rotates C to the left, LSHFA shifts A, and RSHFC shifts C to the right",
     "LSHFB": "LSHFA shifts A, and RSHFB shifts B to the right",
     "A=A+A": "C=C+C", "B=B+B": "C=C+C", "?A=0": "?A#0, and then JNC in place of JC", "?B=0": "?B#0, and then JNC in place of JC",
-    "?C=0": "?C#0, and then JNC in place of JC", "?A=C": "?A#C, and then JNC in place of JC", "?A=B": "C=B, then ?A#C, and then JNC in place of JC",
+    "?C=0": "?C#0, and then JNC in place of JC", "?A=C": "?A#C, and then JNC in place of JC",
+    "?A=B": "C=B, then ?A#C, and then JNC in place of JC",
     "?A#B": "C=B, and then ?A#C", "?B#C": "A<>B, and then ?A#C", "?A>C": "A<>C, and then ?A<C", "?A>B": "A<>B, and then ?A<B",
     "?C<A": "A<>C, and then ?A<C", "?B<A": "A<>B, and then ?A<B", "?A<=C": "A<>C and ?A<C, and then JNC in place of JC",
     "?A>=C": "?A<C, and then JNC in place of JC", "?A>=B": "?A<B, and then JNC in place of JC",
@@ -40,21 +41,30 @@ NEAREST = {
 OPERATION = re.compile(r"\??[ABC](?:=|<>|#|<=|>=|<|>)\S*|[LR]SH?F?[ABC]|(?:SHL|SHR|ROL|ROR)\S*")
 OF_A_CONSTANT = re.compile(r"([ABC])=(\d+)")
 ADDED = re.compile(r"([ABC])=\1([+-])(\d+)")
-OF_B = re.compile(r"B=B[+-]\S+")
 
 SIGNS = {"“": "a curly quote: write \"", "”": "a curly quote: write \"", "‘": "a curly quote: write '", "’": "a curly quote: write '",
          "\xa0": "a no-break space: write a space", "\u2007": "a no-break space: write a space",
-         "\u202f": "a no-break space: write a space", "\u200b": "a space without a width: remove it", "\ufeff": "a byte order mark: remove it",
+         "\u202f": "a no-break space: write a space", "\u200b": "a space without a width: remove it",
+         "\ufeff": "a byte order mark: remove it",
          "−": "a minus sign: write -", "–": "a dash: write -", "—": "a dash: write -", "≠": "an unequal sign: write #",
-         "；": "a wide semicolon: write ;"}
+         "；": "a wide semicolon: write ;", "„": "a curly quote: write \"", "«": "a quote of other languages: write \"",
+         "»": "a quote of other languages: write \"",
+         "→": "an arrow: a reference begins with a colon, and a result is written first, as in A=C ALL",
+         "←": "an arrow: write =", "↔": "an arrow: write <>",
+         "×": "a multiplication sign, and the processor does not multiply: C=C+C doubles C",
+         "≤": "a sign for a test that the processor does not have: ?A<C with A and C exchanged, and JNC in place of JC",
+         "≥": "a sign for a test that the processor does not have: ?A<C, and JNC in place of JC", "…": "an ellipsis: remove it"}
+# Letters of other alphabets that look like these.
+LOOK_ALIKE = dict(zip("АВСЕНКМОРТХУІЅΑΒΕΗΙΚΜΝΟΡΤΧΥΖ", "ABCEHKMOPTXYISABEHIKMNOPTXYZ"))
 
 
-def operations():
+@lru_cache(None)
+def operations() -> list[str]:
     """Returns the 32 operations on a field."""
     return [name for table in tables_of(section_of("PROCESSOR.md", "Arithmetic on a field")) for row in table for name in codes_of(row[1])]
 
 
-def named(sign):
+def named(sign: str) -> str:
     """Returns a sign with its number."""
     return f"{sign} (U+{ord(sign):04X})" if sign.isprintable() and not unicodedata.combining(sign) else f"U+{ord(sign):04X}"
 
@@ -62,38 +72,99 @@ def named(sign):
 class Mistake:
     """A source line with an error, for which a cause is wanted."""
 
-    def __init__(self, text, code):
+    def __init__(self, text: bytes, code: bytes) -> None:
+        """Takes a source line, and its code without the label and the comment."""
         self.text = text.decode("utf-8", "replace")
-        code = code.decode("utf-8", "replace")
+        self.code = code.decode("utf-8", "replace")
         # Where the code begins in the line, and its words, each with its column.
-        start = self.text.find(code) if code else 0
-        self.code = code
-        self.words = [(start + found.start() + 1, found[0]) for found in re.finditer(r"[^ \t]+", code)]
+        start = self.text.find(self.code) if code else 0
+        self.words = [(start + found.start() + 1, found[0]) for found in re.finditer(r"[^ \t]+", self.code)]
 
-    def name(self):
+    def name(self) -> tuple[str, list[tuple[int, str]]]:
         """Returns the instruction, which may have two words, and the words after it."""
         texts = [word for _, word in self.words]
         size = 2 if " ".join(texts[:2]) in self.names or " ".join(texts[:2]) in LONG else 1
         return " ".join(texts[:size]), self.words[size:]
 
-    names = ()
+    names: Collection[str] = ()
 
-    def cause(self, is_bad_line):
+    def cause(self, is_bad_line: bool) -> Optional[tuple[int, str]]:
         """Returns the column and the cause; None if the line does not show one."""
         if not self.words:
             return None
-        Mistake.names = Mistake.names or own_names()
-        for reading in (self.signs, self.quotes, self.of_others, self.operation, self.elsewhere, self.two, self.label, self.number, self.register, self.bit,
-                        self.field, self.page_label):
+        Mistake.names = Mistake.names or own_names() | {"NAME"}
+        of_lines = (self.early, self.colon, self.written_label, self.comment, self.case, self.space) if is_bad_line else (self.digits,)
+        for reading in (self.signs, self.quotes, *of_lines, self.of_others, self.elsewhere, self.operation, self.two, self.label,
+                        self.number, self.register, self.bit, self.page_label, *(() if is_bad_line else (self.operand,))):
             found = reading()
             if found:
                 return found
-        return self.likely() if is_bad_line else None
+        return self.statement() or self.likely() if is_bad_line else None
 
-    def of_others(self):
+    def is_instruction(self, code: str) -> bool:
+        """Returns whether a text begins with an instruction or a directive."""
+        words = code.split()
+        return bool(words) and any(name in self.names or name in operations() for name in (words[0], " ".join(words[:2])))
+
+    def colon(self) -> Optional[tuple[int, str]]:
+        """Finds a colon after an instruction, which the assembler reads as a label."""
+        label = re.match(r"\s*(\w+):\s", self.text)
+        if not label or label[1] not in self.names or self.is_instruction(self.code) or '"' in self.code:
+            return None
+        colon = "" if self.code[:1] in ":0123456789" else ":"
+        return label.end(1) + 1, f"no colon is after an instruction: write {label[1]} {colon}{self.code}"
+
+    def written_label(self) -> Optional[tuple[int, str]]:
+        """Finds a label that is written otherwise, and a second one."""
+        second = re.match(r"[A-Za-z]\w{0,11}:(?=\s|\Z)", self.code)
+        if second and re.match(r"\s*[A-Za-z]\w{0,11}:\s", self.text) and self.words[0][0] > 2:
+            return self.words[0][0], f"a line has one label: write {second[0]} in a line of its own"
+        after = re.fullmatch(r"\s*([A-Za-z]\w{0,11});\s+(\S.*)", self.text)
+        if after and self.is_instruction(after[2]) and not self.is_instruction(self.code):
+            return after.end(1) + 1, f"the colon of the label is missing: write {after[1]}:"
+        return line_causes.of_label(self.code, self.words[0][0], self.is_instruction)
+
+    def comment(self) -> Optional[tuple[int, str]]:
+        """Finds a comment that begins with other signs."""
+        return line_causes.of_comment(self.code, self.words[0][0])
+
+    def case(self) -> Optional[tuple[int, str]]:
+        """Finds an instruction in lower case."""
+        return line_causes.of_case(self.words, {*self.names, *operations()}, self.code)
+
+    def space(self) -> Optional[tuple[int, str]]:
+        """Finds an operand that touches its instruction."""
+        names = {*self.names, *operations()}
+        return line_causes.of_no_space(self.words, names, {name for name in names if operand_causes.kind_of(name, operations()) != "none"})
+
+    def operand(self) -> Optional[tuple[int, str]]:
+        """Finds what is wrong with the operand."""
+        name, rest = self.name()
+        if name not in self.names and name not in operations():
+            return None
+        start = self.words[0][0] - 1
+        after = start + len(self.code.rstrip()) + 1 if not rest else rest[0][0]
+        return operand_causes.cause_of(name, rest, after, operand_causes.kind_of(name, operations()))
+
+    def digits(self) -> Optional[tuple[int, str]]:
+        """Finds a letter in place of a digit, and a decimal number."""
+        found = self.operand()
+        return found if found and any(text in found[1] for text in ("letter in place of", "decimal number:")) else None
+
+    def early(self) -> Optional[tuple[int, str]]:
+        """Finds a statement of another language that looks like a line of another assembler."""
+        return self.statement() if line_causes.EARLY.match(self.code) else None
+
+    def statement(self) -> Optional[tuple[int, str]]:
+        """Finds a statement of another language."""
+        return line_causes.of_statement(self.code, self.words[0][0])
+
+    def of_others(self) -> Optional[tuple[int, str]]:
         """Finds the form of a line of another assembler. An operation must be one that the processor has, with its operands in either
         order."""
         for offset, cause in causes(self.code):
+            if cause.startswith("a name of a function") and '"' not in self.code and "'" not in self.code:
+                continue
             form = re.search(r"written ([ABC])=([ABC])([-+])([ABC]) ", cause)
             if form and "{}={}{}{}".format(*form.groups()) not in operations() and form[3] == "+":
                 cause = cause.replace(form[0], f"written {form[1]}={form[4]}+{form[2]} ")
@@ -106,17 +177,20 @@ class Mistake:
             return self.text.find(self.code) + offset + 1, cause
         return None
 
-    def signs(self):
+    def signs(self) -> Optional[tuple[int, str]]:
         """Finds characters that look like others."""
         for at, sign in enumerate(self.text.split(";")[0] if '"' not in self.text else self.code):
             column = at + 1 + (0 if '"' not in self.text else self.text.find(self.code))
             if sign in SIGNS:
                 return column, f"{named(sign)} is {SIGNS[sign]}"
+            plain = LOOK_ALIKE.get(sign) or unicodedata.normalize("NFKC", sign)
+            if not sign.isascii() and plain.isascii() and plain.isprintable() and plain != sign:
+                return column, f"{named(sign)} only looks like {plain}: write {plain}"
             if not sign.isascii():
                 return column, f"{named(sign)} is not a character of sources, which are in ASCII before the comment"
         return None
 
-    def quotes(self):
+    def quotes(self) -> Optional[tuple[int, str]]:
         """Finds a quote without its other one."""
         if self.code.count('"') % 2:
             return self.text.rfind('"') + 1, "the other quote is missing"
@@ -124,34 +198,43 @@ class Mistake:
             return self.words[1][0], "a name is in double quotes: NAME \"KIT\""
         return None
 
-    def operation(self):
+    def body(self) -> str:
+        """Returns the operation without spaces and without its field."""
+        return line_causes.parts_of([word for _, word in self.words])[0].rstrip(";,")
+
+    def operation(self) -> Optional[tuple[int, str]]:
         """Finds an operation that the processor does not have."""
         column, first = self.words[0]
         flat = "".join(word for _, word in self.words) if len(self.words) > 2 and self.words[1][1] == "=" else first
-        if first in self.names or not OPERATION.fullmatch(flat) or flat in operations():
-            return None
+        registers = (line_causes.of_registers(flat, column) or line_causes.of_special(self.body(), column)
+                     or line_causes.of_condition(self.words))
+        if first in self.names or registers or not OPERATION.fullmatch(flat) or flat in operations():
+            is_own = first in self.names or first in operations()
+            return registers or (None if is_own else line_causes.of_operation(self.code, column, operations()))
         added, constant = ADDED.fullmatch(flat), OF_A_CONSTANT.fullmatch(flat)
         if flat in NEAREST:
             return column, f"the processor has no {flat}: {NEAREST[flat]}"
+        own = line_causes.of_operation(self.code, column, operations())
+        if own:
+            return own
         if added and added[3] not in "01":
             return column, f"the processor has no {flat}: it adds and subtracts only 1; or put the number into C with LDI or LD@R"
         if constant:
             return column, f"the processor has no {flat}: LDI puts a word into C, and LD@R a digit"
-        if OF_B.fullmatch(flat):
-            return column, f"the processor has no {flat}, because B takes part only as the second operand: use A<>B, A=A.. and A<>B"
         near = get_close_matches(flat, operations(), 3, 0.5)
         return column, f"the processor has no {flat}{f': the nearest are {chr(32).join(near)}' if near else ''}"
 
-    def elsewhere(self):
+    def elsewhere(self) -> Optional[tuple[int, str]]:
         """Finds an instruction of another processor."""
         column, first = self.words[0]
-        if first.upper() in ELSEWHERE and first.upper() not in self.names:
-            return column, f"{first} is an instruction of another processor: here it is {ELSEWHERE[first.upper()]}"
         if first.upper() in OF_MOVES:
-            return column, f"{first} is an instruction of another processor: here a copy is written as A=C, LDI puts a word into C, and READ a register"
-        return None
+            flat = meant(self.code)
+            more = f"; the processor has no {flat}: {NEAREST[flat]}" if flat in NEAREST else ""
+            return column, (f"{first} is an instruction of another processor: here a copy is written as A=C, LDI puts a word into C, and "
+                            f"READ a register{more}")
+        return line_causes.of_elsewhere(self.words, self.code, self.names, operations())
 
-    def two(self):
+    def two(self) -> Optional[tuple[int, str]]:
         """Finds two instructions in one line."""
         name, rest = self.name()
         if name not in self.names and name not in operations():
@@ -163,14 +246,15 @@ class Mistake:
                 return column, f"a line has one instruction: write {two if two in self.names else word} in a line of its own"
         return None
 
-    def label(self):
+    def label(self) -> Optional[tuple[int, str]]:
         """Finds a name in place of a reference after a short or long jump, and a number in place of a displacement."""
         name, rest = self.name()
         if name in ("JNC", "JC") and len(rest) == 1 and re.fullmatch("[0-9A-F]{4}", rest[0][1]):
-            return rest[0][0], f"a short jump takes a label or a displacement; to jump to the address {rest[0][1]} write ?{name[1:]} GO {rest[0][1]}"
+            return rest[0][0], (f"a short jump takes a label or a displacement; to jump to the address {rest[0][1]} write "
+                                f"?{name[1:]} GO {rest[0][1]}")
         return None
 
-    def number(self):
+    def number(self) -> Optional[tuple[int, str]]:
         """Finds a number that is too large, or written in another base."""
         name, rest = self.name()
         if len(rest) != 1:
@@ -184,7 +268,7 @@ class Mistake:
             return column, f"{text} has {len(text)} {'digit' if len(text) == 1 else 'digits'}: an address has four, for example 8010"
         return None
 
-    def register(self):
+    def register(self) -> Optional[tuple[int, str]]:
         """Finds the name of a register of the stack, or of memory, in place of its number."""
         name, rest = self.name()
         if name not in ("READ", "WRIT") or len(rest) != 1 or rest[0][1] not in REGISTERS or rest[0][1] == "A":
@@ -193,23 +277,14 @@ class Mistake:
         own = "READ DATA" if name == "READ" and number == 0 else f"{name} {number}"
         return rest[0][0], f"{rest[0][1]} is register {number}: write {own}"
 
-    def bit(self):
+    def bit(self) -> Optional[tuple[int, str]]:
         """Finds the number of a flag in place of that of a status bit."""
         name, rest = self.name()
         if name not in OF_BITS or len(rest) != 1 or not rest[0][1].isdecimal() or int(rest[0][1]) < 14:
             return None
         return rest[0][0], f"the status bits are 0 to 13; flag {int(rest[0][1])} of programs is in register d: READ 14"
 
-    def field(self):
-        """Finds a field that does not exist, and gives the nearest name."""
-        name, rest = self.name()
-        if name not in operations() or len(rest) != 1 or rest[0][1] in FIELDS or rest[0][1].startswith(":"):
-            return None
-        if rest[0][1].upper() in FIELDS or rest[0][1] in ("X", "S", "W", "WPT", "PT", "PQ", "@PT"):
-            return None
-        return rest[0][0], f"no field is named {rest[0][1]}: expected one of {' '.join(FIELDS)}"
-
-    def page_label(self):
+    def page_label(self) -> Optional[tuple[int, str]]:
         """Finds a label of another page."""
         for column, word in self.words[1:]:
             if re.fullmatch(r":[A-Za-z]\w{0,11}\.[A-Za-z]\w{0,11}", word):
@@ -218,7 +293,7 @@ class Mistake:
                 return column, f"{word[1:]} has {len(word) - 1} characters: a name has at most 12"
         return None
 
-    def likely(self):
+    def likely(self) -> Optional[tuple[int, str]]:
         """Returns what a word that is no instruction may be."""
         column, first = self.words[0]
         if not re.match(r"[A-Za-z?0-9]", first):
@@ -233,7 +308,11 @@ class Mistake:
         if len(self.words) > 2 and sum(word.isalpha() and not word.isupper() for _, word in self.words) > 1:
             return column, "no instruction; if this is a comment, begin it with ;"
         two = " ".join(word for _, word in self.words[:2])
-        near = get_close_matches(first.upper(), [*self.names, *operations()], 1, 0.7) or get_close_matches(two.upper(), self.names, 1, 0.8)
+        near = get_close_matches(two.upper(), [name for name in self.names if " " in name], 1, 0.8) if self.words[1:] else []
+        near = [name for name in self.names if sorted(name) == sorted(first.upper()) and len(first) > 2] or near
+        if near and near[0] != two.upper():
+            return column, f"no instruction {two if ' ' in near[0] else first}; the nearest is {near[0]}"
+        near = get_close_matches(first.upper(), [*self.names, *operations()], 1, 0.7)
         if near and near[0] != first.upper():
             return column, f"no instruction {first}; the nearest is {near[0]}"
         others = {other: here for other, here in pairs() if " " not in other}

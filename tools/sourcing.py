@@ -42,7 +42,8 @@ def bank_of(words: list[bytes]) -> int:
 
 def parts_of_deck(path: str, deck: bytes, items: list[tuple[int, int]]) -> list[Part]:
     """Returns the sources of a deck: its blocks `asm`. A later block for the same bank replaces an earlier one."""
-    lines, found = lines_of(deck), {}
+    lines = lines_of(deck)
+    found: dict[tuple[int, int], Part] = {}
     for first, last in items:
         words = words_of(lines[first])
         if words[:1] == [b"unplug"] and words[1:]:
@@ -63,6 +64,7 @@ class Places:
     """The sources of all pages."""
 
     def __init__(self, parts: list[Part]) -> None:
+        """Collects the labels of the sources."""
         self.parts = parts
         self.labels: dict[str, list[Part]] = {}
         for part in parts:
@@ -81,7 +83,7 @@ class Places:
         """Returns the last label at or before an address with the offset in hexadecimal words; without a label, the four digits."""
         part, place = self.part_at(address, bank), address & 0xFFF
         before = [(at, name) for name, at in part.labels.items() if at <= place] if part else []
-        if not before:
+        if part is None or not before:
             return f"{address:04X}"
         at, name = max(before)
         full = name if len(self.labels[name]) == 1 else f"{part.name}.{name}"

@@ -2,11 +2,15 @@
 
 Signs and names are in the tables of docs/PROGRAMS.md. This module has the forms of lines: numbers, texts, labels, and functions with an
 operand. A line has several possible texts, the likeliest first; the bench decides which of them it can read."""
+from __future__ import annotations
+
 import re
 from dataclasses import dataclass, field
+from typing import Iterable, Optional
 
 from documents import codes_of, section_of, tables_of
 from doubts import COMMA, doubtful
+from functions import Functions
 
 DOCUMENT = "PROGRAMS.md"
 
@@ -47,31 +51,31 @@ DECIMAL_COMMA = re.compile(r"[0-9]*,[0-9]*")
 class Tables:
     """The tables of the document."""
 
-    everywhere: dict = field(default_factory=dict)
-    in_names: dict = field(default_factory=dict)
-    in_texts: dict = field(default_factory=dict)
-    names: dict = field(default_factory=dict)
-    printed: dict = field(default_factory=dict)
+    everywhere: dict[str, str] = field(default_factory=dict)
+    in_names: dict[str, str] = field(default_factory=dict)
+    in_texts: dict[str, str] = field(default_factory=dict)
+    names: dict[str, str] = field(default_factory=dict)
+    printed: dict[str, str] = field(default_factory=dict)
 
-    def key(self, name):
+    def key(self, name: str) -> str:
         """Returns the key of a name in the tables: in capitals, with its signs replaced, without spaces."""
         name = re.sub(r"[a-z]", lambda letter: letter[0].upper(), re.sub(r"\s", "", name))
         return replaced(name, self.in_names)
 
-    def name(self, name):
+    def name(self, name: str) -> str:
         """Returns the name that the bench has for a function. A name that is not in the table is not changed."""
         key = self.key(name)
         return self.names.get(key, key)
 
 
-def replaced(text, signs):
+def replaced(text: str, signs: dict[str, str]) -> str:
     """Returns a text with its signs replaced."""
     for sign, other in signs.items():
         text = text.replace(sign, other)
     return text
 
 
-def read_tables():
+def read_tables() -> Tables:
     """Returns the tables of signs and names."""
     tables = Tables()
     for signs, other in tables_of(section_of(DOCUMENT, "Signs everywhere"))[0]:
@@ -88,12 +92,12 @@ def read_tables():
     return tables
 
 
-def sign_of(code):
+def sign_of(code: str) -> str:
     """Returns a sign of the first table, which may be written as U+ and its number."""
     return chr(int(code[2:], 16)) if re.fullmatch(r"U\+[0-9A-F]{4}", code) else code
 
 
-def outside_quotes(text, sign):
+def outside_quotes(text: str, sign: str) -> int:
     """Returns where a sign first occurs outside quotes; -1 if it does not."""
     quoted = False
     for at, letter in enumerate(text):
@@ -103,29 +107,34 @@ def outside_quotes(text, sign):
     return -1
 
 
+# Possible texts of a line, each with a remark.
+Readings = list[tuple[str, str]]
+
+
 class Speller:
     """Translates the lines of a listing. All numbers of the listing decide what a comma means. `functions` are the known functions of
     modules."""
 
-    def __init__(self, tables, lines, functions=None):
+    def __init__(self, tables: Tables, lines: Iterable[str], functions: Optional[Functions] = None) -> None:
+        """Finds out from the lines of the listing whether a comma is the decimal point."""
         self.tables, self.functions = tables, functions
         numbers = [found[2] for found in map(NUMBER.fullmatch, map(self.plain, lines)) if found]
         certain = [number for number in numbers if "," in number and not self.is_ambiguous(number)]
         self.comma_is_point = bool(certain) and not any(map(GROUPS.fullmatch, certain))
 
     @staticmethod
-    def is_ambiguous(number):
+    def is_ambiguous(number: str) -> bool:
         """Returns whether a comma may separate thousands or be the decimal point."""
         return number.count(",") == 1 and "." not in number and GROUPS.fullmatch(number) is not None
 
-    def plain(self, line):
+    def plain(self, line: str) -> str:
         """Returns a line in ASCII signs, without its comment and without a sign before its LBL."""
         line = replaced(line, self.tables.everywhere)
         at = outside_quotes(line, ";")
         line = (line if at < 0 else line[:at]).strip()
         return re.sub(rf"\A[{re.escape(LABEL_MARKS)}]\s*(?=LBL\b)", "", line, flags=re.I)
 
-    def spellings(self, line):
+    def spellings(self, line: str) -> Optional[Readings]:
         """Returns the possible texts of a line, the likeliest first, each with a remark. None if nothing is left of the line, for example
         of a comment."""
         line = self.plain(line)
@@ -136,7 +145,7 @@ class Speller:
             found += form(line)
         return found
 
-    def number(self, line):
+    def number(self, line: str) -> Readings:
         """Reads a number: spaces and plus signs are removed, and commas are interpreted."""
         found = NUMBER.fullmatch(line)
         if not found or found[4] is None and not re.search(r"[0-9]", found[2]):
@@ -148,7 +157,7 @@ class Speller:
         end = "" if exponent is None else f"E{exponent_sign.replace('+', '')}{exponent}"
         return [(f"{sign.replace('+', '')}{read}{end}", remark)]
 
-    def commas(self, mantissa):
+    def commas(self, mantissa: str) -> tuple[Optional[str], str]:
         """Returns a mantissa without commas, and a remark on how they were read."""
         if "," not in mantissa:
             return mantissa, ""
@@ -165,11 +174,11 @@ class Speller:
             return point, "the comma is read as the decimal point"
         return None, ""
 
-    def characters(self, text):
+    def characters(self, text: str) -> str:
         """Returns the characters of a text or a name in quotes."""
         return replaced(text, self.tables.in_texts)
 
-    def text(self, line):
+    def text(self, line: str) -> Readings:
         """Reads a text for ALPHA."""
         for form, front in ((APPENDED_WITHIN, ">"), (APPENDED, ">"), (TEXT, "")):
             found = form.fullmatch(line)
@@ -179,16 +188,16 @@ class Speller:
         return []
 
     @staticmethod
-    def module(line):
+    def module(line: str) -> Readings:
         """Reads a function of a module by its numbers."""
         found = MODULE.fullmatch(line)
         return [(f"XROM {int(found[1]):02},{int(found[2]):02}", "")] if found else []
 
-    def named(self, line):
+    def named(self, line: str) -> Readings:
         """Reads a function of a module by its name."""
         return self.functions.spellings(self.tables.key(line)) if self.functions else []
 
-    def function(self, line):
+    def function(self, line: str) -> Readings:
         """Reads a function with an operand."""
         found = OPERATED.fullmatch(line)
         if not found or EXCHANGE.fullmatch(line):
@@ -197,7 +206,7 @@ class Speller:
         return [(f"{self.tables.name(name)} {'IND ' if indirect else ''}{self.operand(operand)}", "")]
 
     @staticmethod
-    def operand(text):
+    def operand(text: str) -> str:
         """Returns an operand: two digits, a letter, or the append register."""
         if text.isdecimal():
             return f"{int(text):02}"
@@ -207,7 +216,7 @@ class Speller:
             return text if text in "abcde" else text.upper()
         return "append"
 
-    def label(self, line):
+    def label(self, line: str) -> Readings:
         """Reads a label with a name, in quotes or without."""
         found = LABELLED.fullmatch(line)
         if not found:
@@ -217,12 +226,12 @@ class Speller:
             return []
         return [(f'{found[1].upper()} "{self.characters(name)}"', "")]
 
-    def function_called(self, text):
+    def function_called(self, text: str) -> Optional[str]:
         """Returns the line that would be the function of the called name; None if the line does not call a name."""
         found = re.fullmatch(r'XEQ "([^"]+)"', text)
         return self.tables.name(found[1]) if found else None
 
-    def whole(self, line):
+    def whole(self, line: str) -> Readings:
         """Reads a function without an operand."""
         if LAST.fullmatch(line):
             return [(".END.", "")]
@@ -235,7 +244,7 @@ class Speller:
         return found + [(self.tables.name(f"{line}?"), "a test without its question mark")] if TEST.fullmatch(line) else found
 
     @staticmethod
-    def remark_on(line):
+    def remark_on(line: str) -> str:
         """Returns a remark if a line that the bench reads may be meant differently; otherwise an empty text."""
         found = ONE_LETTER.fullmatch(line)
         if found:
@@ -243,13 +252,13 @@ class Speller:
         return ""
 
 
-def printed(tables, line, names):
+def printed(tables: Tables, line: str, names: dict[str, str]) -> str:
     """Returns a line as archives print it, which is read as the same line again. Functions of modules are printed by name."""
     if line in names:
         return names[line]
     found = re.fullmatch(r'(>?|[A-Z]+ )(".*")', line)
     if found:
-        signs = {}
+        signs: dict[str, str] = {}
         for sign, other in tables.in_texts.items():
             signs.setdefault(other, sign)
         return found[1].replace(">", "├") + replaced(found[2], signs)

@@ -1,15 +1,12 @@
 """The steps of a call: each with its bank, label and source line, the jump target by its label, and what the step changed."""
-import os
 import re
 from collections.abc import Iterator
-from importlib.machinery import SourceFileLoader
-from importlib.util import module_from_spec, spec_from_loader
-from types import ModuleType
 from typing import Any, NamedTuple
 
 from calls import Call, Caller
-from decks import NO_ANSWER, TOP, Failure, ended
+from decks import NO_ANSWER, Failure, ended
 from linking import Linked
+from loading import tool
 from values import lost_of
 
 MICRO = re.compile(r"Micro ([0-9A-F]{4}) (.*)")
@@ -23,14 +20,6 @@ MOST_TRACED = 20_000
 
 # The column of the changes.
 BESIDE = 58
-
-
-def tool(name: str) -> ModuleType:
-    """Returns another tool as a module."""
-    loader = SourceFileLoader(f"tool_{name}", os.path.join(TOP, "tools", name))
-    module = module_from_spec(spec_from_loader(loader.name, loader))
-    loader.exec_module(module)
-    return module
 
 
 class Step(NamedTuple):
@@ -59,6 +48,7 @@ class Banks:
     """The active banks of the pages, as the traced instructions change them."""
 
     def __init__(self, linked: Linked) -> None:
+        """Begins with bank 1 of each page."""
         self.active: dict[int, int] = {}
         self.plugged = {(int(unit.page, 16), unit.bank.bank) for unit in linked.units}
 
@@ -110,15 +100,18 @@ def steps_in(linked: Linked, steps: int, lines: Iterator[str], count: int, parts
         after = parts_of([next(lines) if refusal else first, *(next(lines) for _ in range(count - 1))])
         found = MICRO.fullmatch(line)
         address = int(found[1], 16) if found else None
-        yield Step(address, banks.of(address) if found else 1, found[2] if found else line, before, after, refusal)
-        if found and not refusal:
-            banks.follow(address, found[2])
+        text = found[2] if found else line
+        yield Step(address, banks.of(address) if address is not None else 1, text, before, after, refusal)
+        if address is not None and not refusal:
+            banks.follow(address, text)
         before = after
 
 
 def target_of(linked: Linked, step: Step, banks: dict[int, int]) -> str:
     """Returns the label of the target of a jump, after an arrow; an empty text for other instructions."""
     long, short = LONG.fullmatch(step.text), SHORT.fullmatch(step.text)
+    if step.address is None:
+        return ""
     if long:
         address = int(long[1], 16)
     elif short:

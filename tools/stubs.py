@@ -132,6 +132,7 @@ def junk_of(seed: int) -> dict[str, str]:
     state = (seed * 2654435761 + 0x9E3779B9) & 0xFFFFFFFF or 1
 
     def below(limit: int) -> int:
+        """Returns the next pseudorandom number below a limit."""
         nonlocal state
         state ^= state << 13 & 0xFFFFFFFF
         state ^= state >> 17

@@ -8,7 +8,7 @@ from decks import Failure
 from files import put
 from linking import Linked
 from projects import Project, Reader
-from settings import CPU, DATA_NAME, MEMORY_NAME, STACK, Setting, Wrong, reader_of, settings_in
+from settings import DATA_NAME, MEMORY_NAME, STACK, Setting, Wrong, reader_of, settings_in
 from values import text_of
 
 SEEDS = (1, 2, 3)
@@ -53,8 +53,9 @@ class Tests:
     """The cases of a module, their results without junk, and their results with the junk of each seed."""
 
     def __init__(self, linked: Linked, cases: list[Case], seeds: list[int]) -> None:
+        """Runs the cases."""
         self.caller, self.cases = Caller(linked), cases
-        self.views = {}
+        self.views: dict[tuple[str, ...], Views] = {}
         calls = []
         for case in cases:
             # The display shows whether a function with a quoted name exists.
@@ -131,7 +132,8 @@ def junit(name: str, reports: list[Report]) -> str:
              f'<testsuite name={quoteattr(name)} tests="{len(reports)}" failures="{failed}">']
     for report in reports:
         case = report.case
-        head = f"<testcase classname={quoteattr(case.path)} name={quoteattr(case.name())} file={quoteattr(case.path)} line=\"{case.number}\""
+        head = (f"<testcase classname={quoteattr(case.path)} name={quoteattr(case.name())} file={quoteattr(case.path)} "
+                f'line="{case.number}"')
         if report.passed:
             lines.append(f"{head}/>")
             continue
@@ -173,10 +175,12 @@ def cases_of(linked: Linked, options: argparse.Namespace) -> list[Case]:
     if options.table is not None:
         names = options.values.split(",") if options.values else []
         try:
-            wanted = [Setting(name, "", "") for name in names if reader_of(name)]
+            for name in names:
+                reader_of(name)
         except Wrong as why:
             raise Failure(f"--values: {why}", 2) from why
-        cases = table_in(options.table, options.call, common)
+        wanted = [Setting(name, "", "") for name in names]
+        cases = table_in(options.table, options.call, common, options.write is not None)
         return [case._replace(after=[*case.after, *wanted]) for case in cases] if wanted else cases
     files = options.files or project.tests
     if not files:

@@ -15,8 +15,14 @@ CURLY = "“”„‘’«»"
 # Lines with an error, each with its usual cause; the groups of the pattern replace the placeholders.
 CAUSES = [
     (rf"[^#]*?[{CURLY}].*", "a text is in straight quotes, \" or '"),
+    (r"[^#]*[=\[,]\s*(?:'[^'\"]*\"|\"[^'\"]*')\s*\]?\s*", "the quotes before and after a text differ"),
     (r"\s*(?:;|//|\*).*|[^#]*[\"'\]\d]\s*(?:;|//).*", "a comment begins with #"),
     (r"\s*\[[^\]#]*(?:#.*)?", "the bracket ] is missing"),
+    (r"\s*\[\s*page[\s:/-]+(\w+)\s*\].*", "a point is between page and the name: [page.{0}]"),
+    (r"\s*\[[\w.]+\]\s*([^#\s].*)", "a table has a line of its own: write {0} in the next line"),
+    (r"\s*([\w.-]+)\s*==+\s*(.*)", "one = is between a key and its value: {0} = {1}"),
+    (r"\s*([\w.-]+\s*=\s*(?:\"[^\"]*\"|'[^']*'|[\w.]+|\[.*\]))\s*[,;]\s*(?:#.*)?", "nothing is after a value: {0}"),
+    (r"\s*(?:let|var|set|const|def)\s+([\w.-]+)\s*=\s*(.*)", "a key has no word before it: {0} = {1}"),
     (r"\s*([\w.-]+)\s*:.*", "write = between a key and its value, not a colon: {0} = .."),
     (r"\s*([\w.-]+)(?:\s+[^=\s#].*)?", "a line is a key, = and a value, for example {0} = .., or a table such as [page.MAIN]"),
     (r"\s*([\w.-]+)\s*=[\s=]*(?:#.*)?", "the value of {0} is missing"),
@@ -43,7 +49,7 @@ def cause_of(line: str) -> str:
 
 def is_open(line: str) -> bool:
     """Returns whether a quote or bracket of a line is open at its end, or a key has no value."""
-    code = re.sub(r"#.*", "", re.sub(r"\"[^\"]*\"|'[^']*'", "", line))
+    code = re.sub(r"#.*", "", re.sub(r"\"[^\"]*\"|'[^']*'", "0", line))
     return '"' in code or "'" in code or code.count("[") > code.count("]") or bool(re.fullmatch(r"\s*[\w.-]+\s*=?\s*", code))
 
 
@@ -58,6 +64,20 @@ def place_of(lines: list[str], message: str) -> tuple[str, int, str]:
     return why, opened, column if opened == number else ""
 
 
+def first_of(lines: list[str], number: int) -> str:
+    """Returns in words which line has the key or the table of a line already."""
+    head, key = (re.compile(pattern) for pattern in (r"\s*\[+\s*([^\]]+?)\s*\]", r"\s*[\"']?([\w.-]+)[\"']?\s*="))
+    found: dict[tuple[str, str], int] = {}
+    section = ""
+    for at, line in enumerate(lines, 1):
+        table, one = head.match(line), key.match(line)
+        section = table[1] if table else section
+        first = found.setdefault((section, one[1] if one and not table else ""), at) if table or one else at
+        if at == number and first != at:
+            return f"line {first} has this {'table' if table else 'key'} already"
+    return "this key or table is already in the file"
+
+
 def toml_in(path: str) -> tuple[str, dict[str, Any]]:
     """Returns the text of a file in TOML, and its values."""
     # Python has it from version 3.11 on.
@@ -69,12 +89,14 @@ def toml_in(path: str) -> tuple[str, dict[str, Any]]:
     except UnicodeDecodeError as error:
         # (the offset is after the byte order mark, if there is one)
         at = error.start + len(data) - len(error.object)
-        raise Failure(f"{path}:{data.count(10, 0, at) + 1}: byte {data[at]:02X} at offset {at} is not valid UTF-8: save the file as UTF-8") from error
+        raise Failure(f"{path}:{data.count(10, 0, at) + 1}: byte {data[at]:02X} at offset {at} is not valid UTF-8: save the file as "
+                      "UTF-8") from error
     except tomllib.TOMLDecodeError as error:
         lines = text.split("\n")
         why, number, column = place_of(lines, str(error))
         line = lines[number - 1].rstrip("\r") if number else ""
         is_twice = why.startswith(("Cannot overwrite", "Cannot declare", "Cannot mutate"))
-        cause = "this key or table is already in the file" if is_twice else cause_of(line)
+        cause = first_of(lines, number) if is_twice else cause_of(line)
+        column = str(len(line) - len(line.lstrip()) + 1) if is_twice and column else column
         place = f"{path}:{number}: `{line.strip()[:200]}`" if number else path
         raise Failure(f"{place}: {f'column {column}: ' if column else ''}not a file in TOML: {cause or why}") from error

@@ -4,8 +4,10 @@ line.
 If words name keys, a text in quotes means ALPHA, the keys of its letters and ALPHA again, and a number means its keys: `XEQ "QUAD"`,
 `-1.5E-3 ENTER`. If ALPHA is on already, or a name is being typed, a text means its letters alone: see alpha.py."""
 import re
+from typing import Optional
 
 from keyboard import KEYS
+from matches import whole
 
 LONGEST_NAME = 7
 
@@ -35,19 +37,19 @@ class NoKeys(Exception):
     """The reason why there are no keys."""
 
 
-def letter_keys(letter):
+def letter_keys(letter: str) -> list[str]:
     """Returns the keys that type a letter in ALPHA mode; an empty list if no key does."""
     if letter in LETTERS:
         return [LETTERS[letter]]
     return ["SHIFT", letter] if letter in OWN else []
 
 
-def characters(text):
+def characters(text: str) -> list[str]:
     """Returns the characters of a text; some are written as a backslash and two digits."""
     return re.findall(r"\\[0-9A-F]{2}|.", text, re.S)
 
 
-def untyped(text):
+def untyped(text: str) -> list[str]:
     """Returns the characters of a text that no key types."""
     return list(dict.fromkeys(letter for letter in characters(text) if not letter_keys(letter)))
 
@@ -56,7 +58,7 @@ class Text(str):
     """A text in quotes among keys, without its quotes."""
 
 
-def letters_of(text):
+def letters_of(text: str) -> list[str]:
     """Returns the keys of the letters of a text."""
     if untyped(text):
         has_capitals = text != text.upper() and not untyped(text.upper())
@@ -64,19 +66,19 @@ def letters_of(text):
     return [key for letter in text for key in letter_keys(letter)]
 
 
-def why_no_key(name):
+def why_no_key(name: str) -> str:
     """Returns that no key has a name, and what to write for it."""
     is_typed = name.isalpha() and not untyped(name.upper())
     letters = f'; to press its letters, write it in quotes, "{name.upper()}"' if is_typed else ""
     return f"no key is named {name}: `tools/keyboard text` shows the names{letters}"
 
 
-def text_keys(text):
+def text_keys(text: str) -> list[str]:
     """Returns the keys of a text, between two ALPHA."""
     return ["ALPHA", *letters_of(text), "ALPHA"]
 
 
-def why_no_name(name):
+def why_no_name(name: str) -> str:
     """Returns why no keys type a name of a label; an empty text if some do."""
     if len(characters(name)) > LONGEST_NAME:
         return f"{len(characters(name))} characters"
@@ -85,30 +87,30 @@ def why_no_name(name):
     return f"XEQ {name} on the keyboard calls the local label {name}" if re.fullmatch("[A-J]", name) else ""
 
 
-def number_keys(number):
+def number_keys(number: str) -> list[str]:
     """Returns the keys of a number. CHS follows the first digits, or EEX."""
-    sign, mantissa, exponent_sign, exponent = NUMBER.fullmatch(number).groups()
+    sign, mantissa, exponent_sign, exponent = whole(NUMBER, number).groups()
     keys = list(mantissa) + ["CHS"] * (sign == "-")
     if exponent is not None:
         keys += ["EEX", *["CHS"] * (exponent_sign == "-"), *exponent]
     return keys
 
 
-def is_number(word):
+def is_number(word: str) -> bool:
     """Returns whether a word is a number that keys type: its mantissa has a digit."""
     found = NUMBER.fullmatch(word)
     return found is not None and re.search("[0-9]", found[2]) is not None
 
 
-def is_other_number(word):
+def is_other_number(word: str) -> bool:
     """Returns whether a word is a number that no keys type as it is, such as 1,5 or 1e5."""
     found = OTHER_NUMBER.fullmatch(word)
     return not is_number(word) and found is not None and re.search("[0-9]", found[2]) is not None
 
 
-def why_no_number(word):
+def why_no_number(word: str) -> str:
     """Returns what to type for a number that no keys type as it is."""
-    sign, mantissa, exponent_sign, exponent = OTHER_NUMBER.fullmatch(word).groups()
+    sign, mantissa, exponent_sign, exponent = whole(OTHER_NUMBER, word).groups()
     end = "" if exponent is None else f"E{exponent_sign.replace('+', '')}{exponent}"
     typed = f"{sign.replace('+', '')}{mantissa.replace(',', '.')}{end}"
     if not is_number(typed):
@@ -116,22 +118,22 @@ def why_no_number(word):
     return f"no keys type the number {word}: write {typed}"
 
 
-def is_label_next(keys):
+def is_label_next(keys: list[str]) -> bool:
     """Returns whether keys end with one that asks for a label: XEQ, GTO or LBL."""
     return keys[-1:] == ["XEQ"] and keys[-2:-1] != ["SHIFT"] or \
         keys[-2:-1] == ["SHIFT"] and keys[-1] in KEYS and KEYS[keys[-1]].shifted in ("GTO", "LBL")
 
 
-def check_name(name):
+def check_name(name: str) -> None:
     """Raises NoKeys if the name of a label has too many letters for the keys."""
     if len(characters(name)) > LONGEST_NAME:
         raise NoKeys(f'"{name}" has {len(characters(name))} letters: a label has at most seven letters')
 
 
-def pieces_of(text):
+def pieces_of(text: str) -> list[str]:
     """Returns the names of the keys for some words, with each text as one piece. A word that is neither a text nor a number is not
     changed."""
-    pieces = []
+    pieces: list[str] = []
     for word in WORD.findall(text):
         if word.startswith('"'):
             if len(word) < 2 or not word.endswith('"'):
@@ -149,19 +151,19 @@ def pieces_of(text):
     return pieces
 
 
-def keys_of(text):
+def keys_of(text: str) -> list[str]:
     """Returns the names of the keys for some words, if ALPHA is off before each text. alpha.py has those for any state."""
     return [key for piece in pieces_of(text) for key in (text_keys(piece) if isinstance(piece, Text) else [piece])]
 
 
-def is_spelled(word):
+def is_spelled(word: str) -> bool:
     """Returns whether a word is not the name of a key, but a number or the beginning of a text."""
     return word not in KEYS and (word.startswith('"') or is_number(word) or is_other_number(word))
 
 
 # Lines.
 
-def function_keys(name):
+def function_keys(name: str) -> list[str]:
     """Returns the keys of a function: its own, or XEQ and its name in letters."""
     for key in KEYS.values():
         if OTHERWISE.get(key.name, key.name) == name and not key.name.isdecimal() and key.name not in NO_FUNCTIONS:
@@ -171,9 +173,10 @@ def function_keys(name):
     return BEHIND_STO.get(name) or ["XEQ", *text_keys(name)]
 
 
-def operand_keys(name, indirect, operand):
+def operand_keys(name: str, indirect: Optional[str], operand: str) -> list[str]:
     """Returns the keys of an operand."""
-    keys, wanted = list(operand), "digits, or X, Y, Z, T or L"
+    keys: Optional[list[str]] = list(operand)
+    wanted = "digits, or X, Y, Z, T or L"
     if not operand.isdecimal():
         keys = [".", LETTERS[operand]] if operand in "TZYXL" else None
     elif name in OF_ONE_DIGIT and not indirect:
@@ -183,7 +186,7 @@ def operand_keys(name, indirect, operand):
     return ["SHIFT"] * bool(indirect) + keys
 
 
-def line_keys(text):
+def line_keys(text: str) -> list[str]:
     """Returns the keys of a line."""
     if is_number(text):
         return number_keys(text)

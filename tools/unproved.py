@@ -8,6 +8,7 @@ import signal
 import subprocess
 import sys
 import tempfile
+from typing import IO, Iterator, NoReturn, Optional, Union
 
 from decks import MEMORY, running, with_keys
 
@@ -38,7 +39,7 @@ class NoAnswer(Exception):
 
 
 @contextlib.contextmanager
-def no_answer_without_room():
+def no_answer_without_room() -> Iterator[None]:
     """Turns errors of this machine, such as a full disk, into reasons why there is no answer."""
     try:
         yield
@@ -46,7 +47,7 @@ def no_answer_without_room():
         raise NoAnswer(f"{error.filename or 'a temporary file'}: {error.strerror}") from error
 
 
-def place_of_file(words):
+def place_of_file(words: list[str]) -> Optional[int]:
     """Returns the position of the input file among the words; None if there is none."""
     at = None
     if words[:1] and words[0] in ("run", "asm", "dis"):
@@ -61,7 +62,7 @@ def place_of_file(words):
     return at
 
 
-def copied(name, to):
+def copied(name: str, to: IO[bytes]) -> bool:
     """Copies all the input to a file, because rt waits only two seconds for a pipe. Returns whether it could be read."""
     size = 0
     if name == "-" and sys.stdin is None:
@@ -86,12 +87,13 @@ def copied(name, to):
     return True
 
 
-def rt_try(words, given):
+def rt_try(words: list[str], given: Union[int, IO[bytes]]) -> tuple[bytes, bytes]:
     """Runs rt try. Returns both outputs. If this process is ended by a signal, it ends too."""
     with tempfile.TemporaryFile() as output, tempfile.TemporaryFile() as told:
         rt = subprocess.Popen(["rt", "try", "--seconds", str(SECONDS), *words], cwd=CRATE, stdin=given, stdout=output, stderr=told)
 
-        def end(number, _):
+        def end(number: int, _: object) -> NoReturn:
+            """Ends this process after a signal."""
             raise SystemExit(128 + number)
 
         before = {number: signal.signal(number, end) for number in (signal.SIGINT, signal.SIGTERM, signal.SIGHUP)}
@@ -109,7 +111,7 @@ def rt_try(words, given):
         return output.read(), told.read()
 
 
-def reason_of(told):
+def reason_of(told: bytes) -> str:
     """Returns the reason why the program has not ended, from the messages of rt."""
     why = NO_ANSWER.search(told)
     if why:
@@ -118,7 +120,7 @@ def reason_of(told):
 
 
 @no_answer_without_room()
-def answer(words):
+def answer(words: list[str]) -> tuple[int, bytes, bytes]:
     """Returns the answer of the program to the words of a command line: its status and both outputs."""
     words = list(words)
     at = place_of_file(words)
@@ -133,7 +135,7 @@ def answer(words):
 
 
 @no_answer_without_room()
-def answers(decks, memory=MEMORY):
+def answers(decks: list[str], memory: str = MEMORY) -> list[Optional[tuple[int, bytes]]]:
     """Returns the answers of the program to some decks, which are files: the status and the output of each; None if a file cannot be read
     or there is no answer. The program is compiled only once."""
     mark = secrets.token_hex(16)

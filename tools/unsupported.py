@@ -13,14 +13,14 @@ ROW = re.compile(r"^\| (`.*?`) \| ([a-z][a-z, ]*) \|$", re.M)
 KEY_ROW = re.compile(r"^\| `(\w+)` [^|]* \| [^|]*refused[^|]* \| ([^|]*) \|$", re.M)
 
 
-def reasons():
+def reasons() -> tuple[dict[str, str], dict[str, str]]:
     """Returns what the functions that are not supported are, by their names, and what to use instead of keys."""
     text = bytes_of(os.path.join(TOP, "docs", "NOT-SUPPORTED.md")).decode("utf-8")
     kinds = {name: kind for names, kind in ROW.findall(text) for name in re.findall("`([^`]*)`", names)}
     return kinds, {name: instead.replace("`", "") for name, instead in KEY_ROW.findall(text)}
 
 
-def unsupported():
+def unsupported() -> dict[str, str]:
     """Returns the reasons by what is pressed, `SIN` or `SHIFT SIN`."""
     kinds, instead = reasons()
     asked = [(keys, function) for key in KEYS.values()
@@ -34,5 +34,6 @@ def unsupported():
             kind = kinds.get(function)
             found[keys] = f"{function} is not supported{f': the bench has no {kind}' if kind else ''}. In program mode the line is stored."
         elif refusal == KEY_NOT_HELD:
-            found[keys] = f"{function} is not supported. Instead: {instead[function]}" if function in instead else f"{function} is not supported"
+            found[keys] = (f"{function} is not supported. Instead: {instead[function]}" if function in instead else
+                           f"{function} is not supported")
     return found

@@ -9,7 +9,7 @@ ZERO = "0" * 14
 MOST_DIGITS = 10
 
 
-def number_of(sign, digits, exponent):
+def number_of(sign: str, digits: str, exponent: int) -> str:
     """Returns a number from its sign, digits and exponent."""
     digits = digits.rstrip("0")
     sign = "-" if sign == "9" else ""
@@ -22,7 +22,7 @@ def number_of(sign, digits, exponent):
     return f"{sign}{digits[0]}{'.' + digits[1:] if digits[1:] else ''}E{exponent}"
 
 
-def text_of(digits):
+def text_of(digits: str) -> str:
     """Returns the value of a register with these 14 digits: a number, a text in quotes, or `=` and the digits."""
     found = NUMBER.fullmatch(digits)
     if found:
@@ -36,12 +36,12 @@ def text_of(digits):
     return "0" if digits == ZERO else f"={digits}"
 
 
-def character(code):
+def character(code: int) -> str:
     """Returns a character as texts of program lines have it."""
     return chr(code) if 0x20 <= code <= 0x7E and chr(code) not in '"\\' else f"\\{code:02X}"
 
 
-def lost_of(before, after):
+def lost_of(before: str, after: str) -> str:
     """Returns the return address that a step has dropped because it pushed a fifth one; an empty text for other steps."""
     old, new = before.split(), after.split()
     return old[3] if old[3] != "0000" and new != old and new[1:] == old[:3] else ""

@@ -1,0 +1,195 @@
+"""A tools/calculator and a page of it in a browser, for the scripts .ci/page-*: the requests of the page, and what a visitor does."""
+import base64
+import http.client
+import json
+import os
+import re
+import signal
+import subprocess
+from email.message import Message
+from typing import Any, Optional, TextIO, cast
+
+from judging import BENCH, TOP, judge, run, sure
+
+from browser import PATIENCE, Browser
+from decks import answered
+from history import applied
+
+LOOP = "program\nLBL 01\n1\n+\nGTO 01\nend\nkey R/S\n"
+
+NO_UTF8 = b"# caf\xe9 \xff\xfe\0\r\n\n"
+
+KEY = ".key[data-key='%s']"
+
+DISPLAY = "return document.querySelector('#lcd').dataset.text"
+
+# Whether all that the page began is at its end, and whether it asks before a session ends.
+QUIET = "return isQuiet()"
+
+ASKS = "return by('sure').open ? 'asks' : isQuiet() && 'quiet'"
+
+DROP = """const data = new DataTransfer();
+data.items.add(new File([Uint8Array.from(atob(arguments[1]), (letter) => letter.charCodeAt(0))], arguments[0]));
+for (const kind of ['dragover', 'drop']) document.dispatchEvent(new DragEvent(kind, {dataTransfer: data, cancelable: true}));"""
+
+
+def row(name: str, found: object, wanted: object) -> None:
+    """Counts what was found."""
+    judge(found == wanted, name, f"{str(found)[:600]!r} and not {str(wanted)[:600]!r}")
+
+
+def printed(deck: bytes) -> list[str]:
+    """Returns what ./bench prints for a deck."""
+    return run([BENCH, "run", "-"], given=deck).stdout.decode("latin-1").splitlines()
+
+
+class Page:
+    """A tools/calculator, and the requests of a browser that has opened it."""
+
+    def __init__(self, *words: str) -> None:
+        """Starts the calculator with these words."""
+        self.process = subprocess.Popen([f"{TOP}/tools/calculator", "--no-browser", *words], stdout=subprocess.PIPE, text=True)
+        self.address = cast(TextIO, self.process.stdout).readline().strip()
+        found = sure(re.fullmatch(r"http://127\.0\.0\.1:([0-9]+)(/[^/]+/)(.*)", self.address))
+        self.port, self.path = int(found[1]), found[2]
+        self.cookie = ""
+        self.last: tuple[int, bytes] = (0, b"")
+
+    def open(self) -> int:
+        """Opens the page; its cookie is kept."""
+        status, headers, _ = self.request("GET", "")
+        self.cookie = (headers.get("Set-Cookie") or "").split(";")[0] or self.cookie
+        return status
+
+    def request(self, method: str, name: str, body: Any = None, path: Optional[str] = None,
+                **headers: Optional[str]) -> tuple[int, Message, bytes]:
+        """The status, the headers and the body of the answer to a request."""
+        given: dict[str, Optional[str]] = {"Cookie": self.cookie} if self.cookie else {}
+        if body is not None:
+            given["Content-Type"] = "application/json"
+        given.update({key.replace("_", "-"): value for key, value in headers.items()})
+        connection = http.client.HTTPConnection("127.0.0.1", self.port, timeout=PATIENCE)
+        try:
+            connection.request(method, path or self.path + name, body, {key: value for key, value in given.items() if value is not None})
+            reply = connection.getresponse()
+            return reply.status, reply.headers, reply.read()
+        finally:
+            connection.close()
+
+    def ask(self, path: str = "do", **words: Any) -> Any:
+        """The answer to a request of the page's."""
+        status, _, body = self.request("POST", path, json.dumps(words))
+        self.last = (status, body[:300])
+        if status != 200:
+            return status, body.decode()
+        answer = json.loads(body)
+        if "states" in answer:
+            answer["state"] = dict(answer["states"]["base"])
+            for change in answer["states"]["changes"]:
+                answer["state"] = applied(answer["state"], change)
+        return answer
+
+    def give(self, deck: str, **words: Any) -> Any:
+        """Executes a deck to its end."""
+        answer = self.ask(do="give", deck=deck, **words)
+        return self.go(answer)
+
+    def go(self, answer: Any) -> Any:
+        """Executes what waits to its end."""
+        while isinstance(answer, dict) and answer["waits"] and not answer["ended"]:
+            answer = self.ask(do="go", seconds=0.25)
+        return answer
+
+    def deck(self) -> bytes:
+        """The session as a deck."""
+        return self.request("GET", "deck")[2]
+
+    def replies(self) -> list[str]:
+        """All that the session's commands have printed."""
+        return [line for _, _, reply in self.ask(do="stop")["entries"] for line in reply]
+
+    def end(self) -> int:
+        """Ends it, by a signal as Ctrl-C gives it."""
+        self.process.send_signal(signal.SIGINT)
+        return self.process.wait(PATIENCE)
+
+
+class Visit:
+    """A page that is open in a browser, and its tools/calculator."""
+
+    def __init__(self, browser: Browser, *words: str) -> None:
+        """Starts a calculator with these words, and opens its page."""
+        self.browser, self.page = browser, Page(*words)
+        browser.look(1280, 900)
+        browser.open(self.page.address)
+        self.quiet()
+
+    def quiet(self) -> None:
+        """Waits until all that the page began is at its end."""
+        if not self.browser.until(QUIET):
+            raise TimeoutError(f"the page is not quiet within {PATIENCE} seconds")
+
+    def agree(self) -> bool:
+        """Lets the page begin another session, also if it asks first. Returns whether it has asked."""
+        is_asked = bool(self.browser.until(ASKS) == "asks")
+        if is_asked:
+            self.browser.click("#yes")
+        self.quiet()
+        return is_asked
+
+    def row(self, name: str, script: str, wanted: object) -> None:
+        """Counts whether a script comes to answer what is wanted, once the page is quiet."""
+        self.quiet()
+        self.comes(name, script, wanted)
+
+    def comes(self, name: str, script: str, wanted: object) -> None:
+        """Counts whether a script comes to answer what is wanted."""
+        row(name, self.browser.until(script, lambda found: bool(found == wanted)), wanted)
+
+    def shown(self) -> Any:
+        """Returns the text of the display."""
+        self.quiet()
+        return self.browser.run(DISPLAY)
+
+    def deck(self) -> bytes:
+        """The session as a deck, by the page's link."""
+        self.quiet()
+        return base64.b64decode(self.browser.run("return fetch(by('save').href).then((reply) => reply.blob()).then(base64Of)"))
+
+    def drop(self, name: str, data: bytes) -> None:
+        """A file that is dropped on the page."""
+        self.quiet()
+        self.browser.run(DROP, name, base64.b64encode(data).decode())
+
+    def anew(self) -> None:
+        """An empty bench."""
+        self.quiet()
+        self.browser.run("return ask({do: 'begin'})")
+        self.quiet()
+
+
+def same_deck(name: str, page: Page) -> None:
+    """The session's deck, given to ./bench, prints what the session printed."""
+    row(f"{name}: the session's deck", printed(page.deck()), page.replies())
+
+
+def same_displays(name: str, visit: Visit, found: list[Any]) -> None:
+    """What was shown after each command of the session is what ./bench shows after it."""
+    lines = visit.deck().decode().splitlines()
+    shown = [answer[-1].decode() for _, _, answer in answered("".join(f"{line}\nshow display\n" for line in lines).encode())[1][1::2]]
+    row(name, found, shown)
+
+
+def bench_of(page: Page) -> int:
+    """The process of the bench."""
+    for name in filter(str.isdigit, os.listdir("/proc")):
+        try:
+            with open(f"/proc/{name}/stat", encoding="latin-1") as file:
+                fields = file.read().rpartition(")")[2].split()
+            with open(f"/proc/{name}/cmdline", encoding="latin-1") as file:
+                words = file.read().split("\0")
+        except OSError:
+            continue
+        if fields[1] == str(page.process.pid) and words[1:3] == ["run", "-"]:
+            return int(name)
+    raise LookupError("the bench is not found")

@@ -136,7 +136,7 @@ def results_in(tool: str, parts: List[Tuple[str, str]]) -> List[Any]:
                 raise Failure(f"{path}: found share {share.number}/{share.of} of {count} items, expected shares of the same work, "
                               f"I/{first[0]} of {first[1]} items")
             if share.number in found:
-                raise Failure(f"{path}: found share {share.number}/{share.of} a second time")
+                raise Failure(f"{path}: found share {share.number}/{share.of} a second time, expected each share once")
             found[share.number] = results
     of, count = first or (1, 0)
     missing = [f"{number}/{of}" for number in range(1, of + 1) if number not in found]

@@ -4,7 +4,7 @@ import shutil
 import subprocess
 from typing import IO
 
-from decks import BENCH, Failure, LONGEST_LINE, MARK, MARK_ANSWER, MEMORY, NO_ANSWER, OPENERS, ended, running
+from decks import BENCH, Failure, LONGEST_LINE, MARK, MARK_ANSWER, MEMORY, NO_ANSWER, OPENERS, ended, running, shown
 
 
 def words_of(line: bytes) -> list[bytes]:
@@ -25,11 +25,21 @@ def is_whole(command: bytes) -> bool:
     return not others
 
 
+def quoted(commands: bytes) -> str:
+    """Returns some commands for a message: the first line, and how many lines follow it."""
+    first, *others = commands.rstrip(b"\n").split(b"\n")
+    return f"`{shown(first)}`{f' and {len(others)} more lines' if others else ''}"
+
+
 def want_program() -> None:
     """Checks that the program is built. `rt try` is not enough, because it reads all commands before it answers any."""
     ready = subprocess.run([BENCH, "prove", "--check"], stdin=subprocess.DEVNULL, capture_output=True)
     if ready.returncode and (ready.returncode != 1 or shutil.which("rt")):
-        raise Failure("the proved program is missing or out of date: build it with ./bench prove", NO_ANSWER)
+        said = ready.stderr.decode(errors="replace").splitlines() or [f"./bench prove --check ended with status {ready.returncode} and printed no reason"]
+        why = said[0].removeprefix("bench: ")
+        # (with status 1 the rest of the line says how `./bench run` answers instead)
+        raise Failure(f"{why.split(': ')[0]}: this tool needs the proved program: build it with ./bench prove"
+                      if ready.returncode == 1 else why, NO_ANSWER)
 
 
 def pipes_of(process: subprocess.Popen[bytes]) -> tuple[IO[bytes], IO[bytes]]:
@@ -66,6 +76,7 @@ class Session:
         """Returns the lines that some commands print. They and their marker must fit into a pipe, so they have at most 50,000 bytes if
         they print more than a pipe holds."""
         lines: list[bytes] = []
+        when = f"before it answered {quoted(commands)}"
         self.sent += len(commands) + 1 + len(MARK)
         try:
             self.input.write(commands.rstrip(b"\n") + b"\n" + MARK)
@@ -73,12 +84,12 @@ class Session:
             while lines[-2:] != MARK_ANSWER:
                 line = self.output.readline()
                 if not line:
-                    raise Failure(ended(self.bench.wait(), "before it answered"), NO_ANSWER)
+                    raise Failure(ended(self.bench.wait(), when), NO_ANSWER)
                 lines.append(line[:-1])
         except OSError as error:
             if self.bench.poll() is not None:
-                raise Failure(ended(self.bench.wait(), "before it answered"), NO_ANSWER) from error
-            raise Failure(f"cannot write to the bench: {error.strerror}", NO_ANSWER) from error
+                raise Failure(ended(self.bench.wait(), when), NO_ANSWER) from error
+            raise Failure(f"{quoted(commands)} cannot be written to the bench: {error.strerror}", NO_ANSWER) from error
         return lines[:-2]
 
     def close(self) -> int:

@@ -31,15 +31,21 @@ def quoted(commands: bytes) -> str:
     return f"`{shown(first)}`{f' and {len(others)} more lines' if others else ''}"
 
 
+def why_no_program(ready: subprocess.CompletedProcess[bytes], advice: str) -> str:
+    """Returns why there is no proved program, from what `./bench prove --check` has printed, and what to do if it can be built."""
+    said = ready.stderr.decode(errors="replace").splitlines()
+    if not said:
+        return f"./bench prove --check ended with status {ready.returncode} and printed no reason"
+    why = said[0].removeprefix("bench: ")
+    # With status 1 and rt, the rest of the line says how `./bench run` answers without a proof.
+    return f"{why.split(': ')[0]}: {advice}" if ready.returncode == 1 and shutil.which("rt") else why
+
+
 def want_program() -> None:
     """Checks that the program is built. `rt try` is not enough, because it reads all commands before it answers any."""
     ready = subprocess.run([BENCH, "prove", "--check"], stdin=subprocess.DEVNULL, capture_output=True)
     if ready.returncode and (ready.returncode != 1 or shutil.which("rt")):
-        said = ready.stderr.decode(errors="replace").splitlines() or [f"./bench prove --check ended with status {ready.returncode} and printed no reason"]
-        why = said[0].removeprefix("bench: ")
-        # (with status 1 the rest of the line says how `./bench run` answers instead)
-        raise Failure(f"{why.split(': ')[0]}: this tool needs the proved program: build it with ./bench prove"
-                      if ready.returncode == 1 else why, NO_ANSWER)
+        raise Failure(why_no_program(ready, "this tool needs the proved program: build it with ./bench prove"), NO_ANSWER)
 
 
 def pipes_of(process: subprocess.Popen[bytes]) -> tuple[IO[bytes], IO[bytes]]:

@@ -75,8 +75,10 @@ def workers_of(text: str) -> Tuple[int, List[str]]:
             raise Failure(f"--workers {text}: expected a number from 1 to 9999, or names of machines separated by commas", 2)
         return int(text), []
     names = text.split(",")
-    if not all(re.fullmatch(r"(?:[0-9]+/)?(?::|[A-Za-z0-9_][\w.@:-]*)", name) for name in names):
-        raise Failure(f"--workers {text}: expected a number, or names of machines separated by commas, for example ann@one,ann@two", 2)
+    wrong = next((name for name in names if not re.fullmatch(r"(?:[0-9]+/)?(?::|[A-Za-z0-9_][\w.@:-]*)", name)), None)
+    if wrong is not None:
+        found = f"found the name '{wrong}', " if names[1:] else ""
+        raise Failure(f"--workers {text}: {found}expected a number, or names of machines separated by commas, for example ann@one,ann@two", 2)
     return cores(), names
 
 

@@ -21,7 +21,7 @@ function base64Of(file) {
 
 async function bringIn(files) {
   const decks = files.filter((file) => /\.deck$/i.test(file.name));
-  if (decks.length && files.length > 1) throw new Error("A deck cannot be opened together with other files: choose it alone.");
+  if (decks.length && files.length > 1) throw new Error(`${decks[0].name} is a deck, which cannot be opened together with other files: choose it alone.`);
   if (decks.length) return openDeck(decks[0]);
   by("files-panel").open = true;
   checkSize(files, files.length > 1 ? "import fewer files at a time" : "import it with tools/import");

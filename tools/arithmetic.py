@@ -14,7 +14,8 @@ ZERO: Value = (0, 0, 0, 0)
 BEFORE: State = ((1, 0, 0, 0), (0, 1, 0, 0), (0, 0, 1, 0))
 
 COPIES = ("A<>B", "A<>C", "B<>C", "B=A", "A=C", "C=B")
-SUMS = ("A=A+B", "A=A+C", "A=A-B", "A=A-C", "C=A+C", "C=A-C", "C=C+C", "A=A+1", "A=A-1", "C=C+1", "C=C-1", "C=0-C", "C=-C-1", "A=0", "B=0", "C=0")
+SUMS = ("A=A+B", "A=A+C", "A=A-B", "A=A-C", "C=A+C", "C=A-C", "C=C+C", "A=A+1", "A=A-1", "C=C+1", "C=C-1", "C=0-C", "C=-C-1",
+        "A=0", "B=0", "C=0")
 TESTS = ("?A#0", "?B#0", "?C#0", "?A#C", "?A<C", "?A<B")
 
 # The most instructions of a sequence.
@@ -27,19 +28,20 @@ COMPARED = re.compile(r"\??([ABC])(==|=|#|!=|<>|<=|>=|<|>)([ABC]|0)")
 
 # Forms of other languages, and the assignment or test that they mean.
 FORMS = [
-    (r"([ABC])([-+])=([ABC1])", r"\1=\1\2\3"), (r"([ABC])([-+])\2|([-+])\3([ABC])", r"\1\4=\1\4\2\3" + "1"),
+    (r"([ABC])([-+])=([ABC1])", r"\1=\1\2\3"), (r"([ABC])([-+])\2|([-+])\3([ABC])", r"\1\4=\1\4\2\g<3>1"),
     (r"([ABC])(?:<<=|=\1<<)1|([ABC])=(?:\2\*2|2\*\2)|([ABC])\*=2", r"\1\2\3=\1\2\3+\1\2\3"), (r"([ABC]):=(.+)", r"\1=\2"),
     (r"([ABC])=(?:~|!|NOT\(?)\1\)?", r"\1=-\1-1"), (r"([ABC])(?:<=>|<->|><)([ABC])", r"\1<>\2"), (r"([ABC]),([ABC])=\2,\1", r"\1<>\2"),
     (r"([-+ABC01]+)->([ABC])", r"\2=\1"), (r"([ABC])<-([-+ABC01]+)", r"\1=\2"),
 ]
 
 # Instructions of other processors with registers: the assignment or test that they mean.
-OF_TWO = {"MOV": "{0}={1}", "MOVE": "{0}={1}", "LD": "{0}={1}", "COPY": "{0}={1}", "ADD": "{0}={0}+{1}", "ADC": "{0}={0}+{1}", "ADDS": "{0}={0}+{1}", "SUBS": "{0}={0}-{1}", "MOVS": "{0}={1}",
+OF_TWO = {"MOV": "{0}={1}", "MOVE": "{0}={1}", "LD": "{0}={1}", "COPY": "{0}={1}", "ADD": "{0}={0}+{1}",
+          "ADC": "{0}={0}+{1}", "ADDS": "{0}={0}+{1}", "SUBS": "{0}={0}-{1}", "MOVS": "{0}={1}",
           "SUB": "{0}={0}-{1}", "SBC": "{0}={0}-{1}", "SBB": "{0}={0}-{1}", "XCHG": "{0}<>{1}", "EX": "{0}<>{1}", "EXG": "{0}<>{1}",
           "EXCHANGE": "{0}<>{1}", "SWAP": "{0}<>{1}", "CMP": "?{0}#{1}", "CP": "?{0}#{1}", "COMPARE": "?{0}#{1}"}
 OF_ONE = {"INC": "{0}={0}+1", "INCR": "{0}={0}+1", "INX": "{0}={0}+1", "DEC": "{0}={0}-1", "DECR": "{0}={0}-1", "DCR": "{0}={0}-1",
-          "NEG": "{0}=0-{0}", "NOT": "{0}=-{0}-1", "CPL": "{0}=-{0}-1", "COM": "{0}=-{0}-1", "CLR": "{0}=0", "CLEAR": "{0}=0", "ZERO": "{0}=0",
-          "TST": "?{0}#0", "TEST": "?{0}#0", "DOUBLE": "{0}={0}+{0}"}
+          "NEG": "{0}=0-{0}", "NOT": "{0}=-{0}-1", "CPL": "{0}=-{0}-1", "COM": "{0}=-{0}-1", "CLR": "{0}=0", "CLEAR": "{0}=0",
+          "ZERO": "{0}=0", "TST": "?{0}#0", "TEST": "?{0}#0", "DOUBLE": "{0}={0}+{0}"}
 OTHER = re.compile(r"([A-Z]+)\s+([ABC])(?:\s*[, ]\s*#?([ABC01]))?", re.I)
 
 
@@ -78,8 +80,13 @@ def sequences() -> tuple[tuple[tuple[str, ...], State], ...]:
     found: dict[State, tuple[str, ...]] = {BEFORE: ()}
     last = [BEFORE]
     for _ in range(LONGEST):
-        last = [new for state in last for name in (*COPIES, *SUMS) for new in [after(name, state)]
-                if new not in found and not found.update({new: (*found[state], name)})]
+        steps = [(state, name) for state in last for name in (*COPIES, *SUMS)]
+        last = []
+        for state, name in steps:
+            new = after(name, state)
+            if new not in found:
+                found[new] = *found[state], name
+                last.append(new)
     return tuple(sorted(((names, state) for state, names in found.items()), key=lambda one: (len(one[0]), changed(one[1]))))
 
 
@@ -102,7 +109,7 @@ def meant(text: str) -> str:
     for pattern, own in FORMS:
         found = re.fullmatch(pattern, flat)
         if found:
-            return re.sub(r"\\(\d)", lambda one, found=found: found[int(one[1])] or "", own)
+            return found.expand(own)
     return flat
 
 
@@ -141,7 +148,7 @@ def tests(wanted: str) -> Iterator[tuple[str, ...]]:
 
 def own_way(wanted: str) -> tuple[str, ...]:
     """Returns the shortest way to do what is wanted; an empty tuple if none is known."""
-    return next(iter(assignments(wanted)), None) or next(tests(wanted), ())
+    return next(assignments(wanted), ()) or next(tests(wanted), ())
 
 
 def in_words(names: tuple[str, ...]) -> str:

@@ -1,5 +1,5 @@
-"""Causes of mistakes in rows of cases: signs in place of `->` and `=`, names and values in the form of other programs. Each cause says what to
-write. Only errors need this module."""
+"""Causes of mistakes in rows of cases: signs in place of `->` and `=`, names and values in the form of other programs. Each cause says
+what to write. Only errors need this module."""
 from __future__ import annotations
 
 import re
@@ -13,10 +13,11 @@ COMMENT = re.compile(r"\s*(;|//|--(?!>)|/\*|\*|REM\b)")
 QUOTED = re.compile(r"\"[^\"]*\"|'[^']*'")
 
 # Names of settings in the words of other programs.
-OTHER_NAMES = {"LASTX": "L", "LSTX": "L", "LAST": "L", "CARRY": "CY", "C_FLAG": "CY", "ERROR": "refusal", "ERR": "refusal", "FAIL": "refusal", "DISP": "display",
-               "DSP": "display", "SCREEN": "display", "KEY": "keys", "PRESS": "keys", "STEP": "steps", "CYCLES": "steps", "COUNT": "steps",
-               "STATUS": "ST", "SB": "ST", "BASE": "MODE", "POINTER": "PT", "DADD": "RAM", "TEXT": "ALPHA", "STRING": "ALPHA", "AREG": "A",
-               "BREG": "B", "CREG": "C", "REGX": "X", "REGY": "Y", "XREG": "X", "YREG": "Y", "STX": "X", "STY": "Y", "STZ": "Z", "STL": "L"}
+OTHER_NAMES = {"LASTX": "L", "LSTX": "L", "LAST": "L", "CARRY": "CY", "C_FLAG": "CY", "ERROR": "refusal", "ERR": "refusal",
+               "FAIL": "refusal", "DISP": "display", "DSP": "display", "SCREEN": "display", "KEY": "keys", "PRESS": "keys", "STEP": "steps",
+               "CYCLES": "steps", "COUNT": "steps", "STATUS": "ST", "SB": "ST", "BASE": "MODE", "POINTER": "PT", "DADD": "RAM",
+               "TEXT": "ALPHA", "STRING": "ALPHA", "AREG": "A", "BREG": "B", "CREG": "C", "REGX": "X", "REGY": "Y", "XREG": "X",
+               "YREG": "Y", "STX": "X", "STY": "Y", "STZ": "Z", "STL": "L"}
 CONSTANTS = {"PI": "3.141592654", "TRUE": "1", "FALSE": "0", "ZERO": "0"}
 CURLY = re.compile("[“”„‘’«»]")
 
@@ -77,8 +78,9 @@ def of_setting(words: list[str], at: int, is_first: bool) -> str:
     if named and named[0] == word and (after[0][:1] == "=" or re.match(r"[-+.\d\"]", after[0])):
         value = (after[0] + (after[1] if after[0] == "=" else "")).lstrip("=")
         return f"; a setting has no spaces: write {word}={value}"
-    if re.fullmatch(r"\w+[\[(]\w+[\])]=?.*", word):
-        return f"; a setting is a whole register: write {re.match(r'[A-Za-z0-9]+', word)[0]}= and all its digits"
+    part = re.fullmatch(r"([A-Za-z0-9]+)\w*[\[(]\w+[\])]=?.*", word)
+    if part:
+        return f"; a setting is a whole register: write {part[1]}= and all its digits"
     if re.fullmatch(r"[-+]?[\d.]+(?:E-?\d+)?,?", word):
         return f"; the name of the register is missing: write for example X={word.rstrip(',')}"
     if is_first and re.fullmatch(r"[A-Za-z]\w{0,11}|\"[^\"]*\"", word):
@@ -104,7 +106,8 @@ def of_register(text: str) -> str:
     found = re.fullmatch(r"(?:0x|\$)([0-9A-Fa-f]+)|([0-9A-Fa-f]+)[Hh]", text)
     if found:
         bare = found[1] or found[2]
-        return f"; hexadecimal digits have no sign before or after them{f': write {bare.upper()}' if len(bare) == 14 else ', and are 14 of them'}"
+        own = f": write {bare.upper()}" if len(bare) == 14 else ", and are 14 of them"
+        return f"; hexadecimal digits have no sign before or after them{own}"
     if re.fullmatch("[0-9A-Fa-f]{11,}", text) and (len(text) != 14):
         return f"; found {len(text)} digits" + ("" if text.isdecimal() and len(text) < 14 else ": a register has 14")
     if re.fullmatch(r"[-+]?[\d.]+/[\d.]+", text):
@@ -135,14 +138,14 @@ def of_word(text: str, values: Iterable[str]) -> str:
     meant = {"TRUE": "1", "YES": "1", "ON": "1", "SET": "1", "FALSE": "0", "NO": "0", "OFF": "0", "CLEAR": "0", "16": "HEX", "10": "DEC",
              "HEXADECIMAL": "HEX", "DECIMAL": "DEC"}
     plain = text.strip("\"',=").upper()
-    own = plain if plain in values else meant.get(plain)
+    own = plain if plain in values else meant.get(plain, "")
     return f"; write {own}" if own in values and own != text else ""
 
 
 def of_name(name: str, names: Iterable[str]) -> str:
     """Returns what may be meant by the name of a setting; an empty text if nothing is likely."""
     plain = name.upper().replace("_", "").replace("-", "")
-    data, flag, bit = re.fullmatch(r"(?:REG?|MEM|R)(\d{1,3})", plain), re.fullmatch(r"(?:FLAG|FLG|FS|F)(\d{1,2})", plain), re.fullmatch(r"S(\d{1,2})", plain)
+    data, flag, bit = (re.fullmatch(form, plain) for form in (r"(?:REG?|MEM|R)(\d{1,3})", r"(?:FLAG|FLG|FS|F)(\d{1,2})", r"S(\d{1,2})"))
     if re.search("->.", name):
         return f": a comma is missing before ->: write {name.replace('->', ',->')}"
     if name.startswith("=") or plain.startswith("EXPECT") or plain in ("WANTED", "RESULT", "OUTPUT", "OUT"):

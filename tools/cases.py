@@ -106,13 +106,8 @@ def rows_in(path: str) -> list[list[str]]:
     return rows
 
 
-def table_in(path: str, target: str | None, common: list[Setting], is_written: bool = False) -> list[Case]:
-    """Returns the cases of a table in CSV. Its first row names the settings; those wanted after the call begin with ->. A column `call` has
-    the target. Empty cells are not set, or not compared. If the values found are written, none needs to be expected."""
-    rows = rows_in(path)
-    if target is not None and not is_target(target):
-        raise Failure(f"--call {target}: expected {CALLED}", 2)
-    names, cases = [name.strip() for name in rows[0]], []
+def check_names(path: str, names: list[str], row: str, is_written: bool) -> None:
+    """Checks the names in the first row of a table. If the values found are written, none needs to be expected."""
     other = re.search("[;\t|]", names[0]) if len(names) == 1 else None
     if other:
         raise Failure(f"{path}:1: `{names[0]}`: found {other[0]!r} between names, expected commas: save the table with commas")
@@ -120,13 +115,23 @@ def table_in(path: str, target: str | None, common: list[Setting], is_written: b
         try:
             _ = name in ("", "call") or reader_of(name.removeprefix(ARROW).strip())
         except Wrong as why:
-            raise failure(path, 1, ",".join(rows[0]), str(why)) from why
+            raise failure(path, 1, row, str(why)) from why
     twice = next((name for name in names if name and names.count(name) > 1), None)
     if twice:
-        raise failure(path, 1, ",".join(rows[0]), f"two columns are named {twice}: the names of expected values begin with ->")
+        raise failure(path, 1, row, f"two columns are named {twice}: the names of expected values begin with ->")
     if not is_written and not any(name.startswith(ARROW) for name in names):
-        raise failure(path, 1, ",".join(rows[0]), "no name begins with ->, so nothing would be compared: name an expected value, for example ->X, or write "
-                      "the values with --write OUT --values X")
+        raise failure(path, 1, row, "no name begins with ->, so nothing would be compared: name an expected value, for example ->X, or "
+                                    "write the values with --write OUT --values X")
+
+
+def table_in(path: str, target: str | None, common: list[Setting], is_written: bool = False) -> list[Case]:
+    """Returns the cases of a table in CSV. Its first row names the settings; those wanted after the call begin with ->. A column `call` has
+    the target. Empty cells are not set, or not compared. If the values found are written, none needs to be expected."""
+    rows = rows_in(path)
+    if target is not None and not is_target(target):
+        raise Failure(f"--call {target}: expected {CALLED}", 2)
+    names, cases = [name.strip() for name in rows[0]], []
+    check_names(path, names, ",".join(rows[0]), is_written)
     if target is None and "call" not in names:
         raise Failure(f"{path}:1: `{','.join(names)}`: no column is named call: name the function with --call LABEL")
     for number, row in enumerate(rows[1:], 2):

@@ -1,33 +1,34 @@
-"""Causes of refused commands and lines of blocks in a deck, which the line itself shows: a command in other words, a number in another form, an
-operand that is missing. Each cause has the column of the text that is meant. Only refusals need this module."""
+"""Causes of refused commands and lines of blocks in a deck, which the line itself shows: a command in other words, a number in another
+form, an operand that is missing. Each cause has the column of the text that is meant. Only refusals need this module."""
 from __future__ import annotations
 
 import re
 from difflib import get_close_matches
 from functools import lru_cache
 
+from decks import OPENERS
 from documents import codes_of, section_of, tables_of
 from keyboard import KEYS
 
 Cause = tuple[int, str]
 
 COMMENT = re.compile(r";|//|--|/\*|\*|REM\b|#|'")
-OPENERS = ("words", "image", "asm", "load", "program")
 
 # Commands and views in other words.
-OTHER_COMMANDS = {"print": "show", "display": "show display", "view": "show", "get": "show", "execute": "run", "exec": "run", "go": "run", "continue": "run",
-                  "start": "call", "jump": "call", "goto": "call", "xeq": "call", "press": "key", "keys": "key", "type": "key", "enter": "key ENTER",
-                  "breakpoint": "break w", "bp": "break w", "delete": "unbreak w", "unset": "unbreak w", "assemble": "asm", "source": "asm", "plug": "image",
-                  "rom": "image", "insert": "image", "disassemble": "list", "dis": "list", "dump": "show ram", "regs": "show cpu", "registers": "show cpu",
-                  "cpu": "show cpu", "stack": "show stack", "flags": "show flags", "alpha": "show alpha", "clear": "reset", "init": "reset",
+OTHER_COMMANDS = {"print": "show", "display": "show display", "view": "show", "get": "show", "execute": "run", "exec": "run", "go": "run",
+                  "continue": "run", "start": "call", "jump": "call", "goto": "call", "xeq": "call", "press": "key", "keys": "key",
+                  "type": "key", "enter": "key ENTER", "breakpoint": "break w", "bp": "break w", "delete": "unbreak w",
+                  "unset": "unbreak w", "assemble": "asm", "source": "asm", "plug": "image", "rom": "image", "insert": "image",
+                  "disassemble": "list", "dis": "list", "dump": "show ram", "regs": "show cpu", "registers": "show cpu", "cpu": "show cpu",
+                  "stack": "show stack", "flags": "show flags", "alpha": "show alpha", "clear": "reset", "init": "reset",
                   "restart": "reset", "next": "step", "s": "step", "r": "run", "unload": "unplug", "remove": "unplug", "eject": "unplug",
                   "memory": "size", "mem": "show ram"}
-OTHER_VIEWS = {"regs": "cpu", "registers": "cpu", "register": "cpu", "processor": "cpu", "carry": "cpu", "x": "stack", "y": "stack", "z": "stack", "t": "stack",
-               "l": "stack", "lastx": "stack", "memory": "ram", "mem": "ram", "flag": "flags", "position": "pos", "pc": "pos", "program": "lines",
-               "listing": "lines", "prgm": "lines", "screen": "display", "lcd": "display", "rom": "image", "page": "image", "modules": "functions",
-               "catalog": "functions", "xrom": "functions"}
-IN_MEMORY = {"T": "000", "Z": "001", "Y": "002", "X": "003", "L": "004", "M": "005", "N": "006", "O": "007", "P": "008", "Q": "009", "A": "00A", "B": "00B",
-             "C": "00C", "D": "00D", "E": "00E"}
+OTHER_VIEWS = {"regs": "cpu", "registers": "cpu", "register": "cpu", "processor": "cpu", "carry": "cpu", "x": "stack", "y": "stack",
+               "z": "stack", "t": "stack", "l": "stack", "lastx": "stack", "memory": "ram", "mem": "ram", "flag": "flags",
+               "position": "pos", "pc": "pos", "program": "lines", "listing": "lines", "prgm": "lines", "screen": "display",
+               "lcd": "display", "rom": "image", "page": "image", "modules": "functions", "catalog": "functions", "xrom": "functions"}
+IN_MEMORY = {"T": "000", "Z": "001", "Y": "002", "X": "003", "L": "004", "M": "005", "N": "006", "O": "007", "P": "008", "Q": "009",
+             "A": "00A", "B": "00B", "C": "00C", "D": "00D", "E": "00E"}
 # The greatest numbers of commands.
 MOST = {"step": 9_999_999, "run": 9_999_999, "trace": 9_999_999, "size": 9_999, "break": 9_999, "unbreak": 9_999, "list": 4_096}
 
@@ -92,8 +93,9 @@ def of_second(words: list[Cause]) -> Cause | None:
     if first != "show":
         number = second.lstrip(":").upper()
         is_address = re.fullmatch("[0-9A-F]{4}", number)
-        return column, (f"the kind is missing: write {first} w {number} for a word, and {first} p {number} for a program line in a page" if is_address else
-                        f"the kind of a breakpoint is w, l or p: {first} w and an address for a word")
+        if is_address:
+            return column, f"the kind is missing: write {first} w {number} for a word, and {first} p {number} for a program line in a page"
+        return column, f"the kind of a breakpoint is w, l or p: {first} w and an address for a word"
     near = OTHER_VIEWS.get(second.lower()) or next(iter(get_close_matches(second.lower(), kinds, 1, 0.6)), "")
     return column, f"no view is named {second}{near and f': write show {near}'}; the views are {' '.join(kinds)}"
 
@@ -104,7 +106,7 @@ def of_operands(name: str, words: list[Cause], wanted: list[str], end: int) -> C
     for column, word in words[len([one for one in wanted if one != ".."]):]:
         if COMMENT.match(word):
             return column, "a comment has a line of its own, with # as its first character"
-    if name in OPENERS and any(re.search(r"\.\w+\Z", word) for _, word in words):
+    if name.encode() in OPENERS and any(re.search(r"\.\w+\Z", word) for _, word in words):
         column, word = next(one for one in words if re.search(r"\.\w+\Z", one[1]))
         return column, f"a block reads no file: tools/import {word} makes a deck of it"
     needed = [one for one in wanted if one[0] != "["]
@@ -113,7 +115,8 @@ def of_operands(name: str, words: list[Cause], wanted: list[str], end: int) -> C
     if name in ("words", "image", "asm") or name == "show image":
         return of_page(words, form)
     if len(words) > len(wanted):
-        return words[len(wanted)][0], f"found {words[len(wanted)][1]}, expected nothing after {' '.join([name, *(word for _, word in words[:len(wanted)])])}"
+        column, word = words[len(wanted)]
+        return column, f"found {word}, expected nothing after {' '.join([name, *(before for _, before in words[:len(wanted)])])}"
     for (column, word), kind in zip(words, wanted):
         why = of_number(word, kind.strip("[]"), name)
         if why:
@@ -187,12 +190,14 @@ def of_keys(words: list[Cause], end: int) -> Cause | None:
     for column, word in words:
         if word in KEYS or word.startswith('"') or re.fullmatch(r"-?[0-9]*\.?[0-9]+(?:E-?[0-9]{1,2})?", word):
             continue
-        if re.fullmatch(r"[0-9.]+[-+*/][0-9.]+", word):
-            parts = re.match(r"([0-9.]+)([-+*/])([0-9.]+)", word)
+        parts = re.fullmatch(r"([0-9.]+)([-+*/])([0-9.]+)", word)
+        if parts:
             return column, f"keys are pressed one after the other: write {parts[1]} ENTER {parts[3]} {parts[2]}"
-        other = {"ENTER^": "ENTER", "RETURN": "ENTER", "XEQ^": "XEQ", "DEL": "BACK", "CLEAR": "BACK", "<-": "BACK", "RUN": "R/S", "RS": "R/S", "SHFT": "SHIFT",
-                 "EXP": "EEX", "EE": "EEX", "NEG": "CHS", "+/-": "CHS", "Σ+": "SIGMA+", "X<>Y": "X<>Y"}.get(word.upper())
-        near = next((name for name in KEYS if name.lower() == word.lower()), "") or other or next(iter(get_close_matches(word.upper(), KEYS, 1, 0.7)), "")
+        other = {"ENTER^": "ENTER", "RETURN": "ENTER", "XEQ^": "XEQ", "DEL": "BACK", "CLEAR": "BACK", "<-": "BACK", "RUN": "R/S",
+                 "RS": "R/S", "SHFT": "SHIFT", "EXP": "EEX", "EE": "EEX", "NEG": "CHS", "+/-": "CHS", "Σ+": "SIGMA+",
+                 "X<>Y": "X<>Y"}.get(word.upper())
+        near = (next((name for name in KEYS if name.lower() == word.lower()), "") or other
+                or next(iter(get_close_matches(word.upper(), KEYS, 1, 0.7)), ""))
         text = f'; letters are typed by a text in quotes, "{word.upper()}"' if word.isalpha() else ""
         return column, f"no key is named {word}{near and near != word and f': the nearest is {near}' or ''}{text}"
     return None

@@ -361,7 +361,7 @@ class Debugger:
         """Executes the deck up to its next step, run or trace."""
         self.none(words)
         if not self.rest:
-            raise Failure("the deck has no further commands")
+            raise Failure("every command of the deck is already executed: use `deck COMMAND` for another one, or `restart`")
         ran = (b"step", b"run", b"trace")
         self.rest = self.rest[1:] if self.rest[0].split()[0] in ran else self.rest
         while self.rest and self.rest[0].split()[0] not in ran:

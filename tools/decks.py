@@ -5,7 +5,8 @@ import re
 import signal
 import subprocess
 import sys
-from typing import Iterable, NamedTuple, Union
+from itertools import zip_longest
+from typing import Iterable, Iterator, NamedTuple, Optional, Union
 
 from typed import NoKeys, Text, is_spelled, keys_of, pieces_of
 
@@ -300,6 +301,21 @@ def hexadecimal(data: bytes) -> list[bytes]:
 def block(opener: bytes, lines: Iterable[bytes]) -> bytes:
     """Returns a block of a deck, made from its lines without line ends."""
     return b"\n".join([opener, *lines, b"end", b""])
+
+
+def differences(wanted: bytes, found: bytes) -> Iterator[tuple[int, Optional[bytes], Optional[bytes]]]:
+    """Yields the lines in which two outputs differ: the number of each, and the line of both with its newline; None if one has no such
+    line."""
+    for number, (one, other) in enumerate(zip_longest(lines_of(wanted), lines_of(found)), 1):
+        if one != other:
+            yield number, one, other
+
+
+def quoted(line: Optional[bytes]) -> str:
+    """Returns a line of an output in quotes, for a message."""
+    if line is None:
+        return "no line"
+    return f"`{shown(line.rstrip())}`" + ("" if line.endswith(b"\n") else " without a newline")
 
 
 def shown(text: Union[str, bytes]) -> str:

@@ -212,8 +212,8 @@ def wrong_distances(data: bytes, jumps: List[Tuple[int, int]], program: int) -> 
     for line, at in jumps:
         own = data[at:at + length_at(data, at)].hex(" ").upper()
         yield Doubt(DISTANCE, line, 1 if data[at] >= 0xD0 and data[at] & 0xF else 2,
-                    f"byte {at}: the distance in {own} is kept, but it no longer leads to its label, because nulls were removed from the program; on "
-                    "a calculator, execute PACK, so that the label is searched for again", program)
+                    f"byte {at}: the distance in {own} is kept, but it no longer leads to its label, because nulls were removed from the "
+                    "program; on a calculator, execute PACK, so that the label is searched for again", program)
 
 
 def private_end(data: bytes, at: int, end: int) -> str:

@@ -25,7 +25,8 @@ class Closed:
 
     def __getattr__(self, name: str) -> NoReturn:
         """Raises Failure for each use of the stream."""
-        raise Failure(f"standard {self.what} is closed", NOT_WRITTEN)
+        sign, use = ("<", "read") if self.what == "input" else (">", "written")
+        raise Failure(f"standard {self.what} is closed, so it cannot be {use}: give it a file, for example {sign}/dev/null", NOT_WRITTEN)
 
     def flush(self) -> None:
         """Does nothing, because nothing was written."""

@@ -3,7 +3,7 @@ in lower case or without a space, those of other processors, and statements of o
 from __future__ import annotations
 
 import re
-from collections.abc import Iterable
+from collections.abc import Callable, Iterable
 
 from arithmetic import OF_ONE, OF_TWO, in_words, meant, own_way
 from dialects import FIELDS, LONG
@@ -16,34 +16,34 @@ COMMENT = re.compile(r"(?://|--|/\*|#|'|!|\*|%|\{(?=\s*\w)|REM\b|\(\*|\\|@@|=+\s
 
 # Instructions of other processors, and what does the same here.
 ELSEWHERE = {
-    "CALL": "?NC XQ", "JSR": "?NC XQ", "BSR": "?NC XQ", "XEQ": "?NC XQ", "BL": "?NC XQ", "JAL": "?NC XQ", "ACALL": "?NC XQ", "LCALL": "?NC XQ",
-    "JMP": "?NC GO", "BRA": "?NC GO", "GO": "?NC GO", "B": "?NC GO", "J": "?NC GO", "JP": "?NC GO", "JUMP": "?NC GO", "LJMP": "?NC GO",
-    "AJMP": "?NC GO", "SJMP": "JNC", "BR": "?NC GO", "JR": "JNC",
-    "RET": "RTN", "RTS": "RTN", "RETURN": "RTN", "RETI": "RTN", "RTI": "RTN", "IRET": "RTN", "EXIT": "RTN", "BX": "RTN",
-    "JZ": "JNC after ?C#0", "JNZ": "JC after ?C#0", "BEQ": "JNC after ?C#0", "BNE": "JC after ?C#0", "JE": "JNC after a test such as ?A#C",
-    "JNE": "JC after a test such as ?A#C", "BCC": "JNC", "BCS": "JC", "JNB": "JNC", "BLT": "JC after ?A<C", "BGE": "JNC after ?A<C",
-    "JL": "JC after ?A<C", "JGE": "JNC after ?A<C", "JB": "JC after ?A<C", "JG": "JC after ?A<C with the operands exchanged",
+    "CALL": "?NC XQ", "JSR": "?NC XQ", "BSR": "?NC XQ", "XEQ": "?NC XQ", "BL": "?NC XQ", "JAL": "?NC XQ", "ACALL": "?NC XQ",
+    "LCALL": "?NC XQ", "JMP": "?NC GO", "BRA": "?NC GO", "GO": "?NC GO", "B": "?NC GO", "J": "?NC GO", "JP": "?NC GO", "JUMP": "?NC GO",
+    "LJMP": "?NC GO", "AJMP": "?NC GO", "SJMP": "JNC", "BR": "?NC GO", "JR": "JNC", "RET": "RTN", "RTS": "RTN", "RETURN": "RTN",
+    "RETI": "RTN", "RTI": "RTN", "IRET": "RTN", "EXIT": "RTN", "BX": "RTN", "JZ": "JNC after ?C#0", "JNZ": "JC after ?C#0",
+    "BEQ": "JNC after ?C#0", "BNE": "JC after ?C#0", "JE": "JNC after a test such as ?A#C", "JNE": "JC after a test such as ?A#C",
+    "BCC": "JNC", "BCS": "JC", "JNB": "JNC", "BLT": "JC after ?A<C", "BGE": "JNC after ?A<C", "JL": "JC after ?A<C",
+    "JGE": "JNC after ?A<C", "JB": "JC after ?A<C", "JG": "JC after ?A<C with the operands exchanged",
     "BGT": "JC after ?A<C with the operands exchanged", "BLE": "JNC after ?A<C with the operands exchanged",
     "JLE": "JNC after ?A<C with the operands exchanged", "BMI": "JC after ?C#0 MS", "BPL": "JNC after ?C#0 MS", "JNC": "JNC",
-    "DJNZ": "C=C-1 S&X, ?C#0 S&X and JC, or R=R-1 and ?R= 13",
-    "CBZ": "?C#0 and JNC", "CBNZ": "?C#0 and JC", "SKZ": "?C#0 and JNC",
-    "DB": "CON", "DW": "CON", "BYTE": "CON", "WORD": "CON", ".BYTE": "CON", ".WORD": "CON", ".DB": "CON", ".DW": "CON", "FCB": "CON", "FDB": "CON",
-    "DEFB": "CON", "DEFW": "CON", "DATA": "CON", ".DATA": "CON", "DCB": "CON", "DCW": "CON", "CONST": "CON", ".CONST": "CON",
+    "DJNZ": "C=C-1 S&X, ?C#0 S&X and JC, or R=R-1 and ?R= 13", "CBZ": "?C#0 and JNC", "CBNZ": "?C#0 and JC", "SKZ": "?C#0 and JNC",
+    "DB": "CON", "DW": "CON", "BYTE": "CON", "WORD": "CON", ".BYTE": "CON", ".WORD": "CON", ".DB": "CON", ".DW": "CON", "FCB": "CON",
+    "FDB": "CON", "DEFB": "CON", "DEFW": "CON", "DATA": "CON", ".DATA": "CON", "DCB": "CON", "DCW": "CON", "CONST": "CON", ".CONST": "CON",
     "DEC": "SETDEC", "SED": "SETDEC", "HEX": "SETHEX", "CLD": "SETHEX", "CLC": "NOP, which clears the carry",
-    "SEC": "a test that is true, because no instruction only sets the carry", "STC": "a test that is true, because no instruction only sets the carry",
-    "PUSH": "PUSH ADR for a return address, or M=C and N=C for a value", "POP": "POP ADR for a return address, or C=M and C=N for a value", "HALT": "RTN", "HLT": "RTN", "STOP": "RTN", "BRK": "RTN", "CLR": "C=0", "PASS": "NOP", "NOOP": "NOP",
-    "XOR": "one of C=C AND A and C=C OR A, because there is no exclusive or", "EOR": "one of C=C AND A and C=C OR A, because there is no exclusive or",
-    "AND": "C=C AND A", "OR": "C=C OR A", "ORR": "C=C OR A", "ANA": "C=C AND A", "ORA": "C=C OR A",
-    "MUL": "a loop with C=A+C, because the processor only adds and subtracts", "DIV": "a loop with C=A-C, because the processor only adds and subtracts",
-    "SHL": "LSHFA, which shifts A by a digit, or C=C+C, which doubles C", "ASL": "LSHFA, which shifts A by a digit, or C=C+C, which doubles C",
-    "LSL": "LSHFA, which shifts A by a digit, or C=C+C, which doubles C", "SAL": "LSHFA, which shifts A by a digit, or C=C+C, which doubles C",
-    "SHR": "RSHFA, RSHFB or RSHFC, which shifts by a digit", "LSR": "RSHFA, RSHFB or RSHFC, which shifts by a digit",
-    "ASR": "RSHFA, RSHFB or RSHFC, which shifts by a digit", "ROL": "RCR 13, which rotates C to the left by a digit",
-    "ROR": "RCR 1, which rotates C to the right by a digit", "RLC": "RCR 13, which rotates C to the left by a digit",
-    "RRC": "RCR 1, which rotates C to the right by a digit", "INT": "?NC XQ, which calls a subroutine", "SWI": "?NC XQ, which calls a subroutine",
-    "SYSCALL": "?NC XQ, which calls a subroutine", "LDR": "READ", "STR": "WRIT", "LDX": "READ", "STX": "WRIT", "IN": "C=KEY for a key, or READ",
-    "OUT": "WRIT, for a register of memory", "PRINT": "WRIT 3, after which the calculator shows X", "ECHO": "WRIT 3, after which the calculator shows X",
-    "BIT": "?FSET for a status bit", "BTST": "?FSET for a status bit", "SETB": "SETF", "BSET": "SETF", "BCLR": "CLRF",
+    **dict.fromkeys(("SEC", "STC"), "a test that is true, because no instruction only sets the carry"),
+    "PUSH": "PUSH ADR for a return address, or M=C and N=C for a value", "POP": "POP ADR for a return address, or C=M and C=N for a value",
+    "HALT": "RTN", "HLT": "RTN", "STOP": "RTN", "BRK": "RTN", "CLR": "C=0", "PASS": "NOP", "NOOP": "NOP",
+    **dict.fromkeys(("XOR", "EOR"), "one of C=C AND A and C=C OR A, because there is no exclusive or"), "AND": "C=C AND A",
+    "OR": "C=C OR A", "ORR": "C=C OR A", "ANA": "C=C AND A", "ORA": "C=C OR A",
+    "MUL": "a loop with C=A+C, because the processor only adds and subtracts",
+    "DIV": "a loop with C=A-C, because the processor only adds and subtracts",
+    **dict.fromkeys(("SHL", "ASL", "LSL", "SAL"), "LSHFA, which shifts A by a digit, or C=C+C, which doubles C"),
+    **dict.fromkeys(("SHR", "LSR", "ASR"), "RSHFA, RSHFB or RSHFC, which shifts by a digit"),
+    "ROL": "RCR 13, which rotates C to the left by a digit", "ROR": "RCR 1, which rotates C to the right by a digit",
+    "RLC": "RCR 13, which rotates C to the left by a digit", "RRC": "RCR 1, which rotates C to the right by a digit",
+    **dict.fromkeys(("INT", "SWI", "SYSCALL"), "?NC XQ, which calls a subroutine"), "LDR": "READ", "STR": "WRIT", "LDX": "READ",
+    "STX": "WRIT", "IN": "C=KEY for a key, or READ", "OUT": "WRIT, for a register of memory",
+    **dict.fromkeys(("PRINT", "ECHO"), "WRIT 3, after which the calculator shows X"), "BIT": "?FSET for a status bit",
+    "BTST": "?FSET for a status bit", "SETB": "SETF", "BSET": "SETF", "BCLR": "CLRF",
 }
 PRINTED = {"PRINT", "ECHO", "EXIT", "PASS"}
 
@@ -51,23 +51,24 @@ PRINTED = {"PRINT", "ECHO", "EXIT", "PASS"}
 STATEMENTS = [
     (r"(?:if|elif|else\s+if|unless|when|switch|case)\b.*", "a condition is a test and then a jump, for example ?A<C S&X and JC :LOOP"),
     (r"(?:else|endif|end\s?if|fi|then)\b.*", "there are no blocks: a test and a jump such as JC :ELSE skip instructions"),
-    (r"(?:while|until|repeat|do|wend|end\s?while)\b.*", "there are no loops: a label before the first instruction, and a test and a jump back at the end"),
-    (r"(?:for|next|foreach)\b.*", "there are no loops: a label before the first instruction, and a test and a jump back at the end"),
+    (r"(?:while|until|repeat|do|wend|end\s?while|for|next|foreach)\b.*",
+     "there are no loops: a label before the first instruction, and a test and a jump back at the end"),
     (r"(?:def|sub|function|func|proc|procedure|void|fn)\s+(\w+).*", "a subroutine begins with its label and ends with RTN: write {0}:"),
     (r"(?:end\s?(?:sub|proc|def|function|func)|endp|endproc)\b.*", "a subroutine ends with RTN"),
-    (r"(?:let|var|int|const|char|static|define|dim|local|byte|word)\s+([A-Za-z_]\w*)\s*=?.*", "there are no variables: READ and WRIT use the registers of memory, "
-     "and [equates] of a project names numbers such as {0}"),
+    (r"(?:let|var|int|const|char|static|define|dim|local|byte|word)\s+([A-Za-z_]\w*)\s*=?.*",
+     "there are no variables: READ and WRIT use the registers of memory, and [equates] of a project names numbers such as {0}"),
     (r"[{}]+;?", "there are no blocks in braces: labels and jumps take their place"),
     (r"(\w+)\(\)?.*\)?;?", "a call is written ?NC XQ :{0}"),
-    (r"(?:org|origin|start|\.start|base)\s+\S+", "a source has no origin: --page, `asm P` or a project gives the page, and `at` of a FILE.page a place in it"),
+    (r"(?:org|origin|start|\.start|base)\s+\S+",
+     "a source has no origin: --page, `asm P` or a project gives the page, and `at` of a FILE.page a place in it"),
     (r"\.?(?:page|bank)\s+\S+", "a source names no page and no bank: --page, --bank, `asm P bN` or a project gives them"),
     (r"\.?end|\.(?:stop|exit)\b.*", "the end of a source needs no directive: remove it"),
     (r"(?:section|segment|\.section|\.segment|\.code|code|model|assume|use)\b\s*\S*", "this directive gives no word: remove it"),
     (r"(?:FNAME|FUNC|FNC|FCN|FUNCTION|LABEL|LBL|TITLE|STRING)\s+\"([^\"]*)\"", "a name of a function is NAME \"{0}\""),
 ]
 # The statements that come before the forms of other assemblers.
-EARLY = re.compile(r"(?:\.?section|\.?segment|let|var|int(?=\s+[a-z_])|const(?=\s+\w+\s*=)|def|proc|procedure|function|void|page|bank|for|while|do|else|unless|when|switch|end\s?if|"
-                   r"\.?end|\.stop|\.exit)\b", re.I)
+EARLY = re.compile(r"(?:\.?section|\.?segment|let|var|int(?=\s+[a-z_])|const(?=\s+\w+\s*=)|def|proc|procedure|function|void|page|bank|for|"
+                   r"while|do|else|unless|when|switch|end\s?if|\.?end|\.stop|\.exit)\b", re.I)
 # Forms of registers that are not A, B and C, in operations.
 COPIES = {"M": ("C=M", "M=C"), "N": ("C=N", "N=C"), "G": ("C=G", "G=C"), "ST": ("C=ST", "ST=C")}
 COPIED = re.compile(r"(M|N|G|ST|[ABC])(?:=|<-|:=)(M|N|G|ST|[ABC])")
@@ -75,7 +76,7 @@ IN_MEMORY = re.compile(r"([XYZTL]|R[0-9]{2})=C|C=([XYZTL]|R[0-9]{2})")
 NUMBERS = {"T": "DATA", "Z": "1", "Y": "2", "X": "3", "L": "4"}
 
 
-def of_label(code: str, column: int, is_instruction: object) -> Cause | None:
+def of_label(code: str, column: int, is_instruction: Callable[[str], bool]) -> Cause | None:
     """Finds a label that is written otherwise. `is_instruction` is a function that says whether words begin with an instruction."""
     found = re.match(r"(\S.*?)?(\s*)(:+)(\s+|\Z)(.*)", code)
     if found and '"' not in found[0].replace('"', "", 2) and (not found[5] or is_instruction(found[5]) or re.match(NAME + ":", found[5])):
@@ -177,8 +178,8 @@ def of_elsewhere(words: Words, code: str, names: Iterable[str], operations: Iter
     wanted = meant(code)
     way = own_way(wanted) if wanted and wanted != re.sub(r"\s", "", code.upper()) else ()
     if way:
-        return column, f"{first} is {what}: here it is {in_words(way)}, {'' if way[1:] else 'with a field such as ALL' if way[0] in operations else ''}" \
-            .rstrip(", ") + (", each with a field such as ALL" if way[1:] else "")
+        field = ", each with a field such as ALL" if way[1:] else ", with a field such as ALL" if way[0] in operations else ""
+        return column, f"{first} is {what}: here it is {in_words(way)}{field}"
     if name in ELSEWHERE:
         return column, f"{first} is {what}: here it is {ELSEWHERE[name]}"
     if name in OF_ONE or name in OF_TWO:
@@ -198,12 +199,13 @@ SPECIAL = [
     (r"\??(?:CY|CARRY|CF|CC)(?:=[01])?\??", "the carry is tested by JC and JNC, ?C RTN and ?NC RTN, directly after what sets it"),
     (r"(?:C?ST)=(?!T\Z|C\Z|0\Z)[0-9]+", "a status bit is set by SETF n and cleared by CLRF n, and ST=C takes all of them from C"),
     (r"(?:PC=.+|.+=PC)", "no instruction copies PC: GOTO ADR jumps to the address in C, and POP ADR takes a return address into C"),
-    (r"C=(?:STACK|RTN|RET)", "POP ADR takes the newest return address into C"), (r"(?:STACK|RTN|RET)=C", "PUSH ADR makes the address in C the newest return"),
+    (r"C=(?:STACK|RTN|RET)", "POP ADR takes the newest return address into C"),
+    (r"(?:STACK|RTN|RET)=C", "PUSH ADR makes the address in C the newest return"),
     (r"C(?:=(?:C[&.*]A|A[&.*]C)|&=A)", "C=C AND A is written in words, and has no field"),
     (r"C(?:=(?:C\|A|A\|C)|\|=A)", "C=C OR A is written in words, and has no field"),
     (r"[ABC]=[ABC](?:AND|OR|XOR|&|\||\^)[ABC]|[ABC][&|^]=[ABC]", "the processor has only C=C AND A and C=C OR A for this"),
-    (r"\??[ABC](?:=|==|#|!=|<|>|<=|>=)(?:[1-9]|[0-9]{2,})", "a test compares two registers, or a register with 0: put the number into A or C before it, and "
-     "then ?A#C or ?A<C"),
+    (r"\??[ABC](?:=|==|#|!=|<|>|<=|>=)(?:[1-9]|[0-9]{2,})",
+     "a test compares two registers, or a register with 0: put the number into A or C before it, and then ?A#C or ?A<C"),
     (r"\??[ABC](?:<|>=)0", "a field is never below 0: the sign of a number is the digit in the field MS, ?C#0 MS"),
 ]
 
@@ -221,8 +223,8 @@ def of_condition(words: Words) -> Cause | None:
     """Finds a conditional jump or call in the words of other assemblers, or without one of its two words."""
     column, first = words[0]
     second = words[1][1].upper() if words[1:] else ""
-    kinds = {"JMP": "GO", "GOTO": "GO", "JUMP": "GO", "BRA": "GO", "J": "GO", "CALL": "XQ", "JSR": "XQ", "GOSUB": "XQ", "XEQ": "XQ", "RET": "RTN",
-             "RETURN": "RTN"}
+    kinds = {"JMP": "GO", "GOTO": "GO", "JUMP": "GO", "BRA": "GO", "J": "GO", "CALL": "XQ", "JSR": "XQ", "GOSUB": "XQ", "XEQ": "XQ",
+             "RET": "RTN", "RETURN": "RTN"}
     name = first.upper().lstrip("?")
     if name in ("NC", "C") and second in kinds:
         return column, f"{first} {words[1][1]} is written here as ?{name} {kinds[second]}"
@@ -272,14 +274,15 @@ def of_operation(code: str, column: int, operations: Iterable[str]) -> Cause | N
     known = [name for name in (flat.upper(), wanted) if name in operations]
     if known and known[0] != words[0]:
         own = f"{known[0]} {field}" if field else f"{known[0]} and a field, for example {known[0]} ALL"
-        is_spaced = flat == known[0] and len(words) > 1
-        return column, (f"an operation has no spaces inside: write {own}" if is_spaced else
-                        f"one space is between an operation and its field: write {own}" if flat == known[0] else f"{flat} is written here as {own}")
+        if flat != known[0]:
+            return column, f"{flat} is written here as {own}"
+        return column, (f"an operation has no spaces inside: write {own}" if len(words) > 1 else
+                        f"one space is between an operation and its field: write {own}")
     if "R" not in wanted and re.search(r"[=<>#+-]", wanted):
         way = own_way(wanted if wanted[:1] == "?" or not re.search(r"[<>#!]|==", wanted.replace("<>", "")) else f"?{wanted}")
         if way and way[0] != flat:
             tail = f" {field}" if field else ""
             steps = tuple(f"{step}{tail}" if step in operations else step for step in way)
-            own = wanted == flat and not (len(way) == 1 and way[0][0] == "?")
-            return column, (f"the processor has no {flat}: " if own else f"{flat} is written here as ") + in_words(steps)
+            is_own = wanted == flat and not (len(way) == 1 and way[0][0] == "?")
+            return column, (f"the processor has no {flat}: " if is_own else f"{flat} is written here as ") + in_words(steps)
     return None

@@ -315,7 +315,9 @@ class Linked:
             # A line that became two words keeps one line here, of two words.
             unit.whole.lines = [b"        LDI 000" if b"\n" in line else line for line in unit.linked]
             faults += unit.whole.faults_of(Source(unit.whole.data()))
-        return Faulty("\n".join(faults)) if faults else Failure(f"{self.project.path}: the bench refused a block: {refusal}: please report it", 3)
+        if faults:
+            return Faulty("\n".join(faults))
+        return Failure(f"{self.project.path}: the bench refused a block: {refusal}: please report it", 3)
 
     def faults_of_lines(self) -> list[str]:
         """Returns the errors of lines whose references are no errors. An error of a label is the cause of errors of references to it."""

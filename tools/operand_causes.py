@@ -15,7 +15,8 @@ PLACES, DIGITS = ("CLRF", "SETF", "?FSET", "R=", "?R=", "RCR"), ("LD@R", "WRIT",
 BITS, IN_MEMORY = ("CLRF", "SETF", "?FSET"), ("WRIT", "READ")
 
 # Names of fields in other words.
-OTHER_FIELDS = {"SX": "S&X", "S+X": "S&X", "SANDX": "S&X", "S/X": "S&X", "S_X": "S&X", "EXP": "S&X", "EXPONENT": "S&X", "EX": "S&X", "XP": "S&X",
+OTHER_FIELDS = {"SX": "S&X", "S+X": "S&X", "SANDX": "S&X", "S/X": "S&X", "S_X": "S&X", "EXP": "S&X", "EXPONENT": "S&X", "EX": "S&X",
+                "XP": "S&X",
                 "MANTISSA": "M", "MANT": "M", "MAN": "M", "SIGN": "MS", "SGN": "MS", "SM": "MS", "WORD": "ALL", "A": "ALL", "FULL": "ALL",
                 "R": "@R", "@P": "@R", "P": "@R", "AT": "@R", "<R": "R<", "R->": "R<", "WP": "R<", "TOR": "R<", "P_Q": "P-Q", "P..Q": "P-Q",
                 "P:Q": "P-Q", "PTOQ": "P-Q", "XSIGN": "XS", "SX2": "XS", "S&XS": "XS"}
@@ -113,7 +114,8 @@ def of_field(name: str, text: str) -> str:
     if text in ("X", "S", "W", "WPT", "PT", "PQ", "@PT"):
         return ""
     prefix = next((own for other, own in OTHER_FIELDS.items() if len(other) > 2 and upper.startswith(other[:3])), None)
-    own = upper if upper in FIELDS else OTHER_FIELDS.get(upper.replace(" ", ""), prefix if upper.isalpha() and len(upper) > 3 else None)
+    usual = prefix if upper.isalpha() and len(upper) > 3 else None
+    own = upper if upper in FIELDS else OTHER_FIELDS.get(upper.replace(" ", "")) or usual
     if bare in FIELDS and bare != text:
         return f"a field is its name alone: write {name} {bare}"
     if own and own == upper and bare == text:
@@ -140,6 +142,11 @@ def marked(text: str) -> tuple[str, str, bool, bool]:
     return found[2], signs or (found[3] or "") or text[len(found[2]):], bool(found[1]) or found[3] in ("h", "H"), found[3] in ("d", "D")
 
 
+def written(name: str, digits: str) -> str:
+    """Returns an instruction with a decimal number."""
+    return "READ DATA" if name == "READ" and not int(digits) else f"{name} {int(digits)}"
+
+
 def of_number(name: str, text: str) -> str:
     """Returns what is wrong with a decimal number."""
     most = 13 if name in PLACES else 15
@@ -149,31 +156,32 @@ def of_number(name: str, text: str) -> str:
         number = REGISTERS.index(NAMES[text.upper()]) if NAMES.get(text.upper(), "") == "L" else NAMES.get(text.upper())
         return f"{text} is register {number}: write {name} {number}" if number is not None else ""
     if name in IN_MEMORY and text in ("A", "B", "C", "M", "N", "G"):
-        return f"{text} is not in memory: {name} takes the number of a register of memory, and {'its value goes to' if name == 'READ' else 'writes'} C"
+        what = "which it reads into C" if name == "READ" else "to which it writes C"
+        return f"{text} is not in memory: {name} takes the number of a register of memory, {what}"
     digits, signs, is_hexadecimal, _ = marked(text)
     confused = text.translate(LETTERS)
+    if name == "READ" and (digits if digits.isdecimal() else confused).strip("0") == "":
+        return "the word for 0 is READ DATA"
     if confused != text and confused.isdecimal() and int(confused) <= most:
-        return f"{text} has a letter in place of a digit: write {name} {int(confused)}"
+        return f"{text} has a letter in place of a digit: write {written(name, confused)}"
     if digits and (is_hexadecimal or re.fullmatch("[A-Fa-f]", digits)) and digits.upper() == digits and int(digits, 16) <= most:
-        return f"{takes}: write {name} {int(digits, 16)}" if signs or int(digits, 16) > 9 else ""
+        return f"{takes}: write {written(name, str(int(digits, 16)))}" if signs or int(digits, 16) > 9 else ""
     if digits and digits.isdecimal() and signs and int(digits) <= most:
-        if name == "READ" and not int(digits):
-            return "that word is READ DATA"
-        return f"found {text}, expected the number alone: write {name} {int(digits)}"
+        return f"found {text}, expected the number alone: write {written(name, digits)}"
     if digits and digits.isdecimal() and not signs and int(digits) <= most and digits[0] == "0" and len(digits) > 1:
-        return f"{text} has a leading zero: write {name} {int(digits)}"
+        return f"{text} has a leading zero: write {written(name, digits)}"
     if text.isdecimal() and int(text) > most:
         return f"{text} is out of range: {takes}" if name not in BITS else ""
     if re.fullmatch(r"[-+][0-9.]+", text):
         return f"{text} has a sign: {takes}"
     found = re.fullmatch(r"([0-9]+)[(,/](.).*", text)
     if found and int(found[1]) <= 15:
-        return f"{text} is two names of a register: write the number alone, {name} {int(found[1])}"
+        return f"{text} is two names of a register: write the number alone, {written(name, found[1])}"
     if re.fullmatch(r"[0-9]+\.[0-9]*", text):
         return f"{text} has a point: {takes}"
     parts = re.findall("[0-9]+", text)
     if len(parts) == 1 and int(parts[0]) <= most and not text.startswith(":"):
-        return f"found {text}, expected the number alone: write {name} {int(parts[0])}"
+        return f"found {text}, expected the number alone: write {written(name, parts[0])}"
     return f"found {text}: {takes}" if not text.startswith(":") else ""
 
 
@@ -188,7 +196,8 @@ def of_word(name: str, text: str) -> str:
     decimal = re.fullmatch("([0-9]{1,4})[dD]", text)
     if decimal and int(decimal[1]) <= GREATEST_WORD:
         return f"{text} is a decimal number: write it in hexadecimal, {name} {int(decimal[1]):03X}"
-    if digits and (signs or is_hexadecimal) and int(digits, 16) <= GREATEST_WORD and not re.search("[@%]", signs) and not re.match("0[bo]", text):
+    is_other_base = re.search("[@%]", signs) or re.match("0[bo]", text)
+    if digits and (signs or is_hexadecimal) and int(digits, 16) <= GREATEST_WORD and not is_other_base:
         return f"found {text}, expected three hexadecimal digits alone: write {name} {int(digits, 16):03X}"
     if re.fullmatch("-[0-9A-Fa-f]+", text) and int(text[1:], 16) <= 0x400:
         return f"a word has no sign: {text} is {name} {0x400 - int(text[1:], 16):03X}, if its ten bits are meant"
@@ -216,8 +225,8 @@ def of_target(name: str, text: str) -> str:
         return f"an address is four hexadecimal digits alone: write {name} {(numbered[1] or numbered[2]).upper():0>4}"
     distance = re.fullmatch(r"[*$.]?([-+]?)(?:0[xX]|\$)?([0-9A-Fa-f]+)[hH]?", text)
     if name in SHORT and distance and len(distance[2]) < 3 and (distance[1] or text.isdecimal()):
-        return (f"a displacement has a sign and two hexadecimal digits: write {name} {distance[1] or '+'}{distance[2].upper():0>2}, or a label, "
-                f"{name} :LOOP")
+        own = f"{distance[1] or '+'}{distance[2].upper():0>2}"
+        return f"a displacement has a sign and two hexadecimal digits: write {name} {own}, or a label, {name} :LOOP"
     if name in SHORT and distance and distance[1]:
         return f"{text} is out of reach: a short jump reaches -40 to +3F: write ?{name[1:]} GO and a label"
     if label and f":{label[1]}" != text:

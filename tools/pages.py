@@ -61,8 +61,9 @@ class Page:
         """Adds the further entries, which must be at words of the page."""
         for place, name in self.named.items():
             if place >= self.end or self.is_data(place):
-                raise Failure(f"--entry {self.page}{place:03X}: " + (f"only words 000 are there, expected an address up to "
-                              f"{self.page}{self.end - 1:03X}" if place >= self.end else "found a word of the function table or of a name, expected the address of an instruction"))
+                why = (f"only words 000 are there, expected an address up to {self.page}{self.end - 1:03X}" if place >= self.end else
+                       "found a word of the function table or of a name, expected the address of an instruction")
+                raise Failure(f"--entry {self.page}{place:03X}: {why}")
             if not name:
                 self.labels.setdefault(place, self.unused(f"E{place:03X}"))
             self.entries.append(place)

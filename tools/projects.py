@@ -96,7 +96,8 @@ class Reader:
             if key in others:
                 raise self.fail(section, key,
                                 f"this is no key of [{section}], but of the whole project: write it before the first line [..]")
-            if key not in keys and not section and isinstance(table[key], (dict, list)) and "page" in keys and table[key] and not nearest(key, keys):
+            is_table = not section and "page" in keys and isinstance(table[key], (dict, list)) and bool(table[key])
+            if key not in keys and is_table and not nearest(key, keys):
                 raise self.fail(section, key, f"unknown table: a page is [page.{key}]")
             if key not in keys:
                 near = next((name for name in (OTHER_KEYS.get(key.lower()),) if name in keys), None) or nearest(key, keys)
@@ -134,10 +135,10 @@ def nearest(name: str, names: Iterable[str]) -> str:
 
 
 # Keys in the words of other projects.
-OTHER_KEYS = {"page": "at", "address": "at", "origin": "at", "addr": "at", "slot": "at", "port": "at", "file": "source", "path": "source", "code": "source",
-              "asm": "source", "ram": "memory", "registers": "size", "regs": "size", "cases": "tests", "includes": "include", "title": "name",
-              "setup": "before", "constants": "equates", "equ": "equates", "defines": "equates", "symbols": "equates", "rw": "writable",
-              "xrom": "module", "id": "module", "number": "module", "listing": "programs"}
+OTHER_KEYS = {"page": "at", "address": "at", "origin": "at", "addr": "at", "slot": "at", "port": "at", "file": "source", "path": "source",
+              "code": "source", "asm": "source", "ram": "memory", "registers": "size", "regs": "size", "cases": "tests",
+              "includes": "include", "title": "name", "setup": "before", "constants": "equates", "equ": "equates", "defines": "equates",
+              "symbols": "equates", "rw": "writable", "xrom": "module", "id": "module", "number": "module", "listing": "programs"}
 
 
 def in_kind(key: str, found: Any, kind: type) -> str:
@@ -220,7 +221,8 @@ def page_of(reader: Reader, name: str, table: Any) -> Page:
     programs = reader.files(section, table, "programs")
     if len(at) != 1 or at.upper() not in PAGES:
         digit = re.fullmatch(r"(?:0X|\$)?([4-9A-F])(?:000)?H?", at.upper())
-        raise reader.fail(section, "at", f'found {shown(at)}, expected a page from "4" to "F"{digit and f": write at = {chr(34)}{digit[1]}{chr(34)}" or ""}')
+        own = f': write at = "{digit[1]}"' if digit else ""
+        raise reader.fail(section, "at", f'found {shown(at)}, expected a page from "4" to "F"{own}')
     if bank not in BANKS:
         raise reader.fail(section, "bank", f"found {bank}, expected a bank from 1 to 4")
     if (source is None) == (not programs):

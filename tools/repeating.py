@@ -5,11 +5,12 @@ from __future__ import annotations
 import time
 from typing import TYPE_CHECKING, Iterator, Optional
 
+from benches import Bench
 from history import History, Place, State, Told, difference
 from parts import NO_END, Part, parts_of
 
 if TYPE_CHECKING:
-    from desk import Bench, Desk
+    from desk import Desk
 
 # How many bytes of commands a bench is given before it is asked. The bench must be able to read them while its replies wait.
 MOST_BYTES = 30_000
@@ -20,7 +21,7 @@ AROUND = 40
 
 
 def pieces(bench: Bench, part: Part) -> Iterator[None]:
-    """Executes a run, or steps, in pieces; yields after each. A trace prints nothing that is needed here, and so it is executed as steps."""
+    """Executes a run, or steps, in pieces; yields after each. A trace prints nothing that is needed here, so it is executed as steps."""
     left = part.left
     while left:
         count = min(left, MOST_PIECE)

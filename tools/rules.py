@@ -18,7 +18,8 @@ STATUS_BIT = re.compile(r"(?:SETF|CLRF) (10|12)")
 ENBANK = re.compile("ENBANK([1-4])")
 SUM_OF_C = re.compile(r"[AC]=(?:C[+-]1|[AC][+-]C|C\+C|0-C) (?:S&X|ALL)")
 
-DIRECTIVE = re.compile(rb"(#[ \t]*(?:define|include|if|ifdef|ifndef|else|elif|endif|undef|macro|pragma|org|equ|set)\b)(?![^\w\s]*[.,:])", re.I)
+DIRECTIVE = re.compile(rb"(#[ \t]*(?:define|include|if|ifdef|ifndef|else|elif|endif|undef|macro|pragma|org|equ|set)\b)(?![^\w\s]*[.,:])",
+                       re.I)
 IGNORED = re.compile(r"\blint:\s*ignore\b[ \t]*([^;]*)")
 
 # What the status bits mean that a function leaves unchanged.
@@ -348,8 +349,9 @@ class Lint:
     def pointers(self, node: Node) -> None:
         """Finds instructions of a function that use the pointer before it is set."""
         for bank, place in self.flow.without_pointer(node):
-            self.tell(self.flow.line((bank, place)), "pointer", "this instruction uses the pointer, but no R= before it sets it, and it may "
-                                                                f"be at any place when {self.flow.name(node)} starts", bank)
+            self.tell(self.flow.line((bank, place)), "pointer",
+                      "this instruction uses the pointer, but no R= before it sets it, and it may be at any place when "
+                      f"{self.flow.name(node)} starts", bank)
 
     def depth(self, node: Node) -> None:
         """Finds chains of calls that need more return addresses than there are. The first address is that of the function."""

@@ -173,7 +173,8 @@ class Tester:
         if not memory:
             return b"reset\n" + self.front
         if self.page is None:
-            raise Failure(f"{case.name()}: no page is free for the words that set registers: pages 8 to F are used: unplug one of them in the deck")
+            raise Failure(f"{case.name()}: no page is free for the words that set registers: pages 8 to F are used: unplug one of them in "
+                          "the deck")
         stub = stub_of(memory, {}, None)
         return (b"reset\n" + self.front + f"words {self.page}\n{stub.text}end\ncall {self.page}000\nstep {stub.steps}\n"
                 f"unplug {self.page}\n".encode())

@@ -25,7 +25,7 @@ def is_whole(command: bytes) -> bool:
     return not others
 
 
-def quoted(commands: bytes) -> str:
+def shown_commands(commands: bytes) -> str:
     """Returns some commands for a message: the first line, and how many lines follow it."""
     first, *others = commands.rstrip(b"\n").split(b"\n")
     return f"`{shown(first)}`{f' and {len(others)} more lines' if others else ''}"
@@ -74,15 +74,15 @@ class Session:
         if not is_whole(command):
             first = command.decode(errors="replace").split("\n")[0]
             count = command.count(b"\n") + 1
-            raise Failure(f"`{first}`: found {count} line{'s' * (count > 1)} that are not one block, expected one command, or one block that ends "
-                          "with `end`", 2)
+            raise Failure(f"`{first}`: found {count} line{'s' * (count > 1)} that are not one block, expected one command, or one block "
+                          "that ends with `end`", 2)
         return self.ask_all(command)
 
     def ask_all(self, commands: bytes) -> list[bytes]:
         """Returns the lines that some commands print. They and their marker must fit into a pipe, so they have at most 50,000 bytes if
         they print more than a pipe holds."""
         lines: list[bytes] = []
-        when = f"before it answered {quoted(commands)}"
+        when = f"before it answered {shown_commands(commands)}"
         self.sent += len(commands) + 1 + len(MARK)
         try:
             self.input.write(commands.rstrip(b"\n") + b"\n" + MARK)
@@ -95,7 +95,7 @@ class Session:
         except OSError as error:
             if self.bench.poll() is not None:
                 raise Failure(ended(self.bench.wait(), when), NO_ANSWER) from error
-            raise Failure(f"{quoted(commands)} cannot be written to the bench: {error.strerror}", NO_ANSWER) from error
+            raise Failure(f"{shown_commands(commands)} cannot be written to the bench: {error.strerror}", NO_ANSWER) from error
         return lines[:-2]
 
     def close(self) -> int:

@@ -96,7 +96,8 @@ def hexadecimal(width: int, most: int) -> Callable[[str], str]:
 def pointer(text: str) -> str:
     """Returns a pointer as the bench prints it, from its decimal number."""
     if not text.isdecimal() or int(text) > 13:
-        raise Wrong(f"found `{text}`, expected a place from 0 to 13{f', in decimal: {int(text, 16)}' if re.fullmatch('[A-Da-d]', text) else ''}")
+        own = f", in decimal: {int(text, 16)}" if re.fullmatch("[A-Da-d]", text) else ""
+        raise Wrong(f"found `{text}`, expected a place from 0 to 13{own}")
     return f"{int(text):X}"
 
 
@@ -127,7 +128,8 @@ def refusal(value: str) -> str:
     if not {*known, *known.values()} & {*name.split()} and not re.search(r"\b[0-9A-F]{4}\b", name):
         from difflib import get_close_matches
         numbers = {number: one for one, number in known.items()}
-        near = [f"{name:0>2} {numbers[name.zfill(2)]}"] if name.isdecimal() and name.zfill(2) in numbers else get_close_matches(name, known, 1)
+        is_number = name.isdecimal() and name.zfill(2) in numbers
+        near = [f"{name:0>2} {numbers[name.zfill(2)]}"] if is_number else get_close_matches(name, known, 1)
         raise Wrong(f"found `{value}`, expected a refusal{f', the nearest is {near[0]}' if near else ''}: docs/DECK.md has all of them")
     return name
 
@@ -169,8 +171,8 @@ def reader_of(name: str) -> Callable[[str], str]:
     if any(other.lower() == name.lower() for other in READERS):
         raise Wrong(f"{name}: upper and lower case differ: write {next(other for other in READERS if other.lower() == name.lower())}")
     from case_causes import of_name
-    raise Wrong(f"{name}: no such register{of_name(name, READERS)}: expected one of {', '.join([*STACK, *CPU, *ALONE])}, a data register like R05, a flag like "
-                "F22, or an address of memory like 00D")
+    raise Wrong(f"{name}: no such register{of_name(name, READERS)}: expected one of {', '.join([*STACK, *CPU, *ALONE])}, a data register "
+                "like R05, a flag like F22, or an address of memory like 00D")
 
 
 def setting(name: str, sign: str, value: str, is_before: bool) -> Setting:

@@ -48,8 +48,10 @@ SIGNS = {"“": "a curly quote: write \"", "”": "a curly quote: write \"", "�
          "\ufeff": "a byte order mark: remove it",
          "−": "a minus sign: write -", "–": "a dash: write -", "—": "a dash: write -", "≠": "an unequal sign: write #",
          "；": "a wide semicolon: write ;", "„": "a curly quote: write \"", "«": "a quote of other languages: write \"",
-         "»": "a quote of other languages: write \"", "→": "an arrow: a reference begins with a colon, and a result is written first, as in A=C ALL",
-         "←": "an arrow: write =", "↔": "an arrow: write <>", "×": "a multiplication sign, and the processor does not multiply: C=C+C doubles C",
+         "»": "a quote of other languages: write \"",
+         "→": "an arrow: a reference begins with a colon, and a result is written first, as in A=C ALL",
+         "←": "an arrow: write =", "↔": "an arrow: write <>",
+         "×": "a multiplication sign, and the processor does not multiply: C=C+C doubles C",
          "≤": "a sign for a test that the processor does not have: ?A<C with A and C exchanged, and JNC in place of JC",
          "≥": "a sign for a test that the processor does not have: ?A<C, and JNC in place of JC", "…": "an ellipsis: remove it"}
 # Letters of other alphabets that look like these.
@@ -109,7 +111,8 @@ class Mistake:
         label = re.match(r"\s*(\w+):\s", self.text)
         if not label or label[1] not in self.names or self.is_instruction(self.code) or '"' in self.code:
             return None
-        return label.end(1) + 1, f"no colon is after an instruction: write {label[1]} {'' if self.code[:1] in ':0123456789' else ':'}{self.code}"
+        colon = "" if self.code[:1] in ":0123456789" else ":"
+        return label.end(1) + 1, f"no colon is after an instruction: write {label[1]} {colon}{self.code}"
 
     def written_label(self) -> Optional[tuple[int, str]]:
         """Finds a label that is written otherwise, and a second one."""
@@ -203,7 +206,8 @@ class Mistake:
         """Finds an operation that the processor does not have."""
         column, first = self.words[0]
         flat = "".join(word for _, word in self.words) if len(self.words) > 2 and self.words[1][1] == "=" else first
-        registers = line_causes.of_registers(flat, column) or line_causes.of_special(self.body(), column) or line_causes.of_condition(self.words)
+        registers = (line_causes.of_registers(flat, column) or line_causes.of_special(self.body(), column)
+                     or line_causes.of_condition(self.words))
         if first in self.names or registers or not OPERATION.fullmatch(flat) or flat in operations():
             is_own = first in self.names or first in operations()
             return registers or (None if is_own else line_causes.of_operation(self.code, column, operations()))

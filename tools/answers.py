@@ -169,7 +169,7 @@ class Answers:
             raise ValueError(name)
         seconds, steps, _ = asked.get("seconds", 0.05), asked.get("steps"), int(asked.get("since", 0))
         if not isinstance(seconds, (int, float)) or not (steps is None or isinstance(steps, int) and steps > 0):
-            raise ValueError(seconds)
+            raise ValueError((seconds, steps))
         with self.lock:
             if asked.get("id") is not None and asked["id"] == self.last_id:
                 # The answer to this request was lost.
@@ -317,7 +317,7 @@ class Answers:
         """Returns the instructions of a bank, or the lines of the programs in a page."""
         page, bank, kind = asked["page"], asked["bank"], asked["kind"]
         if page not in list(PAGES) or bank not in list("1234") or kind not in ("words", "lines"):
-            raise ValueError(page)
+            raise ValueError((page, bank, kind))
         return {"rows": self.desk.listed(page, bank, kind == "words")}
 
     def causes_of(self, asked: Request) -> Reply:
@@ -337,8 +337,11 @@ class Answers:
         if len(asked["files"]) > MOST_FILES:
             raise Failure(f"found {len(asked['files'])} files: at most {MOST_FILES} can be imported at once")
         files = [(file_name(file["name"]), base64.b64decode(file["data"], validate=True)) for file in asked["files"]]
-        if not files or any(not name for name, _ in files):
-            raise Failure("a file without a name cannot be imported: name it by its kind, for example x.raw")
+        if not files:
+            raise Failure("found no file, expected one at least")
+        nameless = next((one["name"] for one, (name, _) in zip(asked["files"], files) if not name), None)
+        if nameless is not None:
+            raise Failure(f"'{shown(nameless)}' has no letter or digit of a file name: name it by its kind, for example x.raw")
         names = [name for name, _ in files]
         twice = next((name for at, name in enumerate(names) if name in names[:at]), None)
         if twice is not None:
@@ -364,7 +367,7 @@ class Answers:
         """Exports a page or the programs with tools/export. Returns the bytes of the file."""
         kind, page, label = asked["kind"], asked.get("page") or "", asked.get("label") or ""
         if kind not in ("rom", "source", "raw", "text") or page and page not in list(PAGES):
-            raise ValueError(kind)
+            raise ValueError((kind, page))
         with self.lock:
             if kind in ("rom", "source") and not page:
                 page = next(iter(self.desk.views["pages"]), "8")

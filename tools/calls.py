@@ -184,10 +184,12 @@ class Caller:
         for piece in pieces:
             deck = [f"{call.deck}run {call.limit}\n{views.deck}" for call, views in piece]
             lines = self.lines("".join(deck))
-            try:
-                found += [result_of(call, views, lines) for call, views in piece]
-            except StopIteration as why:
-                raise Failure(f"{self.linked.project.path}: {ended(self.status, 'before it answered all cases')}", NO_ANSWER) from why
+            for call, views in piece:
+                try:
+                    found.append(result_of(call, views, lines))
+                except StopIteration as why:
+                    when = f"after it answered {len(found)} of {len(calls)} cases, before {call.case.name()}"
+                    raise Failure(f"{self.linked.project.path}: {ended(self.status, when)}", NO_ANSWER) from why
         return found
 
     def lines(self, deck: str) -> Iterator[str]:

@@ -2,6 +2,7 @@
 writer for each; docs/OLD-PROGRAMS.md has their layouts."""
 import os
 import re
+from itertools import zip_longest
 from typing import Callable, Dict, List, Optional
 
 import exchange
@@ -163,7 +164,11 @@ def packed(kind: str, programs: List[bytes]) -> bytes:
     data = WRITERS[kind](programs)
     again = b"".join(part.data for part in READERS[kind](data))
     if again != b"".join(programs):
-        raise Failure(f"{kind}: the file gives other bytes when it is read again, so nothing is written: please report this with the deck")
+        wanted = b"".join(programs)
+        at = next(at for at in range(len(again) + len(wanted)) if again[at:at + 1] != wanted[at:at + 1])
+        raise Failure(f"{kind}: byte {at} of the programs is {again[at:at + 1].hex().upper() or 'missing'} in place of "
+                      f"{wanted[at:at + 1].hex().upper() or 'none'} when the file is read again, so nothing is written: please report this "
+                      "with the deck")
     return data
 
 
@@ -175,7 +180,8 @@ def listing_of(kind: str, programs: List[List[str]]) -> bytes:
     wanted = [text for texts in programs for text in texts]
     found = [text for text in again.texts if text]
     if again.bad or found != wanted:
-        first = again.bad[0][1] if again.bad else next((one for one, other in zip(found, wanted) if one != other), "END")
-        raise Failure(f"{kind}: the line `{first}` gives another line when it is read again, so nothing is written: please report this "
-                      "with the deck")
+        first = (f"line {again.bad[0][0]} of the file, `{again.bad[0][1]}`, cannot be read" if again.bad else
+                 next(f"program line {number} is `{one or ''}` in place of `{other or ''}`"
+                      for number, (one, other) in enumerate(zip_longest(found, wanted), 1) if one != other))
+        raise Failure(f"{kind}: {first} when the file is read again, so nothing is written: please report this with the deck")
     return text.encode()

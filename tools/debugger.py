@@ -294,10 +294,11 @@ class Debugger:
 
     def do_delete(self, words: list[str]) -> None:
         """Removes breakpoints and watched registers."""
-        numbers = list(self.breaks) if not words else [int(word) for word in words if word.isdecimal() and int(word) in self.breaks]
-        if words and len(numbers) != len(words):
-            raise Failure(f"found `{' '.join(words)}`, expected a number that `breaks` prints")
-        for number in numbers:
+        wrong = next((word for word in words if not word.isdecimal() or int(word) not in self.breaks), None)
+        if wrong is not None:
+            known = f"one of {', '.join(map(str, self.breaks))}" if self.breaks else "there is none"
+            raise Failure(f"found `{wrong}`, expected a number that `breaks` prints: {known}")
+        for number in {int(word) for word in words} or list(self.breaks):
             del self.breaks[number]
 
     def do_registers(self, words: list[str]) -> None:
@@ -320,7 +321,8 @@ class Debugger:
         point = self.machine.point
         address, bank = self.places.find(words[0]) if len(words) == 1 else (point.address, point.bank)
         if words[1:] or address is None:
-            raise Failure(f"{given(words)}, expected a place, for example: list LOOP")
+            raise Failure(f"{given(words)}, expected a place{'' if words else ', because no instruction of a page is next'}, for example: "
+                          "list LOOP")
         part = self.places.part_at(address, self.bank_at(address, bank))
         row = part.row_at(address & 0xFFF) if part else None
         if part is None or row is None:

@@ -199,7 +199,7 @@ def members_in(paths: list[str], options: argparse.Namespace) -> tuple[list[Inpu
         try:
             for member in only(members_of(path, options.kind), options.only):
                 files.append(Skipped(member) if member.kind in (DATA, OTHER) else
-                             File(member, options, behind if is_page_end(behind) else None))
+                             File(member, options, behind if is_page_end(behind) else None, paths[at - 1] if at else None))
                 files[-1].group, groups[at] = groups[at], None
                 errors += files[-1].errors
         except Failure as failure:

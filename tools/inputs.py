@@ -16,11 +16,11 @@ from functions import Functions
 from listings import Listing
 from mods import Image
 from modules import lines_of_texts
-from placing import Group, Place, counted
+from placing import Group, Place, counted, out_of_order
 from programs import Line, listed, numbered
 from programs import Place as Position
 from records import END, ends_of, last_end
-from sources import CR_ALONE, END_MARK, Source, Whole, source_lines, with_ends
+from sources import CR_ALONE, END_MARK, Source, Whole, assemble, source_lines, with_ends
 from spellings import read_tables
 
 IMAGE_SIZE = 8192
@@ -111,10 +111,10 @@ class Input:
 class File(Input):
     """A file: its kind, and the lines of its block. A source may have a description of the end of its page."""
 
-    def __init__(self, member: Member, options: argparse.Namespace, end: Optional[str] = None) -> None:
-        """Reads a file that is not a listing; listings need the functions of all files."""
+    def __init__(self, member: Member, options: argparse.Namespace, end: Optional[str] = None, before: Optional[str] = None) -> None:
+        """Reads a file that is not a listing; listings need the functions of all files. `before` is the path before it."""
         super().__init__(member.path)
-        self.options, self.end = options, end
+        self.options, self.end, self.before = options, end, before
         self.data, self.given, self.container, self.of_mod = member.data, member.kind, member.container, member.image
         self.notes = [f"{self.path}: {text}" for text in member.notes if text != PRIVATE_ROWS]
         self.doubts = [Doubt(PRIVATE, 1, 1, PRIVATE_ROWS) for text in member.notes if text == PRIVATE_ROWS]
@@ -143,7 +143,7 @@ class File(Input):
         if not self.data:
             self.error("the file is empty, expected a program, a listing, a source, an image or a disk image")
         elif is_page_end(self.path):
-            self.error("a description of a page's end must follow its source: FILE.asm FILE.page")
+            self.error(out_of_order(self.before))
         elif self.end and kind not in (None, SOURCE) and not self.is_program(kind):
             self.error(f"found a file of kind {kind} before {self.end}, which describes a page's end, expected a source: FILE.asm "
                        "FILE.page")
@@ -177,15 +177,24 @@ class File(Input):
         is_source, bad = self.assembles(), Listing(self.decoded(), functions=Functions(read_tables())).bad
         if is_source == bool(bad):
             return SOURCE if is_source else LISTING
-        no_line = f" (line {bad[0][0]}, `{bad[0][1]}`, is no program line)" if bad else ""
-        both = "both as a listing and as a source" if is_source else f"neither as a listing{no_line} nor as a source"
-        self.error(f"the text can be read {both}: {NAMED}")
+        if is_source:
+            self.error(f"the text can be read both as a listing and as a source: {NAMED}")
+            return None
+        number, line, reason = bad[0]
+        no_line = f" (line {number}, `{shown(line)}`: not a program line{f': {reason}' if reason else ''})"
+        self.error(f"the text can be read neither as a listing{no_line} nor as a source{self.why_no_source()}: {NAMED}")
         return None
 
     def assembles(self) -> bool:
         """Returns whether the text is a source without errors."""
         lines = source_lines(with_ends(self.data))
         return [b"end"] not in map(words_of, lines) and refused(block(b"asm 8", lines))[0] == 0
+
+    def why_no_source(self) -> str:
+        """Returns the first error of the text as a source, in brackets for a message; an empty text if there is none in a line."""
+        lines = source_lines(with_ends(self.data))
+        _, fault = assemble(lines)
+        return f" (line {fault[0] + 1}, `{shown(lines[fault[0]])}`: {fault[1]})" if fault else ""
 
     def put_ends(self) -> None:
         """Replaces the line ends of a text by LF, and removes ^Z at its end."""

@@ -4,7 +4,7 @@ from __future__ import annotations
 import re
 from typing import Optional, Union
 
-from decks import Failure, items_of, lines_of, spelled_lines, words_of
+from decks import Failure, items_of, lines_of, shown, spelled_lines, text_of, words_of
 from session import is_whole
 
 MOST_STEPS = 9_999_999
@@ -69,7 +69,7 @@ class Part:
 def parts_of(deck: bytes, may_be_open: bool = False) -> list[Part]:
     """Returns the parts of a deck; their texts together are the deck. The last block may lack its `end` if `may_be_open` is set."""
     if deck.endswith(b"\r"):
-        raise Failure("the deck ends in CR without LF, which makes the CR part of its last line: end the line with LF")
+        raise Failure(f"line {deck.count(10) + 1}: the deck ends in CR without LF, which makes the CR part of this line: end the line with LF")
     lines = lines_of(deck)
     parts, at = [], 0
     for first, last in items_of(lines):
@@ -82,7 +82,8 @@ def parts_of(deck: bytes, may_be_open: bool = False) -> list[Part]:
     if parts and parts[-1].is_command and not is_whole(parts[-1].text.rstrip(b"\n")):
         parts[-1].is_open = True
         if not may_be_open:
-            raise Failure(f"{NO_END}: the block `{parts[-1].shown().splitlines()[0]}` has no line `end`")
+            first = items_of(lines)[-1][0]
+            raise Failure(f"{NO_END}: line {first + 1}: the block `{shown(text_of(lines[first]))}` has no line `end`")
     return parts
 
 

@@ -151,6 +151,12 @@ class Given(NamedTuple):
     bank: int
 
 
+def out_of_order(before: Optional[str]) -> str:
+    """Returns the error for a description of a page's end that does not follow its source, but another description or nothing."""
+    return (f"found {before or 'no file'} before this description of a page's end, expected its source"
+            f"{'; a source has only one description' if before else ''}: FILE.asm FILE.page")
+
+
 def given_in(files: list[str], before: list[list[Option]], parser: argparse.ArgumentParser) -> list[Given]:
     """Returns the sources of a command line with their pages. A description of the end of a page follows its source."""
     found: list[Given] = []
@@ -161,7 +167,7 @@ def given_in(files: list[str], before: list[list[Option]], parser: argparse.Argu
         if is_end and found and found[-1].end is None:
             found[-1] = found[-1]._replace(end=path)
         elif is_end:
-            raise Failure(f"{path}: a description of a page's end must follow its source: FILE.asm FILE.page")
+            raise Failure(f"{path}: {out_of_order(found[-1].end if found else None)}")
         else:
             page, bank, _ = places.next(path)
             found.append(Given(path, None, page, bank or 1))

@@ -15,6 +15,7 @@ from typing import Iterator
 from crates import NAME, TOP, crates_of_program
 from decks import Failure
 from documents import codes_of, section_of, tables_of
+from session import why_no_program
 
 SYSTEM = "linux-x86_64"
 PROGRAM = f"{TOP}/crates/{NAME}/out/{NAME}"
@@ -96,7 +97,7 @@ def check_built() -> None:
     """Checks that the proved program was built from the sources of the commit."""
     ready = subprocess.run([f"{TOP}/bench", "prove", "--check"], stdin=subprocess.DEVNULL, capture_output=True, check=False)
     if ready.returncode != 0:
-        raise Failure("there is no proved program for this commit: prove and build it with ./bench prove --all", NOT_BUILT)
+        raise Failure(why_no_program(ready, "a release needs the proved program: build it with ./bench prove --all"), NOT_BUILT)
 
 
 def said_version() -> tuple[str, str]:

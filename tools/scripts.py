@@ -117,8 +117,10 @@ class Words:
 def case_of(path: str, number: int, words: list[str], title: str) -> Case:
     """Returns the case of a row."""
     target = TARGET.fullmatch(words[0])
-    if target is None or ARROW not in words:
-        raise Wrong(FORM)
+    if target is None:
+        raise Wrong(f"found `{words[0]}`, but a row begins with a name in quotes or with R/S; {FORM}")
+    if ARROW not in words:
+        raise Wrong(f"no -> is between what is set before the call and what is expected after it; {FORM}")
     at = words.index(ARROW)
     before, after = Words(words[1:at], True), Words(words[at + 1:], False)
     start = ["XEQ", Text(target[1])] if target[1] is not None else ["R/S"]

@@ -24,6 +24,9 @@ FILES = {"": ("calculator.html", "text/html; charset=utf-8"), "calculator.css": 
             for name in ("elements.js", "display.js", "keys.js", "panels.js", "memory.js", "times.js", "lessons.js", "files.js",
                          "settings.js", "calculator.js")}}
 
+# The paths after the token that requests name, except for the files.
+PATHS = {"GET": "deck, events, recorded, state or a file such as calculator.js", "POST": "do, export or import"}
+
 LONGEST_BODY, LONGEST_PATH = 8_388_608, 2000
 MOST_CONNECTIONS = 48
 # A browser has at most six connections at a time, and each open page holds one.
@@ -205,8 +208,9 @@ class Handler(BaseHTTPRequestHandler):
             self.turn_away()
         except Failure as failure:
             self.reply(409, "text/plain; charset=utf-8", f"{failure}\n".encode())
-        except (TypeError, ValueError, LookupError, AttributeError, OverflowError, RecursionError):
-            self.reply(400, "text/plain; charset=utf-8", b"the request has wrong values or lacks some: reload the page\n")
+        except (TypeError, ValueError, LookupError, AttributeError, OverflowError, RecursionError) as error:
+            why = f"{type(error).__name__}: {error}"[:200].encode("ascii", "backslashreplace").decode()
+            self.reply(400, "text/plain; charset=utf-8", f"the request has wrong values or lacks some ({why}): reload the page\n".encode())
         except Exception as fault:
             self.reply(500, "text/plain; charset=utf-8", f"internal error in tools/calculator: {fault!r}: please report it\n".encode())
 
@@ -277,7 +281,7 @@ class Handler(BaseHTTPRequestHandler):
         elif name == "state":
             self.tell(self.server.answers["state"](asked))
         else:
-            raise Refusal(404, f"unknown path '{name[:100]}'")
+            raise self.unknown(name)
 
     def save(self, kind: str, data: bytes, name: str) -> None:
         """Sends bytes that the browser saves as a file of this name."""
@@ -287,8 +291,10 @@ class Handler(BaseHTTPRequestHandler):
         """Answers a POST request for a path after the token."""
         self.want_cookie()
         length = self.headers.get("Content-Length", "")
-        if self.headers.get("Transfer-Encoding") or not (length.isascii() and length.isdigit()):
-            raise Refusal(411, "the request has no Content-Length: expected the length of its body in bytes")
+        coding = self.headers.get("Transfer-Encoding")
+        if coding or not (length.isascii() and length.isdigit()):
+            found = f"'{coding[:100]}' as its Transfer-Encoding" if coding else f"'{length[:100]}' as its Content-Length" if length else "no Content-Length"
+            raise Refusal(411, f"the request has {found}: expected a Content-Length, the length of its body in bytes")
         if int(length) > LONGEST_BODY:
             raise Refusal(413, f"the request body has {int(length):,} bytes: at most {LONGEST_BODY:,} are allowed")
         if self.headers.get_content_type() != "application/json":
@@ -298,7 +304,7 @@ class Handler(BaseHTTPRequestHandler):
         if len(body) < int(length):
             raise Refusal(400, f"the request body has {len(body):,} bytes, expected {int(length):,}")
         if name not in ("do", "import", "export"):
-            raise Refusal(404, f"unknown path '{name[:100]}'")
+            raise self.unknown(name)
         asked = json.loads(body)
         if not isinstance(asked, dict):
             raise Refusal(400, f"the request body is `{body[:40].decode(errors='replace')}`, expected a JSON object: reload the page")
@@ -307,6 +313,10 @@ class Handler(BaseHTTPRequestHandler):
             self.reply(200, "application/octet-stream", answer)
         else:
             self.tell(answer)
+
+    def unknown(self, name: str) -> Refusal:
+        """Returns the error for a path after the token that no request of this method has."""
+        return Refusal(404, f"{self.command} request of the unknown path '{name[:100]}', expected {PATHS[self.command]}")
 
     def want_cookie(self) -> None:
         """Refuses a browser that has not opened the page."""

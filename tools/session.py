@@ -4,7 +4,7 @@ import shutil
 import subprocess
 from typing import IO
 
-from decks import BENCH, Failure, LONGEST_LINE, MARK, MARK_ANSWER, MEMORY, NO_ANSWER, OPENERS, ended, running
+from decks import BENCH, Failure, LONGEST_LINE, MARK, MARK_ANSWER, MEMORY, NO_ANSWER, OPENERS, ended, running, shown
 
 
 def words_of(line: bytes) -> list[bytes]:
@@ -25,11 +25,27 @@ def is_whole(command: bytes) -> bool:
     return not others
 
 
+def shown_commands(commands: bytes) -> str:
+    """Returns some commands for a message: the first line, and how many lines follow it."""
+    first, *others = commands.rstrip(b"\n").split(b"\n")
+    return f"`{shown(first)}`{f' and {len(others)} more lines' if others else ''}"
+
+
+def why_no_program(ready: subprocess.CompletedProcess[bytes], advice: str) -> str:
+    """Returns why there is no proved program, from what `./bench prove --check` has printed, and what to do if it can be built."""
+    said = ready.stderr.decode(errors="replace").splitlines()
+    if not said:
+        return f"./bench prove --check ended with status {ready.returncode} and printed no reason"
+    why = said[0].removeprefix("bench: ")
+    # With status 1 and rt, the rest of the line says how `./bench run` answers without a proof.
+    return f"{why.split(': ')[0]}: {advice}" if ready.returncode == 1 and shutil.which("rt") else why
+
+
 def want_program() -> None:
     """Checks that the program is built. `rt try` is not enough, because it reads all commands before it answers any."""
     ready = subprocess.run([BENCH, "prove", "--check"], stdin=subprocess.DEVNULL, capture_output=True)
     if ready.returncode and (ready.returncode != 1 or shutil.which("rt")):
-        raise Failure("the proved program is missing or out of date: build it with ./bench prove", NO_ANSWER)
+        raise Failure(why_no_program(ready, "this tool needs the proved program: build it with ./bench prove"), NO_ANSWER)
 
 
 def pipes_of(process: subprocess.Popen[bytes]) -> tuple[IO[bytes], IO[bytes]]:
@@ -66,6 +82,7 @@ class Session:
         """Returns the lines that some commands print. They and their marker must fit into a pipe, so they have at most 50,000 bytes if
         they print more than a pipe holds."""
         lines: list[bytes] = []
+        when = f"before it answered {shown_commands(commands)}"
         self.sent += len(commands) + 1 + len(MARK)
         try:
             self.input.write(commands.rstrip(b"\n") + b"\n" + MARK)
@@ -73,12 +90,12 @@ class Session:
             while lines[-2:] != MARK_ANSWER:
                 line = self.output.readline()
                 if not line:
-                    raise Failure(ended(self.bench.wait(), "before it answered"), NO_ANSWER)
+                    raise Failure(ended(self.bench.wait(), when), NO_ANSWER)
                 lines.append(line[:-1])
         except OSError as error:
             if self.bench.poll() is not None:
-                raise Failure(ended(self.bench.wait(), "before it answered"), NO_ANSWER) from error
-            raise Failure(f"cannot write to the bench: {error.strerror}", NO_ANSWER) from error
+                raise Failure(ended(self.bench.wait(), when), NO_ANSWER) from error
+            raise Failure(f"{shown_commands(commands)} cannot be written to the bench: {error.strerror}", NO_ANSWER) from error
         return lines[:-2]
 
     def close(self) -> int:

@@ -75,8 +75,10 @@ def workers_of(text: str) -> Tuple[int, List[str]]:
             raise Failure(f"--workers {text}: expected a number from 1 to 9999, or names of machines separated by commas", 2)
         return int(text), []
     names = text.split(",")
-    if not all(re.fullmatch(r"(?:[0-9]+/)?(?::|[A-Za-z0-9_][\w.@:-]*)", name) for name in names):
-        raise Failure(f"--workers {text}: expected a number, or names of machines separated by commas, for example ann@one,ann@two", 2)
+    wrong = next((name for name in names if not re.fullmatch(r"(?:[0-9]+/)?(?::|[A-Za-z0-9_][\w.@:-]*)", name)), None)
+    if wrong is not None:
+        found = f"found the name '{wrong}', " if names[1:] else ""
+        raise Failure(f"--workers {text}: {found}expected a number, or names of machines separated by commas, for example ann@one,ann@two", 2)
     return cores(), names
 
 
@@ -136,7 +138,7 @@ def results_in(tool: str, parts: List[Tuple[str, str]]) -> List[Any]:
                 raise Failure(f"{path}: found share {share.number}/{share.of} of {count} items, expected shares of the same work, "
                               f"I/{first[0]} of {first[1]} items")
             if share.number in found:
-                raise Failure(f"{path}: found share {share.number}/{share.of} a second time")
+                raise Failure(f"{path}: found share {share.number}/{share.of} a second time, expected each share once")
             found[share.number] = results
     of, count = first or (1, 0)
     missing = [f"{number}/{of}" for number in range(1, of + 1) if number not in found]

@@ -81,10 +81,14 @@ def traced(caller: Caller, calls: list[tuple[Call, int]], more: list[str] | None
     calls = [(call, min(steps, MOST_TRACED)) for call, steps in calls]
     lines = caller.lines("".join(traced_deck(call, steps, more) for call, steps in calls))
     parts_of = tool("trace").parts_of
+    found: list[list[Step]] = []
     try:
-        return [list(steps_in(caller.linked, steps, lines, LINES + len(more), parts_of)) for _, steps in calls]
+        for _, steps in calls:
+            found.append(list(steps_in(caller.linked, steps, lines, LINES + len(more), parts_of)))
     except RuntimeError as why:
-        raise Failure(f"{caller.linked.project.path}: {ended(caller.status, 'before it answered all steps')}", NO_ANSWER) from why
+        when = f"after it answered the steps of {len(found)} of {len(calls)} cases"
+        raise Failure(f"{caller.linked.project.path}: {ended(caller.status, when)}", NO_ANSWER) from why
+    return found
 
 
 def steps_in(linked: Linked, steps: int, lines: Iterator[str], count: int, parts_of: Any) -> Iterator[Step]:

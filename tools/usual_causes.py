@@ -119,7 +119,8 @@ def of_another_dialect(own: str) -> str:
 # Causes that are certain: characters that look like others, a colon that is missing, and a zero too many.
 CERTAIN = ("U+", "begins with a colon", "has a leading zero", "in upper case", "alone: write", "space is missing", "in place of a digit",
            "a comment begins with ;", "the colon of ", "decimal number: write it", "no space is", "no spaces inside", "expected three:",
-           "colon and a name:", "two hexadecimal digits: write", "has no operand: it", "is not in memory:", "JC or JNC after it")
+           "colon and a name:", "two hexadecimal digits: write", "has no operand: it", "is not in memory:", "JC or JNC after it",
+           "the word for 0 is")
 
 
 def shown_causes(asked: list[tuple[Asked, Fault]], others: dict[bytes, str]) -> dict[Fault, Cause]:

@@ -5,7 +5,11 @@
 const [MOST_STEPS, MOST_STATES, MOST_ENTRIES, MOST_TRACED] = [9999999, 2000, 200, 60];
 // The longest body of a request that the server accepts, in bytes.
 const LONGEST_BODY = 8388608;
-const TOO_LONG = "This is too long: a request has at most 8 MB. Use ./bench run.";
+// How many bytes its files may have together: they are in base 64, which has 4 characters for 3 bytes, and have names.
+const LONGEST_FILES = (LONGEST_BODY - 65536) / 4 * 3;
+
+/** Returns a number of bytes for a message. */
+const inBytes = (count) => `${count.toLocaleString("en")} bytes`;
 
 let session = null;         // the number of the session that the page shows
 let entries = [];           // its commands with their replies, as the server sent them
@@ -61,7 +65,10 @@ function forget() {
     a request with the same id only once. */
 async function fetched(path, body) {
   const text = body && JSON.stringify({ ...body, id: `${Date.now()}-${Math.random()}` });
-  if (text && new Blob([text]).size > LONGEST_BODY) throw new Error(TOO_LONG);
+  const size = text ? new Blob([text]).size : 0;
+  if (size > LONGEST_BODY) {
+    throw new Error(`The request has ${inBytes(size)}: at most ${inBytes(LONGEST_BODY)} are allowed. Give fewer commands at a time, or use ./bench run.`);
+  }
   const request = body && { method: "POST", headers: { "Content-Type": "application/json" }, body: text };
   for (let tries = 0; ; tries++) {
     const reply = await fetch(path, request).catch(() => null);

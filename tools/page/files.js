@@ -1,9 +1,16 @@
 "use strict";
 // Files that are imported, opened and exported.
 
+/** Refuses files that are too large for a request. */
+function checkSize(files, advice) {
+  const size = files.reduce((sum, file) => sum + file.size, 0);
+  if (size <= LONGEST_FILES) return;
+  const names = files.map((file) => file.name).join(", ");
+  throw new Error(`${names}: found ${inBytes(size)}, expected at most ${inBytes(LONGEST_FILES)}: ${advice}.`);
+}
+
 /** Returns the bytes of a file in base 64. */
 function base64Of(file) {
-  if (file.size > LONGEST_BODY) throw new Error(TOO_LONG);
   return !file.size ? "" : new Promise((done, fail) => {
     const reader = new FileReader();
     reader.onload = () => done(reader.result.slice(reader.result.indexOf(",") + 1));
@@ -14,9 +21,10 @@ function base64Of(file) {
 
 async function bringIn(files) {
   const decks = files.filter((file) => /\.deck$/i.test(file.name));
-  if (decks.length && files.length > 1) throw new Error("A deck cannot be opened together with other files: choose it alone.");
+  if (decks.length && files.length > 1) throw new Error(`${decks[0].name} is a deck, which cannot be opened together with other files: choose it alone.`);
   if (decks.length) return openDeck(decks[0]);
   by("files-panel").open = true;
+  checkSize(files, files.length > 1 ? "import fewer files at a time" : "import it with tools/import");
   const given = await Promise.all(files.map(async (file) => ({ name: file.name, data: await base64Of(file) })));
   tellOfFiles("…", true);
   const answer = await ask({ files: given, page: by("page-in").value }, "import");
@@ -26,6 +34,7 @@ async function bringIn(files) {
 }
 
 async function openDeck(file) {
+  checkSize([file], "run it with ./bench run");
   if (!await isSure()) return;
   await ask({ do: "open", data: await base64Of(file) });
   await drive();

@@ -59,3 +59,51 @@ DIGITS: R= 12
         LD@R 3
         SETF 7
         RTN
+
+; FIVE of docs/FIRST-MODULE.md: X becomes 5, and no other register of memory changes.
+; requires PT = P
+; ensures  X = 5000000000000, other registers as before, RAM = 3, in 6 steps
+FIVE:   C=0 ALL
+        RAM SLCT
+        R= 12
+        LD@R 5
+        WRIT 3
+        RTN
+
+; X10 of docs/FIRST-MODULE.md, for numbers that are not zero: the decimal exponent of X grows by 1.
+; requires RAM = 0, X.M > 0, X.SX is BCD, BCD(X.SX) < 3E7
+; ensures  BCD(X.SX) = BCD(old X.SX) + 1, X.SX is BCD, other digits of X as before, other registers as before
+; ensures  RAM = 3, in 8 steps
+X10:    READ 3
+        ?C#0 M
+        ?NC RTN
+        SETDEC
+        C=C+1 S&X
+        SETHEX
+        WRIT 3
+        RTN
+
+; X and Y exchange.
+; ensures  X = old Y, Y = old X, other registers as before, in 9 steps
+XY:     C=0 S&X
+        RAM SLCT
+        READ 2
+        A=C ALL
+        READ 3
+        WRIT 2
+        A<>C ALL
+        WRIT 3
+        RTN
+
+; The status bits S7 to S0 become two digits of C, and G becomes two others.
+; requires PT = P, P = 3
+; ensures  C[1:0] = old ST, C[4:3] = old G, other digits of C as before, ST as before, in 3 steps
+BYTES:  C=ST
+        C=G
+        RTN
+
+; A keeps one digit of C by a mask.
+; requires A.XS = 0F, A[1:0] = 0, A[13:3] = 0
+; ensures  C.XS = old C.XS, C[1:0] = 0, C[13:3] = 0, A as before, in 2 steps
+MASK:   C=C AND A
+        RTN

@@ -9,7 +9,8 @@ from typing import NamedTuple
 
 from crates import NAME, TOP
 from decks import NO_ANSWER, Failure
-from theorems import CRATE, Proof
+from statements import CRATE
+from theorems import Proof
 
 # Where ./bench prove --all keeps the libraries, and the crates that a theorem can name.
 LIBRARIES = f"{TOP}/crates/{NAME}/out/rlib"

@@ -107,3 +107,64 @@ BYTES:  C=ST
 ; ensures  C.XS = old C.XS, C[1:0] = 0, C[13:3] = 0, A as before, in 2 steps
 MASK:   C=C AND A
         RTN
+
+; A hexadecimal number becomes a decimal one, by counting both.
+; requires A.SX <= 3E7
+; ensures  BCD(C.SX) = old A.SX, C.SX is BCD, in 7 * A.SX + 3 steps
+DECIMAL: C=0 S&X
+; invariant BCD(C.SX) + A.SX = old A.SX, C.SX is BCD
+; decreases A.SX
+COUNT:  ?A#0 S&X
+        ?NC RTN
+        A=A-1 S&X
+        SETDEC
+        C=C+1 S&X
+        SETHEX
+        JNC :COUNT
+
+; The sum of two decimal numbers of ten digits. The carry becomes S0; 2540BE400 is 10000000000.
+; requires MODE = DEC, A.M is BCD, C.M is BCD
+; ensures  BCD(C.M) + 2540BE400 * S0 = BCD(old A.M) + BCD(old C.M), C.M is BCD, other digits of C as before, within 5 steps
+ADD:    CLRF 0
+        C=A+C M
+        ?NC RTN
+        SETF 0
+        RTN
+
+; Two loops, one after another.
+; requires A.SX <= 0100, B.SX <= 0100
+; ensures  C.SX = old A.SX + old B.SX, in 5 * A.SX + 7 * B.SX + 5 steps
+BOTH:   C=0 S&X
+; invariant C.SX + A.SX = old A.SX, B.SX = old B.SX
+; decreases A.SX
+FIRST:  ?A#0 S&X
+        JNC :SECOND
+        A=A-1 S&X
+        C=C+1 S&X
+        JNC :FIRST
+; invariant C.SX + B.SX = old A.SX + old B.SX
+; decreases B.SX
+SECOND: ?B#0 S&X
+        ?NC RTN
+        A<>B S&X
+        A=A-1 S&X
+        A<>B S&X
+        C=C+1 S&X
+        JNC :SECOND
+
+; A call of a function whose number of steps depends on C.
+; ensures C.SX = 0, A as before, in 4 * C.SX + 4 steps
+CALLER: ?NC XQ :DOWN
+        RTN
+
+; A loop that calls a function.
+; requires A.SX <= 100, C.SX <= 100
+; ensures  C.SX = old C.SX + 2 * old A.SX, in 10 * A.SX + 2 steps
+; invariant C.SX + 2 * A.SX = old C.SX + 2 * old A.SX, A.SX <= 100
+; decreases A.SX
+TIMES:  ?A#0 S&X
+        ?NC RTN
+        A=A-1 S&X
+        ?NC XQ :PLUS
+        ?NC XQ :PLUS
+        JNC :TIMES

@@ -146,30 +146,31 @@ def give_budgets(result: Result) -> None:
     assert claimed
     know, start = result.knowledge, result.root.state
 
-    def check(budget: Form, line: int, what: Callable[[int], str]) -> None:
-        if not is_natural(budget):
+    def check(budget: Form, what: Callable[[int], str]) -> None:
+        if claimed and not is_natural(budget):
             taken = claimed.count.constant - budget.get(None, 0)
-            raise NotProved(claimed.line if claimed else line, f"`{claimed.text}`: {what(taken)}")
+            raise NotProved(claimed.line, f"`{claimed.text}`: {what(taken)}")
 
     result.root.budget = form_of(claimed.count, start, start)
     left = [result.root]
     while left:
         node = left.pop()
         if node.form[0] == "enter":
-            check(node.budget, node.line, lambda taken: f"the function takes {taken} steps before its loop")
+            check(node.budget, lambda taken: f"the function takes {taken} steps before its loop")
             continue
         for after in node.nexts:
             after.budget = left_after(know, node.budget, node.spent or {None: 1}, node.passed)
-            check(after.budget, node.line, lambda taken: f"the function takes up to {taken} steps, or more")
+            if node.spent:
+                check(after.budget, lambda taken: f"the function takes up to {taken} steps, or more")
             left.append(after)
         if node.form[0] in ("end", "split"):
-            check(minus(node.budget, {None: 1}), node.line, lambda taken: f"the function takes up to {taken} steps")
+            check(minus(node.budget, {None: 1}), lambda taken: f"the function takes up to {taken} steps")
     for loop in result.loops:
         if loop.after:
             rests = [left_after(know, budget, rounds_of(loop, node, result.is_exact), node.passed)
                      for node, budget in entries_of(result, loop)]
             rest = min(rests, key=lambda one: one.get(None, 0))
-            check(rest, loop.contract.line, lambda taken: f"the function takes up to {taken} steps before the loop "
+            check(rest, lambda taken: f"the function takes up to {taken} steps before the loop "
                                                           f"{loop.after.label if loop.after else ''}, or more")
             loop.after.budget = rest
 
@@ -194,7 +195,7 @@ def check_exact(result: Result, loop: Loop, counts: list[set[int]]) -> None:
     steps = result.contract.steps
     line, text = (steps.line, steps.text) if steps else (0, "")
     if any(len(count) != 1 for count in counts):
-        taken = " or ".join(map(str, sorted(max(counts, key=len))))
+        taken = " or ".join(map(str, sorted(max(counts, key=lambda found: len(found)))))
         raise NotProved(line, f"`{text}`: a round of {loop.label} takes {taken} steps, expected one number: claim `within`")
     kinds = [ways_from(root) for root in loop.roots]
     if kinds[0] != {"again"} or "again" in kinds[1]:

@@ -97,7 +97,8 @@ class Decimals:
         know = self.knowledge
         facts = know.reach([Span(value.name, place, place)], [])
         names = "".join(f", {one.name}" for one in facts)
-        if isinstance(know.digit(value.name, place, []), int) and know.digit(value.name, place, []) <= MOST:
+        digit = know.digit(value.name, place, [])
+        if digit is not None and digit <= MOST:
             return f"decimal_digit {argument(value.name)} {place} (omega (arith{names}))"
         moved = {"right": place + 1, "left": place - 1, "rotated": (place + int((*value.digits, 0)[0])) % 14}.get(value.kind)
         source = self.proof(value.into, moved, moved) if moved is not None else None

@@ -287,8 +287,10 @@ class Knowledge:
         args = (f"{base} {value.lo} {value.hi} {registers} {value.name} {value.carry_in} {value.carry} (omega arith) (omega arith) "
                 f"{' '.join(numbers)} {value.rule}")
         zero = f", zeros_number {base} {value.lo} {value.hi}" if "zeros" in (value.x, value.y) else ""
-        left, right = ({**added_form(x, y), None: bit}, {key: 1, carry: power}) if value.kind == "sum" else \
-            ({**x, carry: power}, {**added_form({key: 1}, y), None: bit})
+        left: Form = {**added_form(x, y), None: bit}
+        right: Form = {key: 1, carry: power}
+        if value.kind == "difference":
+            left, right = added_form(x, {carry: power}), {**added_form({key: 1}, y), None: bit}
         yield self.fact(value.owner, left, "=", right, f"omega (arith, {law} {args}{zero})")
         yield self.fact(value.owner, {carry: 1}, "<=", {None: 1}, f"carry_at_most {value.carry}")
 

@@ -95,8 +95,7 @@ class States:
         everything = [*contract.requires, *contract.ensures]
         claims = [claim for claim in everything if isinstance(claim, Claim)]
         spans = [one for claim in everything for one in claim.atoms() if one.lo is not None]
-        self.spans = list({(register_of(one), one.lo, one.hi or 0) for one in spans})
-        self.spans.sort()
+        self.spans = sorted({(register_of(one), one.lo or 0, one.hi or 0) for one in spans})
         others = FILLED if any(isinstance(claim, Others) for claim in everything) else ()
         self.memory = sorted({name for name, _, _ in self.spans if name[0].isdigit()} | set(others))
         numbers = {claim.left.constant for claim in claims} | {claim.right.constant for claim in claims}
@@ -104,8 +103,8 @@ class States:
 
     def number(self, width: int) -> int:
         """Returns a number of some digits, often one at a bound."""
-        most = 16 ** width - 1
-        few = [*(number for number in self.bounds if number <= most), 0, 1, most, most - 1, 16 ** (width - 1), int("9" * width, 16)]
+        most = (1 << 4 * width) - 1
+        few = [*(number for number in self.bounds if number <= most), 0, 1, most, most - 1, 1 << 4 * (width - 1), int("9" * width, 16)]
         return self.random.choice(few) if self.random.random() < 0.6 else self.random.randint(0, most)
 
     def draw(self) -> dict[str, str]:
@@ -211,11 +210,12 @@ def trials_of(lines: list[str]) -> Iterator[Trial]:
 def registers(lines: list[str], at: int) -> tuple[dict[str, str], int]:
     """Returns the registers in the five lines of `show cpu` and the lines of `show ram`, and the line after them."""
     found: dict[str, str] = {}
-    for line in lines[at:at + 4]:
-        found.update(part.split("=") for part in line.split())
+    for part in " ".join(lines[at:at + 4]).split():
+        name, _, value = part.partition("=")
+        found[name] = value
     at += 5
     while at < len(lines) and OF_MEMORY.fullmatch(lines[at]):
-        found.update([lines[at].split("=")])
+        name, _, found[lines[at][:3]] = lines[at].partition("=")
         at += 1
     return found, at
 
@@ -232,7 +232,7 @@ def named_in(contract: Contract, claim: AnyClaim | Steps) -> list[str]:
     atoms = [one for each in claims for one in each.atoms()]
     names = {"ST" if one.name[0] == "S" and one.lo is None else register_of(one) for one in atoms}
     names |= {each.name for each in claims if isinstance(each, Named)}
-    names |= {"C"} if not names else set()
+    names |= {"C"} if not names and not isinstance(claim, Others) else set()
     return [name for name in SHOWN if name in names] + sorted(name for name in names if name[0].isdigit())
 
 

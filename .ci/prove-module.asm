@@ -83,3 +83,48 @@ ADDS:   A=A+1 S&X
 WORD:   LDI 123
         C=0 XS
         RTN
+; ensures REG[0FA] = old C, REG[0C0] as before, RAM = 0FA, in 8 steps
+STORE:  N=C
+        LDI 0FA
+        RAM SLCT
+        C=N
+        WRIT DATA
+        C=0 ALL
+        READ DATA
+        RTN
+; requires RAM = 0
+; ensures  Z = old C, REG[004].SX as before, other registers as before, C = old L, within 9 steps
+USEZ:   WRIT 1
+        READ 4
+        RTN
+; ensures REG[0FA] = old C, REG[0C0] as before, other registers as before, within 20 steps
+CALLM:  ?NC XQ :STORE2
+        RTN
+; ensures REG[0FA] = old C, other registers as before, within 8 steps
+STORE2: N=C
+        LDI 0FA
+        RAM SLCT
+        C=N
+        WRIT DATA
+        RTN
+; ensures ST = old C[1:0], S8 as before, S13 as before, C as before, in 2 steps
+PUT:    ST=C
+        RTN
+; requires PT = P, P = 3
+; ensures C[4:3] = old G, G = old C[4:3], other digits of C as before
+SWAPG:  C<>G
+        RTN
+; requires PT = P, P = 0D
+; ensures G = old C[13] + 10 * old C[0]
+TAKEG:  G=C
+        RTN
+; requires A.XS = 0F, A[0] = 0
+; ensures C.XS = 0F, C[0] = old C[0], A as before, C[1] >= old A[1]
+TAKE:   C=C OR A
+        RTN
+; ensures C[1] = 0, C[0] = 8, S3 = 1, S7 = 0, T = 8
+SETS:   ST=0
+        SETF 3
+        C=ST
+        T=ST
+        RTN

@@ -59,3 +59,112 @@ DIGITS: R= 12
         LD@R 3
         SETF 7
         RTN
+
+; FIVE of docs/FIRST-MODULE.md: X becomes 5, and no other register of memory changes.
+; requires PT = P
+; ensures  X = 5000000000000, other registers as before, RAM = 3, in 6 steps
+FIVE:   C=0 ALL
+        RAM SLCT
+        R= 12
+        LD@R 5
+        WRIT 3
+        RTN
+
+; X10 of docs/FIRST-MODULE.md, for numbers that are not zero: the decimal exponent of X grows by 1.
+; requires RAM = 0, X.M > 0, X.SX is BCD, BCD(X.SX) < 3E7
+; ensures  BCD(X.SX) = BCD(old X.SX) + 1, X.SX is BCD, other digits of X as before, other registers as before
+; ensures  RAM = 3, in 8 steps
+X10:    READ 3
+        ?C#0 M
+        ?NC RTN
+        SETDEC
+        C=C+1 S&X
+        SETHEX
+        WRIT 3
+        RTN
+
+; X and Y exchange.
+; ensures  X = old Y, Y = old X, other registers as before, in 9 steps
+XY:     C=0 S&X
+        RAM SLCT
+        READ 2
+        A=C ALL
+        READ 3
+        WRIT 2
+        A<>C ALL
+        WRIT 3
+        RTN
+
+; The status bits S7 to S0 become two digits of C, and G becomes two others.
+; requires PT = P, P = 3
+; ensures  C[1:0] = old ST, C[4:3] = old G, other digits of C as before, ST as before, in 3 steps
+BYTES:  C=ST
+        C=G
+        RTN
+
+; A keeps one digit of C by a mask.
+; requires A.XS = 0F, A[1:0] = 0, A[13:3] = 0
+; ensures  C.XS = old C.XS, C[1:0] = 0, C[13:3] = 0, A as before, in 2 steps
+MASK:   C=C AND A
+        RTN
+
+; A hexadecimal number becomes a decimal one, by counting both.
+; requires A.SX <= 3E7
+; ensures  BCD(C.SX) = old A.SX, C.SX is BCD, in 7 * A.SX + 3 steps
+DECIMAL: C=0 S&X
+; invariant BCD(C.SX) + A.SX = old A.SX, C.SX is BCD
+; decreases A.SX
+COUNT:  ?A#0 S&X
+        ?NC RTN
+        A=A-1 S&X
+        SETDEC
+        C=C+1 S&X
+        SETHEX
+        JNC :COUNT
+
+; The sum of two decimal numbers of ten digits. The carry becomes S0; 2540BE400 is 10000000000.
+; requires MODE = DEC, A.M is BCD, C.M is BCD
+; ensures  BCD(C.M) + 2540BE400 * S0 = BCD(old A.M) + BCD(old C.M), C.M is BCD, other digits of C as before, within 5 steps
+ADD:    CLRF 0
+        C=A+C M
+        ?NC RTN
+        SETF 0
+        RTN
+
+; Two loops, one after another.
+; requires A.SX <= 0100, B.SX <= 0100
+; ensures  C.SX = old A.SX + old B.SX, in 5 * A.SX + 7 * B.SX + 5 steps
+BOTH:   C=0 S&X
+; invariant C.SX + A.SX = old A.SX, B.SX = old B.SX
+; decreases A.SX
+FIRST:  ?A#0 S&X
+        JNC :SECOND
+        A=A-1 S&X
+        C=C+1 S&X
+        JNC :FIRST
+; invariant C.SX + B.SX = old A.SX + old B.SX
+; decreases B.SX
+SECOND: ?B#0 S&X
+        ?NC RTN
+        A<>B S&X
+        A=A-1 S&X
+        A<>B S&X
+        C=C+1 S&X
+        JNC :SECOND
+
+; A call of a function whose number of steps depends on C.
+; ensures C.SX = 0, A as before, in 4 * C.SX + 4 steps
+CALLER: ?NC XQ :DOWN
+        RTN
+
+; A loop that calls a function.
+; requires A.SX <= 100, C.SX <= 100
+; ensures  C.SX = old C.SX + 2 * old A.SX, in 10 * A.SX + 2 steps
+; invariant C.SX + 2 * A.SX = old C.SX + 2 * old A.SX, A.SX <= 100
+; decreases A.SX
+TIMES:  ?A#0 S&X
+        ?NC RTN
+        A=A-1 S&X
+        ?NC XQ :PLUS
+        ?NC XQ :PLUS
+        JNC :TIMES

@@ -2,16 +2,20 @@
 from __future__ import annotations
 
 import re
-from dataclasses import dataclass, field
-from typing import Iterator
+from dataclasses import dataclass, field, replace
+from typing import Iterator, NoReturn, Union
 
 # The fields that a claim can name, with their places, and the registers of 14 digits.
 FIELDS = {"SX": (0, 2), "S&X": (0, 2), "XS": (2, 2), "M": (3, 12), "MS": (13, 13), "ALL": (0, 13)}
 WIDE = ("A", "B", "C", "M", "N")
 LAST_PLACE, LAST_STATUS = 13, 13
 
+# The registers of memory that have a name, with their addresses, and the first and last addresses at which there are registers.
+STACK = {"X": 0x003, "Y": 0x002, "Z": 0x001, "L": 0x004}
+MEMORY = ((0x000, 0x00F), (0x0C0, 0x1FF))
+
 # Registers whose value is a number, and those that have a name as their value.
-NUMBERS = ("G", "T", "P", "Q", "CY")
+NUMBERS = ("G", "T", "P", "Q", "CY", "ST", "RAM")
 NAMED = {"MODE": ("HEX", "DEC"), "PT": ("P", "Q")}
 
 RELATIONS = ("<=", ">=", "<>", "=", "<", ">")
@@ -23,7 +27,9 @@ TOKEN = re.compile(r"[A-Za-z]+[0-9]*(?:\.[A-Za-z&]+)?|[0-9][0-9A-Fa-f]*|<=|>=|<>
 NUMBER = re.compile("[0-9][0-9A-Fa-f]*")
 STATUS = re.compile("S([0-9]+)")
 
-REGISTERS = "a register (A B C M N), with a field as in C.SX or places as in C[5:3], G, T, P, Q, CY or a status bit as in S8"
+FIELD = "one of the fields SX, XS, M, MS and ALL after the point, or places as in C[5:3]"
+REGISTERS = ("a register (A B C M N, or X Y Z L REG[0FA] in memory), with a field as in C.SX or places as in C[5:3], BCD(C.M), G, T, P, Q, "
+             "CY, ST, RAM or a status bit as in S8")
 
 
 class Wrong(Exception):
@@ -37,19 +43,14 @@ class Wrong(Exception):
 @dataclass(frozen=True)
 class Atom:
     """A number of a state: the digits `lo` to `hi` of a register of 14 digits, or a register or a bit as it is (`lo` is then None).
-    `old` is set for the state in which the function begins."""
+    `old` is set for the state in which the function begins. `address` is that of a register of memory. `base` is 10 for the decimal
+    number that the digits form."""
     name: str
     lo: int | None = None
     hi: int | None = None
     old: bool = False
-
-    def __str__(self) -> str:
-        if self.lo is None:
-            text = self.name
-        else:
-            known = next((one for one, places in FIELDS.items() if places == (self.lo, self.hi)), None)
-            text = self.name if known == "ALL" else f"{self.name}.{known}" if known else f"{self.name}[{self.hi}:{self.lo}]"
-        return f"old {text}" if self.old else text
+    address: int | None = None
+    base: int = 16
 
 
 @dataclass(frozen=True)
@@ -96,6 +97,37 @@ class Named:
     text: str
     line: int
 
+    def atoms(self) -> list[Atom]:
+        """Returns no atom."""
+        return []
+
+
+@dataclass(frozen=True)
+class Decimal:
+    """A claim that some digits are 0 to 9."""
+    atom: Atom
+    text: str
+    line: int
+
+    def atoms(self) -> list[Atom]:
+        """Returns the atom."""
+        return [self.atom]
+
+
+@dataclass(frozen=True)
+class Others:
+    """A claim that the registers of memory at all addresses but these are as before."""
+    addresses: tuple[int, ...]
+    text: str
+    line: int
+
+    def atoms(self) -> list[Atom]:
+        """Returns no atom."""
+        return []
+
+
+AnyClaim = Union[Claim, Named, Decimal, Others]
+
 
 @dataclass(frozen=True)
 class Steps:
@@ -110,9 +142,9 @@ class Steps:
 class Contract:
     """The claims before a label. `line` is the source line of the first of them."""
     line: int
-    requires: list[Claim | Named] = field(default_factory=list)
-    ensures: list[Claim | Named] = field(default_factory=list)
-    invariant: list[Claim | Named] = field(default_factory=list)
+    requires: list[AnyClaim] = field(default_factory=list)
+    ensures: list[AnyClaim] = field(default_factory=list)
+    invariant: list[AnyClaim] = field(default_factory=list)
     decreases: Sum | None = None
     steps: Steps | None = None
 
@@ -149,7 +181,7 @@ class Reader:
         """Returns the next word."""
         return self.tokens[self.at] if self.at < len(self.tokens) else self.end
 
-    def fail(self, expected: str, at: Token | None = None) -> None:
+    def fail(self, expected: str, at: Token | None = None) -> NoReturn:
         """Raises the error that something else was expected."""
         at = at or self.now()
         found = END if at.text == END else f"`{at.text}`"
@@ -167,7 +199,7 @@ class Reader:
         found = self.take(*texts)
         if found is None:
             self.fail(" or ".join(f"`{text}`" for text in texts))
-        return found or ""
+        return found
 
     def number(self) -> int | None:
         """Returns the number that is next: decimal in a number of steps, otherwise hexadecimal."""
@@ -189,27 +221,59 @@ class Reader:
 
     def atom(self, old: bool) -> Atom:
         """Returns the atom that is next."""
+        if self.take("BCD"):
+            self.want("(")
+            word = self.now()
+            found = self.atom(self.old() or old)
+            if found.lo is None:
+                self.fail("a register of 14 digits, with a field as in C.SX or places as in C[5:3]", word)
+            self.want(")")
+            return replace(found, base=10)
         word = self.now()
-        name, dot, part = word.text.partition(".")
         status = STATUS.fullmatch(word.text)
         if status and int(status[1]) <= LAST_STATUS or word.text in NUMBERS:
             self.at += 1
             return Atom(word.text, old=old)
-        if name not in WIDE or self.at == len(self.tokens):
+        name, dot, part = word.text.partition(".")
+        if name not in (*WIDE, *STACK, "REG") or self.at == len(self.tokens):
             self.fail(REGISTERS)
         if dot and part not in FIELDS:
-            self.fail("one of the fields SX, XS, M, MS and ALL after the point, or places as in C[5:3]")
+            self.fail(FIELD)
         self.at += 1
-        if dot:
-            return Atom(name, *FIELDS[part], old)
+        address = self.address() if name == "REG" and not dot else STACK.get(name)
+        if not dot and name == "REG" and self.take("."):
+            dot, part = ".", self.take(*FIELDS) or self.fail(FIELD)
+        lo, hi = FIELDS[part] if dot else self.places()
+        return Atom("REG" if address is not None else name, lo, hi, old, address)
+
+    def old(self) -> bool:
+        """Returns whether `old` is next, and goes on."""
+        word = self.now()
+        found = bool(self.take("old"))
+        if found and self.keyword == "requires":
+            self.fail("no `old`, because `requires` is about the state in which the function begins", word)
+        return found
+
+    def address(self) -> int:
+        """Returns the address of a register of memory."""
+        self.want("[")
+        word = self.now()
+        if not NUMBER.fullmatch(word.text) or not any(first <= int(word.text, 16) <= last for first, last in MEMORY):
+            self.fail("the address of a register of memory, from 000 to 00F or from 0C0 to 1FF")
+        self.at += 1
+        self.want("]")
+        return int(word.text, 16)
+
+    def places(self) -> tuple[int, int]:
+        """Returns the places in brackets, or all places if there are none."""
         if not self.take("["):
-            return Atom(name, 0, LAST_PLACE, old)
+            return 0, LAST_PLACE
         hi = self.place()
         lo = self.place() if self.take(":") else hi
         if lo > hi:
             self.fail("a place that is not higher than the one before it", self.tokens[self.at - 1])
         self.want("]")
-        return Atom(name, lo, hi, old)
+        return lo, hi
 
     def term(self) -> Sum:
         """Returns a term: a number, an atom, a multiple, or a sum in parentheses."""
@@ -220,10 +284,7 @@ class Reader:
             found = self.sum()
             self.want(")")
             return found
-        word = self.now()
-        old = bool(self.take("old"))
-        if old and self.keyword == "requires":
-            self.fail("no `old`, because `requires` is about the state in which the function begins", word)
+        old = self.old()
         if self.at == len(self.tokens):
             self.fail(f"{REGISTERS}, or a number")
         return Sum(((1, self.atom(old)),))
@@ -240,7 +301,8 @@ class Reader:
     def text_from(self, first: int) -> str:
         """Returns the words from one on, with single spaces."""
         text = " ".join(token.text for token in self.tokens[first:self.at])
-        return re.sub(r" ?([\[\]:,)]) ?", r"\1 ", text).replace(" [", "[").replace("[ ", "[").replace(": ", ":").replace(" ]", "]").strip()
+        text = re.sub(r" ?([\[\]:,)]) ?", r"\1 ", text).replace(" [", "[").replace("[ ", "[").replace(": ", ":").replace(" ]", "]")
+        return text.replace("( ", "(").replace("BCD (", "BCD(").replace("] . ", "].").replace("] [", "][").strip()
 
     def steps(self) -> Steps:
         """Returns a claim on the number of steps."""
@@ -250,15 +312,14 @@ class Reader:
         count = self.sum()
         self.is_counting = False
         self.want("steps", "step")
-        before = Sum(tuple((many, Atom(atom.name, atom.lo, atom.hi, True)) for many, atom in count.parts), count.constant)
+        before = Sum(tuple((many, replace(atom, old=True)) for many, atom in count.parts), count.constant)
         return Steps(before, is_exact, self.text_from(first), line)
 
     def as_before(self, atom: Atom, first: int, line: int) -> Claim:
         """Returns the claim that a number is as before."""
-        old = Atom(atom.name, atom.lo, atom.hi, True)
-        return Claim(Sum(((1, atom),)), "=", Sum(((1, old),)), self.text_from(first), line)
+        return Claim(Sum(((1, atom),)), "=", Sum(((1, replace(atom, old=True)),)), self.text_from(first), line)
 
-    def comparison(self) -> list[Claim | Named]:
+    def comparison(self) -> list[AnyClaim]:
         """Returns the claims of a comparison, or of `as before`."""
         first, line = self.at, self.now().line
         if self.now().text in NAMED:
@@ -270,28 +331,40 @@ class Reader:
             self.want("as")
             self.want("before")
             return [self.as_before(next(left.atoms()), first, line)]
+        atom = next(left.atoms(), None)
+        if self.now().text == "is" and atom and atom.lo is not None and left == Sum(((1, atom),)):
+            self.want("is")
+            self.want("BCD")
+            return [Decimal(atom, self.text_from(first), line)]
         relation = self.take(*RELATIONS)
         if not relation:
             self.fail("one of the signs = <> < <= > >=" + ("" if self.keyword == "requires" else ", or `as before`"))
-        return [Claim(left, relation or "", self.sum(), self.text_from(first), line)]
+        return [Claim(left, relation, self.sum(), self.text_from(first), line)]
 
 
-def others(reader: Reader, found: list[Claim | Named]) -> list[Claim | Named]:
-    """Returns the claims of `other digits of C as before`: the digits that no other claim names."""
+def others(reader: Reader, found: list[AnyClaim]) -> list[AnyClaim]:
+    """Returns the claims of `other digits of C as before`: the digits that no other claim names; or that of `other registers as before`:
+    the registers of memory that no other claim names."""
     first, line = reader.at, reader.now().line
-    for text in ("other", "digits", "of"):
-        reader.want(text)
+    reader.want("other")
+    named = [one for claim in found for one in claim.atoms() if not one.old]
+    if reader.want("digits", "registers") == "registers":
+        reader.want("as")
+        reader.want("before")
+        addresses = {one.address for one in named if one.address is not None}
+        return [Others(tuple(sorted(addresses)), reader.text_from(first), line)]
+    reader.want("of")
     word = reader.now()
     atom = reader.atom(False)
     if (atom.lo, atom.hi) != (0, LAST_PLACE):
         reader.fail("a register without a field", word)
     reader.want("as")
     reader.want("before")
-    named = {place for claim in found if isinstance(claim, Claim) for one in claim.atoms()
-             if one.name == atom.name and one.lo is not None and not one.old for place in range(one.lo, (one.hi or 0) + 1)}
-    claims: list[Claim | Named] = []
-    for lo, hi in runs_of(sorted(set(range(LAST_PLACE + 1)) - named)):
-        claims.append(reader.as_before(Atom(atom.name, lo, hi), first, line))
+    places = {place for one in named if (one.name, one.address) == (atom.name, atom.address) and one.lo is not None
+              for place in range(one.lo, (one.hi or 0) + 1)}
+    claims: list[AnyClaim] = []
+    for lo, hi in runs_of(sorted(set(range(LAST_PLACE + 1)) - places)):
+        claims.append(reader.as_before(replace(atom, lo=lo, hi=hi), first, line))
     return claims
 
 

@@ -4,8 +4,9 @@ from __future__ import annotations
 from dataclasses import dataclass, field
 from typing import NamedTuple
 
-from claims import Atom, Claim, Contract, Named, Sum
-from symbols import Key, Knowledge, Node, State, argument
+from claims import AnyClaim, Atom, Claim, Contract, Named, Sum
+from knowledge import Knowledge
+from symbols import Form, Key, Node, Span, State, argument, register_at, status_bit, status_byte
 
 
 class NotProved(Exception):
@@ -49,7 +50,8 @@ class Code:
 @dataclass
 class Result:
     """What is known of a function that is executed: its label, its nodes, the components that it changes, with their values at the end
-    if these are known, and the most steps that it takes."""
+    if these are known, the most steps that it takes, the functions that it calls, and its loops, in the order in which they are
+    entered."""
     label: str
     contract: Contract
     root: Node
@@ -60,7 +62,7 @@ class Result:
     steps: int = 0
     is_exact: bool = False
     calls: list[str] = field(default_factory=list)
-    loop: Loop | None = None
+    loops: list[Loop] = field(default_factory=list)
 
     @property
     def bound(self) -> Sum:
@@ -68,30 +70,48 @@ class Result:
         claimed = self.contract.steps
         return claimed.count if claimed else Sum((), self.steps)
 
+    @property
+    def uses_memory(self) -> bool:
+        """Returns whether the theorem requires that registers of memory exist."""
+        return self.knowledge.uses_memory
+
+    @property
+    def is_budgeted(self) -> bool:
+        """Returns whether the number of steps that are left in a node depends on the state in which the function begins."""
+        return bool(self.loops or self.contract.steps and self.contract.steps.count.parts)
+
 
 @dataclass
 class Loop:
-    """A loop: its label, address and contract, the components that a round may change, the nodes at the beginning of a round, the states
-    from which it is entered and to which a round leads, and the most steps of a round. If the number of steps is exact, the second node
-    is the beginning of the last round, in which `decreases` is zero, and `last_steps` are the steps of this round."""
+    """A loop: its label, address and contract, the components that a round may change, and which return addresses, the nodes at the
+    beginning of a round, the states from which it is entered, to which a round leads, and from which the next loop is entered, and the
+    most steps of a round. If the number of steps is exact, the second node is the beginning of the last round, in which `decreases` is
+    zero, and `last_steps` are the steps of this round. `budget` is the number of steps that are left when it is entered from another
+    loop."""
     label: str
     address: int
     contract: Contract
     names: set[str] = field(default_factory=set)
+    lost: set[int] = field(default_factory=set)
     roots: list[Node] = field(default_factory=list)
     entries: list[Node] = field(default_factory=list)
     backs: list[Node] = field(default_factory=list)
+    leaves: list[Node] = field(default_factory=list)
     steps: int = 0
     last_steps: int = 0
+    after: Loop | None = None
+    budget: Form = field(default_factory=dict)
 
 
-def plain(claims: list[Claim | Named]) -> list[Claim]:
-    """Returns the claims that compare sums, without those that give a component a value."""
-    return [claim for claim in claims if isinstance(claim, Claim) and not value_of(claim)]
+def plain(claims: list[AnyClaim]) -> list[AnyClaim]:
+    """Returns the claims about numbers, without those that give a component a value."""
+    return [claim for claim in claims if not value_of(claim)]
 
 
-def value_of(claim: Claim | Named) -> tuple[str, str] | None:
+def value_of(claim: AnyClaim) -> tuple[str, str] | None:
     """Returns the component and the value that a requirement gives it."""
+    if not isinstance(claim, (Claim, Named)):
+        return None
     if isinstance(claim, Named):
         values = {"HEX": "Hexadecimal", "DEC": "Decimal"}
         return ("base", values[claim.value]) if claim.name == "MODE" else ("active", claim.value)
@@ -102,6 +122,8 @@ def value_of(claim: Claim | Named) -> tuple[str, str] | None:
             return "carry", "true" if count else "false"
         if name in ("P", "Q") and 0 <= count < 14:
             return name.lower(), str(count)
+        if name == "RAM" and 0 <= count < 1024:
+            return "selected", str(count)
     return None
 
 
@@ -125,20 +147,26 @@ def key_of(atom: Atom, state: State) -> Key:
     """Returns the number of an atom in a state."""
     name = atom.name.lower()
     if atom.lo is not None:
-        return state.of(name), atom.lo, atom.hi or 0
+        register = state.of(name) if atom.address is None else register_at(state.of("ram"), atom.address)
+        return Span(register, atom.lo, atom.hi or 0, atom.base)
     if atom.name == "CY":
         return f"carry_digit {argument(state.of('carry'))}"
-    if atom.name.startswith("S"):
-        return f"carry_digit (is_status_set {atom.name[1:]} (record s.processor {{ status = {state.of('status')} }}))"
-    return state.of(name)
+    if atom.name == "ST":
+        return status_byte(state.of("status"))
+    if atom.name == "RAM":
+        return state.of("selected")
+    return status_bit(int(atom.name[1:]), state.of("status")) if atom.name.startswith("S") else state.of(name)
 
 
-def form_of(one: Sum, now: State, before: State) -> dict:
+def form_of(one: Sum, now: State, before: State) -> Form:
     """Returns a sum with the factor of each number; the constant is the factor of None."""
-    found: dict = {None: one.constant} if one.constant else {}
+    found: Form = {None: one.constant} if one.constant else {}
     for many, atom in one.parts:
         key = key_of(atom, before if atom.old else now)
-        found[key] = found.get(key, 0) + many
+        if isinstance(key, str) and key.isdigit():
+            found[None] = found.get(None, 0) + many * int(key)
+        else:
+            found[key] = found.get(key, 0) + many
     return found
 
 

@@ -2,7 +2,7 @@
 from __future__ import annotations
 
 from fractions import Fraction
-from typing import Hashable, Iterable, NamedTuple
+from typing import Any, Hashable, Iterable, Mapping, NamedTuple
 
 # More rows than these are not examined.
 MOST_ROWS = 1_500
@@ -15,7 +15,7 @@ class Row(NamedTuple):
     is_equal: bool
 
 
-def row(left: dict, relation: str, right: dict) -> list[Row]:
+def row(left: Mapping[Any, int], relation: str, right: Mapping[Any, int]) -> list[Row]:
     """Returns the rows of a comparison of two sums of whole numbers. The constant of a sum is its factor of None."""
     if relation in (">", ">="):
         return row(right, {">": "<", ">=": "<="}[relation], left)

@@ -2,6 +2,7 @@
 from __future__ import annotations
 
 import subprocess
+from typing import Protocol
 
 from claims import Contract, Wrong, contract_before
 from decks import BENCH, NO_ANSWER, Failure
@@ -11,6 +12,13 @@ from sources import Assembled
 
 # Instructions of two words.
 LONG = ("LDI ", "?NC XQ ", "?C XQ ", "?NC GO ", "?C GO ")
+
+
+class Report(Protocol):
+    """What takes the lines about functions that are not proved."""
+
+    def bad(self, line: int, claim: str, text: str) -> None:
+        """Takes a line."""
 
 
 def listed(words: list[int]) -> list[str]:
@@ -26,7 +34,7 @@ def code_of(source: Assembled) -> Code:
     """Returns the instructions of a source and the contracts of its labels."""
     origin = int(source.page, 16) << 12
     instructions: dict[int, Instruction] = {}
-    lines = {}
+    lines: dict[int, int] = {}
     for at, (first, last) in enumerate(zip(source.places, source.places[1:])):
         lines.update((place, at + 1) for place in range(first, last))
     place = 0
@@ -38,7 +46,7 @@ def code_of(source: Assembled) -> Code:
     texts = [text.decode(errors="replace") for text in source.texts]
     for at, line in enumerate(source.lines):
         contract = contract_before(texts, at) if line.label else None
-        if contract:
+        if contract and line.label:
             contracts[line.label] = contract
     check_names(source, contracts)
     labels = {label: origin + source.labels[label] for label in source.labels}
@@ -58,7 +66,7 @@ def check_names(source: Assembled, contracts: dict[str, Contract]) -> None:
                                                   "and they differ only in upper and lower case")
 
 
-def in_order(code: Code, report, labels: set[str]) -> list[Result]:
+def in_order(code: Code, report: Report, labels: set[str]) -> list[Result]:
     """Returns the results of executing functions, each after those that it calls. A function that cannot be executed is reported."""
     found: dict[str, Result] = {}
     failed: set[str] = set()

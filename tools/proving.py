@@ -9,7 +9,8 @@ from typing import NamedTuple
 
 from crates import NAME, TOP
 from decks import NO_ANSWER, Failure
-from theorems import CRATE, Proof
+from statements import CRATE
+from theorems import Proof
 
 # Where ./bench prove --all keeps the libraries, and the crates that a theorem can name.
 LIBRARIES = f"{TOP}/crates/{NAME}/out/rlib"
@@ -69,7 +70,7 @@ def command(folder: str) -> list[str]:
     paths = {name: library(folder, name) for name in USED}
     for name, path in paths.items():
         words += ["--extern", f"{name}={path}"]
-    for within in dict.fromkeys([*map(os.path.dirname, paths.values()), f"{top}/rlibs"]):
+    for within in dict.fromkeys([*(os.path.dirname(path) for path in paths.values()), f"{top}/rlibs"]):
         words += ["-L", f"dependency={within}"]
     words += ["--links", f"{CRATE}="]
     return [*words, "--antt-project", f"{top}/rattle/logic/antt-project.json", "--logic-built", f"{top}/logic_built"]

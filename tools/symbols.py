@@ -1,33 +1,62 @@
-"""What symbolic execution knows: states as terms of the prover, registers that words have made, and facts about the numbers in them."""
+"""What symbolic execution knows of states: their components as terms of the prover, and the registers and memories that words have
+made."""
 from __future__ import annotations
 
 from dataclasses import dataclass, field
-from typing import Iterable, Union
+from typing import Any, Iterable, NamedTuple, Union
 
-from linear import Row, row
+from linear import Row
 
 PLACES = 14
 WIDE = ("a", "b", "c", "m", "n")
 START = "s.processor"
 
-# A sum: the factor of each number; the constant is the factor of None.
-Form = dict
+# The components of a state outside the processor that words can change: the registers of memory, and the pages.
+OUTSIDE = ("ram", "pages")
 
-# A number of the prover: the digits of a register from one place to another, or any other term.
-Key = Union[tuple[str, int, int], str]
+# In the place of this text the number of registers of main memory is written that a source needs.
+REGISTERS = "REGISTERS_NEEDED"
+
+
+class Span(NamedTuple):
+    """The number that the digits of a register from one place to another form in a base."""
+    name: str
+    lo: int
+    hi: int
+    base: int = 16
+
+    def within(self, lo: int, hi: int) -> Span:
+        """Returns the number of some of the digits."""
+        return Span(self.name, lo, hi, self.base)
+
+    def of(self, name: str) -> Span:
+        """Returns the number of the same digits of another register."""
+        return Span(name, self.lo, self.hi, self.base)
+
+
+# A number of the prover: digits of a register, or any other term.
+Key = Union[Span, str]
+
+# A sum: the factor of each number; the constant is the factor of None.
+Form = dict[Union[Key, None], int]
+
+
+def start_of(name: str, state: str = "s") -> str:
+    """Returns a component of a state as a term."""
+    return f"{state}.{name}" if name in OUTSIDE else f"{state}.processor.{name}"
 
 
 @dataclass
 class State:
-    """A state: the terms of those components of the processor that differ from the state in which the function begins. `returns` are the
-    return addresses, the newest first, and `pc` is the next address."""
+    """A state: the terms of those components that differ from the state in which the function begins. `returns` are the return
+    addresses, the newest first, and `pc` is the next address."""
     pc: int
     returns: tuple[str, ...]
     terms: dict[str, str] = field(default_factory=dict)
 
     def of(self, name: str) -> str:
         """Returns the term of a component."""
-        return self.terms.get(name, f"{START}.{name}")
+        return self.terms.get(name, start_of(name))
 
     def after(self, pc: int, **changes: str) -> State:
         """Returns the state at another address, with the carry clear, and with other components."""
@@ -39,12 +68,21 @@ class State:
 
     def processor(self) -> str:
         """Returns the processor as a term."""
-        parts = {**self.terms, "pc": f"{self.pc:#06x}", "returns": stack(self.returns)}
-        return f"record {START} {{ {'; '.join(f'{name} = {term}' for name, term in parts.items())} }}"
+        parts = {name: term for name, term in self.terms.items() if name not in OUTSIDE}
+        return record(START, {**parts, "pc": f"{self.pc:#06x}", "returns": stack(self.returns)})
 
     def text(self) -> str:
         """Returns the state as a term."""
-        return f"(record s {{ processor = {self.processor()} }})"
+        return f"({record('s', {'processor': self.processor(), **self.outside()})})"
+
+    def outside(self) -> dict[str, str]:
+        """Returns the components outside the processor that differ."""
+        return {name: self.terms[name] for name in OUTSIDE if name in self.terms}
+
+
+def record(of: str, parts: dict[str, str]) -> str:
+    """Returns a record in which some parts are replaced, as a term."""
+    return f"record {of} {{ {'; '.join(f'{name} = {term}' for name, term in parts.items())} }}"
 
 
 def stack(returns: Iterable[str]) -> str:
@@ -72,19 +110,27 @@ class Fact:
 
 @dataclass
 class Way:
-    """What follows a jump that is taken, or not taken: the fact that is known then, the lemma that proves the step, and the node after
-    it, which is None after the return of the function. `refuted` are the facts that contradict each other on this way, if there are
-    any."""
-    fact: Fact | None
+    """What follows a jump that is taken, or not taken: the facts that are known then, the lemma that proves the step, and the node
+    after it, which is None after the return of the function. `refuted` are the facts that contradict each other on this way, if there
+    are any."""
+    facts: list[Fact]
     lemma: str
     node: Node | None
     end: Node | None = None
     refuted: list[Fact] | None = None
 
+    @property
+    def last(self) -> Node:
+        """Returns the node after it, or that after the return."""
+        found = self.node or self.end
+        assert found
+        return found
+
 
 @dataclass
 class Value:
-    """A register of 14 digits: how a word has made it, at the places `lo` to `hi` of another register, `into`."""
+    """A register of 14 digits: how a word has made it, at the places `lo` to `hi` of another register, `into`. `base` is that of a sum
+    or a difference. If the register is the same as `x`, `rule` proves it."""
     name: str
     kind: str
     owner: Node
@@ -97,34 +143,53 @@ class Value:
     lo: int = 0
     hi: int = PLACES - 1
     rule: str = ""
-    digits: tuple[int, ...] = ()
+    digits: tuple[int | str, ...] = ()
     is_ruled: bool = False
+    base: int = 16
 
-    def size(self, values: dict[str, Value]) -> str:
-        """Returns the proof that the register before the word has 14 digits."""
-        return f"{values[self.into].is_register}.size"
+
+@dataclass
+class Ram:
+    """The registers of memory in a state: those at the start, those after a write to an address, or others, of which it may be known
+    that those at all addresses but some are as before. `has` proves which addresses exist."""
+    name: str
+    kind: str
+    owner: Node
+    has: str
+    before: str = ""
+    address: int = -1
+    register: str = ""
+    others: tuple[int, ...] | None = None
+    proof: str = ""
 
 
 @dataclass
 class Node:
-    """A state that a function reaches: the variables that are introduced there, abbreviations, facts, and the tests that were passed on
-    the way. `form` says how the run continues, and `nexts` are the nodes after it. `steps` are the most steps from there to the end, and
-    `cost` those to the next node. `test` is the test whose result is the carry. `end` is the state after the return of the function,
-    and `proofs` are the proofs of the claims there."""
+    """A state that a function reaches: the variables that are introduced there, abbreviations, definitions, memories after writes,
+    facts, and the tests that were passed on the way. `form` says how the run continues, and `nexts` are the nodes after it. `steps` are
+    the most steps from there to the end, `cost` those to the next node, `spent` those to the next node if they are those of a call, and
+    `budget` is the number of steps that are left if it depends on the state at the start. `test` is the test whose result is the carry,
+    and `selects` the number that selects an address of memory, with its value. `end` is the state after the return of the function, and
+    `proofs` are the proofs of the claims there."""
     number: int
     line: int
     state: State
     variables: list[tuple[str, str]] = field(default_factory=list)
     abbreviations: list[tuple[str, str, str]] = field(default_factory=list)
+    definitions: list[tuple[str, str, str]] = field(default_factory=list)
+    memories: list[str] = field(default_factory=list)
     facts: list[Fact] = field(default_factory=list)
     passed: list[Fact] = field(default_factory=list)
     nexts: list[Node] = field(default_factory=list)
     steps: int = 0
     cost: int = 1
-    form: tuple = ()
+    form: tuple[Any, ...] = ()
     end: Node | None = None
-    test: tuple | None = None
+    test: tuple[str, str, str, int, int] | None = None
+    selects: tuple[Span, int] | None = None
     proofs: list[str] = field(default_factory=list)
+    budget: Form = field(default_factory=dict)
+    spent: Form = field(default_factory=dict)
 
     @property
     def whole(self) -> str:
@@ -139,7 +204,7 @@ class Node:
 
 def number(key: Key) -> str:
     """Returns a number as a term."""
-    return key if isinstance(key, str) else f"number_of 16 {argument(key[0])} {key[1]} {key[2]}"
+    return key if isinstance(key, str) else f"number_of {key.base} {argument(key.name)} {key.lo} {key.hi}"
 
 
 def form_text(form: Form) -> str:
@@ -160,185 +225,32 @@ def added_form(one: Form, other: Form) -> Form:
     return {key: one.get(key, 0) + other.get(key, 0) for key in (*one, *(key for key in other if key not in one))}
 
 
-class Knowledge:
-    """The registers of a function, and the facts about their numbers, which are found when they are wanted."""
+def keys_in(*forms: Form) -> tuple[Key, ...]:
+    """Returns the numbers in some sums."""
+    return tuple(key for form in forms for key in form if key is not None)
 
-    def __init__(self) -> None:
-        self.values: dict[str, Value] = {}
-        self.root: Node | None = None
-        self.cuts = {0, PLACES}
-        self.found: dict[Key, list[Fact]] = {}
-        self.others: dict[str, list[Fact]] = {}
-        self.carries: dict[str, Value] = {}
-        self.count = 0
 
-    def add(self, value: Value) -> None:
-        """Adds a register, and separates the places on which its word works."""
-        self.values[value.name] = value
-        if value.carry:
-            self.carries[f"carry_digit {value.carry}"] = value
-        if value.kind in ("right", "left", "rotated"):
-            self.cuts.update(range(PLACES + 1))
-        self.cut(value.lo, value.hi)
+def register_at(ram: str, address: int) -> str:
+    """Returns a register of memory as a term."""
+    return f"register_at {ram} {address:#05x}"
 
-    def cut(self, lo: int, hi: int) -> None:
-        """Separates some places from those before and after them."""
-        self.cuts.update((lo, hi + 1))
 
-    def settle(self) -> None:
-        """Separates the digits of a loaded word if others separate some of them."""
-        if self.cuts & {1, 2} and any(value.kind == "word" for value in self.values.values()):
-            self.cuts.update((0, 1, 2, 3))
+def place_of(name: str) -> tuple[str, int] | None:
+    """Returns the memory and the address of a register of memory; None of another register."""
+    words = name.split(" ")
+    return (words[1], int(words[2], 16)) if words[0] == "register_at" else None
 
-    def fact(self, owner: Node, left: Form, relation: str, right: Form, proof: str) -> Fact:
-        """Returns a new fact: a comparison of two sums."""
-        self.count += 1
-        signs = {"=": "≡", "<": "<", "<=": "≤"}
-        keys = tuple(key for key in (*left, *right) if key is not None)
-        one = Fact(f"fact_{self.count}", f"{form_text(left)} {signs[relation]} {form_text(right)}", proof, keys, owner,
-                   row(left, relation, right))
-        owner.facts.append(one)
-        return one
 
-    def defining(self, key: Key) -> list[Fact]:
-        """Returns the facts that define a number."""
-        if key in self.carries:
-            value = self.carries[key]
-            return [one for one in self.defining((value.name, value.lo, value.hi)) if key in one.keys]
-        if isinstance(key, str):
-            return self.others.get(key, [])
-        if key not in self.found:
-            self.found[key] = []
-            self.found[key] += list(self.facts_of(key))
-        return self.found[key]
+def status_bit(bit: int, status: str) -> str:
+    """Returns a status bit as a number; `status` is the term of the status bits."""
+    return f"carry_digit (is_status_set {bit} {with_status(status)})"
 
-    def facts_of(self, key: tuple[str, int, int]) -> Iterable[Fact]:
-        """Yields the facts that define the number of some digits."""
-        name, lo, hi = key
-        if name == "zeros":
-            if self.root:
-                yield self.fact(self.root, {key: 1}, "=", {}, f"zeros_number 16 {lo} {hi}")
-            return
-        value = self.values[name]
-        width = hi + 1 - lo
-        yield self.fact(value.owner, {key: 1}, "<", {None: 16 ** width},
-                        f"below {lo} {hi} {argument(name)} {value.is_register} (omega arith) (omega arith)")
-        middle = next((cut for cut in sorted(self.cuts) if lo < cut <= hi), None)
-        if middle is not None:
-            low, high = (name, lo, middle - 1), (name, middle, hi)
-            yield self.fact(value.owner, {key: 1}, "=", {low: 1, high: 16 ** (middle - lo)},
-                            f"parts 16 {lo} {middle - 1} {hi} {argument(name)} (omega arith) (omega arith)")
-        elif hi < value.lo or lo > value.hi:
-            yield from self.kept(value, key)
-        elif value.kind in ("copy", "right", "left", "digit", "word", "rotated"):
-            yield from getattr(self, f"{value.kind}_facts")(value, key)
-        if value.kind in ("sum", "difference") and value.lo <= lo <= value.hi:
-            yield from self.rule(value)
 
-    def kept(self, value: Value, key: tuple[str, int, int]) -> Iterable[Fact]:
-        """Yields the fact that a word keeps digits outside its places."""
-        name, lo, hi = key
-        before, into = (value.into, lo, hi), argument(value.into)
-        size = value.size(self.values) if value.into in self.values else ""
-        keeps = {"sum": f"{value.rule}.outside", "difference": f"{value.rule}.outside",
-                 "copy": f"(copy_keeps replaced {argument(value.into)} {argument(value.x)} {value.lo} {value.hi} {size} (omega arith))",
-                 "right": f"(right_keeps replaced {into} {into} {value.lo} {value.hi} {size} (omega arith))",
-                 "left": f"(left_keeps replaced {into} {into} {value.lo} {value.hi} {size} (omega arith))",
-                 "digit": f"(loading_keeps {argument(value.into)} {value.lo} {' '.join(map(str, value.digits))})",
-                 "word": f"(word_keeps {argument(value.into)} {' '.join(map(str, value.digits))} {size})"}[value.kind]
-        way = "kept_above" if lo > value.hi else "kept_below"
-        yield self.fact(value.owner, {key: 1}, "=", {before: 1},
-                        f"{way} 16 {value.lo} {value.hi} {lo} {hi} {argument(value.into)} {argument(name)} (omega arith) {keeps}")
+def with_status(status: str) -> str:
+    """Returns the processor with some status bits as a term."""
+    return f"(record s.processor {{ status = {status} }})"
 
-    def register(self, name: str) -> str:
-        """Returns the proof that a register has 14 digits."""
-        return "zeros_register" if name == "zeros" else self.values[name].is_register
 
-    def rule(self, value: Value) -> Iterable[Fact]:
-        """Yields the fact that a sum or a difference is that of whole numbers."""
-        key = value.name, value.lo, value.hi
-        if value.is_ruled or not value.carry:
-            return
-        value.is_ruled = True
-        x, y = ({(name, value.lo, value.hi): 1} if name != "zeros" else {} for name in (value.x, value.y))
-        carry = f"carry_digit {value.carry}"
-        power, bit = 16 ** (value.hi + 1 - value.lo), int(value.carry_in == "true")
-        law = "sums" if value.kind == "sum" else "differences"
-        registers = " ".join(map(argument, (value.into, value.x, value.y)))
-        args = (f"16 {value.lo} {value.hi} {registers} {value.name} {value.carry_in} {value.carry} (omega arith) (omega arith) "
-                f"(inl (refl, {self.register(value.x)})) (inl (refl, {self.register(value.y)})) {value.rule}")
-        zero = f", zeros_number 16 {value.lo} {value.hi}" if "zeros" in (value.x, value.y) else ""
-        left, right = ({**added_form(x, y), None: bit}, {key: 1, carry: power}) if value.kind == "sum" else \
-            ({**x, carry: power}, {**added_form({key: 1}, y), None: bit})
-        yield self.fact(value.owner, left, "=", right, f"omega (arith, {law} {args}{zero})")
-        yield self.fact(value.owner, {carry: 1}, "<=", {None: 1}, f"carry_at_most {value.carry}")
-
-    def copy_facts(self, value: Value, key: tuple[str, int, int]) -> Iterable[Fact]:
-        """Yields the fact that digits are copied."""
-        name, lo, hi = key
-        copied = (f"copy_number replaced {argument(value.into)} {argument(value.x)} {value.lo} {value.hi} {value.size(self.values)} "
-                  f"(omega arith) 16 {lo} {hi} (omega arith) (omega arith)")
-        if value.x == "zeros":
-            yield self.fact(value.owner, {key: 1}, "=", {}, f"{copied} ∙ zeros_number 16 {lo} {hi}")
-        else:
-            source = value.x, lo, hi
-            yield self.fact(value.owner, {key: 1}, "=", {source: 1}, copied)
-
-    def shift_facts(self, value: Value, key: tuple[str, int, int], empty: int, step: int, way: str, end: str) -> Iterable[Fact]:
-        """Yields the fact that a digit is shifted, or that it becomes 0 at the end of the field."""
-        place = key[1]
-        args = f"replaced {argument(value.into)} {argument(value.into)} {value.lo} {value.hi} {value.size(self.values)} (omega arith)"
-        one = f"one_digit 16 {value.name} {place}"
-        if place == empty:
-            yield self.fact(value.owner, {key: 1}, "=", {}, f"{one} ∙ {end} {args} (omega arith)")
-        else:
-            source = value.into, place + step, place + step
-            yield self.fact(value.owner, {key: 1}, "=", {source: 1},
-                            f"{one} ∙ {way} {args} {place} (omega arith) (omega arith) ∙ sym (one_digit 16 {argument(value.into)} "
-                            f"{place + step})")
-
-    def right_facts(self, value: Value, key: tuple[str, int, int]) -> Iterable[Fact]:
-        """Yields the facts of a shift to the right."""
-        return self.shift_facts(value, key, value.hi, 1, "right_digit", "right_top")
-
-    def left_facts(self, value: Value, key: tuple[str, int, int]) -> Iterable[Fact]:
-        """Yields the facts of a shift to the left."""
-        return self.shift_facts(value, key, value.lo, -1, "left_digit", "left_low")
-
-    def rotated_facts(self, value: Value, key: tuple[str, int, int]) -> Iterable[Fact]:
-        """Yields the fact that a digit is rotated."""
-        place, source = key[1], (key[1] + value.digits[0]) % PLACES
-        yield self.fact(value.owner, {key: 1}, "=", {(value.into, source, source): 1},
-                        f"one_digit 16 {value.name} {place} ∙ sym (one_digit 16 {argument(value.into)} {source})")
-
-    def digit_facts(self, value: Value, key: tuple[str, int, int]) -> Iterable[Fact]:
-        """Yields the fact that a digit was loaded."""
-        yield self.fact(value.owner, {key: 1}, "=", {None: value.digits[0]},
-                        f"one_digit 16 {value.name} {value.lo} ∙ loaded_digit {argument(value.into)} {value.lo} {value.digits[0]} "
-                        f"(omega (arith, {value.size(self.values)}))")
-
-    def word_facts(self, value: Value, key: tuple[str, int, int]) -> Iterable[Fact]:
-        """Yields the fact that a word was loaded, as a whole or digit by digit."""
-        args = f"{argument(value.into)} {' '.join(map(str, value.digits))} {value.size(self.values)}"
-        if key[1:] == (0, 2):
-            total = sum(digit << 4 * place for place, digit in enumerate(value.digits))
-            yield self.fact(value.owner, {key: 1}, "=", {None: total}, f"omega (arith, word_number {args})")
-        else:
-            yield self.fact(value.owner, {key: 1}, "=", {None: value.digits[key[1]]},
-                            f"one_digit 16 {value.name} {key[1]} ∙ word_digit_{key[1]} {args}")
-
-    def reach(self, keys: Iterable[Key], passed: list[Fact], is_needed: bool = True) -> list[Fact]:
-        """Returns the facts that may decide a claim about some numbers: those that define the numbers, tests and requirements that share
-        a number with them, and so on. Also notes that they are needed."""
-        wanted, seen, facts = list(keys), set(), {}
-        while wanted:
-            key = wanted.pop()
-            if key in seen:
-                continue
-            seen.add(key)
-            for one in [*self.defining(key), *(fact for fact in passed if key in fact.keys)]:
-                if one.name not in facts:
-                    facts[one.name] = one
-                    one.is_needed |= is_needed
-                    wanted += [other for other in one.keys if other not in seen]
-        return list(facts.values())
+def status_byte(status: str) -> str:
+    """Returns the status bits S7 to S0 as a number."""
+    return f"({status} % 256)"

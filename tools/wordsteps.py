@@ -1,11 +1,14 @@
 """The steps of symbolic execution: for each instruction the states after it, and the lemma of h41_reasoning that proves the step."""
 from __future__ import annotations
 
-from typing import TYPE_CHECKING
+from typing import TYPE_CHECKING, Callable
 
+from budgets import most
+from bytesteps import BYTES, after_byte
 from claims import FIELDS
-from codes import Instruction, NotProved, Result, known_at_start, register_of
-from symbols import Fact, Node, State, Value, Way, argument, literal
+from codes import Instruction, NotProved, Result, form_of, known_at_start, register_of
+from memorysteps import MEMORY, after_memory, is_memory
+from symbols import WIDE, Fact, Form, Node, Span, State, Value, Way, argument, keys_in, literal, start_of, status_bit, with_status
 
 if TYPE_CHECKING:
     from executing import Execution
@@ -63,6 +66,10 @@ class Step:
             return [self.test()]
         if text in TRANSFERS:
             return [self.transfer()]
+        if text in BYTES:
+            return [after_byte(self)]
+        if is_memory(text):
+            return [after_memory(self)]
         if name in ("JNC", "JC"):
             return self.short_jump()
         if name in ("?NC XQ", "?C XQ", "?NC GO", "?C GO"):
@@ -129,7 +136,7 @@ class Step:
                           (rule, f"{relation} {base} {argument(before)} {argument(x_term)} {argument(y_term)} {carry_in} {lo} {hi} {z} "
                                  f"{carry}")]
         self.run.knowledge.add(Value(z, "sum" if is_sum else "difference", node, register_of(node, into), before, x_term, y_term, carry_in,
-                                     carry if base == 16 else "", lo, hi, rule))
+                                     carry, lo, hi, rule, base=base))
         return node
 
     def operated(self, operation: str, state: State) -> Node:
@@ -268,7 +275,7 @@ class Step:
     def status(self, begin: str) -> Node:
         """Returns the node after an instruction of a status bit."""
         bit, before = int(self.operand), self.state.of("status")
-        processor = f"(record s.processor {{ status = {before} }})"
+        processor = with_status(before)
         if self.name == "?FSET":
             state = self.state.after(self.next_pc)
             state.terms["carry"] = f"(is_status_set {bit} {processor})"
@@ -278,67 +285,78 @@ class Step:
         node = self.step(f"status_{'set' if on == 'true' else 'cleared'} {begin} {bit} (omega arith) {self.at_next}",
                          self.state.after(self.next_pc, status=name))
         self.node.abbreviations.append((name, "ℕ", f"(with_status {bit} {on} {processor}).status"))
+        self.run.knowledge.owners[name] = node
         self.status_facts(node, name, before, bit, on)
         return node
 
     def status_facts(self, node: Node, name: str, before: str, bit: int, on: str) -> None:
         """Adds what is known of the status bits after one was set or cleared."""
-        old, new = (f"(record s.processor {{ status = {status} }})" for status in (before, name))
+        old = with_status(before)
         for other in range(14):
-            key = f"carry_digit (is_status_set {other} {new})"
+            key = status_bit(other, name)
+            right: Form
             if other == bit:
                 right, proof = {None: int(on == "true")}, f"read_status {old} {bit} {on}"
             else:
-                right = {f"carry_digit (is_status_set {other} {old})": 1}
+                right = {status_bit(other, before): 1}
                 proof = f"other_status {old} {bit} {other} {on} (λ same. omega (arith, same))"
             self.run.knowledge.others[key] = [self.run.knowledge.fact(node, {key: 1}, "=", right, f"ap carry_digit ({proof})")]
 
     # Jumps.
 
-    def ways(self, condition: str) -> list[tuple[bool, str, Fact | None]]:
-        """Returns the ways at a jump: whether it is taken, the proof of that, and the fact that is known on this way."""
+    def ways(self, condition: str) -> list[tuple[bool, str, list[Fact]]]:
+        """Returns the ways at a jump: whether it is taken, the proof of that, and the facts that are known on this way."""
         carry = self.state.of("carry")
         on_carry = condition == "Carry"
         if carry in ("true", "false"):
-            return [((carry == "true") == on_carry, "refl", None)]
+            return [((carry == "true") == on_carry, "refl", [])]
         found = []
         for value in (True, False):
             proof = f"is_{self.node.number}_{int(value)}"
-            found.append((value == on_carry, proof if on_carry else f"ap not {proof}", self.fact_of(carry, value)))
+            found.append((value == on_carry, proof if on_carry else f"ap not {proof}", self.facts_on_way(carry, value)))
         return found
 
-    def fact_of(self, carry: str, value: bool) -> Fact | None:
-        """Returns the fact that a carry or a test says on one way; None if it says nothing about numbers."""
+    def facts_on_way(self, carry: str, value: bool) -> list[Fact]:
+        """Returns the facts that a carry or a test says on one way; none if it says nothing about numbers."""
         proved, know = f"is_{self.node.number}_{int(value)}", self.run.knowledge
         if not self.node.test:
-            fact = know.fact(self.node, {f"carry_digit {argument(carry)}": 1}, "=", {None: int(value)}, f"ap carry_digit {proved}")
+            found = [know.fact(self.node, {f"carry_digit {argument(carry)}": 1}, "=", {None: int(value)}, f"ap carry_digit {proved}")]
         else:
-            kind, x, y, lo, hi = self.node.test
-            one, other = ({(name, lo, hi): 1} if name != "zeros" else {} for name in (x, y))
-            if kind.endswith("#0"):
-                form = ({}, "<", one) if value else (one, "=", {})
-                proof = f"{'some' if value else 'zero'}_number at_a_place 16 {lo} {hi} {argument(x)} (omega arith) {proved}"
-            elif "<" in kind:
-                form = (one, "<", other) if value else (other, "<=", one)
-                proof = f"{'less' if value else 'not_less'}_number {argument(x)} {argument(y)} {lo} {hi} {proved}"
-            elif value:
-                return None
-            else:
-                form, proof = (one, "=", other), f"same_numbers at_a_place 16 {argument(x)} {argument(y)} {lo} {hi} {proved}"
-            fact = know.fact(self.node, *form, proof)
-        # It is written on its way, and not in the module of the node.
-        self.node.facts.remove(fact)
-        fact.is_needed = True
-        return fact
+            bases = (16, 10) if know.is_decimal and "<" not in self.node.test[0] else (16,)
+            found = [fact for fact in (self.tested(base, value, proved) for base in bases) if fact]
+        for fact in found:
+            # It is written on its way, and not in the module of the node.
+            self.node.facts.remove(fact)
+            fact.is_needed = True
+        return found
 
-    def split(self, condition: str, taken, passed) -> list[Node]:
+    def tested(self, base: int, value: bool, proved: str) -> Fact | None:
+        """Returns the fact that a test says of the numbers in a base on one way."""
+        assert self.node.test
+        kind, x, y, lo, hi = self.node.test
+        one: Form = {Span(x, lo, hi, base): 1} if x != "zeros" else {}
+        other: Form = {Span(y, lo, hi, base): 1} if y != "zeros" else {}
+        nothing: Form = {}
+        if kind.endswith("#0"):
+            proof = f"{'some' if value else 'zero'}_number at_a_place {base} {lo} {hi} {argument(x)} (omega arith) {proved}"
+            return self.run.knowledge.fact(self.node, *((nothing, "<", one) if value else (one, "=", nothing)), proof)
+        if "<" in kind:
+            proof = f"{'less' if value else 'not_less'}_number {argument(x)} {argument(y)} {lo} {hi} {proved}"
+            return self.run.knowledge.fact(self.node, *((one, "<", other) if value else (other, "<=", one)), proof)
+        if value:
+            return None
+        return self.run.knowledge.fact(self.node, one, "=", other,
+                                       f"same_numbers at_a_place {base} {argument(x)} {argument(y)} {lo} {hi} {proved}")
+
+    def split(self, condition: str, taken: Callable[[str], tuple[str, State | None]],
+              passed: Callable[[str], tuple[str, State | None]]) -> list[Node]:
         """Returns the nodes after a jump. `taken` and `passed` get the proof that the jump is or is not taken, and return the lemma and
         the state, which is None after the return of the function."""
         ways = []
-        for is_taken, proof, fact in self.ways(condition):
+        for is_taken, proof, facts in self.ways(condition):
             lemma, state = (taken if is_taken else passed)(proof)
-            way = Way(fact, lemma, None)
-            known = [*self.node.passed, *([fact] if fact else [])]
+            way = Way(facts, lemma, None)
+            known = [*self.node.passed, *facts]
             if state is not None:
                 way.node = self.go_on(state)
                 way.node.passed = known
@@ -384,7 +402,7 @@ class Step:
         condition = "Carry" if self.instruction.text == "?C RTN" else "NoCarry"
         args = f"straight {self.state_text()} {self.node.whole} {condition} {self.at_next}"
 
-        def taken(proof: str):
+        def taken(proof: str) -> tuple[str, State | None]:
             is_open, state = self.returning()
             return f"return_taken {args} ({proof}) {is_open}", state
 
@@ -419,25 +437,32 @@ class Step:
     def call(self, callee: Result, lemma: str, inner: State) -> Node:
         """Returns the node after the call of a function that has a theorem of its own."""
         self.check_start(callee)
-        count = len(self.run.nodes)
+        run, know = self.run, self.run.knowledge
+        count = len(run.nodes)
         t, done = f"t_{count}", f"done_{count}"
         terms = {**inner.terms, "carry": "false"}
         for name, known in callee.changed.items():
-            terms[name] = known if known is not None else f"{t}.processor.{name}"
+            terms[name] = known if known is not None else start_of(name, t)
         names = {"r0": inner.returns[0], "r1": inner.returns[1], "r2": inner.returns[2], "r3": inner.returns[3]}
-        returns = tuple(names.get(one, one) for one in callee.returns)
+        returns = tuple(f"{done}.{one}" if one.startswith("return_") else names.get(one, one) for one in callee.returns)
         node = self.go_on(State(self.next_pc, returns, terms))
         node.variables = [(t, "Nut"), (done, f"{callee.label}_Done {inner.text()} {' '.join(inner.returns)} {t}")]
-        for name in ("a", "b", "c", "m", "n"):
-            if callee.changed.get(name, "") is None:
-                self.run.knowledge.add(Value(f"{t}.processor.{name}", "call", node, register_of(node, name)))
-        self.run.assume(node, callee.contract.ensures, inner, f"{done}.claim")
-        if callee.bound.parts:
-            raise self.unsupported(f"the number of steps of {callee.label} depends on its state: claim a number for it to call it")
-        self.node.cost = 1 + callee.bound.constant
-        self.node.form = "call", callee, lemma, inner, done, t
-        if callee.label not in self.run.calls:
-            self.run.calls.append(callee.label)
+        run.unknown(node, t, done, [name for name in (*WIDE, "ram") if callee.changed.get(name, "") is None])
+        run.assume(node, callee.contract.ensures, inner, f"{done}.claim")
+        if callee.uses_memory:
+            know.use(callee.knowledge.highest)
+        steps = form_of(callee.bound, inner, inner)
+        self.node.spent = {**steps, None: steps.get(None, 0) + 1}
+        self.node.cost = self.node.spent.get(None, 0)
+        claimed = run.contract.steps
+        if keys_in(steps) and (run.now or not (claimed and claimed.count.parts)):
+            if claimed and claimed.is_exact:
+                raise self.unsupported(f"the number of steps of {callee.label} depends on its state, expected a constant: claim `within`")
+            self.node.cost = 1 + most(know, steps, self.node.passed)
+            self.node.spent = {None: self.node.cost}
+        self.node.form = "call", callee, lemma, inner, done, t, steps
+        if callee.label not in run.calls:
+            run.calls.append(callee.label)
         return node
 
     def check_start(self, callee: Result) -> None:

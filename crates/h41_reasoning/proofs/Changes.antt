@@ -39,6 +39,9 @@ module _ (replaced : ReplacedIsDetermined) (into x : List ℕ) (lo hi : ℕ) (si
       same_number base a b x (copy_of into x lo hi)
       (λ place first last. copied.inside place (omega (arith, from, first)) (omega (arith, to, last)))
 
+  pub copy_digit : (place : ℕ) → lo ≤ place → place ≤ hi → slice_index (copy_of into x lo hi) place ≡ slice_index x place
+  copy_digit place from to = copied.inside place from to
+
 -- A shift to the right: place hi becomes 0.
 module _ (replaced : ReplacedIsDetermined) (into x : List ℕ) (lo hi : ℕ) (size : length into ≡ 14) (inside : hi < 14) where
   shifted : HasDigits into lo hi (λ place. if place == hi then 0 else slice_index x (place + 1)) (shifted_right into x lo hi)

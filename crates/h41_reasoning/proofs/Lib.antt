@@ -10,3 +10,6 @@ pub mod Calls
 pub mod Banks
 pub mod Spans
 pub mod Changes
+pub mod Memory
+pub mod Decimals
+pub mod Bytes

@@ -1,5 +1,5 @@
 -- The words that go on with the next word, and are not arithmetic: each leaves the state that is written out here.
-use Rattle.std.proofs.Common.{◌≡◌, ◌==◌, ℕ, ◌<◌, ◌≤◌, Bool, true, false, not, None, refl, ap}
+use Rattle.std.proofs.Common.{◌≡◌, ◌==◌, ℕ, ◌<◌, ◌≤◌, Bool, true, false, not, None, refl, ap, subst}
 use Rattle.std.specs.Bool.{then_some}
 use Rattle.h41_fields.specs.declared.field.Pointer.{Pointer}
 use Rattle.h41_laws_words.specs.WholeStates.{IsWhole}
@@ -141,6 +141,11 @@ module _ (straight : WordIsExecuted) (s : Nut) (whole : IsWhole s) (is_open : is
   -- RAM SLCT, READ DATA, READ n, WRIT DATA and WRIT n.
   pub register_selected : IsNext rows.SelectRegister s → StepsTo s (gone (memory.selecting_from_c s.processor) s)
   register_selected next = straight rows.SelectRegister tt refl s whole next goes_on
+
+  pub address_selected : (address : ℕ) → registers.word_in_c s.processor ≡ address → IsNext rows.SelectRegister s
+      → StepsTo s (gone (memory.with_selected address s.processor) s)
+  address_selected address is next =
+      subst (λ other. StepsTo s (gone (memory.with_selected other s.processor) s)) is (register_selected next)
 
   pub data_read : IsNext rows.ReadData s → StepsTo s (gone (memory.with_selected_in_c s.ram s.processor) s)
   data_read next = straight rows.ReadData tt refl s whole next goes_on

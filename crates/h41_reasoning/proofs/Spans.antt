@@ -15,7 +15,7 @@ abbrev pub number_from : ℕ → List ℕ → ℕ → ℕ → ℕ
 number_from base x lo count = sum_by (λ place. slice_index x place * base ^ (place - lo)) (range_with_len lo count)
 
 -- A digit more at the left.
-number_more : (base : ℕ) (x : List ℕ) (lo count : ℕ)
+pub number_more : (base : ℕ) (x : List ℕ) (lo count : ℕ)
     → number_from base x lo (suc count) ≡ number_from base x lo count + slice_index x (lo + count) * base ^ count
 number_more base x lo count =
     let power : lo + count - lo ≡ count = omega arith in

@@ -1,3 +1,5 @@
 pub mod Runs
 pub mod WordRuns
 pub mod Rounds
+pub mod Memory
+pub mod Decimals

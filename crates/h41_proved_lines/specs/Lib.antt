@@ -1,1 +1,2 @@
 pub mod AbsoluteDifference
+pub mod GreatestCommonDivisor

@@ -1,0 +1,3 @@
+pub mod AbsoluteDifference
+pub mod Euclid
+pub mod GreatestCommonDivisor

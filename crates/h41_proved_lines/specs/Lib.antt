@@ -1,0 +1,2 @@
+pub mod AbsoluteDifference
+pub mod GreatestCommonDivisor

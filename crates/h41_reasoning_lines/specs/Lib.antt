@@ -1,0 +1,4 @@
+pub mod Stacks
+pub mod LineRuns
+pub mod ProgramLines
+pub mod LineRounds

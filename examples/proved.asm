@@ -102,9 +102,9 @@ BYTES:  C=ST
         C=G
         RTN
 
-; A keeps one digit of C by a mask.
-; requires A.XS = 0F, A[1:0] = 0, A[13:3] = 0
-; ensures  C.XS = old C.XS, C[1:0] = 0, C[13:3] = 0, A as before, in 2 steps
+; A mask in A keeps a digit of C, and clears another one.
+; requires A.XS = 0F, A[0] = 0
+; ensures  C.XS = old C.XS, C[0] = 0, C[1] <= old A[1], A as before, in 2 steps
 MASK:   C=C AND A
         RTN
 

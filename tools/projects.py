@@ -202,6 +202,14 @@ def included_by(reader: Reader) -> dict[str, str]:
     return found
 
 
+def place_of(path: str, name: str) -> str:
+    """Returns the file and line of an equate of a project, which may be in a file of `include`."""
+    reader = Reader(path)
+    others = [place_of(other, name) for other in reader.files("", reader.table, "include")]
+    own = name in reader.table.get("equates", {})
+    return f"{reader.path}:{reader.line_of('equates', name)}" if own else next(filter(None, reversed(others)), "")
+
+
 def page_of(reader: Reader, name: str, table: Any) -> Page:
     """Returns a page or bank from its table."""
     section = f"page.{name}"

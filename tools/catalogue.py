@@ -9,11 +9,12 @@ from typing import Callable, Dict, Iterable, Iterator, List, NamedTuple, Optiona
 
 import listings
 import programs
-from containers import BY_NAME, FREE42, PACKED, UNPACK, Member, members_of
+from containers import BY_NAME, FREE42, Member, members_of
 from decks import MARK_OF_UTF8, MARKS_OF_UTF16, Failure, answered, block, ended, hexadecimal, shown
 from doubts import PRIVATE, PRIVATE_ROWS, Doubt, at_places, of_bytes, of_line, parted
 from exchange import Count, counts_in, wanted_counts
 from functions import Functions, table
+from misplaced import PACKED, UNPACK
 from modules import lines_of_bytes, lines_of_texts
 from programs import LOCAL, broken
 from records import DATA, END, LISTING, OTHER, ends_of, length_at, programs_in

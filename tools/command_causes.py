@@ -3,10 +3,11 @@ form, an operand that is missing. Each cause has the column of the text that is 
 from __future__ import annotations
 
 import re
+from collections.abc import Iterable, Sequence
 from difflib import get_close_matches
 from functools import lru_cache
 
-from decks import OPENERS
+from decks import OPENERS, is_skipped, words_of
 from documents import codes_of, section_of, tables_of
 from keyboard import KEYS
 
@@ -42,6 +43,15 @@ def forms() -> dict[str, list[str]]:
         size = 2 if words[0] in ("show", "break", "unbreak") else 1
         found[" ".join(words[:size])] = words[size:]
     return found
+
+
+def is_no_deck(lines: Sequence[bytes], refusals: Iterable[tuple[int, str]]) -> bool:
+    """Returns whether most lines are instructions or program lines, so that the file is no deck. `refusals` has the number of each refused
+    line, counted from 0. Words of commands are in lower case, and others are not."""
+    words = [words_of(lines[at])[:1] for at, refusal in refusals if refusal.startswith("! 50 BadCommand")]
+    firsts = {name.split()[0].encode() for name in forms()}
+    strange = sum(not word.islower() and word.lower() not in firsts for some in words for word in some)
+    return strange > 2 and 2 * strange > sum(not is_skipped(line) for line in lines)
 
 
 def cause_of(text: str) -> Cause | None:

@@ -11,6 +11,7 @@ from decks import MARK_OF_UTF8, Failure, bytes_of
 from functions import Functions
 from lif import is_headed, is_image, read_headed, read_image, write_headed, write_image
 from listings import Listing
+from misplaced import PACKED, UNPACK
 from mods import FIXED, PAGES, Image, read_mod
 from modules import lines_of_texts
 from records import IMAGE, LISTING, OTHER, PROGRAM, Damaged, Part, ends_of, sum_of, without_sum
@@ -21,10 +22,6 @@ BY_NAME = {".lif": LIF, ".dat": LIF, ".p41": P41, ".hex": HEX, ".bars": BARS, ".
 WITH_NAMES = (LIF, MOD)
 LISTINGS = tuple(exchange.READERS)
 KINDS = (LIF, P41, HEX, BARS, MOD, *LISTINGS)
-
-# How files begin that have other files in them: .zip, .gz, .7z, .rar, .bz2 and .xz.
-PACKED = (b"PK\x03\x04", b"\x1f\x8b", b"7z\xbc\xaf", b"Rar!", b"BZh", b"\xfd7zXZ")
-UNPACK = "this is a packed archive, such as .zip or .gz: unpack it first"
 
 # The least number of bytes of hexadecimal digits by which a text without a known name is taken for them.
 FEW_DIGITS = 8
@@ -71,6 +68,8 @@ def container_of(path: str, data: bytes, kind: Optional[str]) -> Optional[str]:
 def members_of(path: str, kind: Optional[str] = None) -> List[Member]:
     """Returns the parts of a container, or the file itself if it is none. Raises Failure if the container does not add up."""
     data = bytes_of(path)
+    if kind is None and data.startswith(PACKED):
+        raise Failure(f"{path}: {UNPACK}")
     container = container_of(path, data, kind) if data else None
     if container is None:
         return [Member(path, data)]

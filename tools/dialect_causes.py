@@ -6,6 +6,7 @@ import re
 from collections.abc import Iterator
 
 from dialects import GREATEST_WORD, REGISTERS
+from operand_causes import above
 
 # Directives of other assemblers, and what is done here. A name may be before them.
 DIRECTIVES = {
@@ -161,7 +162,7 @@ def of_numbers(code: str) -> Iterator[tuple[int, str]]:
         yield number.start(1), f"{number[1]} is not a hexadecimal number: expected three digits, 000 to 3FF"
     great = TOO_GREAT.fullmatch(code)
     if great and int(great[2], 16) > GREATEST_WORD:
-        yield great.start(1), f"{great[1]} is above 3FF, the greatest word of ten bits"
+        yield great.start(1), above(great[1])
     if digit and re.fullmatch("0[0-9]", digit[1]):
         yield digit.start(1), f"{digit[1]} has a leading zero: write LD@R {int(digit[1])}"
     elif digit and int(digit[1]) > 15:

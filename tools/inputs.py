@@ -7,13 +7,14 @@ import re
 from typing import Optional, Sequence
 
 from comments import BESIDE
-from containers import FREE42, LIF, PACKED, UNPACK, Member
+from containers import FREE42, LIF, Member
 from decks import MARK_OF_UTF8, MARKS_OF_UTF16, block, hexadecimal, lines_of, refused, shown, text_of, words_of
 from dialects import Dialect
 from doubts import PRIVATE, PRIVATE_BIT, PRIVATE_ROWS, Doubt, at_places, of_bytes, of_line
 from exchange import wrong_counts
 from functions import Functions
 from listings import Listing
+from misplaced import CASES, PROJECT, TABLE, what_is
 from mods import Image
 from modules import lines_of_texts
 from placing import Group, Place, counted, out_of_order
@@ -149,6 +150,8 @@ class File(Input):
                        "FILE.page")
         elif not kind and is_deck(self.path):
             self.error("this is a deck already: run it with ./bench run, or give another kind with --as")
+        elif not kind and what_is(self.path, CASES, PROJECT, TABLE):
+            self.error(what_is(self.path, CASES, PROJECT, TABLE))
         elif kind in (IMAGE, RAW) and not self.given and not self.options.kind and self.is_text():
             self.error(f"found a text, expected {'an image' if kind == IMAGE else 'bytes of a program'}: {NAMED}")
         elif kind in (SOURCE, LISTING, CALLS) and self.data[:2] in MARKS_OF_UTF16:
@@ -159,8 +162,6 @@ class File(Input):
             return self.kind_of_text()
         elif len(self.data) == IMAGE_SIZE:
             return IMAGE
-        elif self.data.startswith(PACKED):
-            self.error(UNPACK)
         elif self.data[:2] in MARKS_OF_UTF16:
             self.error("the text is in UTF-16: save it as UTF-8")
         else:

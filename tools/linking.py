@@ -10,7 +10,7 @@ from collections.abc import Iterator
 from typing import NamedTuple
 
 from decks import Failure, block, run, shown, words_of
-from projects import Page, Project, Reader, nearest
+from projects import Page, Project, Reader, nearest, place_of
 from sources import (BLANKS, NAME, OF_THE_END, Assembled, Faulty, Line, Source, Whole, checksum_of, constant, directive_of, source_in,
                      text_in, without_comments)
 
@@ -24,7 +24,21 @@ TWO_WORDS = (b"LDI", b"ENTRY", b"FOCAL")
 ENTRIES = {"ENTRY": 0x000, "FOCAL": 0x200}
 # The instructions with a number, which may be an equate.
 NUMBERED = ("READ", "WRIT", "R=", "?R=", "RCR", "LD@R", "SETF", "CLRF", "?FSET", "LDI", "CON")
+# Those with a place or a bit, which is 0 to 13, and those with a word.
+OF_PLACES, OF_WORDS = ("R=", "?R=", "RCR", "SETF", "CLRF", "?FSET"), ("LDI", "CON")
 IMAGE_LINES = 256
+
+
+def fits(name: str, value: str) -> bool:
+    """Returns whether an instruction takes the value of an equate: a decimal number has one or two digits, a word three, an address four.
+    Returns True for an instruction that takes no equate."""
+    if LONG.match(name.encode() + b" "):
+        return len(value) == 4
+    if name in OF_WORDS:
+        return len(value) == 3 and int(value, 16) < 0x400
+    if name not in NUMBERED:
+        return True
+    return len(value) < 3 and int(value) <= (13 if name in OF_PLACES else 15) and (name, value) != ("READ", "0")
 
 
 def length_of(line: Line) -> int:
@@ -236,6 +250,7 @@ class Linked:
             is_number = words[0].decode(errors="replace") in NUMBERED
             if page is None and name in self.project.equates and (is_number or name not in self.labels):
                 self.put(unit, at, self.project.equates[name].encode())
+                faults += self.unfit(unit, at, name)
                 continue
             label = self.find(page, name, unit)
             first = words[0].decode(errors="replace")
@@ -246,11 +261,23 @@ class Linked:
                 label = self.no_equate(name)
             why = label if isinstance(label, str) else self.join(unit, at, label)
             if why:
-                self.unlinked[unit.name].add(at)
-                text = unit.whole.told[at].decode(errors="replace")
-                column = text.find(line.code.decode(errors="replace")) + line.code.decode(errors="replace").rfind(":") + 1
-                faults.append(f"{unit.whole.place(at)}: `{shown(unit.whole.told[at].strip(BLANKS))}`: column {column}: {why}")
+                faults.append(self.fault(unit, at, why))
         return faults
+
+    def fault(self, unit: Unit, at: int, why: str) -> str:
+        """Returns the error of a reference, with its place, and remembers that its line has one."""
+        self.unlinked[unit.name].add(at)
+        text, code = (one.decode(errors="replace") for one in (unit.whole.told[at], unit.lines[at].code))
+        return f"{unit.whole.place(at)}: `{shown(unit.whole.told[at].strip(BLANKS))}`: column {text.find(code) + code.rfind(':') + 1}: {why}"
+
+    def unfit(self, unit: Unit, at: int, name: str) -> list[str]:
+        """Returns the error of a line that uses an equate whose value its instruction does not take; an empty list if it takes it."""
+        first, value = b" ".join(words_of(unit.lines[at].code)[:-1]).decode(errors="replace"), self.project.equates[name]
+        if fits(first, value):
+            return []
+        # Only errors need this module.
+        from operand_causes import of_equate
+        return [self.fault(unit, at, of_equate(first, name, value, place_of(self.project.path, name)))]
 
     def join(self, unit: Unit, at: int, label: Label) -> str:
         """Replaces the reference of a line to a label. Returns the reason if this instruction cannot refer to it."""

@@ -147,6 +147,32 @@ def written(name: str, digits: str) -> str:
     return "READ DATA" if name == "READ" and not int(digits) else f"{name} {int(digits)}"
 
 
+def of_digits(name: str, text: str, value: int, most: int, takes: str) -> str:
+    """Returns what is wrong with a number in hexadecimal digits, which has a value, and what to write if the value is in range."""
+    if value > most or name == "READ" and not value:
+        return f"{text} is {value} in decimal, which is out of range: {takes}"
+    return f"{takes}: write {written(name, str(value))}"
+
+
+def of_equate(name: str, equate: str, value: str, place: str) -> str:
+    """Returns why an instruction does not take the value of an equate, which is defined at a place."""
+    kind = "the decimal number" if len(value) < 3 else "the word" if len(value) == 3 else "the address"
+    number = int(value) if len(value) < 3 else int(value, 16)
+    what = f":{equate} is {kind} {value} ({place})"
+    if name in LONG:
+        return f'{what}: for an address write {equate} = "{number:04X}"'
+    if name in OF_WORDS:
+        return (f'{what}: for a word write {equate} = "{number:03X}"' if number <= GREATEST_WORD else
+                f"{what}, above 3FF, the greatest word of ten bits")
+    most = 13 if name in PLACES else 15
+    takes = f"{name} takes a decimal number, {'1' if name == 'READ' else '0'} to {most}"
+    if name == "READ" and not number:
+        return f"{what}: the word for 0 is READ DATA"
+    if number > most:
+        return f"{what}{f', {number} in decimal' if len(value) > 2 else ''}, which is out of range: {takes}"
+    return f"{what}: {takes}: write {equate} = {number}"
+
+
 def of_number(name: str, text: str) -> str:
     """Returns what is wrong with a decimal number."""
     most = 13 if name in PLACES else 15
@@ -164,8 +190,8 @@ def of_number(name: str, text: str) -> str:
         return "the word for 0 is READ DATA"
     if confused != text and confused.isdecimal() and int(confused) <= most:
         return f"{text} has a letter in place of a digit: write {written(name, confused)}"
-    if digits and (is_hexadecimal or re.fullmatch("[A-Fa-f]", digits)) and digits.upper() == digits and int(digits, 16) <= most:
-        return f"{takes}: write {written(name, str(int(digits, 16)))}" if signs or int(digits, 16) > 9 else ""
+    if digits and (is_hexadecimal or not digits.isdecimal() and not re.fullmatch("[0-9]+d", digits)):
+        return of_digits(name, text, int(digits, 16), most, takes)
     if digits and digits.isdecimal() and signs and int(digits) <= most:
         return f"found {text}, expected the number alone: write {written(name, digits)}"
     if digits and digits.isdecimal() and not signs and int(digits) <= most and digits[0] == "0" and len(digits) > 1:
@@ -183,6 +209,13 @@ def of_number(name: str, text: str) -> str:
     if len(parts) == 1 and int(parts[0]) <= most and not text.startswith(":"):
         return f"found {text}, expected the number alone: write {written(name, parts[0])}"
     return f"found {text}: {takes}" if not text.startswith(":") else ""
+
+
+def above(text: str) -> str:
+    """Returns that a number is too large for a word, and what to write if it is meant in decimal."""
+    is_decimal = text.isdecimal() and int(text) <= GREATEST_WORD
+    return (f"{text} is above 3FF, the greatest word of ten bits"
+            + (f": numbers are hexadecimal: decimal {int(text)} is {int(text):03X}" if is_decimal else ""))
 
 
 def of_word(name: str, text: str) -> str:
@@ -206,7 +239,7 @@ def of_word(name: str, text: str) -> str:
     if re.fullmatch("[0-9A-Fa-f]+(?:,[0-9A-Fa-f]+)+", text):
         return f"a line has one word: write a line {name} for each of {text.replace(',', ' ')}"
     if re.fullmatch("[0-9A-Fa-f]{3}", text) and int(text, 16) > GREATEST_WORD:
-        return f"{text} is above 3FF, the greatest word of ten bits"
+        return above(text)
     return ""
 
 

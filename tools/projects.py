@@ -63,6 +63,12 @@ class Reader:
     def __init__(self, path: str) -> None:
         """Reads a project file, or the one in a folder."""
         self.path = os.path.normpath(os.path.join(path, IN_A_FOLDER) if os.path.isdir(path) else path)
+        if os.path.isfile(self.path) and not self.path.endswith(".toml"):
+            # Only errors need this module.
+            from misplaced import CASES, other_than
+            other = other_than(self.path, "a project file", {CASES: "`tools/module test PROJECT FILE` runs it"})
+            if other:
+                raise Failure(f"{self.path}: {other}")
         self.text, self.table = toml_in(self.path)
 
     def line_of(self, section: str, key: str) -> int | None:
@@ -200,6 +206,14 @@ def included_by(reader: Reader) -> dict[str, str]:
         other.known("", other.table, ("equates",))
         found.update(equates_of(other))
     return found
+
+
+def place_of(path: str, name: str) -> str:
+    """Returns the file and line of an equate of a project, which may be in a file of `include`."""
+    reader = Reader(path)
+    others = [place_of(other, name) for other in reader.files("", reader.table, "include")]
+    own = name in reader.table.get("equates", {})
+    return f"{reader.path}:{reader.line_of('equates', name)}" if own else next(filter(None, reversed(others)), "")
 
 
 def page_of(reader: Reader, name: str, table: Any) -> Page:

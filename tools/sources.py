@@ -11,6 +11,7 @@ from typing import Iterable, Optional
 from decks import (BENCH, LONGEST_LINE, MARK_OF_UTF8, MARKS_OF_UTF16, NO_ANSWER, Failure, block, bytes_of, ended, lines_of, refused,
                    shown, text_of, words_of)
 from matches import begin
+from misplaced import PACKED, UNPACK
 
 BLANKS = b" \t"
 PAGES = "456789ABCDEF"
@@ -66,7 +67,7 @@ def source_in(path: str) -> bytes:
     """Returns the text of a file that is a source. Other files are refused with what they may be."""
     data = text_in(path)
     commands = [words_of(line)[:2] for line in data.split(b"\n") if words_of(line) and not line.startswith(b"#")]
-    why = ("the file is empty: expected a source" if not data.strip() else
+    why = ("the file is empty: expected a source" if not data.strip() else UNPACK if data.startswith(PACKED) else
            "this is an image of a page, expected a source: plug it with tools/import, and write a source with tools/export source"
            if path.lower().endswith(".rom") else
            "found a byte 00, which no text has, expected a source: bytes of a program and images are for tools/import" if b"\0" in data else

@@ -1,12 +1,14 @@
 """Tests for tools/module: runs cases without and with junk, reports what differs, and writes TAP, JUnit XML and tables in CSV."""
 import argparse
+import os
 from typing import NamedTuple
 
 from calls import Call, Caller, Result, Views, compared, ended_well
-from cases import WORDS, Case, cases_in, missing_quote, table_in
+from cases import TARGET, WORDS, Case, cases_in, missing_quote, table_in
 from decks import Failure
 from files import put
 from linking import Linked
+from misplaced import CASES, TABLE, other_than
 from projects import Project, Reader
 from settings import DATA_NAME, MEMORY_NAME, STACK, Setting, Wrong, reader_of, settings_in
 from values import text_of
@@ -168,6 +170,20 @@ def usual(project: Project) -> list[Setting]:
         raise Reader(project.path).fail("", "before", f"{why}{missing_quote(project.before)}") from why
 
 
+def check_kind(linked: Linked, path: str, wanted: str, uses: dict[str, str]) -> None:
+    """Raises Failure if a path is a file of another kind by its name, or no file but a label of the project. `uses` says what to do with
+    files of other kinds."""
+    other = other_than(path, wanted, uses) if os.path.isfile(path) else ""
+    if other:
+        raise Failure(f"{path}: {other}")
+    if path == "-" or os.path.exists(path):
+        return
+    named, folder = TARGET.fullmatch(path), linked.project.path.removesuffix("module.toml").rstrip("/") or "."
+    if named and not isinstance(linked.called(named[1], named[2]), str):
+        raise Failure(f"{path} is a label of {folder}: expected {wanted}; `tools/module run {folder} {path}` calls it")
+    raise Failure(f"{path}: no such file: expected {wanted}")
+
+
 def cases_of(linked: Linked, options: argparse.Namespace) -> list[Case]:
     """Returns the cases to run: the rows of a table, or those of the files."""
     project = linked.project
@@ -180,6 +196,7 @@ def cases_of(linked: Linked, options: argparse.Namespace) -> list[Case]:
         except Wrong as why:
             raise Failure(f"--values: {why}", 2) from why
         wanted = [Setting(name, "", "") for name in names]
+        check_kind(linked, options.table, TABLE, {CASES: "run it without --table"})
         cases = table_in(options.table, options.call, common, options.write is not None)
         return [case._replace(after=[*case.after, *wanted]) for case in cases] if wanted else cases
     files = options.files or project.tests
@@ -187,6 +204,8 @@ def cases_of(linked: Linked, options: argparse.Namespace) -> list[Case]:
         raise Failure(f'{project.path}: the project names no tests: expected tests = ["NAME.cases"]')
     if not options.files:
         Reader(project.path).want("", "tests", *files)
+    for path in files:
+        check_kind(linked, path, CASES, {TABLE: f"run it with --table {path}"})
     return [case for path in files for case in cases_in(path, common)]
 
 

@@ -120,7 +120,7 @@ def of_another_dialect(own: str) -> str:
 CERTAIN = ("U+", "begins with a colon", "has a leading zero", "in upper case", "alone: write", "space is missing", "in place of a digit",
            "a comment begins with ;", "the colon of ", "decimal number: write it", "no space is", "no spaces inside", "expected three:",
            "colon and a name:", "two hexadecimal digits: write", "has no operand: it", "is not in memory:", "JC or JNC after it",
-           "the word for 0 is")
+           "the word for 0 is", "takes a decimal number, ")
 
 
 def shown_causes(asked: list[tuple[Asked, Fault]], others: dict[bytes, str]) -> dict[Fault, Cause]:

@@ -1,0 +1,38 @@
+"""What a file is that a tool does not read, by its content or its name, and which tool reads it. Only errors need this module, and the
+first bytes of packed archives."""
+from __future__ import annotations
+
+import os
+
+# How files begin that have other files in them: .zip, .gz, .7z, .rar, .bz2 and .xz.
+PACKED = (b"PK\x03\x04", b"\x1f\x8b", b"7z\xbc\xaf", b"Rar!", b"BZh", b"\xfd7zXZ")
+UNPACK = "this is a packed archive, such as .zip or .gz: unpack it first"
+
+SOURCE, CASES, PROJECT, TABLE = "a source", "a file of cases", "a project file", "a table"
+DECK, CALLS, IMAGE = "a deck", "a file of commands", "an image of pages"
+BY_NAME = {".asm": SOURCE, ".src": SOURCE, ".cases": CASES, ".toml": PROJECT, ".csv": TABLE, ".deck": DECK, ".calls": CALLS, ".rom": IMAGE,
+           ".mod": IMAGE}
+# What to do with a file of each kind.
+USES = {SOURCE: "tools/lint checks it, tools/import makes a deck of it, and `source` of a project names it",
+        CASES: "`tools/module test` runs it", PROJECT: "use tools/module", TABLE: "`tools/module test --table` runs it",
+        DECK: "./bench run runs it", CALLS: "give it to tools/import after a source", IMAGE: "tools/import makes a deck of it"}
+
+NO_DECK = "a source or a listing is not a deck: make one with `tools/import FILE`"
+
+
+def kind_of(path: str) -> str:
+    """Returns what a file is by its name; an empty text if the name does not say it."""
+    return BY_NAME.get(os.path.splitext(path)[1].lower(), "")
+
+
+def what_is(path: str, *kinds: str) -> str:
+    """Returns that a file is of one of these kinds, and what to do with it; an empty text if it is none of them."""
+    kind = kind_of(path)
+    return f"this is {kind}: {USES[kind]}" if kind in kinds else ""
+
+
+def other_than(path: str, wanted: str, uses: dict[str, str]) -> str:
+    """Returns that a file is of another kind than the wanted one, and what to do: that of `uses`, or the usual one. Returns an empty text
+    if the name does not say it."""
+    kind = kind_of(path)
+    return f"this is {kind}, expected {wanted}: {uses.get(kind, USES[kind])}" if kind and kind != wanted else ""

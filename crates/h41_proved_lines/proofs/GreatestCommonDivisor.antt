@@ -152,7 +152,8 @@ module _ (itself : DecimalIsItsNearest) (injective : UnitsAreInjective) (determi
             (after_line (with_stack recalled_stack memory) l3.next returns true)
         recalled =
             last_recalled pages reduced_stack memory l2.next l3.next false returns
-            (also first_memory (with_stack reduced_stack memory) l2.next _ l3.next (same_program stack reduced_stack memory sound) l3.stands)
+            (also first_memory (with_stack reduced_stack memory) l2.next _ l3.next (same_program stack reduced_stack memory sound)
+            l3.stands)
 
         swapped : Continues pages (after_line (with_stack recalled_stack memory) l3.next returns true)
             (after_line (with_stack round_stack memory) l4.next returns true)

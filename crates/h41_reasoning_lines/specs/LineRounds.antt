@@ -33,4 +33,5 @@ LeavesInTurn =
     (pages : PageMap) (first second : ℕ) (s : Machine) (Between : Machine → Type 0)
     (After : Left → Type 0)
     → WithinSteps pages first s Between
-    → ((t : Machine) → Between t → Leaves pages second t After) → Leaves pages (first + second) s After
+    → ((t : Machine) → Between t → Leaves pages second t After)
+    → Leaves pages (first + second) s After

@@ -195,7 +195,8 @@ def check_exact(result: Result, loop: Loop, counts: list[set[int]]) -> None:
     steps = result.contract.steps
     line, text = (steps.line, steps.text) if steps else (0, "")
     if any(len(count) != 1 for count in counts):
-        taken = " or ".join(map(str, sorted(max(counts, key=lambda found: len(found)))))
+        longest: set[int] = max(counts, key=len)
+        taken = " or ".join(map(str, sorted(longest)))
         raise NotProved(line, f"`{text}`: a round of {loop.label} takes {taken} steps, expected one number: claim `within`")
     kinds = [ways_from(root) for root in loop.roots]
     if kinds[0] != {"again"} or "again" in kinds[1]:

@@ -2,7 +2,7 @@
 from __future__ import annotations
 
 from budgets import reachable
-from claims import AnyClaim, Claim, Decimal, Named, Others, Sum
+from claims import AnyClaim, Decimal, Named, Others, Sum
 from codes import Loop, NotProved, Result, form_of, key_of, plain
 from symbols import Fact, Form, Key, Node, Span, State, keys_in
 

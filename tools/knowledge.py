@@ -7,7 +7,7 @@ from typing import Iterable, Iterator
 from decimals import Decimals
 from linear import row
 from symbols import (PLACES, REGISTERS, Fact, Form, Key, Node, Ram, Span, Value, added_form, argument, form_text, keys_in, number, place_of,
-                     register_at, status_bit, status_byte, with_status)
+                     register_at, status_bit, with_status)
 
 # Names that a node introduces.
 NAMES = re.compile(r"\b[a-z]+_[0-9]+\b")

@@ -3,7 +3,7 @@ from __future__ import annotations
 
 from claims import AnyClaim, Atom, Decimal, Named, Others, Sum
 from codes import Code, Result, known_at_start, negative_free, plain, value_of
-from symbols import OUTSIDE, REGISTERS, record, register_at, stack, start_of, status_bit
+from symbols import OUTSIDE, REGISTERS, record, register_at, stack, start_of
 
 RELATIONS = {"=": "≡", "<": "<", "<=": "≤", "<>": "≢"}
 CRATE = "module"

@@ -5,7 +5,7 @@ from __future__ import annotations
 from typing import Any, Iterable
 
 from claimproofs import omega
-from codes import Code, Loop, Result, known_at_start, plain
+from codes import Code, Loop, Result, known_at_start
 from loopproofs import LoopProof
 from statements import CRATE, IMPORTS, RETURNS, UNFOLDING, done_name, laws_of, requirements, sum_text
 from symbols import REGISTERS, Fact, Form, Node, State, Way, argument, form_text, keys_in, stack

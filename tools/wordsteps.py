@@ -7,7 +7,7 @@ from budgets import most
 from bytesteps import BYTES, after_byte
 from claims import FIELDS
 from codes import Instruction, NotProved, Result, form_of, known_at_start, register_of
-from memorysteps import MEMORY, after_memory, is_memory
+from memorysteps import after_memory, is_memory
 from symbols import WIDE, Fact, Form, Node, Span, State, Value, Way, argument, keys_in, literal, start_of, status_bit, with_status
 
 if TYPE_CHECKING:

@@ -105,7 +105,10 @@ class Lint:
 
     def names_off(self, bank: int, at: int) -> list[str]:
         """Returns the names of rules that the comment of a line switches off."""
-        found = IGNORED.search(self.sources[bank].lines[at].comment)
+        source = self.sources[bank]
+        # A directive of another assembler is a comment as a whole.
+        comment = source.texts[at].decode(errors="replace") if DIRECTIVE.match(source.texts[at]) else source.lines[at].comment
+        found = IGNORED.search(comment)
         return re.findall(r"[^\s,]+", found[1]) if found else []
 
     def is_ignored(self, bank: int, at: int, name: str, _what: str) -> bool:

@@ -3,7 +3,7 @@ import argparse
 from typing import NamedTuple
 
 from calls import Call, Caller, Result, Views, compared, ended_well
-from cases import WORDS, Case, cases_in, missing_quote, table_in
+from cases import WORDS, Case, cases_in, table_in, with_quote
 from decks import Failure
 from files import put
 from linking import Linked
@@ -165,7 +165,7 @@ def usual(project: Project) -> list[Setting]:
     try:
         return settings_in(WORDS.findall(project.before), True)
     except Wrong as why:
-        raise Reader(project.path).fail("", "before", f"{why}{missing_quote(project.before)}") from why
+        raise Reader(project.path).fail("", "before", with_quote(why, project.before)) from why
 
 
 def cases_of(linked: Linked, options: argparse.Namespace) -> list[Case]:

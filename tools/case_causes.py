@@ -55,6 +55,12 @@ def of_target(text: str) -> str:
     return f"; a label has no other signs here: write {bare}" if re.fullmatch(r"[A-Za-z]\w{0,11}", bare) and bare != text else ""
 
 
+def is_register(name: str) -> bool:
+    """Returns whether a setting has this name."""
+    from settings import DATA_NAME, FLAG_NAME, READERS
+    return name in READERS or any(form.fullmatch(name) for form in (DATA_NAME, FLAG_NAME))
+
+
 def of_setting(words: list[str], at: int, is_first: bool) -> str:
     """Returns a hint on a word that is no setting, which is word number `at`; an empty text if there is none."""
     word, after = words[at], [*words[at + 1:], "", ""]
@@ -83,6 +89,8 @@ def of_setting(words: list[str], at: int, is_first: bool) -> str:
         return f"; a setting is a whole register: write {part[1]}= and all its digits"
     if re.fullmatch(r"[-+]?[\d.]+(?:E-?\d+)?,?", word):
         return f"; the name of the register is missing: write for example X={word.rstrip(',')}"
+    if is_register(word):
+        return f"; the value is missing: write for example {word}=5"
     if is_first and re.fullmatch(r"[A-Za-z]\w{0,11}|\"[^\"]*\"", word):
         return "; a row begins with the label that it calls, without a word before it"
     return ""

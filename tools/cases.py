@@ -11,6 +11,9 @@ WORDS = re.compile(r"""(?:[^\s"'#]|"[^"]*"|'[^']*')+|\#.*""")
 ARROW = "->"
 TARGET = re.compile(r"(?:([A-Za-z]\w{0,11})\.)?([A-Za-z]\w{0,11})")
 
+# A hint that is wrong if the row shows another cause.
+NO_VALUE = re.compile("; the value is missing.*")
+
 CALLED = "a label, PAGE.LABEL, or the name of a function in quotes"
 FORM = "expected LABEL BEFORE.. -> AFTER.., for example: X10 X=5 -> X=50"
 
@@ -43,9 +46,11 @@ def text_in(path: str) -> str:
         raise Failure(f"{path}:{line}: byte {error.object[error.start]:02X} is not valid UTF-8: save the file as UTF-8") from error
 
 
-def missing_quote(row: str) -> str:
-    """Returns what to add to an error of a row if the number of its double quotes, outside single ones, is odd."""
-    return "; the other quote is missing" if re.sub("'[^']*'", "", row).count('"') % 2 else ""
+def with_quote(why: Wrong, row: str) -> str:
+    """Returns the text of an error in a row. If the number of double quotes in the row, outside single ones, is odd, this is the cause."""
+    if re.sub("'[^']*'", "", row).count('"') % 2 == 0:
+        return str(why)
+    return NO_VALUE.sub("", str(why)) + "; the other quote is missing"
 
 
 def joined(common: list[Setting], own: list[Setting]) -> list[Setting]:
@@ -84,10 +89,10 @@ def cases_in(path: str, common: list[Setting]) -> list[Case]:
             target, before, after = row_of(words, common)
         except Wrong as why:
             column = next((f"column {place.start() + 1}: " for place, word in zip(places, words) if word is why.word), "")
-            quote = missing_quote(row[:row.find("#")] if title else row)
-            cause = str(why).replace("; the value is missing, or a space is before it", "") if quote else str(why)
-            more = quote or ("; # begins a comment, and only = compares a value" if re.search(r"\w#\S", row) else "")
-            raise failure(path, number, row, f"{column}{cause}{more}") from why
+            cause = with_quote(why, row[:row.find("#")] if title else row)
+            if cause == str(why) and re.search(r"\w#\S", row):
+                cause = NO_VALUE.sub("", cause) + "; # begins a comment, and only = compares a value"
+            raise failure(path, number, row, f"{column}{cause}") from why
         cases.append(Case(path, number, title, target, before, after))
     return cases
 

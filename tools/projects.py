@@ -151,7 +151,7 @@ def in_kind(key: str, found: Any, kind: type) -> str:
     """Returns what to write for a value of another kind; an empty text if the value does not show it."""
     if kind is int and isinstance(found, str) and re.fullmatch("b?[0-9]+", found):
         return f": write {key} = {int(found.lstrip('b'))}, without quotes"
-    if kind is str and isinstance(found, int) and not isinstance(found, bool):
+    if kind is str and isinstance(found, int) and not isinstance(found, bool) and key in ("at", "name"):
         return f': write {key} = "{found}", in quotes'
     if kind is str and isinstance(found, list) and len(found) == 1:
         return f': write {key} = "{found[0]}", without brackets'

@@ -104,10 +104,11 @@ class Lint:
         self.found.append(Finding(self.at if bank is None else bank, at, name, what))
 
     def names_off(self, bank: int, at: int) -> list[str]:
-        """Returns the names of rules that the comment of a line switches off. A line that begins with # is a comment as a whole."""
+        """Returns the names of rules that the comment of a line switches off."""
         source = self.sources[bank]
-        text = source.texts[at]
-        found = IGNORED.search(text.decode("utf-8", "replace") if DIRECTIVE.match(text) else source.lines[at].comment)
+        # A directive of another assembler is a comment as a whole.
+        comment = source.texts[at].decode(errors="replace") if DIRECTIVE.match(source.texts[at]) else source.lines[at].comment
+        found = IGNORED.search(comment)
         return re.findall(r"[^\s,]+", found[1]) if found else []
 
     def is_ignored(self, bank: int, at: int, name: str, _what: str) -> bool:

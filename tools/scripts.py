@@ -5,7 +5,7 @@ from __future__ import annotations
 import re
 from typing import NamedTuple
 
-from cases import ARROW, WORDS, missing_quote, text_in
+from cases import ARROW, WORDS, text_in, with_quote
 from decks import MAIN_START, Failure, answered, items_of, lines_of, shown, words_of
 from playing import FAULTS, Player, Round
 from settings import CPU, DATA_NAME, FLAG_NAME, SETTING, STACK, Setting, Wrong, setting
@@ -139,7 +139,7 @@ def cases_in(path: str) -> list[Case]:
         try:
             cases.append(case_of(path, number, words, title))
         except Wrong as why:
-            raise Failure(f"{path}:{number}: `{shown(row.strip())}`: {why}{missing_quote(row)}") from why
+            raise Failure(f"{path}:{number}: `{shown(row.strip())}`: {with_quote(why, row)}") from why
     if not cases:
         raise Failure(f"{path}: found no cases: {FORM}")
     return cases

@@ -4,7 +4,7 @@ import os
 from typing import NamedTuple
 
 from calls import Call, Caller, Result, Views, compared, ended_well
-from cases import TARGET, WORDS, Case, cases_in, missing_quote, table_in
+from cases import TARGET, WORDS, Case, cases_in, table_in, with_quote
 from decks import Failure
 from files import put
 from linking import Linked
@@ -167,7 +167,7 @@ def usual(project: Project) -> list[Setting]:
     try:
         return settings_in(WORDS.findall(project.before), True)
     except Wrong as why:
-        raise Reader(project.path).fail("", "before", f"{why}{missing_quote(project.before)}") from why
+        raise Reader(project.path).fail("", "before", with_quote(why, project.before)) from why
 
 
 def check_kind(linked: Linked, path: str, wanted: str, uses: dict[str, str]) -> None:

@@ -268,7 +268,8 @@ class Linked:
         """Returns the error of a reference, with its place, and remembers that its line has one."""
         self.unlinked[unit.name].add(at)
         text, code = (one.decode(errors="replace") for one in (unit.whole.told[at], unit.lines[at].code))
-        return f"{unit.whole.place(at)}: `{shown(unit.whole.told[at].strip(BLANKS))}`: column {text.find(code) + code.rfind(':') + 1}: {why}"
+        column = text.find(code) + code.rfind(":") + 1
+        return f"{unit.whole.place(at)}: `{shown(unit.whole.told[at].strip(BLANKS))}`: column {column}: {why}"
 
     def unfit(self, unit: Unit, at: int, name: str) -> list[str]:
         """Returns the error of a line that uses an equate whose value its instruction does not take; an empty list if it takes it."""

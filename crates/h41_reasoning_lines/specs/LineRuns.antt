@@ -7,7 +7,7 @@ use Rattle.h41_pages.specs.PageMap.{PageMap}
 use Rattle.h41_positions.specs.FocalState.{Machine}
 use Rattle.h41_positions.specs.declared.position.Position.{Position}
 
--- The line at the position of s is executed. It leaves t, where the program continues.
+-- The line at the position of s is executed. It leaves t, and the program continues there.
 abbrev pub Continues : PageMap → Machine → Machine → Type 0
 Continues pages s t = StepsLine pages None s (Ok (left_done t))
 

@@ -12,7 +12,7 @@ ARROW = "->"
 TARGET = re.compile(r"(?:([A-Za-z]\w{0,11})\.)?([A-Za-z]\w{0,11})")
 
 # A hint that is wrong if the row shows another cause.
-NO_VALUE = re.compile("; the value is missing.*")
+NO_VALUE = re.compile(r";\sthe value is missing.*")
 
 CALLED = "a label, PAGE.LABEL, or the name of a function in quotes"
 FORM = "expected LABEL BEFORE.. -> AFTER.., for example: X10 X=5 -> X=50"

@@ -209,7 +209,8 @@ function tellRefusals() {
   const text = `${count}${later}${entry.reply.at(-1)}  ${words}${why}`;
   if (by("refusal").textContent === text) return;
   tell(text);
-  if (!isGone) act(() => tellCauses(text, at));
+  // A session that was saved as one page has no server that knows the causes.
+  if (!isGone && !by("recorded")) act(() => tellCauses(text, at));
 }
 
 async function tellCauses(text, number) {
@@ -375,8 +376,8 @@ function replay(answer) {
   for (const link of document.querySelectorAll("a[download='session.deck']")) link.href = addressOf(...deckParts());
   shown = past.length > 1 ? pastFirst : null;
   tell("");
-  show();
   enable(true);
+  show();
 }
 
 function begin() {

@@ -106,6 +106,7 @@ function openQuestion(how, command, isStep) {
 function closeQuestion() {
   question = null;
   by("question").hidden = true;
+  by("verdict").textContent = "";
 }
 
 /** Returns whether an answer names a value: numbers may be written in other ways, and digits without the zeros before them. */
@@ -121,9 +122,9 @@ async function answerQuestion() {
   const { name, kind } = question;
   await makeNext(kind);
   const value = valueOf(present(), name) ?? "";
-  const shownName = name === "display" ? "the display" : name;
-  const given = by("answer").value;
-  by("verdict").textContent = given.trim() === "" ? `${shownName} is ${value}.` :
-    isSame(given, value) ? `Right: ${shownName} is ${value}.` : `${shownName} is ${value}, and not ${given.trim()}.`;
+  const given = by("answer").value.trim();
+  const [isRight, shownName] = [given !== "" && isSame(given, value), name === "display" ? "the display" : name];
+  const text = `${shownName} is ${value}${given === "" || isRight ? "" : `, and not ${given}`}.`;
   closeQuestion();
+  by("verdict").textContent = isRight ? `Right: ${text}` : text.replace(/^t/, "T");
 }

@@ -350,11 +350,11 @@ function listenToKeys() {
   document.addEventListener("keydown", typed);
   // A clicked control must not receive the keys that are typed afterwards.
   document.addEventListener("mousedown", (event) => {
-    const control = event.target.closest("button, input[type=checkbox]");
+    const control = event.target.closest("button, a, summary, input[type=checkbox]");
     if (!control) return;
     event.preventDefault();
     // After a key of the calculator, what is typed is for the calculator, and not for the field in which was typed before.
-    if (control.closest("#keys, #runs") && document.activeElement.matches("textarea, input")) document.activeElement.blur();
+    if (control.closest("#keys, #runs") && document.activeElement.matches("textarea, input, select")) document.activeElement.blur();
   });
   for (const kind of ["dragover", "dragleave", "drop"]) {
     document.addEventListener(kind, (event) => {

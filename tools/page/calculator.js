@@ -100,6 +100,7 @@ function ask(body, path = "do") {
 function take(answer) {
   if (answer.session !== session) {
     [session, entries, past, older, goal, lesson, since, reasons] = [answer.session, [], [], null, null, null, 0, {}];
+    by("rate").textContent = "";
   }
   if (answer.unsupported) unsupported = answer.unsupported;
   if (answer.keys) drawKeys(answer.keys);

@@ -50,6 +50,8 @@ function currentCommand() {
 }
 
 function showLesson() {
+  // The large page with its lesson would have an empty half without one.
+  if (!lesson && by("large").checked && by("panel").value === "lesson") return choosePanel("trace-panel");
   by("lesson").hidden = !lesson;
   // On the large page another panel may have its place.
   by("lesson-step").hidden = !lesson || !by("large").checked || ["lesson", "keys"].includes(by("panel").value);

@@ -222,6 +222,11 @@ class Answers:
         self.look()
 
     def begin(self, _: Request) -> None:
+        """Starts an empty bench, for a session of its own, without the branches of the one before."""
+        self.branches = Branches()
+        self.renew()
+
+    def renew(self) -> None:
         """Starts an empty bench."""
         self.desk.begin()
         self.ended = None
@@ -236,10 +241,10 @@ class Answers:
         self.begin(asked)
         self.desk.queue = parts
 
-    def again(self, asked: Request) -> None:
+    def again(self, _: Request) -> None:
         """Repeats the session on a new bench."""
         parts = parts_of(self.desk.deck(), True)
-        self.begin(asked)
+        self.renew()
         self.desk.queue = parts
 
     def branch(self, asked: Request) -> None:
@@ -254,7 +259,7 @@ class Answers:
         parts = parts_of(deck, True)
         if desk.deck() != deck:
             self.branches.keep(desk.deck())
-        self.begin(asked)
+        self.renew()
         desk.queue = parts
 
     def past(self, asked: Request) -> Reply:

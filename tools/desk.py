@@ -401,6 +401,7 @@ class Desk:
                 raise Failure(f"page {page}: {image[-1]}: plug a module there first")
             return "\n".join([f"image {page}", *image, "end", ""]).encode()
         printed, = self.bench.ask_all([Memory.command(self.top)])
-        data = Memory([line[4:] for line in printed], self.top).program_bytes().hex().upper()[:-6]
+        # The bench drops the last END of a block: with one more, that of the last program stays as it is.
+        data = Memory([line[4:] for line in printed], self.top).program_bytes().hex().upper()[:-6] + "C0000D"
         lines = [data[at:at + 64] for at in range(0, len(data), 64)]
         return "\n".join(["size 0", "load", *lines, "end", ""]).encode()

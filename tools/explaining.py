@@ -129,14 +129,22 @@ class Explained:
         places = self.places("F")
         return f"the digits {places[0]} to {places[-1]}" if len(places) > 1 else f"the digit {places[0]}"
 
+    def part_are(self) -> str:
+        """Returns the verb for the field's digits."""
+        return "are" if len(self.places("F")) > 1 else "is"
+
+    def part_those(self) -> str:
+        """Returns the pronoun for the field's digits."""
+        return "those" if len(self.places("F")) > 1 else "that"
+
     def part_sum(self) -> str:
         """Returns what a sum adds."""
         target, second = self.group(1), self.group(2)
         first = self.text[2]
         if first == second:
             return f"Doubles {self.part_F()} of {first}, {self.value(first + '.F')}"
-        return (f"Adds {self.part_F()} of {first}, {self.value(first + '.F')}, and those of {second}, {self.value(second + '.F')}, "
-                f"and writes the sum to {target}")
+        return (f"Adds {self.part_F()} of {first}, {self.value(first + '.F')}, and {self.part_those()} of {second}, "
+                f"{self.value(second + '.F')}, and writes the sum to {target}")
 
     def part_carry(self) -> str:
         """Returns what the carry will be."""

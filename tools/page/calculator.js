@@ -100,6 +100,7 @@ function ask(body, path = "do") {
 function take(answer) {
   if (answer.session !== session) {
     [session, entries, past, older, goal, lesson, since, reasons] = [answer.session, [], [], null, null, null, 0, {}];
+    by("rate").textContent = "";
   }
   if (answer.unsupported) unsupported = answer.unsupported;
   if (answer.keys) drawKeys(answer.keys);
@@ -209,7 +210,8 @@ function tellRefusals() {
   const text = `${count}${later}${entry.reply.at(-1)}  ${words}${why}`;
   if (by("refusal").textContent === text) return;
   tell(text);
-  if (!isGone) act(() => tellCauses(text, at));
+  // A session that was saved as one page has no server that knows the causes.
+  if (!isGone && !by("recorded")) act(() => tellCauses(text, at));
 }
 
 async function tellCauses(text, number) {
@@ -349,11 +351,11 @@ function listenToKeys() {
   document.addEventListener("keydown", typed);
   // A clicked control must not receive the keys that are typed afterwards.
   document.addEventListener("mousedown", (event) => {
-    const control = event.target.closest("button, input[type=checkbox]");
+    const control = event.target.closest("button, a, summary, input[type=checkbox]");
     if (!control) return;
     event.preventDefault();
     // After a key of the calculator, what is typed is for the calculator, and not for the field in which was typed before.
-    if (control.closest("#keys, #runs") && document.activeElement.matches("textarea, input")) document.activeElement.blur();
+    if (control.closest("#keys, #runs") && document.activeElement.matches("textarea, input, select")) document.activeElement.blur();
   });
   for (const kind of ["dragover", "dragleave", "drop"]) {
     document.addEventListener(kind, (event) => {
@@ -375,8 +377,8 @@ function replay(answer) {
   for (const link of document.querySelectorAll("a[download='session.deck']")) link.href = addressOf(...deckParts());
   shown = past.length > 1 ? pastFirst : null;
   tell("");
-  show();
   enable(true);
+  show();
 }
 
 function begin() {

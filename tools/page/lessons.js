@@ -50,6 +50,8 @@ function currentCommand() {
 }
 
 function showLesson() {
+  // The large page with its lesson would have an empty half without one.
+  if (!lesson && by("large").checked && by("panel").value === "lesson") return choosePanel("trace-panel");
   by("lesson").hidden = !lesson;
   // On the large page another panel may have its place.
   by("lesson-step").hidden = !lesson || !by("large").checked || ["lesson", "keys"].includes(by("panel").value);
@@ -106,6 +108,7 @@ function openQuestion(how, command, isStep) {
 function closeQuestion() {
   question = null;
   by("question").hidden = true;
+  by("verdict").textContent = "";
 }
 
 /** Returns whether an answer names a value: numbers may be written in other ways, and digits without the zeros before them. */
@@ -121,9 +124,9 @@ async function answerQuestion() {
   const { name, kind } = question;
   await makeNext(kind);
   const value = valueOf(present(), name) ?? "";
-  const shownName = name === "display" ? "the display" : name;
-  const given = by("answer").value;
-  by("verdict").textContent = given.trim() === "" ? `${shownName} is ${value}.` :
-    isSame(given, value) ? `Right: ${shownName} is ${value}.` : `${shownName} is ${value}, and not ${given.trim()}.`;
+  const given = by("answer").value.trim();
+  const [isRight, shownName] = [given !== "" && isSame(given, value), name === "display" ? "the display" : name];
+  const text = `${shownName} is ${value}${given === "" || isRight ? "" : `, and not ${given}`}.`;
   closeQuestion();
+  by("verdict").textContent = isRight ? `Right: ${text}` : text.replace(/^t/, "T");
 }

@@ -26,7 +26,7 @@ function show() {
   by("pos").textContent = state.pos[0];
   document.body.classList.toggle("busy", driver !== null && waits > 0);
   document.body.classList.toggle("micro", state.pos[0].startsWith("Micro"));
-  by("next").textContent = state.next ? `${state.word}: ${state.next}` : state.word;
+  by("next").textContent = state.next ? `${state.word}: ${state.next}` : state.word || withoutModule(state);
   showBreakpoints();
   showStack(state, before);
   showProgram(state);
@@ -200,10 +200,15 @@ function wordLine([at, label, words, text], isNext) {
     make("span", { class: "label" }, /\+/.test(label) && !isNext ? "" : label));
 }
 
+/** Returns that a function runs in a page without a module; an empty text if none does. */
+const withoutModule = ({ pos, listing }) =>
+  pos[0].startsWith("Micro") && !listing.length ? `No module is plugged at ${pos[0].slice(6)}: a step is refused.` : "";
+
 function showListing(state) {
   const place = state.pos[0].startsWith("Micro") ? state.pos[0].slice(6) : null;
   const lines = state.listing.map(([at, label, text]) => wordLine([at, label, text.slice(0, 9).trim(), text.slice(9)], at === place));
-  fill("listing", ...(lines.length ? lines : [make("p", { class: "none" }, "No function runs. The panel Modules lists each page.")]));
+  const none = withoutModule(state) || "No function runs. The panel Modules lists each page.";
+  fill("listing", ...(lines.length ? lines : [make("p", { class: "none" }, none)]));
   reveal(by("listing"), by("listing").querySelector(".next"));
 }
 

@@ -27,7 +27,11 @@ function lineMade(state, before) {
 /** Returns what led to a state: a step, or a command and its reply. */
 function ledTo(state, before) {
   const [bytes, reply] = state.last;
-  const head = textOf(bytes).trim().split("\n")[0];
+  const first = textOf(bytes).trim().split("\n")[0];
+  // A command that was executed in pieces has a state for each: its name has the steps of this piece.
+  const [, kind, count] = /^(step|trace) (\d+)$/.exec(first) ?? [];
+  const isPiece = kind && state.made > 0 && state.made < Number(count) && !reply.at(-1)?.startsWith("! ");
+  const head = isPiece ? `${kind} ${state.made}` : first;
   return lineMade(state, before) ?? (reply.length === 1 && !head.startsWith("show") ? `${head}: ${reply[0]}` : head);
 }
 

@@ -4,6 +4,7 @@ from __future__ import annotations
 
 import re
 from collections.abc import Callable, Iterable
+from os.path import commonprefix
 
 from arithmetic import OF_ONE, OF_TWO, in_words, meant, own_way
 from dialects import FIELDS, LONG
@@ -51,6 +52,8 @@ PRINTED = {"PRINT", "ECHO", "EXIT", "PASS"}
 STATEMENTS = [
     (r"(?:if|elif|else\s+if|unless|when|switch|case)\b.*", "a condition is a test and then a jump, for example ?A<C S&X and JC :LOOP"),
     (r"(?:else|endif|end\s?if|fi|then)\b.*", "there are no blocks: a test and a jump such as JC :ELSE skip instructions"),
+    (r"(?:times|dup|\.?rept|\.?rpt)\s+([0-9]+)\s+([^\s,].*)", "nothing repeats a line: write {1} {0} times, each in a line of its own"),
+    (r"(?:times|dup|\.?rept|\.?rpt|\.?endr)\b.*", "nothing repeats a line: write it as often as it is needed"),
     (r"(?:while|until|repeat|do|wend|end\s?while|for|next|foreach)\b.*",
      "there are no loops: a label before the first instruction, and a test and a jump back at the end"),
     (r"(?:def|sub|function|func|proc|procedure|void|fn)\s+(\w+).*", "a subroutine begins with its label and ends with RTN: write {0}:"),
@@ -68,7 +71,7 @@ STATEMENTS = [
 ]
 # The statements that come before the forms of other assemblers.
 EARLY = re.compile(r"(?:\.?section|\.?segment|let|var|int(?=\s+[a-z_])|const(?=\s+\w+\s*=)|def|proc|procedure|function|void|page|bank|for|"
-                   r"while|do|else|unless|when|switch|end\s?if|\.?end|\.stop|\.exit)\b", re.I)
+                   r"while|do|times|dup|\.?rept|\.?rpt|\.?endr|else|unless|when|switch|end\s?if|\.?end|\.stop|\.exit)\b", re.I)
 # Forms of registers that are not A, B and C, in operations.
 COPIES = {"M": ("C=M", "M=C"), "N": ("C=N", "N=C"), "G": ("C=G", "G=C"), "ST": ("C=ST", "ST=C")}
 COPIED = re.compile(r"(M|N|G|ST|[ABC])(?:=|<-|:=)(M|N|G|ST|[ABC])")
@@ -217,6 +220,18 @@ def of_special(flat: str, column: int) -> Cause | None:
         if found and not (re.fullmatch(r"[ABC]=[0-9]+", flat.upper())):
             return column, cause.format(*found.groups())
     return None
+
+
+def one_off(word: str, names: Iterable[str]) -> list[str]:
+    """Returns the names that differ from a word in one character: another one, one more or one less."""
+    found = []
+    for name in sorted(names):
+        start = len(commonprefix([word, name]))
+        rest, other = word[start:], name[start:]
+        same = len(commonprefix([rest[::-1], other[::-1]]))
+        if max(len(rest), len(other)) - same == 1:
+            found.append(name)
+    return found
 
 
 def of_condition(words: Words) -> Cause | None:

@@ -293,6 +293,11 @@ class Mistake:
                 return column, f"{word[1:]} has {len(word) - 1} characters: a name has at most 12"
         return None
 
+    def unknown(self) -> str:
+        """Returns what is reported for a line that shows no cause."""
+        wanted = "expected a label, a mnemonic or a directive"
+        return f"column {self.words[0][0]}: found {self.words[0][1]}, {wanted}" if self.words else wanted
+
     def likely(self) -> Optional[tuple[int, str]]:
         """Returns what a word that is no instruction may be."""
         column, first = self.words[0]
@@ -312,6 +317,9 @@ class Mistake:
         near = [name for name in self.names if sorted(name) == sorted(first.upper()) and len(first) > 2] or near
         if near and near[0] != two.upper():
             return column, f"no instruction {two if ' ' in near[0] else first}; the nearest is {near[0]}"
+        near = line_causes.one_off(first.upper(), {*self.names, *operations()}) if len(first) > 2 else []
+        if near:
+            return column, f"no instruction {first}; the nearest {'is' if len(near) == 1 else 'are'} {' and '.join(near)}"
         near = get_close_matches(first.upper(), [*self.names, *operations()], 1, 0.7)
         if near and near[0] != first.upper():
             return column, f"no instruction {first}; the nearest is {near[0]}"

@@ -168,7 +168,7 @@ def tell_causes(faults: list[Fault]) -> None:
         elif like and not may_be_of_others(kind):
             fault.told.append(max(like)[-1])
         elif like or one.refusal == OF_THE_LINE[0]:
-            unknown.append((fault, max(like)[-1] if like else "expected a label, a mnemonic or a directive"))
+            unknown.append((fault, max(like)[-1] if like else Mistake(fault.text, one.line.code).unknown()))
         else:
             fault.told += [f"`{name}` takes {takes[name]}" for name in one.names() if name in takes]
     for (fault, cause), own in zip(unknown, as_own([fault.text for fault, _ in unknown])):

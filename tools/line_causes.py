@@ -8,6 +8,7 @@ from os.path import commonprefix
 
 from arithmetic import OF_ONE, OF_TWO, in_words, meant, own_way
 from dialects import FIELDS, LONG
+from operand_causes import LETTERS
 
 Words = list[tuple[int, str]]
 Cause = tuple[int, str]
@@ -74,6 +75,7 @@ EARLY = re.compile(r"(?:\.?section|\.?segment|let|var|int(?=\s+[a-z_])|const(?=\
                    r"while|do|times|dup|\.?rept|\.?rpt|\.?endr|else|unless|when|switch|end\s?if|\.?end|\.stop|\.exit)\b", re.I)
 # Forms of registers that are not A, B and C, in operations.
 COPIES = {"M": ("C=M", "M=C"), "N": ("C=N", "N=C"), "G": ("C=G", "G=C"), "ST": ("C=ST", "ST=C")}
+WITH_C_ALONE = re.compile(r"(M|N|G|ST|[ABC])<>(M|N|G|ST|[ABC])")
 COPIED = re.compile(r"(M|N|G|ST|[ABC])(?:=|<-|:=)(M|N|G|ST|[ABC])")
 IN_MEMORY = re.compile(r"([XYZTL]|R[0-9]{2})=C|C=([XYZTL]|R[0-9]{2})")
 NUMBERS = {"T": "DATA", "Z": "1", "Y": "2", "X": "3", "L": "4"}
@@ -264,6 +266,34 @@ def of_registers(flat: str, column: int) -> Cause | None:
             own = f"WRIT {NUMBERS[name]}" if stored[1] else f"READ {NUMBERS[name]}"
             return column, f"{name} is a register of memory: write {own}"
         return column, f"{name} is a register of memory: put its address into C, RAM SLCT, and then {'WRIT' if stored[1] else 'READ'} DATA"
+    return None
+
+
+def of_exchange(flat: str, column: int) -> Cause | None:
+    """Finds an exchange with a register that exchanges only with C."""
+    found = WITH_C_ALONE.fullmatch(flat)
+    own = [name for name in found.groups() if name in COPIES] if found else []
+    if not found or not own:
+        return None
+    other = next((name for name in found.groups() if name != own[0]), own[0])
+    if other in ("C", own[0]):
+        return (column, f"{flat} is written here as C<>{own[0]}") if flat == f"{own[0]}<>C" else None
+    with_other = f"C<>{other}" if other in COPIES else f"{other}<>C ALL"
+    way = f"C<>{own[0]}" if other in COPIES and not {*own} <= {*"MN"} else f"{with_other}, C<>{own[0]} and then {with_other}"
+    return column, f"the processor has no {flat}: {own[0]} exchanges only with C{', whole' if own[0] in 'MN' else ''}: {way}"
+
+
+def of_letters(words: Words, names: Iterable[str]) -> Cause | None:
+    """Finds a letter in place of a digit in an instruction, or a digit in place of a letter."""
+    plain = {name.translate(LETTERS): name for name in names}
+    for size in (2, 1):
+        first = " ".join(word for _, word in words[:size])
+        own = plain.get(first.translate(LETTERS), first)
+        if len(words) >= size and own != first:
+            found, meant_by = next(pair for pair in zip(first, own) if pair[0] != pair[1])
+            kinds = ["digit" if sign.isdigit() else "letter" if sign.isalpha() else "sign" for sign in (found, meant_by)]
+            line = " ".join([own, *(word for _, word in words[size:])])
+            return words[0][0], f"{kinds[0]} {found} in place of the {kinds[1]} {meant_by}: write {line}"
     return None
 
 

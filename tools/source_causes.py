@@ -93,7 +93,8 @@ class Mistake:
         if not self.words:
             return None
         Mistake.names = Mistake.names or own_names() | {"NAME"}
-        of_lines = (self.early, self.colon, self.written_label, self.comment, self.case, self.space) if is_bad_line else (self.digits,)
+        of_lines = ((self.early, self.colon, self.written_label, self.comment, self.case, self.letters, self.space) if is_bad_line else
+                    (self.digits,))
         for reading in (self.signs, self.quotes, *of_lines, self.of_others, self.elsewhere, self.operation, self.two, self.label,
                         self.number, self.register, self.bit, self.page_label, *(() if is_bad_line else (self.operand,))):
             found = reading()
@@ -131,6 +132,10 @@ class Mistake:
     def case(self) -> Optional[tuple[int, str]]:
         """Finds an instruction in lower case."""
         return line_causes.of_case(self.words, {*self.names, *operations()}, self.code)
+
+    def letters(self) -> Optional[tuple[int, str]]:
+        """Finds a letter in place of a digit in an instruction."""
+        return line_causes.of_letters(self.words, [*self.names, *operations()])
 
     def space(self) -> Optional[tuple[int, str]]:
         """Finds an operand that touches its instruction."""
@@ -206,8 +211,9 @@ class Mistake:
         """Finds an operation that the processor does not have."""
         column, first = self.words[0]
         flat = "".join(word for _, word in self.words) if len(self.words) > 2 and self.words[1][1] == "=" else first
-        registers = (line_causes.of_registers(flat, column) or line_causes.of_special(self.body(), column)
-                     or line_causes.of_condition(self.words))
+        body = self.body()
+        registers = (line_causes.of_registers(flat, column) or line_causes.of_exchange(body, column)
+                     or line_causes.of_special(body, column) or line_causes.of_condition(self.words))
         if first in self.names or registers or not OPERATION.fullmatch(flat) or flat in operations():
             is_own = first in self.names or first in operations()
             return registers or (None if is_own else line_causes.of_operation(self.code, column, operations()))

@@ -181,6 +181,10 @@ def in_digits(name: str, value: Any) -> str:
     return ""
 
 
+# The keys that come before the first table.
+PROJECT_KEYS = ("name", "memory", "size", "programs", "tests", "before", "include")
+
+
 def equates_of(reader: Reader) -> dict[str, str]:
     """Returns the equates: for each name the text that replaces it."""
     found = included_by(reader)
@@ -190,6 +194,8 @@ def equates_of(reader: Reader) -> dict[str, str]:
             raise reader.fail("equates", name, "not a name: expected a letter and up to eleven letters, digits or _")
         digits = isinstance(value, str) and re.fullmatch("[0-9A-Fa-f]{3,4}", value)
         number = isinstance(value, int) and not isinstance(value, bool) and 0 <= value <= 15
+        if not digits and not number and name in PROJECT_KEYS:
+            raise reader.fail("equates", name, f"{name} is a key of the project: write it before the line [equates]")
         if not digits and not number:
             raise reader.fail("equates", name, f'found {shown(value)}, expected an address like "27F3", a word like "0C0", or a decimal '
                               f"number from 0 to 15 like 3{in_digits(name, value)}")
@@ -256,7 +262,7 @@ def project_in(path: str) -> Project:
     """Returns the project in a file, or in the file module.toml of a folder."""
     reader = Reader(path)
     table = reader.table
-    reader.known("", table, ("name", "memory", "size", "programs", "tests", "before", "include", "equates", "page"))
+    reader.known("", table, (*PROJECT_KEYS, "equates", "page"))
     if isinstance(table.get("page"), list):
         raise reader.fail("", "page", "found [[page]], expected a table with a name in single brackets, for example [page.MAIN]")
     tables = reader.value("", table, "page", dict, {}, "tables such as [page.MAIN]")

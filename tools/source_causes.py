@@ -269,7 +269,7 @@ class Mistake:
         if name in ("LDI", "CON") and re.fullmatch("[0-9A-Fa-f]{3,}", text) and int(text, 16) > GREATEST_WORD:
             return column, operand_causes.above(text)
         if name in OF_NUMBERS and re.fullmatch(r"\$\w+|0x\w+|#\w+|[0-9A-F]+H|0\d+", text) and name not in OF_PLACES and name != "LD@R":
-            return column, f"{text} is not decimal without leading zeros: {name} takes a number such as 5"
+            return self.operand() or (column, f"{text} is not decimal without leading zeros: {name} takes a number such as 5")
         if name in LONG and re.fullmatch("[0-9A-Fa-f]{1,3}|[0-9A-Fa-f]{5,}", text):
             return column, f"{text} has {len(text)} {'digit' if len(text) == 1 else 'digits'}: an address has four, for example 8010"
         return None

@@ -27,6 +27,14 @@ USES = {SOURCE: "tools/lint checks it, tools/import makes a deck of it, and `sou
 NO_DECK = "a source or a listing is not a deck: make one with `tools/import FILE`"
 
 
+def wrong_page(text: str) -> str:
+    """Returns the error about an option --page with a text that is no page."""
+    bare = re.fullmatch(r"(?:0X|\$|P)?([4-9A-F])(?:000)?H?", text.upper())
+    own = (f": pages are hexadecimal: {text} is {int(text):X}" if text.isdecimal() and 9 < int(text) < 16 else
+           f": write --page {bare[1]}" if bare else "")
+    return f"--page {text}: expected a page from 4 to F{own}"
+
+
 def kind_of(path: str) -> str:
     """Returns what a file is by its name; an empty text if the name does not say it."""
     return BY_NAME.get(os.path.splitext(path)[1].lower(), "")

@@ -9,6 +9,7 @@ import sys
 from typing import TYPE_CHECKING, Callable, NamedTuple, Optional, Sequence
 
 from decks import Failure, escape_output
+from misplaced import wrong_page
 from sources import PAGES, Assembled, Faulty
 
 if TYPE_CHECKING:
@@ -73,7 +74,7 @@ def group_of(before: list[Option], parser: argparse.ArgumentParser) -> Optional[
         if name == "--page" and value:
             page = value[0].upper()
             if len(page) != 1 or page not in PAGES:
-                parser.error(f"--page {page}: expected a page from 4 to F")
+                parser.error(wrong_page(page))
         elif name == "--bank" and value:
             if value[0] not in "1234" or len(value[0]) != 1:
                 parser.error(f"--bank {value[0]}: expected a bank from 1 to 4")

@@ -3,7 +3,7 @@ what to write. Only errors need this module."""
 from __future__ import annotations
 
 import re
-from collections.abc import Iterable
+from collections.abc import Callable, Iterable
 from difflib import get_close_matches
 
 # Signs that are written in place of ->.
@@ -53,6 +53,13 @@ def of_target(text: str) -> str:
     if re.fullmatch(r"[A-Za-z]\w{0,11}[+-]\w+", text):
         return "; there are no offsets: write a label before the instruction, and call it"
     return f"; a label has no other signs here: write {bare}" if re.fullmatch(r"[A-Za-z]\w{0,11}", bare) and bare != text else ""
+
+
+def of_order(words: list[str], is_target: Callable[[str], bool]) -> str:
+    """Returns a hint on the words of a command line that begin with a setting: the call is before it."""
+    called = next((word for word in words if is_target(word)), "X10")
+    line = " ".join([called, *(word for word in words if word != called)])
+    return f"; what is called comes before the settings: {'write' if called in words else 'for example'} {line}"
 
 
 def is_register(name: str) -> bool:

@@ -395,9 +395,10 @@ def write_file(path: str, data: bytes) -> None:
 
 
 def tool(name: str, words: list[str], folder: Optional[str], given: bytes = b"") -> subprocess.CompletedProcess[bytes]:
-    """Runs a tool of tools/, and returns its status and both outputs."""
+    """Runs tools/import or tools/export, and returns its status and both outputs."""
     try:
         return subprocess.run([sys.executable, os.path.join(os.path.realpath(TOOLS), name), *words], cwd=folder, input=given,
                               capture_output=True, timeout=LONGEST_TOOL)
     except subprocess.TimeoutExpired as error:
-        raise Failure(f"tools/{name} did not end within {LONGEST_TOOL} seconds and was stopped: try fewer or smaller files") from error
+        advice = "try fewer or smaller files" if name == "import" else "save the session, and export its deck with tools/export"
+        raise Failure(f"tools/{name} did not end within {LONGEST_TOOL} seconds and was stopped: {advice}") from error

@@ -123,7 +123,9 @@ def check_names(path: str, names: list[str], row: str, is_written: bool) -> None
             raise failure(path, 1, row, str(why)) from why
     twice = next((name for name in names if name and names.count(name) > 1), None)
     if twice:
-        raise failure(path, 1, row, f"two columns are named {twice}: the names of expected values begin with ->")
+        places = [number for number, name in enumerate(names, 1) if name == twice]
+        raise failure(path, 1, row, f"the columns {' and '.join(map(str, places))} are named {twice}: the names of expected values begin "
+                                    "with ->")
     if not is_written and not any(name.startswith(ARROW) for name in names):
         raise failure(path, 1, row, "no name begins with ->, so nothing would be compared: name an expected value, for example ->X, or "
                                     "write the values with --write OUT --values X")

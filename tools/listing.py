@@ -62,8 +62,8 @@ def check_names(source: Assembled, contracts: dict[str, Contract]) -> None:
     for label in contracts:
         other = names.setdefault(label.lower(), label)
         if other != label:
-            raise Wrong(contracts[label].line, 1, f"found the label {label}, expected another name, because {other} has claims too, "
-                                                  "and they differ only in upper and lower case")
+            raise Wrong(contracts[label].line, 1, f"found the label {label}, expected another name, because {other} in line "
+                                                  f"{source.line_of(other) + 1} has claims too, and they differ only in upper and lower case")
 
 
 def in_order(code: Code, report: Report, labels: set[str]) -> list[Result]:

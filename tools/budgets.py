@@ -123,7 +123,8 @@ def summarise(result: Result) -> None:
     claimed = result.contract.steps
     result.is_exact = bool(claimed and claimed.is_exact)
     if result.loops and not claimed:
-        raise NotProved(result.contract.line, f"{result.label} has a loop, expected a claim such as `within 4 * C.SX + 6 steps`")
+        raise NotProved(result.contract.line, f"{result.label} has a loop, {result.loops[0].label}, expected a claim such as "
+                                              "`within 4 * C.SX + 6 steps`")
     if result.is_budgeted:
         bound_loops(result)
         give_budgets(result)

@@ -101,8 +101,10 @@ class Execution:
         node.form = "enter", loop
         loop.entries.append(node)
         if self.now:
-            if self.now.after not in (None, loop):
-                raise NotProved(node.line, f"after the loop {self.now.label} either of two other loops may follow, expected one")
+            other = self.now.after
+            if other is not None and other is not loop:
+                raise NotProved(node.line, f"after the loop {self.now.label} the loop {other.label} or the loop {label} may follow, "
+                                           "expected one of them")
             self.now.after = loop
             self.now.leaves.append(node)
 

@@ -158,8 +158,7 @@ class Deck:
             return (f": the programs are too long: there is room for {room:,} bytes with --size 0" if size is None else
                     f": the programs need more memory: use --size {size} or less")
         if refusal.startswith("! 14"):
-            why = "found bytes that are not a line, or an .END. before the last line"
-            return f": {broken(file.data) if file and file.kind == RAW else why}"
+            return f": {broken(file.data)}" if file and file.kind == RAW else ""
         if refusal.startswith("! 17"):
             return f": expected a size of at most {int(self.memory) - 1}"
         return ""

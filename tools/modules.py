@@ -62,7 +62,8 @@ def lines_of_texts(texts: list[str], refusals: Optional[Refusals] = None) -> Opt
         lines = with_bytes(b"program", [text.encode() for text in [*texts[at:at + LINES], SENTINEL]])
         if isinstance(lines, str):
             numbered = re.search(r" (\d+)\Z", lines)
-            ([] if refusals is None else refusals).append((at + int(numbered[1]) - 1, lines[:numbered.start()]) if numbered else (at, lines))
+            refusal = (at + int(numbered[1]) - 1, lines[:numbered.start()]) if numbered else (at, lines)
+            ([] if refusals is None else refusals).append(refusal)
             return None
         found += [(text, END if text == "END" else data) for text, data in lines[:-1]]
     return found

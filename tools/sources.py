@@ -70,7 +70,8 @@ def source_in(path: str) -> bytes:
     why = ("the file is empty: expected a source" if not data.strip() else UNPACK if data.startswith(PACKED) else
            "this is an image of a page, expected a source: plug it with tools/import, and write a source with tools/export source"
            if path.lower().endswith(".rom") else
-           "found a byte 00, which no text has, expected a source: bytes of a program and images are for tools/import" if b"\0" in data else
+           f"found a byte 00 in line {data[:data.index(0)].count(10) + 1}, which no text has, expected a source: bytes of a program and "
+           "images are for tools/import" if b"\0" in data else
            "this is a deck, expected a source: run it with ./bench run" if path.lower().endswith(".deck") or is_deck(commands) else
            "this is a project file, expected a source: use tools/module" if path.lower().endswith(".toml") else
            "this is a file of cases, expected a source: `tests` of a project names it" if path.lower().endswith(".cases") else

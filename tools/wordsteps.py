@@ -457,7 +457,9 @@ class Step:
         claimed = run.contract.steps
         if keys_in(steps) and (run.now or not (claimed and claimed.count.parts)):
             if claimed and claimed.is_exact:
-                raise self.unsupported(f"the number of steps of {callee.label} depends on its state, expected a constant: claim `within`")
+                text = f", `{callee.contract.steps.text}`," if callee.contract.steps else ""
+                raise self.unsupported(f"the number of steps of {callee.label}{text} depends on its state, expected a constant: claim "
+                                       "`within`")
             self.node.cost = 1 + most(know, steps, self.node.passed)
             self.node.spent = {None: self.node.cost}
         self.node.form = "call", callee, lemma, inner, done, t, steps
@@ -470,4 +472,5 @@ class Step:
         for name, value in known_at_start(callee.contract).items():
             found = "false" if name == "carry" else self.state.of(name)
             if found != value:
-                raise self.unsupported(f"{callee.label} requires {name} = {value}, which is not known here")
+                why = f"but {name} = {found} here" if literal(found) else "which is not known here"
+                raise self.unsupported(f"{callee.label} requires {name} = {value}, {why}")

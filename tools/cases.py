@@ -42,8 +42,10 @@ def text_in(path: str) -> str:
     try:
         return bytes_of(path).decode("utf-8-sig")
     except UnicodeDecodeError as error:
-        line = error.object[:error.start].count(b"\n") + 1
-        raise Failure(f"{path}:{line}: byte {error.object[error.start]:02X} is not valid UTF-8: save the file as UTF-8") from error
+        before = error.object[:error.start]
+        line, column = before.count(b"\n") + 1, len(before.rpartition(b"\n")[2].decode("utf-8-sig")) + 1
+        raise Failure(f"{path}:{line}: column {column}: byte {error.object[error.start]:02X} is not valid UTF-8: save the file as UTF-8"
+                      ) from error
 
 
 def with_quote(why: Wrong, row: str) -> str:

@@ -213,12 +213,14 @@ class File(Input):
             try:
                 line.decode("utf-8")
             except UnicodeDecodeError as error:
-                self.error(f"byte {line[error.start]:02X} is not valid UTF-8: convert the text, for example with "
+                column = len(line[:error.start].decode()) + 1
+                self.error(f"column {column}: byte {line[error.start]:02X} is not valid UTF-8: convert the text, for example with "
                            "`iconv -f latin1 -t utf-8`, or name bytes of a program .raw, an image .rom", number)
                 return []
             if control:
-                self.error(f"byte {control[0].hex().upper()} is a control character, expected text: name bytes of a program .raw, "
-                           "an image .rom", number)
+                column = len(line[:control.start()].decode()) + 1
+                self.error(f"column {column}: byte {control[0].hex().upper()} is a control character, expected text: name bytes of a "
+                           "program .raw, an image .rom", number)
                 return []
         lines = re.split("\r?\n", data.decode("utf-8"))
         return lines[:-1] if lines[-1] == "" else lines

@@ -28,7 +28,10 @@ function reveal(inner, part) {
   if (!part) return;
   const box = getComputedStyle(inner).overflowY === "visible" ? inner.closest("details") : inner;
   const place = part.getBoundingClientRect().top - box.getBoundingClientRect().top + box.scrollTop;
-  if (place < box.scrollTop || place > box.scrollTop + box.clientHeight - 40) box.scrollTop = place - box.clientHeight / 3;
+  // The head of a lesson covers the start of its panel.
+  const covered = box.querySelector("#lesson-head")?.offsetHeight ?? 0;
+  if (place >= box.scrollTop + covered && place <= box.scrollTop + box.clientHeight - 40) return;
+  box.scrollTop = place - Math.max(covered, box.clientHeight / 3);
 }
 
 /** Moves the focus from one control to another by the arrow keys; `rows` are the controls as they are seen. Tab reaches one of them. */

@@ -12,6 +12,7 @@ from typing import Any, Callable, Optional, Protocol
 
 from decks import MARKS_OF_UTF16, NO_ANSWER, TOP, Failure, bytes_of, lines_of, shown
 from branches import Branches
+from brought import Brought
 from desk import PAGES, Desk
 from keyboard import ROWS, places
 from lessons import Lesson, grouped, lessons
@@ -83,6 +84,8 @@ class Answers:
         self.last_id: Any = None
         self.desk = Desk(memory)
         self.repeat: Optional[Repeat] = None
+        # The files that were imported last.
+        self.brought: Optional[Brought] = None
         self.unsupported = unsupported()
 
     def close(self) -> None:
@@ -137,6 +140,8 @@ class Answers:
                   "entries": [[number, *entry.told()] for number, entry in enumerate(desk.log[since:], since)],
                   "waits": len(desk.queue), "ended": self.ended, "lesson": self.lesson_told(is_known),
                   "branches": self.branches.told()}
+        if self.brought:
+            answer["brought"] = self.brought.told(desk.queue)
         if desk.queue and desk.queue[0].kind:
             answer["left"] = desk.queue[0].left
         if not is_known:
@@ -229,7 +234,7 @@ class Answers:
     def renew(self) -> None:
         """Starts an empty bench."""
         self.desk.begin()
-        self.ended = None
+        self.ended, self.brought = None, None
         self.look()
 
     def open(self, asked: Request) -> None:
@@ -365,7 +370,7 @@ class Answers:
             return {"told": told or why, "good": False}
         with self.lock:
             if not self.ended:
-                self.desk.give(ran.stdout, True)
+                self.brought = Brought(self.desk.give(ran.stdout, True), told)
             return {"told": told, "good": True}
 
     def take_out(self, asked: Request) -> bytes:
@@ -400,9 +405,10 @@ def write_file(path: str, data: bytes) -> None:
 
 
 def tool(name: str, words: list[str], folder: Optional[str], given: bytes = b"") -> subprocess.CompletedProcess[bytes]:
-    """Runs a tool of tools/, and returns its status and both outputs."""
+    """Runs tools/import or tools/export, and returns its status and both outputs."""
     try:
         return subprocess.run([sys.executable, os.path.join(os.path.realpath(TOOLS), name), *words], cwd=folder, input=given,
                               capture_output=True, timeout=LONGEST_TOOL)
     except subprocess.TimeoutExpired as error:
-        raise Failure(f"tools/{name} did not end within {LONGEST_TOOL} seconds and was stopped: try fewer or smaller files") from error
+        advice = "try fewer or smaller files" if name == "import" else "save the session, and export its deck with tools/export"
+        raise Failure(f"tools/{name} did not end within {LONGEST_TOOL} seconds and was stopped: {advice}") from error

@@ -94,8 +94,10 @@ def read_bars(data: bytes) -> List[Part]:
         if ends_of(program)[-1:] == [len(program)]:
             parts.append(part_of(program, is_private))
             program, row, before, is_private = b"", 0, 0, False
-    if program and partials(program, b"")[1]:
-        raise Unreadable(number, 1, f"row {row} as the last one", "another row, because its last instruction is incomplete")
+    rest = program[len(program) - partials(program, b"")[1]:] if program and partials(program, b"")[1] else b""
+    if rest:
+        raise Unreadable(number, 1, f"row {row} as the last one", f"another row, because its last instruction, {rest.hex(' ').upper()}, is "
+                                                                  "incomplete")
     if program:
         raise Unreadable(number, 1, f"row {row} as the last one", "another row, because its program has no END")
     return parts

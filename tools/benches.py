@@ -24,6 +24,7 @@ class Watchdog:
         """Begins without processes."""
         self.lock = threading.Lock()
         self.until: dict[subprocess.Popen[bytes], float] = {}
+        self.late: set[int] = set()
         self.thread: Optional[threading.Thread] = None
 
     def begin(self, process: subprocess.Popen[bytes]) -> None:
@@ -45,6 +46,7 @@ class Watchdog:
             time.sleep(0.5)
             with self.lock:
                 for process in [one for one, until in self.until.items() if time.monotonic() > until]:
+                    self.late.add(process.pid)
                     process.kill()
 
 
@@ -94,6 +96,8 @@ class Bench:
         status = self.bench.poll()
         if status is None:
             return None
+        if self.bench.pid in WATCHDOG.late:
+            return f"The bench was stopped because it gave no answer within {PATIENCE} seconds."
         self.told.seek(0)
         told = self.told.read(1000).decode(errors="replace").partition("\n")[0]
         how = f"by signal {-status}" if status < 0 else f"with status {status}"

@@ -8,6 +8,8 @@ from stubs import stub_of
 
 # The pages of the words that set the registers, and of the instruction.
 SETTING, INSTRUCTION = "8", "9"
+# How many lines `show cpu` prints.
+CPU_LINES = 5
 
 
 class Bench(Protocol):
@@ -39,18 +41,23 @@ class Beside:
         return self.known[key]
 
     def asked(self, words: str, values: dict[str, str]) -> Optional[list[str]]:
-        """Asks the bench; None if it does not answer."""
+        """Asks the bench; None if it does not answer, refuses a command, or does not have the registers before the instruction."""
         registers = {name: values[name.removeprefix("cpu.")] for name in CPU if name not in ("CY",)}
         stub = stub_of({}, registers, int(f"{INSTRUCTION}000", 16))
-        block = [f"words {SETTING}\n{stub.text}end", f"words {INSTRUCTION}\n{words}\nend", f"call {SETTING}000", f"step {stub.steps}",
-                 "step", "show cpu"]
+        # The function of the previous question still runs, and `call` is refused while one runs: `reset` ends it.
+        block = ["reset", f"unplug {SETTING}", f"unplug {INSTRUCTION}", f"words {SETTING}\n{stub.text}end",
+                 f"words {INSTRUCTION}\n{words}\nend", f"call {SETTING}000", f"step {stub.steps}", "show cpu", "step", "show cpu"]
         try:
             self.bench = self.bench or self.start()
-            commands = [f"unplug {SETTING}", f"unplug {INSTRUCTION}", *block]
-            return self.bench.ask_all([command.encode() for command in commands])[-1]
+            # Before the first question nothing is plugged, and `unplug` is refused.
+            reset, _, _, *done, before, step, after = self.bench.ask_all([command.encode() for command in block])
         except Failure:
             self.bench = None
             return None
+        is_set = not any((reset, *done, step)) and len(before) == len(after) == CPU_LINES
+        found = values_of(before) if is_set else {}
+        is_same = is_set and all(found[name.removeprefix("cpu.")] == value for name, value in registers.items())
+        return after if is_same else None
 
     def close(self) -> None:
         """Ends the bench."""

@@ -4,6 +4,7 @@ from __future__ import annotations
 from fractions import Fraction
 from typing import Callable, Iterable
 
+from activebanks import PAGES
 from claims import Sum
 from codes import Loop, NotProved, Result, form_of
 from knowledge import Knowledge
@@ -106,7 +107,8 @@ def left_after(know: Knowledge, budget: Form, cost: Form, passed: list[Fact]) ->
 
 def summarise(result: Result) -> None:
     """Finds the components that a function changes, and how many steps it takes."""
-    names = dict.fromkeys(name for end in result.ends for name, term in end.state.terms.items() if term != start_of(name))
+    names = dict.fromkeys(name for end in result.ends for name, term in end.state.terms.items()
+                          if term != start_of(name) and name != PAGES)
     start = result.root.state.terms
     for name in names:
         terms = {end.state.of(name) for end in result.ends}
@@ -123,7 +125,8 @@ def summarise(result: Result) -> None:
     claimed = result.contract.steps
     result.is_exact = bool(claimed and claimed.is_exact)
     if result.loops and not claimed:
-        raise NotProved(result.contract.line, f"{result.label} has a loop, expected a claim such as `within 4 * C.SX + 6 steps`")
+        raise NotProved(result.contract.line, f"{result.label} has a loop, {result.loops[0].label}, expected a claim such as "
+                                              "`within 4 * C.SX + 6 steps`")
     if result.is_budgeted:
         bound_loops(result)
         give_budgets(result)
@@ -203,7 +206,8 @@ def check_exact(result: Result, loop: Loop, counts: list[set[int]]) -> None:
         raise NotProved(line, f"`{text}`: the loop {loop.label} may end while `decreases` is not zero, or go on when it is, expected "
                               "a count that falls by one in each round, down to zero: claim `within`")
     if len(kinds[1]) > 1:
-        raise NotProved(line, f"`{text}`: after the loop {loop.label} the function may end or not, expected one of both: claim `within`")
+        raise NotProved(line, f"`{text}`: after the loop {loop.label} the function ends in some cases and enters another loop in others, "
+                              "expected one of the two in all cases: claim `within`")
 
 
 def ways_from(root: Node) -> set[str]:

@@ -133,9 +133,9 @@ class Caller:
             page, name = whole(TARGET, case.target).groups()
             label = self.linked.called(page, name)
             if isinstance(label, str):
-                raise Failure(f"{case.path}:{case.number}: `{case.target}`: {label}")
+                raise Failure(f"{case.called()}: {label}")
             if label.unit.bank.bank != 1:
-                raise Failure(f"{case.path}:{case.number}: `{case.target}`: the label is in bank {label.unit.bank.bank}, and a call begins "
+                raise Failure(f"{case.called()}: the label is in bank {label.unit.bank.bank}, and a call begins "
                               "in bank 1: call a label of bank 1 that activates the bank")
             self.addresses[case.target] = label.address
         return self.addresses[case.target]
@@ -153,7 +153,7 @@ class Caller:
             if unknown:
                 near = nearest(unknown[0], KEYS)
                 raise NoKeys(f"no key is named {unknown[0]}{near and f', the nearest is {near}'}: `tools/keyboard text` shows the names; a "
-                             "text is in quotes")
+                             "text needs quotes")
         except NoKeys as why:
             raise Failure(f"{case.path}:{case.number}: `{asked if what == 'call' else f'{what}={asked}'}`: {why}") from why
         if "ALPHA" not in pieces and sum(isinstance(piece, Text) for piece in pieces) < 2:

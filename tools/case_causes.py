@@ -3,7 +3,8 @@ what to write. Only errors need this module."""
 from __future__ import annotations
 
 import re
-from collections.abc import Iterable
+from collections.abc import Callable, Iterable
+from decimal import Decimal
 from difflib import get_close_matches
 
 # Signs that are written in place of ->.
@@ -55,6 +56,13 @@ def of_target(text: str) -> str:
     return f"; a label has no other signs here: write {bare}" if re.fullmatch(r"[A-Za-z]\w{0,11}", bare) and bare != text else ""
 
 
+def of_order(words: list[str], is_target: Callable[[str], bool]) -> str:
+    """Returns a hint on the words of a command line that begin with a setting: the call is before it."""
+    called = next((word for word in words if is_target(word)), "X10")
+    line = " ".join([called, *(word for word in words if word != called)])
+    return f"; what is called comes before the settings: {'write' if called in words else 'for example'} {line}"
+
+
 def is_register(name: str) -> bool:
     """Returns whether a setting has this name."""
     from settings import DATA_NAME, FLAG_NAME, READERS
@@ -66,7 +74,7 @@ def of_setting(words: list[str], at: int, is_first: bool) -> str:
     word, after = words[at], [*words[at + 1:], "", ""]
     named = re.match(r"([A-Za-z][\w.]*|[0-3][0-9A-F]{2}(?=\W))", word)
     if at and re.match("(?:ALPHA|keys|display)=", words[at - 1]):
-        return "; a text with spaces is in quotes"
+        return "; write a text with spaces in quotes"
     if word.startswith("steps"):
         return "; a limit is written steps<=20"
     if COMMENT.match(word):
@@ -105,6 +113,9 @@ def of_register(text: str) -> str:
         return f"; one = is enough: write {text.lstrip('=')}"
     if CURLY.search(text):
         return f"; quotes are straight: write {CURLY.sub(chr(34), text)}"
+    if re.fullmatch(r"[-+]?\d{1,3}(,\d{3})+(\.\d*)?", text):
+        point = f", or {text.replace(',', '.').lstrip('+')} if the comma is the decimal sign" if re.fullmatch(r"[-+]?\d+,\d+", text) else ""
+        return f"; digits have no comma between them: write {text.replace(',', '').lstrip('+')}{point}"
     if re.fullmatch(r"[-+]?\d*,\d+(?:[Ee]-?\d+)?", text):
         return f"; the decimal sign is a point: write {text.replace(',', '.').lstrip('+')}"
     if re.fullmatch(r"[-+]?(?:\d+\.?\d*|\.\d+)(?:e[-+]?\d+)?", text) and ("e" in text or text[0] == "+"):
@@ -122,6 +133,10 @@ def of_register(text: str) -> str:
         return "; a fraction is no number: write its decimal digits"
     if re.fullmatch(r"[-+]?[\d.]+E[-+]?\d{3,}", text):
         return "; the exponent has more than two digits"
+    if re.fullmatch(r"-?(?:\d+\.?\d*|\.\d+)(?:E-?\d\d?)?", text) and abs(Decimal(text).adjusted()) > 99:
+        number = Decimal(text)
+        bound = "greatest exponent is 99" if number.adjusted() > 0 else "smallest exponent is -99"
+        return f"; {text} is {number.scaleb(-number.adjusted()).normalize()}E{number.adjusted()}, and the {bound}"
     if re.fullmatch("[A-Za-z ]{1,6}", text):
         return f'; a text is in quotes: write "{text}"'
     return f"; found {len(digits)} digits" if len(digits) > 10 and re.fullmatch(r"-?[\d.]+(?:E-?\d+)?", text) else ""

@@ -1,6 +1,7 @@
 """Cases of tests: a row each, or a row of a table in CSV. A case calls a label or a function, with registers before and wanted after."""
 from __future__ import annotations
 
+import os
 import re
 from typing import NamedTuple
 
@@ -31,6 +32,12 @@ class Case(NamedTuple):
         """Returns the name of the case."""
         return f"{self.path}:{self.number} {self.target}{f' {self.title}' if self.title else ''}"
 
+    def called(self) -> str:
+        """Returns the place and the text of what the case calls, for an error; with the column if the row has it."""
+        row = next(iter(text_in(self.path).splitlines()[self.number - 1:self.number]), "") if os.path.isfile(self.path) else ""
+        found = re.search(rf"(?<![\w.\"]){re.escape(self.target)}(?![\w.])", row)
+        return f"{self.path}:{self.number}: `{self.target}`: {f'column {found.start() + 1}: ' if found else ''}".removesuffix(": ")
+
 
 def failure(path: str, number: int, row: str, why: str) -> Failure:
     """Returns an error in a row."""
@@ -42,8 +49,10 @@ def text_in(path: str) -> str:
     try:
         return bytes_of(path).decode("utf-8-sig")
     except UnicodeDecodeError as error:
-        line = error.object[:error.start].count(b"\n") + 1
-        raise Failure(f"{path}:{line}: byte {error.object[error.start]:02X} is not valid UTF-8: save the file as UTF-8") from error
+        before = error.object[:error.start]
+        line, column = before.count(b"\n") + 1, len(before.rpartition(b"\n")[2].decode("utf-8-sig")) + 1
+        raise Failure(f"{path}:{line}: column {column}: byte {error.object[error.start]:02X} is not valid UTF-8: save the file as UTF-8"
+                      ) from error
 
 
 def with_quote(why: Wrong, row: str) -> str:
@@ -123,7 +132,9 @@ def check_names(path: str, names: list[str], row: str, is_written: bool) -> None
             raise failure(path, 1, row, str(why)) from why
     twice = next((name for name in names if name and names.count(name) > 1), None)
     if twice:
-        raise failure(path, 1, row, f"two columns are named {twice}: the names of expected values begin with ->")
+        places = [number for number, name in enumerate(names, 1) if name == twice]
+        raise failure(path, 1, row, f"the columns {' and '.join(map(str, places))} are named {twice}: the names of expected values begin "
+                                    "with ->")
     if not is_written and not any(name.startswith(ARROW) for name in names):
         raise failure(path, 1, row, "no name begins with ->, so nothing would be compared: name an expected value, for example ->X, or "
                                     "write the values with --write OUT --values X")

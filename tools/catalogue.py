@@ -15,7 +15,7 @@ from doubts import PRIVATE, PRIVATE_ROWS, Doubt, at_places, of_bytes, of_line, p
 from exchange import Count, counts_in, wanted_counts
 from functions import Functions, table
 from misplaced import PACKED, UNPACK
-from modules import lines_of_bytes, lines_of_texts
+from modules import Refusals, lines_of_bytes, lines_of_texts
 from programs import LOCAL, broken
 from records import DATA, END, LISTING, OTHER, ends_of, length_at, programs_in
 from spellings import Tables, read_tables
@@ -326,7 +326,9 @@ def fault_of(program: Program) -> str:
     """Returns why the bench refuses a program, with the byte of the file."""
     data, at = program.data, 0
     if data is None:
-        return "the bench refuses its lines"
+        refusals: Refusals = []
+        lines_of_texts([*program.texts, "END"], refusals)
+        return "the bench refuses its lines" + "".join(f": {refusal} at line {line + 1}" for line, refusal in refusals)
     while at < len(data):
         length = length_at(data, at)
         is_label = 0xC0 <= data[at] <= 0xCD and at + 2 < len(data)

@@ -31,7 +31,7 @@ def proof_of(result: Result, claim: AnyClaim, now: State, before: State, passed:
     """Returns the proof of a claim about a state."""
     know = result.knowledge
     if isinstance(claim, Named):
-        return "refl"
+        return result.banks.active(now, claim.page) if claim.name == "BANK" else "refl"
     if isinstance(claim, Decimal):
         key = key_of(claim.atom, before if claim.atom.old else now)
         found = know.decimals.proof(key.name, key.lo, key.hi) if isinstance(key, Span) else None

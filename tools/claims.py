@@ -16,7 +16,7 @@ MEMORY = ((0x000, 0x00F), (0x0C0, 0x1FF))
 
 # Registers whose value is a number, and those that have a name as their value.
 NUMBERS = ("G", "T", "P", "Q", "CY", "ST", "RAM")
-NAMED = {"MODE": ("HEX", "DEC"), "PT": ("P", "Q")}
+NAMED = {"MODE": ("HEX", "DEC"), "PT": ("P", "Q"), "BANK": ("1", "2", "3", "4")}
 
 RELATIONS = ("<=", ">=", "<>", "=", "<", ">")
 KEYWORDS = ("requires", "ensures", "invariant", "decreases")
@@ -25,7 +25,10 @@ KEYWORDS = ("requires", "ensures", "invariant", "decreases")
 COMMENT = re.compile(r"[ \t]*;[ \t]*(?:(" + "|".join(KEYWORDS) + r")\b)?")
 TOKEN = re.compile(r"[A-Za-z]+[0-9]*(?:\.[A-Za-z&]+)?|[0-9][0-9A-Fa-f]*|<=|>=|<>|[-+*=<>(),:\[\]]|\S")
 NUMBER = re.compile("[0-9][0-9A-Fa-f]*")
+HEXADECIMAL = re.compile("[A-F]+[0-9]*")
 STATUS = re.compile("S([0-9]+)")
+
+CONDITIONS = ("if", "when", "unless", "or", "and")
 
 FIELD = "one of the fields SX, XS, M, MS and ALL after the point, or places as in C[5:3]"
 REGISTERS = ("a register (A B C M N, or X Y Z L REG[0FA] in memory), with a field as in C.SX or places as in C[5:3], BCD(C.M), G, T, P, Q, "
@@ -91,11 +94,13 @@ class Claim:
 
 @dataclass(frozen=True)
 class Named:
-    """A claim that MODE or PT has a value that is a name."""
+    """A claim that MODE or PT has a value that is a name, or that a bank of the function's page is active. In a project, `page` is this
+    page."""
     name: str
     value: str
     text: str
     line: int
+    page: int = 0
 
     def atoms(self) -> list[Atom]:
         """Returns no atom."""
@@ -235,6 +240,8 @@ class Reader:
             self.at += 1
             return Atom(word.text, old=old)
         name, dot, part = word.text.partition(".")
+        if HEXADECIMAL.fullmatch(word.text) and word.text not in WIDE:
+            self.fail("a number that begins with a digit, as in 0FF")
         if name not in (*WIDE, *STACK, "REG") or self.at == len(self.tokens):
             self.fail(REGISTERS)
         if dot and part not in FIELDS:
@@ -323,6 +330,8 @@ class Reader:
         """Returns the claims of a comparison, or of `as before`."""
         first, line = self.at, self.now().line
         if self.now().text in NAMED:
+            if self.now().text == "BANK" and self.keyword != "ensures":
+                self.fail("no `BANK`, because a label is in one bank: only `ensures` can name another one")
             name = self.want(*NAMED)
             self.want("=")
             return [Named(name, self.want(*NAMED[name]), self.text_from(first), line)]
@@ -396,6 +405,8 @@ def read_claims(reader: Reader, contract: Contract) -> None:
             found += reader.comparison()
         if reader.at == len(reader.tokens):
             break
+        if reader.now().text in CONDITIONS:
+            reader.fail("`,`: all claims of a list are true; for cases, see Cases in docs/PROVE-YOUR-MODULE.md")
         reader.want(",")
     for at in later:
         reader.at = at
@@ -439,3 +450,20 @@ def contract_before(lines: list[str], label: int) -> Contract | None:
     for keyword, tokens, end in groups:
         read_keyword(keyword, tokens, end, contract)
     return contract
+
+
+def check_places(lines: list[str], labels: set[int]) -> None:
+    """Checks that all claims are directly before a line with a label; these lines are counted from 0. A comment that is not read as claims
+    may be anywhere."""
+    for at, line in enumerate(lines):
+        found = COMMENT.match(line)
+        if not found or not found[1]:
+            continue
+        after = next((more for more in range(at, len(lines)) if not lines[more].lstrip(" \t").startswith(";")), len(lines))
+        if after in labels:
+            continue
+        try:
+            contract_before(lines, after)
+        except Wrong:
+            continue
+        raise Wrong(at + 1, found.start(1) + 1, "these claims belong to no label, expected a line with a label directly after the comments")

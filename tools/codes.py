@@ -2,11 +2,14 @@
 from __future__ import annotations
 
 from dataclasses import dataclass, field
-from typing import NamedTuple
+from typing import TYPE_CHECKING, NamedTuple
 
 from claims import AnyClaim, Atom, Claim, Contract, Named, Sum
 from knowledge import Knowledge
 from symbols import Form, Key, Node, Span, State, argument, register_at, status_bit, status_byte
+
+if TYPE_CHECKING:
+    from activebanks import ActiveBanks
 
 
 class NotProved(Exception):
@@ -25,25 +28,65 @@ class Instruction(NamedTuple):
     line: int
 
 
+# A *place* is an address, with one less than the number of its bank before its four digits: 18002 is 8002 in bank 2.
+ADDRESSES = 0x10000
+
+
+class Bank(NamedTuple):
+    """The words of a bank: its name in the project file, its page, its number, its words from the first address of the page on, and how
+    many of them are those of its source: the others are the end of the page. A source alone is bank 1 of its page, without a name."""
+    name: str
+    page: int
+    number: int
+    words: list[int]
+    size: int
+
+
 @dataclass
 class Code:
-    """The instructions of a source by address, the address of its first word, and the addresses of labels with contracts."""
-    origin: int
-    words: list[int]
+    """The instructions of a source, or of the sources of a project, by place, their banks, and the places of labels with contracts.
+    `origins` has the file and the number of each line: the lines of all sources are counted as those of one. `names` has the names of
+    labels as they are shown, and `free` a page that a project does not use."""
+    banks: list[Bank]
     instructions: dict[int, Instruction]
     labels: dict[str, int]
     contracts: dict[str, Contract]
     lines: dict[str, int] = field(default_factory=dict)
+    origins: list[tuple[str, int]] = field(default_factory=list)
+    names: dict[str, str] = field(default_factory=dict)
+    free: str = ""
+
+    @property
+    def is_project(self) -> bool:
+        """Returns whether the code is that of a project."""
+        return bool(self.free)
+
+    @property
+    def origin(self) -> int:
+        """Returns the first address of a source alone."""
+        return self.banks[0].page << 12
 
     def line_of(self, label: str) -> int:
         """Returns the source line of a label with a contract."""
         return self.lines.get(label, 0)
 
-    def at(self, address: int, line: int) -> Instruction:
-        """Returns the instruction at an address."""
-        found = self.instructions.get(address)
+    def shown(self, label: str) -> str:
+        """Returns the name of a label: in a project with its page, its bank and its address."""
+        place = self.labels[label]
+        where = f" at {place % ADDRESSES:04X} in bank {place // ADDRESSES + 1}" if self.is_project else ""
+        return f"{self.names.get(label, label)}{where}"
+
+    def bank(self, page: int, number: int) -> Bank | None:
+        """Returns a bank of the project; None if it has no words."""
+        return next((one for one in self.banks if (one.page, one.number) == (page, number)), None)
+
+    def at(self, place: int, line: int) -> Instruction:
+        """Returns the instruction at a place."""
+        found = self.instructions.get(place)
         if not found:
-            raise NotProved(line, f"the function continues at {address:04X}, expected an address of an instruction of this source")
+            where = f" in bank {place // ADDRESSES + 1}" if self.is_project else ""
+            raise NotProved(line, f"the function continues at {place % ADDRESSES:04X}{where}, expected an address of an instruction of this "
+                                  f"{'project' if self.is_project else 'source'}")
         return found
 
 
@@ -51,11 +94,12 @@ class Code:
 class Result:
     """What is known of a function that is executed: its label, its nodes, the components that it changes, with their values at the end
     if these are known, the most steps that it takes, the functions that it calls, and its loops, in the order in which they are
-    entered."""
+    entered. `banks` are the active banks in its states."""
     label: str
     contract: Contract
     root: Node
     knowledge: Knowledge
+    banks: ActiveBanks
     ends: list[Node] = field(default_factory=list)
     changed: dict[str, str | None] = field(default_factory=dict)
     returns: tuple[str, ...] = ()
@@ -112,6 +156,8 @@ def value_of(claim: AnyClaim) -> tuple[str, str] | None:
     """Returns the component and the value that a requirement gives it."""
     if not isinstance(claim, (Claim, Named)):
         return None
+    if isinstance(claim, Named) and claim.name == "BANK":
+        return None
     if isinstance(claim, Named):
         values = {"HEX": "Hexadecimal", "DEC": "Decimal"}
         return ("base", values[claim.value]) if claim.name == "MODE" else ("active", claim.value)
@@ -136,6 +182,19 @@ def known_at_start(contract: Contract) -> dict[str, str]:
         if given:
             found[given[0]] = given[1]
     return found
+
+
+def claim_text(name: str, value: str) -> str:
+    """Returns the claim that a component has a value, as a contract writes it."""
+    names = {"base": "MODE", "active": "PT", "carry": "CY", "selected": "RAM"}
+    words = {"Hexadecimal": "HEX", "Decimal": "DEC", "true": "1", "false": "0", "P": "P", "Q": "Q"}
+    return f"{names.get(name, name.upper())} = {words[value] if value in words else number_of(int(value))}"
+
+
+def number_of(value: int) -> str:
+    """Returns a number as claims write it: in hexadecimal, and with a digit first."""
+    digits = f"{value:X}"
+    return digits if digits[0].isdigit() else f"0{digits}"
 
 
 def register_of(node: Node, name: str) -> str:

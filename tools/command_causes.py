@@ -213,6 +213,23 @@ def of_keys(words: list[Cause], end: int) -> Cause | None:
     return None
 
 
+def of_open_block(opener: str, lines: Sequence[str]) -> tuple[int, int, str] | None:
+    """Returns the line that shows why a block has no end, counted from 1 in the block, with its column and the cause: an `end` in another
+    form, or else the first command. `lines` are those after the opener."""
+    own = {name.split()[0] for name in forms()}
+    for number, line in enumerate(lines, 1):
+        found = re.fullmatch(r"(\s*)(\.?end\.?)(\s*[;#/(,.].*|\s+\w+)?\s*", line, re.I)
+        if found and not (opener == "program" and found[2].upper() in ("END", ".END.") and found[2] != "end"):
+            how = "in lower case" if found[2].strip(".") != "end" else "alone in its line"
+            return number, len(found[1]) + 1, f"a block is closed by the word end {how}: write end"
+        first = re.match(r"(\s*)([a-z]+)(?=\s|\Z)", line)
+        if first and first[2] in own:
+            after = number > 1 and lines[number - 2].strip() == "END" and opener == "program"
+            more = ", because END is a line of the program" if after else ""
+            return number, len(first[1]) + 1, f"{first[2]} is a command: the line `end` of the block is missing before it{more}"
+    return None
+
+
 def of_inner(opener: str, text: str) -> Cause | None:
     """Returns the column and the cause for a refused line of a block of words, bytes or program lines."""
     column, word = next(((found.start() + 1, found[0]) for found in re.finditer(r"[^ \t]+", text)
@@ -233,7 +250,7 @@ def of_inner(opener: str, text: str) -> Cause | None:
         if text.strip() and text != text.upper() and '"' not in text:
             return column, f"names of functions are in upper case: write {text.strip().upper()}"
         if text != text.strip():
-            return column, "a program line has no spaces before and after it"
+            return column, "a program line must have no spaces before or after it: remove them"
         named = re.fullmatch(r"(LBL|GTO|XEQ) ([A-Z][A-Z0-9]+)", text)
         return (column, f"a name is in quotes: write {named[1]} \"{named[2]}\"") if named else None
     return None

@@ -11,7 +11,7 @@ from decks import MARK_OF_UTF8, Failure, bytes_of
 from functions import Functions
 from lif import is_headed, is_image, read_headed, read_image, write_headed, write_image
 from listings import Listing
-from misplaced import PACKED, UNPACK
+from misplaced import of_content
 from mods import FIXED, PAGES, Image, read_mod
 from modules import lines_of_texts
 from records import IMAGE, LISTING, OTHER, PROGRAM, Damaged, Part, ends_of, sum_of, without_sum
@@ -68,8 +68,9 @@ def container_of(path: str, data: bytes, kind: Optional[str]) -> Optional[str]:
 def members_of(path: str, kind: Optional[str] = None) -> List[Member]:
     """Returns the parts of a container, or the file itself if it is none. Raises Failure if the container does not add up."""
     data = bytes_of(path)
-    if kind is None and data.startswith(PACKED):
-        raise Failure(f"{path}: {UNPACK}")
+    other = of_content(data) if kind is None else ""
+    if other:
+        raise Failure(f"{path}: {other}")
     container = container_of(path, data, kind) if data else None
     if container is None:
         return [Member(path, data)]

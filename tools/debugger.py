@@ -325,8 +325,10 @@ class Debugger:
                           "list LOOP")
         part = self.places.part_at(address, self.bank_at(address, bank))
         row = part.row_at(address & 0xFFF) if part else None
-        if part is None or row is None:
+        if part is None:
             raise Failure(f"no source is known at {address:04X}, expected an address in a page that was assembled from a source")
+        if row is None:
+            raise Failure(f"no source line is at {address:04X}, expected an address of a word that the source of page {address >> 12:X} has")
         at = part.rows.index(row)
         for path, number, text in part.rows[max(at - AROUND, 0):at + AROUND + 1]:
             print(f"{'>' if (path, number) == row[:2] else ' '} {number:>4}  {text}".rstrip())

@@ -21,6 +21,7 @@ from matches import whole
 from memory import MAIN_START, Memory
 from paging import Pages
 from parts import MOST_STEPS, NO_END, Entry, Part, parts_of, refusal_of
+from plugged import Names
 from repeating import Renewal
 from typed import Text
 from values import text_of
@@ -86,7 +87,7 @@ class Desk:
         self.queue: list[Part] = []
         self.lesson: Optional[OpenLesson] = None
         self.breaks: set[tuple[str, str]] = set()
-        self.lights, self.labels = Lights(), Labels()
+        self.lights, self.labels, self.names = Lights(), Labels(), Names()
         self.coded: tuple[list[str], bytes, list[list[str]]] = ([], b"", [])
         # The last states, and how often pages were plugged or unplugged.
         self.history, self.plugs = History(), 0
@@ -129,8 +130,8 @@ class Desk:
             return b"%s %d\n" % (part.kind.encode(), part.asked)
         return None
 
-    def give(self, deck: bytes, is_first: bool = False, goes_on: bool = False) -> None:
-        """Adds the parts of a deck after those that wait. If `is_first` is set, they are added before all others, and a running command
+    def give(self, deck: bytes, is_first: bool = False, goes_on: bool = False) -> list[Part]:
+        """Adds the parts of a deck after those that wait, and returns them. If `is_first` is set, they are added before all others, and a running command
         is split. If `goes_on` is set, a run that ends at its limit is followed by another one."""
         parts = parts_of(deck)
         for part in parts:
@@ -140,6 +141,7 @@ class Desk:
             self.queue = parts + self.queue
         else:
             self.queue += parts
+        return parts
 
     def part_here(self) -> None:
         """Splits a command that is executed in pieces: its entry gets the number of steps that were made, and the rest becomes a command
@@ -285,6 +287,8 @@ class Desk:
             (self.breaks.add if word == "break" else self.breaks.discard)(place)
         elif word in ("asm", "words", "image", "unplug"):
             self.labels.follow(lines_of(part.text))
+            before = self.log[-2].text if len(self.log) > 1 else b""
+            self.names.follow(lines_of(part.text), before, self.labels)
             self.plugs += 1
 
     # The state of the bench.
@@ -376,11 +380,11 @@ class Desk:
         one = of_line(text, views["numbers"], views["values"], views["alpha"][0], views["flags"][0])
         return {"word": text, "next": one.sentence(), "asks": one.asks()}
 
-    def plugged(self) -> list[tuple[str, str]]:
-        """Returns the plugged banks: pairs of a page and a bank."""
+    def plugged(self) -> list[tuple[str, str, str]]:
+        """Returns the plugged banks: for each its page, its bank, and the name of its file or of its first label, if it has one."""
         asked = [(page, bank) for page in PAGES for bank in "1234"]
         replies = self.bench.ask_all([f"show image {page} b{bank}".encode() for page, bank in asked])
-        return [one for one, reply in zip(asked, replies) if refusal_of(reply) is None]
+        return [(*one, self.names.of(*one)) for one, reply in zip(asked, replies) if refusal_of(reply) is None]
 
     def listed(self, page: str, bank: str, is_words: bool) -> list[list[str]]:
         """Returns the instructions in a bank of a page, or the lines of its programs, whether they run or not."""

@@ -135,13 +135,15 @@ def of_names(code: str) -> Iterator[tuple[int, str]]:
         yield page.start(1), f"the page and the label have a point between them: write :{page[1]}.{page[2]}"
     if flag:
         here = {"SF": "SETF", "CF": "CLRF"}.get(flag[1].upper(), "?FSET")
-        yield 0, f"{flag[1]} is a function of programs: an instruction has the status bits 0 to 13, {here} {flag[2]}"
+        number = int(flag[2])
+        bit = f", {here} {number}" if number <= 13 else f"; flag {number} of programs is in register d: READ 14"
+        yield 0, f"{flag[1]} is a function of programs: an instruction has the status bits 0 to 13{bit}"
     if re.fullmatch(r'"[^"]*"', code):
         yield 0, "a text alone is no line: it is the operand of NAME, which has no colon after it"
     if re.match(r"\.?(?:NAME|CON|ENTRY|FOCAL):\s", code):
         yield code.index(":"), "a directive has no colon after it: remove it"
     if lower:
-        yield lower.start(1), "a name has no lower-case letters"
+        yield lower.start(1), f"found {lower[1]}: a name must have no lower-case letters"
     reverse = re.fullmatch(r"([ABC])([-+])([ABC1])=([ABC])(\s+\S+)?", code)
     if reverse:
         yield 0, f"the result is before the sign =: write {reverse[4]}={reverse[1]}{reverse[2]}{reverse[3]}{reverse[5] or ''}"

@@ -245,6 +245,8 @@ class Dialect:
         self.told: list[tuple[int, str]] = []
         self.notes: list[str] = []
         self.comments: list[int] = []
+        # The page that ORG names.
+        self.origin: Optional[str] = None
         # For each line with the number of an LDI, the line of the LDI, counted from 0.
         self.numbers: dict[int, int] = {}
         is_read = refused(block(b"asm 8", lines))[0] == 0
@@ -297,7 +299,9 @@ class Dialect:
         if code.lstrip().startswith(("*", "//")):
             self.comments.append(at)
             return [None]
-        if ORIGIN.fullmatch(code.strip()) and not any(one.strip() for one in self.codes[:at]):
+        origin = ORIGIN.fullmatch(code.strip())
+        if origin and not any(one.strip() for one in self.codes[:at]):
+            self.origin = origin[1].upper()
             return [None]
         if WITHOUT_WORDS.fullmatch(code.strip()) or END.fullmatch(code.strip()) and self.is_last(at):
             return [None]

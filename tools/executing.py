@@ -3,10 +3,11 @@ from __future__ import annotations
 
 from typing import Callable, Sequence
 
+from activebanks import PAGES, ActiveBanks
 from budgets import reachable, summarise
 from claimproofs import prepare
 from claims import AnyClaim, Claim, Decimal, Others, Sum
-from codes import Code, Loop, NotProved, Result, form_of, key_of, known_at_start, plain, register_of
+from codes import ADDRESSES, Code, Loop, NotProved, Result, form_of, key_of, known_at_start, plain, register_of
 from knowledge import Knowledge
 from linear import contradicts, row
 from symbols import WIDE, Fact, Node, Ram, Span, State, Value, Way, keys_in, literal, start_of
@@ -23,6 +24,7 @@ class Execution:
         self.code, self.label, self.execute, self.under_way = code, label, execute, under_way
         self.contract = code.contracts[label]
         self.knowledge = Knowledge()
+        self.banks = ActiveBanks(code, label)
         self.nodes: list[Node] = []
         self.calls: list[str] = []
         self.labels = {code.labels[name]: name for name, contract in code.contracts.items() if contract.is_function}
@@ -33,22 +35,22 @@ class Execution:
         self.now: Loop | None = None
         self.ends: list[Node] = []
 
-    def called(self, address: int, line: int) -> Result | None:
-        """Returns the result of the function with claims at an address; None if there is none."""
-        label = self.labels.get(address)
+    def called(self, place: int, line: int) -> Result | None:
+        """Returns the result of the function with claims at a place; None if there is none."""
+        label = self.labels.get(place)
         if label is None:
             return None
         if label in self.under_way:
             raise NotProved(line, f"{label} calls itself, expected no recursion: there is room for four return addresses only")
         found = self.execute(label)
         if found is None:
-            raise NotProved(line, f"{label} is called, but not proved itself")
+            raise NotProved(line, f"{label} is called here, but its own claims are not proved: see the message about {label}")
         return found
 
     def result(self) -> Result:
         """Returns what is known of the function."""
         known = known_at_start(self.contract)
-        state = State(self.code.labels[self.label], ("r0", "r1", "r2", "r3"), known)
+        state = State(self.code.labels[self.label] % ADDRESSES, ("r0", "r1", "r2", "r3"), known)
         root = self.node(state, self.contract.line, [])
         self.knowledge.root = root
         self.knowledge.rams["s.ram"] = Ram("s.ram", "start", root, "is_memory")
@@ -56,7 +58,7 @@ class Execution:
             self.knowledge.add(Value(f"s.processor.{name}", "start", root, register_of(root, name)))
         self.cut([*self.contract.requires, *self.contract.ensures])
         self.assume(root, plain(self.contract.requires), state, "required")
-        self.follow(root, (state.pc,))
+        self.follow(root, (self.banks.place(state),))
         self.prune_for_loops(root)
         while len(self.done) < len(self.loops):
             self.now = self.loops[min(address for address, loop in self.loops.items() if loop not in self.done)]
@@ -65,8 +67,10 @@ class Execution:
         self.now = None
         self.knowledge.settle()
         self.prune([root, *(root for loop in self.done for root in loop.roots)])
-        result = Result(self.label, self.contract, root, self.knowledge, self.ends, calls=self.calls, loops=self.done)
+        result = Result(self.label, self.contract, root, self.knowledge, self.banks, self.ends, calls=self.calls, loops=self.done)
         summarise(result)
+        for end in self.ends:
+            self.banks.check_end(end.line, end.state, self.contract.ensures)
         prepare(result)
         return result
 
@@ -84,13 +88,13 @@ class Execution:
 
     def arrive(self, node: Node) -> None:
         """Ends a way at the label of a loop: the loop is entered there, or a round has ended."""
-        address = node.state.pc
-        label = self.loop_labels[address]
+        place = self.banks.place(node.state)
+        label = self.loop_labels[place]
         contract = self.code.contracts[label]
         if contract.decreases is None:
             raise NotProved(contract.line, f"the loop {label} has no `decreases`, expected a number that each round makes smaller, as in "
                                            "`decreases C.SX`")
-        loop = self.loops.setdefault(address, Loop(label, address, contract))
+        loop = self.loops.setdefault(place, Loop(label, node.state.pc, contract))
         if loop is self.now:
             node.form = "again", loop
             loop.backs.append(node)
@@ -101,8 +105,10 @@ class Execution:
         node.form = "enter", loop
         loop.entries.append(node)
         if self.now:
-            if self.now.after not in (None, loop):
-                raise NotProved(node.line, f"after the loop {self.now.label} either of two other loops may follow, expected one")
+            other = self.now.after
+            if other is not None and other is not loop:
+                raise NotProved(node.line, f"after the loop {self.now.label} the function enters the loop {other.label} in some cases "
+                                           f"and the loop {label} in others, expected the same loop in all cases")
             self.now.after = loop
             self.now.leaves.append(node)
 
@@ -124,19 +130,23 @@ class Execution:
             states = [*firsts, *(back.state for back in loop.backs)]
             names |= {name for state in states for name in state.terms
                       if name not in names and state.of(name) != loop.roots[0].state.of(name)}
+            if PAGES in names:
+                raise NotProved(loop.contract.line, f"the rounds of the loop {loop.label} begin with different active banks, expected the "
+                                                    "same one")
             lost |= {at for state in states for at, one in enumerate(state.returns) if one != loop.roots[0].state.returns[at]}
         if self.contract.steps and self.contract.steps.is_exact:
             self.clear(loop, ended)
             self.run_round(loop, firsts[0], 1)
             self.run_round(loop, firsts[0], 0)
         if 0 in lost:
-            raise NotProved(loop.contract.line, f"a round of {loop.label} changes the return addresses, expected the same")
+            raise NotProved(loop.contract.line, f"a round of {loop.label} changes the return address of the function, expected that each "
+                                                "round keeps it")
 
     @staticmethod
     def is_fixed(name: str, firsts: list[State], start: State) -> bool:
         """Returns whether a component is the same whenever a loop is entered, and known."""
         values = {state.of(name) for state in firsts}
-        return values == {start.of(name)} or len(values) == 1 and literal(firsts[0].of(name))
+        return values == {start.of(name)} or len(values) == 1 and (name == PAGES or literal(firsts[0].of(name)))
 
     def clear(self, loop: Loop, ended: int) -> None:
         """Forgets the rounds of a loop."""
@@ -151,7 +161,7 @@ class Execution:
         zero, and None for any round."""
         node = self.round_root(loop, first, left)
         loop.roots = [*loop.roots, node] if left == 0 else [node]
-        self.follow(node, (loop.address,))
+        self.follow(node, (self.banks.place(node.state),))
         self.prune_for_loops(node)
 
     def round_root(self, loop: Loop, first: State, left: int | None) -> Node:
@@ -251,18 +261,19 @@ class Execution:
     def follow(self, node: Node, way: tuple[int, ...]) -> None:
         """Executes the instructions from a node to the end of the function."""
         while True:
-            if node.state.pc in self.loop_labels and not (self.now and node in self.now.roots):
+            place = self.banks.place(node.state)
+            if place in self.loop_labels and not (self.now and node in self.now.roots):
                 try:
                     return self.arrive(node)
                 except NotProved as why:
                     node.form = "failed", why
                     return None
-            if node.state.pc in way[:-1]:
+            if place in way[:-1]:
                 node.form = "failed", NotProved(node.line, f"the instruction goes back to {node.state.pc:04X}, expected no loop: give the "
                                                 "label there an `invariant` and a `decreases`")
                 return None
             try:
-                instruction = self.code.at(node.state.pc, node.line)
+                instruction = self.code.at(place, node.line)
                 node.line = instruction.line
                 nexts = Step(self, node, instruction).nexts()
             except NotProved as why:
@@ -273,6 +284,6 @@ class Execution:
             if not nexts:
                 return None
             for one in nexts[1:]:
-                self.follow(one, (*way, one.state.pc))
+                self.follow(one, (*way, self.banks.place(one.state)))
             node = nexts[0]
-            way = (*way, node.state.pc)
+            way = (*way, self.banks.place(node.state))

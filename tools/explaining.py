@@ -13,7 +13,7 @@ LETTERS = {"F": "(?P<F>@R|S&X|R<|ALL|P-Q|XS|MS|M)", "N": "[0-9]+", "H": "[0-9A-F
            "R": "(?P<R>(?:IND )?(?:[0-9]{2,3}|[TZYXLMNOPQa-eA-J]|append|[0-9]))"}
 PLACEHOLDER = re.compile(r"\{([^}]*)\}")
 # The names of registers of the processor, and of those of programs, for whose next value a learner can be asked.
-ASKED = re.compile("[ABCMNGXYZT]|ST|ALPHA|LAST X|R[0-9]+")
+ASKED = re.compile("[ABCMNGXYZT]|ST|RTN|ALPHA|LAST X|R[0-9]+")
 FIELDS = {"S&X": (2, 0), "ALL": (13, 0), "XS": (2, 2), "M": (12, 3), "MS": (13, 13)}
 
 

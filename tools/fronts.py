@@ -5,6 +5,7 @@ from __future__ import annotations
 import os
 import re
 import subprocess
+from itertools import zip_longest
 from typing import TYPE_CHECKING, Optional, Union
 
 from decks import NO_ANSWER, Failure, answered, block, bytes_of, items_of, lines_of, refused, shown, words_of
@@ -116,12 +117,23 @@ def with_skips(deck: bytes, skips: Skips, memory: str) -> tuple[bytes, dict[int,
                     if words_of(lines[first])[0] not in (b"load", b"program"))
     for count in (0, 1):
         made = rest + block(b"program", [*(text.encode("latin-1") for text in new[:-1]), *[b"END"] * count])
-        if lines_in(made, memory) == new:
+        again = lines_in(made, memory)
+        if again == new:
             break
     else:
-        raise Failure("--skip: the programs with other lines cannot be loaded: please report this with the files")
+        why = why_others(made, memory, new, again)
+        raise Failure(f"--skip: the programs with other lines cannot be loaded: {why}: please report this with the files")
     return made, {at: text for at, (text, other) in enumerate(zip(texts, new))
                   if text != other and other == NOTHING and not TONE.fullmatch(text)}
+
+
+def why_others(deck: bytes, memory: str, wanted: list[str], found: list[str]) -> str:
+    """Returns the refusal of a deck that loads lines; or without one the first line that is another one."""
+    refusals = refused(deck, memory)[1]
+    if refusals:
+        return refusals[0].refusal
+    number, pair = next((number, pair) for number, pair in enumerate(zip_longest(wanted, found), 1) if pair[0] != pair[1])
+    return f"line {number}: found `{pair[1] or ''}`, expected `{pair[0] or ''}`"
 
 
 def check(deck: bytes, parts: list[Part], memory: str) -> None:

@@ -9,6 +9,7 @@ from typing import Iterator, Optional
 from containers import WITH_NAMES, members_of, only
 from decks import LONGEST_LINE, NO_ANSWER, Failure, ended, hexadecimal, items_of, lines_of, refused, shown, with_keys, words_of
 from decks import names_in as keys_in
+from elsewhere import tell_pages
 from functions import Functions, functions_of
 from inputs import CALLS, IMAGE, LISTING, RAW, SOURCE, File, Input, Skipped, is_page_end
 from keyboard import KEYS
@@ -83,12 +84,22 @@ class Deck:
         for at, line in enumerate(file.lines):
             words = words_of(line)
             if at in commands and words[0] in OF_ADDRESSES and (words[0] in (b"call", b"list") or words[1:2] in ([b"w"], [b"p"])):
+                self.check_colon(words, file, at)
                 line = REFERENCE.sub(lambda found: self.address_of(found, file, at), line)
             elif at in commands and words == RUN:
                 line = RUN_TO_END
             elif at in commands and words[0] == b"key":
                 line = self.with_names(line, file, at)
             self.add(file, at, line)
+
+    def check_colon(self, words: list[bytes], file: Input, at: int) -> None:
+        """Adds an error if a label in a command has no colon before it."""
+        word = next(iter(words[1 if words[0] in (b"call", b"list") else 2:]), b"").decode("latin-1")
+        name = word.partition("+")[0].rstrip(":")
+        if name in self.labels and not re.fullmatch("[0-9A-Fa-f]{4}", word):
+            line = shown(file.lines[at].strip(BLANKS))
+            self.unknown.append(f"{file.path}:{at + 1}: `{line}`: column {column_of(word, shown(file.lines[at]))}: a colon is before a label: "
+                                f"write :{word.rstrip(':')}")
 
     def with_names(self, line: bytes, file: Input, at: int) -> bytes:
         """Returns a key line with the names of keys in place of texts and numbers."""
@@ -158,8 +169,7 @@ class Deck:
             return (f": the programs are too long: there is room for {room:,} bytes with --size 0" if size is None else
                     f": the programs need more memory: use --size {size} or less")
         if refusal.startswith("! 14"):
-            why = "found bytes that are not a line, or an .END. before the last line"
-            return f": {broken(file.data) if file and file.kind == RAW else why}"
+            return f": {broken(file.data)}" if file and file.kind == RAW else ""
         if refusal.startswith("! 17"):
             return f": expected a size of at most {int(self.memory) - 1}"
         return ""
@@ -234,7 +244,7 @@ def read_files(paths: list[str], options: argparse.Namespace, is_told: bool) -> 
             errors += file.errors
     placed = [file for file in files if not file.is_skipped]
     if files and not placed and not errors:
-        errors += [f"{file.path}: found no program in it" for file in files[:1]]
+        errors += [f"{file.path}: found no program in it, expected one at least" for file in files[:1]]
     if own and not errors:
         doubt_comments(own)
         page = ModulePage(own, options.module)
@@ -244,6 +254,7 @@ def read_files(paths: list[str], options: argparse.Namespace, is_told: bool) -> 
     errors += deck.errors() if deck else []
     if is_told and deck and not errors:
         deck.tell_programs(files, functions)
+        tell_pages(files)
     return files, deck, errors
 
 

@@ -66,6 +66,8 @@ class Input:
         self.lines: list[bytes] = []
         self.whole: Optional[Whole] = None
         self.source_labels: dict[str, int] = {}
+        # The page that a source names by ORG.
+        self.origin: Optional[str] = None
         # The listing that was read, and the lines of a program, each after its place.
         self.read: Optional[Listing] = None
         self.program: Sequence[Line] = []
@@ -213,12 +215,14 @@ class File(Input):
             try:
                 line.decode("utf-8")
             except UnicodeDecodeError as error:
-                self.error(f"byte {line[error.start]:02X} is not valid UTF-8: convert the text, for example with "
+                column = len(line[:error.start].decode()) + 1
+                self.error(f"column {column}: byte {line[error.start]:02X} is not valid UTF-8: convert the text, for example with "
                            "`iconv -f latin1 -t utf-8`, or name bytes of a program .raw, an image .rom", number)
                 return []
             if control:
-                self.error(f"byte {control[0].hex().upper()} is a control character, expected text: name bytes of a program .raw, "
-                           "an image .rom", number)
+                column = len(line[:control.start()].decode()) + 1
+                self.error(f"column {column}: byte {control[0].hex().upper()} is a control character, expected text: name bytes of a "
+                           "program .raw, an image .rom", number)
                 return []
         lines = re.split("\r?\n", data.decode("utf-8"))
         return lines[:-1] if lines[-1] == "" else lines
@@ -279,6 +283,7 @@ class File(Input):
     def read_dialect(self) -> None:
         """Translates a source in another dialect."""
         dialect = Dialect(source_lines(self.data), self.options.decimal)
+        self.origin = dialect.origin
         if dialect.told or dialect.notes:
             mark = MARK_OF_UTF8 if self.data.startswith(MARK_OF_UTF8) else b""
             self.data = mark + b"".join(line + b"\n" for line in dialect.lines)

@@ -4,9 +4,11 @@ from __future__ import annotations
 
 import re
 from collections.abc import Callable, Iterable
+from os.path import commonprefix
 
 from arithmetic import OF_ONE, OF_TWO, in_words, meant, own_way
 from dialects import FIELDS, LONG
+from operand_causes import LETTERS
 
 Words = list[tuple[int, str]]
 Cause = tuple[int, str]
@@ -51,6 +53,8 @@ PRINTED = {"PRINT", "ECHO", "EXIT", "PASS"}
 STATEMENTS = [
     (r"(?:if|elif|else\s+if|unless|when|switch|case)\b.*", "a condition is a test and then a jump, for example ?A<C S&X and JC :LOOP"),
     (r"(?:else|endif|end\s?if|fi|then)\b.*", "there are no blocks: a test and a jump such as JC :ELSE skip instructions"),
+    (r"(?:times|dup|\.?rept|\.?rpt)\s+([0-9]+)\s+([^\s,].*)", "nothing repeats a line: write {1} {0} times, each in a line of its own"),
+    (r"(?:times|dup|\.?rept|\.?rpt|\.?endr)\b.*", "nothing repeats a line: write it as often as it is needed"),
     (r"(?:while|until|repeat|do|wend|end\s?while|for|next|foreach)\b.*",
      "there are no loops: a label before the first instruction, and a test and a jump back at the end"),
     (r"(?:def|sub|function|func|proc|procedure|void|fn)\s+(\w+).*", "a subroutine begins with its label and ends with RTN: write {0}:"),
@@ -68,9 +72,10 @@ STATEMENTS = [
 ]
 # The statements that come before the forms of other assemblers.
 EARLY = re.compile(r"(?:\.?section|\.?segment|let|var|int(?=\s+[a-z_])|const(?=\s+\w+\s*=)|def|proc|procedure|function|void|page|bank|for|"
-                   r"while|do|else|unless|when|switch|end\s?if|\.?end|\.stop|\.exit)\b", re.I)
+                   r"while|do|times|dup|\.?rept|\.?rpt|\.?endr|else|unless|when|switch|end\s?if|\.?end|\.stop|\.exit)\b", re.I)
 # Forms of registers that are not A, B and C, in operations.
 COPIES = {"M": ("C=M", "M=C"), "N": ("C=N", "N=C"), "G": ("C=G", "G=C"), "ST": ("C=ST", "ST=C")}
+WITH_C_ALONE = re.compile(r"(M|N|G|ST|[ABC])<>(M|N|G|ST|[ABC])")
 COPIED = re.compile(r"(M|N|G|ST|[ABC])(?:=|<-|:=)(M|N|G|ST|[ABC])")
 IN_MEMORY = re.compile(r"([XYZTL]|R[0-9]{2})=C|C=([XYZTL]|R[0-9]{2})")
 NUMBERS = {"T": "DATA", "Z": "1", "Y": "2", "X": "3", "L": "4"}
@@ -219,6 +224,18 @@ def of_special(flat: str, column: int) -> Cause | None:
     return None
 
 
+def one_off(word: str, names: Iterable[str]) -> list[str]:
+    """Returns the names that differ from a word in one character: another one, one more or one less."""
+    found = []
+    for name in sorted(names):
+        start = len(commonprefix([word, name]))
+        rest, other = word[start:], name[start:]
+        same = len(commonprefix([rest[::-1], other[::-1]]))
+        if max(len(rest), len(other)) - same == 1:
+            found.append(name)
+    return found
+
+
 def of_condition(words: Words) -> Cause | None:
     """Finds a conditional jump or call in the words of other assemblers, or without one of its two words."""
     column, first = words[0]
@@ -249,6 +266,34 @@ def of_registers(flat: str, column: int) -> Cause | None:
             own = f"WRIT {NUMBERS[name]}" if stored[1] else f"READ {NUMBERS[name]}"
             return column, f"{name} is a register of memory: write {own}"
         return column, f"{name} is a register of memory: put its address into C, RAM SLCT, and then {'WRIT' if stored[1] else 'READ'} DATA"
+    return None
+
+
+def of_exchange(flat: str, column: int) -> Cause | None:
+    """Finds an exchange with a register that exchanges only with C."""
+    found = WITH_C_ALONE.fullmatch(flat)
+    own = [name for name in found.groups() if name in COPIES] if found else []
+    if not found or not own:
+        return None
+    other = next((name for name in found.groups() if name != own[0]), own[0])
+    if other in ("C", own[0]):
+        return (column, f"{flat} is written here as C<>{own[0]}") if flat == f"{own[0]}<>C" else None
+    with_other = f"C<>{other}" if other in COPIES else f"{other}<>C ALL"
+    way = f"C<>{own[0]}" if other in COPIES and not {*own} <= {*"MN"} else f"{with_other}, C<>{own[0]} and then {with_other}"
+    return column, f"the processor has no {flat}: {own[0]} exchanges only with C{', whole' if own[0] in 'MN' else ''}: {way}"
+
+
+def of_letters(words: Words, names: Iterable[str]) -> Cause | None:
+    """Finds a letter in place of a digit in an instruction, or a digit in place of a letter."""
+    plain = {name.translate(LETTERS): name for name in names}
+    for size in (2, 1):
+        first = " ".join(word for _, word in words[:size])
+        own = plain.get(first.translate(LETTERS), first)
+        if len(words) >= size and own != first:
+            found, meant_by = next(pair for pair in zip(first, own) if pair[0] != pair[1])
+            kinds = ["digit" if sign.isdigit() else "letter" if sign.isalpha() else "sign" for sign in (found, meant_by)]
+            line = " ".join([own, *(word for _, word in words[size:])])
+            return words[0][0], f"{kinds[0]} {found} in place of the {kinds[1]} {meant_by}: write {line}"
     return None
 
 

@@ -124,24 +124,31 @@ def text_of_bank(bank: Page) -> Whole:
     """Returns the lines of a bank: of its source, or those made of its keystroke programs."""
     if bank.source:
         return Text(bank.source, source_in(bank.source), bank.end)
-    from modules import Module, lines_of_texts, programs_of
+    from modules import Module, Refusals, lines_of_texts, programs_of
     lines = []
     for path in bank.programs:
         texts = [(number, text.decode("latin-1").strip()) for number, text in enumerate(text_in(path).split(b"\n"), 1)]
         texts = [(number, text) for number, text in texts if text and not text.startswith("#")]
-        found = lines_of_texts([text for _, text in texts])
+        refusals: Refusals = []
+        found = lines_of_texts([text for _, text in texts], refusals)
         if found is None:
-            raise Failure(f"{path}:{why_not_read(texts)}")
+            raise Failure(f"{path}:{why_not_read(texts, refusals)}")
         lines += found if not found or found[-1][0] == "END" else [*found, ("END", bytes.fromhex("C0000D"))]
     source = "\n".join(Module(bank.module or 0, programs_of(lines)).source())
     return Text(bank.programs[0], source.encode() + b"\n", bank.end)
 
 
-def why_not_read(texts: list[tuple[int, str]]) -> str:
-    """Returns why the bench does not read the lines of a listing, with the number of the first wrong one."""
+def why_not_read(texts: list[tuple[int, str]], refusals: list[tuple[int, str]]) -> str:
+    """Returns why the bench does not read the lines of a listing, with the number of the first wrong one; or the refusal of the lines
+    together, if none of them is wrong alone."""
     from listings import readable
     good = readable([text for _, text in texts])
-    number, text = next(((number, text) for number, text in texts if text not in good or text == ".END."), texts[-1])
+    found = next(((number, text) for number, text in texts if text not in good or text == ".END."), None)
+    if found is None:
+        at, refusal = refusals[0]
+        return (f"{texts[at][0]}: `{shown(texts[at][1])}`: the lines from here on are refused together, but none alone: {refusal}: "
+                f"please report it")
+    number, text = found
     why = "not the last line: separate programs with END" if text in good else \
         "not a program line: write it without a number, in the bench's spelling: tools/import converts other spellings"
     return f"{number}: `{shown(text)}`: {why}"

@@ -345,7 +345,8 @@ class Listing:
             yield (), ("not a function of the calculator or of a known module; write a function of another module by its "
                        f"numbers, for example XROM 05,01{called}")
         odd = " ".join(dict.fromkeys(re.findall(r"[^ -~]", text)))
-        yield (), f"{odd} is in no name of a function" if odd and '"' not in text else "no line of the calculator has this form"
+        yield (), (f"{odd} is in no name of a function" if odd and '"' not in text else
+                   "expected a function, with an operand if it takes one, a number, or a text in quotes")
 
     @staticmethod
     def parts(text: str, speller: Speller) -> Iterator[Cause]:

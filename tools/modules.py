@@ -1,9 +1,10 @@
 """Modules of keystroke programs: makes a page from programs with a table of functions, and reads the programs of such a page. The bench
 decides which bytes a line has, and which line some bytes are."""
 import re
-from typing import Iterator, Optional
+from typing import Iterator, Optional, Union
 
 from decks import MAIN_START, Failure, block, hexadecimal, run
+from decks import ended as ended_early
 from programs import OF_NUMBERS, PIECE, is_cut, loadable, piece_of, whole_lines
 
 PAGE_SIZE = 4096
@@ -33,14 +34,20 @@ FINAL_END = re.compile(rb"[\xc0-\xcd].[\x20-\x3f\x60-\x7f\xa0-\xbf\xe0-\xef]", r
 ProgramLine = tuple[str, bytes]
 
 
-def with_bytes(opener: bytes, lines: list[bytes]) -> Optional[list[ProgramLine]]:
-    """Returns the lines that a block loads, each with its bytes; None if the bench refuses the block."""
+# The refused line, or the first line or byte of a refused block, counted from 0, and the refusal, for example `16 NoRoom`.
+Refusals = list[tuple[int, str]]
+
+
+def with_bytes(opener: bytes, lines: list[bytes]) -> Union[list[ProgramLine], str]:
+    """Returns the lines that a block loads, each with its bytes; or the refusal of the block."""
     registers = range(0x1FF, MAIN_START - 1, -1)
     status, output = run(b"size 0\n" + block(opener, lines) + b"show lines\n"
                          + b"".join(b"show ram %03x\n" % at for at in registers))
-    if status:
-        return None
     rows = output.decode().splitlines()
+    if status not in (0, 1):
+        raise Failure(ended_early(status, "when it was asked for the lines of a program"))
+    if status:
+        return next((row[2:] for row in rows if row.startswith("! ")), "refused")
     shown, memory = rows[:-len(registers)], bytes.fromhex("".join(row[4:] for row in rows[-len(registers):]))
     places = [int(row[:4]) for row in shown]
     found = [(row[5:], memory[at:behind]) for row, at, behind in zip(shown, places, places[1:])]
@@ -48,12 +55,15 @@ def with_bytes(opener: bytes, lines: list[bytes]) -> Optional[list[ProgramLine]]
     return [(text, data.rstrip(b"\0") if data[0] in OF_NUMBERS else data) for text, data in found]
 
 
-def lines_of_texts(texts: list[str]) -> Optional[list[ProgramLine]]:
-    """Returns the lines of a listing with their bytes; None if the bench cannot read one of them."""
+def lines_of_texts(texts: list[str], refusals: Optional[Refusals] = None) -> Optional[list[ProgramLine]]:
+    """Returns the lines of a listing with their bytes; None if the bench cannot read one of them. Its refusal is added to `refusals`."""
     found: list[ProgramLine] = []
     for at in range(0, len(texts), LINES):
         lines = with_bytes(b"program", [text.encode() for text in [*texts[at:at + LINES], SENTINEL]])
-        if lines is None:
+        if isinstance(lines, str):
+            numbered = re.search(r" (\d+)\Z", lines)
+            refusal = (at + int(numbered[1]) - 1, lines[:numbered.start()]) if numbered else (at, lines)
+            ([] if refusals is None else refusals).append(refusal)
             return None
         found += [(text, END if text == "END" else data) for text, data in lines[:-1]]
     return found
@@ -68,14 +78,16 @@ def lines_of_program(data: bytes) -> Optional[list[ProgramLine]]:
     return lines_of_bytes(data) if lines is None else [*lines, ("END", END)]
 
 
-def lines_of_bytes(data: bytes) -> Optional[list[ProgramLine]]:
-    """Returns the lines in some bytes without null bytes; None if they are not lines, or have an .END. inside."""
+def lines_of_bytes(data: bytes, refusals: Optional[Refusals] = None) -> Optional[list[ProgramLine]]:
+    """Returns the lines in some bytes without null bytes; None if they are not lines, or have an .END. inside. The refusal of the bench is
+    added to `refusals`."""
     found: list[ProgramLine] = []
     at = 0
     while at < len(data):
         length = piece_of(data[at:])
-        lines = with_bytes(b"load", hexadecimal(data[at:at + length] + SENTINEL_BYTE)) if length else None
-        if lines is None:
+        lines = with_bytes(b"load", hexadecimal(data[at:at + length] + SENTINEL_BYTE)) if length else "no line"
+        if isinstance(lines, str):
+            ([] if refusals is None else refusals).append((at, lines))
             return None
         found += lines[:-1]
         at += length
@@ -189,10 +201,11 @@ def programs_in(page: str, image: bytes) -> list[tuple[list[ProgramLine], bytes]
         raise Failure(f"the module at page {page} has no function written in keystrokes: export it as source")
     data, behind = bytes(word & 0xFF for word in words), 0
     found: list[tuple[list[ProgramLine], bytes]] = []
-    inside: set[int] = set()
+    inside: dict[int, str] = {}
     for at, place in sorted(entries, key=lambda entry: entry[1]):
         if place in inside:
-            raise Failure(f"XROM {number:02},{at:02}: the table entry points into the middle of a program line, at {page}{place:03X}")
+            raise Failure(f"XROM {number:02},{at:02}: the table entry points into the middle of a program line, at {page}{place:03X}: "
+                          f"`{inside[place]}`")
         if place < behind:
             continue
         length = end_of(data[place:])
@@ -200,15 +213,16 @@ def programs_in(page: str, image: bytes) -> list[tuple[list[ProgramLine], bytes]
             raise Failure(f"XROM {number:02},{at:02}: the program at {page}{place:03X} has no END: {why_none(data[place:])}")
         lines = lines_of_bytes(data[place:place + length - 3]) or []
         found.append(ended(data[place:place + length], lines))
-        behind, inside = place + length, set(inside_lines(data, place, found[-1][0]))
+        behind, inside = place + length, dict(inside_lines(data, place, found[-1][0]))
     return found
 
 
-def inside_lines(data: bytes, place: int, lines: list[ProgramLine]) -> Iterator[int]:
-    """Yields the places inside these lines of a page, except those of their first bytes. Null bytes may be between lines."""
-    for _, own in lines:
+def inside_lines(data: bytes, place: int, lines: list[ProgramLine]) -> Iterator[tuple[int, str]]:
+    """Yields the places inside these lines of a page, except those of their first bytes, each with its line. Null bytes may be between
+    lines."""
+    for text, own in lines:
         place += next(at for at, byte in enumerate(data[place:]) if byte)
-        yield from range(place + 1, place + len(own))
+        yield from ((at, text) for at in range(place + 1, place + len(own)))
         place += len(own)
 
 

@@ -80,7 +80,8 @@ def of_none(name: str, rest: Words) -> Cause | None:
     """Finds an operand of an instruction that has none."""
     column, text = rest[0]
     use = {"RAM SLCT": "it selects the address in C, for example that of LDI 003 before it", "PRPH SLCT": "it selects the device in C",
-           "PUSH ADR": "it pushes the address in C", "RTN": "a function returns its result in registers"}.get(name)
+           "PUSH ADR": "it pushes the address in C", "?KEY": "it tests whether a key is down, and C=KEY reads the code of the key",
+           "RTN": "a function returns its result in registers"}.get(name)
     if text in FIELDS:
         return column, f"{name} has no field"
     if text == ":" or text[:1] in "|&":

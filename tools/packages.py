@@ -140,6 +140,7 @@ def package(release: Release) -> tuple[str, bytes]:
         ran = subprocess.run(words, stdin=subprocess.DEVNULL, capture_output=True, check=False,
                              env=os.environ | {"SOURCE_DATE_EPOCH": str(release.seconds), "LC_ALL": "C", "TZ": "UTC"})
         if ran.returncode != 0:
-            raise Failure(f"dpkg-deb failed: {ran.stderr.decode(errors='replace').strip()}", NOT_BUILT)
+            raise Failure(f"dpkg-deb ended with status {ran.returncode}: {ran.stderr.decode(errors='replace').strip() or 'no message'}",
+                          NOT_BUILT)
         with open(f"{room}/package.deb", "rb") as file:
             return f"{PACKAGE}_{release.version}_{ARCHITECTURE}.deb", file.read()

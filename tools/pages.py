@@ -62,7 +62,8 @@ class Page:
         for place, name in self.named.items():
             if place >= self.end or self.is_data(place):
                 why = (f"only words 000 are there, expected an address up to {self.page}{self.end - 1:03X}" if place >= self.end else
-                       "found a word of the function table or of a name, expected the address of an instruction")
+                       f"found {self.words[place]:03X} of the line `{self.data_at(place)}`, a word of the function table or of a name, "
+                       "expected the address of an instruction")
                 raise Failure(f"--entry {self.page}{place:03X}: {why}")
             if not name:
                 self.labels.setdefault(place, self.unused(f"E{place:03X}"))
@@ -121,7 +122,12 @@ class Page:
 
     def is_data(self, place: int) -> bool:
         """Returns whether a place is inside data."""
-        return any(at <= place < at + count for at, (count, _) in self.data.items() if place - LONGEST_NAME <= at <= place)
+        return self.data_at(place) is not None
+
+    def data_at(self, place: int) -> Optional[str]:
+        """Returns the line of data that a place is inside; None if it is not inside data."""
+        lines = self.data.items()
+        return next((text for at, (count, text) in lines if place - LONGEST_NAME <= at <= place and place < at + count), None)
 
     def target(self, place: int) -> Optional[int]:
         """Returns the target of the jump or call at a place; None if there is none, or if it is outside the page."""

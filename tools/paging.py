@@ -106,5 +106,5 @@ class Pages:
         _, answers = answered(deck)
         lines = [line.decode("latin-1") for line in answers[-1][2]]
         if lines and lines[-1].startswith("! "):
-            raise Failure(f"page {page}: {lines[-1]}: the page cannot be listed")
+            raise Failure(f"page {page}: the bench refused to list its words: {lines[-1]}: please report this with the module")
         return [[line[:4], line[6:13].strip(), line[15:]] for line in lines]

@@ -8,7 +8,9 @@ import re
 import sys
 from typing import TYPE_CHECKING, Callable, NamedTuple, Optional, Sequence
 
+from commandlines import Parser
 from decks import Failure, escape_output
+from misplaced import wrong_page
 from sources import PAGES, Assembled, Faulty
 
 if TYPE_CHECKING:
@@ -73,7 +75,7 @@ def group_of(before: list[Option], parser: argparse.ArgumentParser) -> Optional[
         if name == "--page" and value:
             page = value[0].upper()
             if len(page) != 1 or page not in PAGES:
-                parser.error(f"--page {page}: expected a page from 4 to F")
+                parser.error(wrong_page(page))
         elif name == "--bank" and value:
             if value[0] not in "1234" or len(value[0]) != 1:
                 parser.error(f"--bank {value[0]}: expected a bank from 1 to 4")
@@ -198,7 +200,7 @@ def run_tool(name: str, usage: str, tell: Callable[[Sequence[Assembled], Optiona
         print(usage.strip())
         return 0
     head = re.split(r"  +\(|\n", usage.split("usage: ")[1])[0]
-    parser = argparse.ArgumentParser(prog=name, add_help=False, allow_abbrev=False, usage=head)
+    parser = Parser(prog=name, add_help=False, allow_abbrev=False, usage=head)
     parser.add_argument("--page", action="append")
     parser.add_argument("--bank", action="append")
     parser.add_argument("files", metavar="FILE.asm", nargs="+")

@@ -132,11 +132,15 @@ class Reader:
 
 
 def nearest(name: str, names: Iterable[str]) -> str:
-    """Returns the name that is most like another one; an empty text if none is. Names that differ only in case or order come first."""
-    # Only errors need this module.
+    """Returns the name that is most like another one; an empty text if none is. Names that differ only in case, in letters in place of
+    digits, or in order come first."""
+    # Only errors need these modules.
     from difflib import get_close_matches
+    from operand_causes import LETTERS
     known = list(names)
-    alike = [one for one in known if one.lower() == name.lower()] or [one for one in known if len(one) > 2 and sorted(one) == sorted(name)]
+    alike = ([one for one in known if one.lower() == name.lower()]
+             or [one for one in known if one.translate(LETTERS) == name.translate(LETTERS)]
+             or [one for one in known if len(one) > 2 and sorted(one) == sorted(name)])
     return next(iter(alike or get_close_matches(name, known, 1)), "")
 
 
@@ -181,6 +185,10 @@ def in_digits(name: str, value: Any) -> str:
     return ""
 
 
+# The keys that come before the first table.
+PROJECT_KEYS = ("name", "memory", "size", "programs", "tests", "before", "include")
+
+
 def equates_of(reader: Reader) -> dict[str, str]:
     """Returns the equates: for each name the text that replaces it."""
     found = included_by(reader)
@@ -190,6 +198,8 @@ def equates_of(reader: Reader) -> dict[str, str]:
             raise reader.fail("equates", name, "not a name: expected a letter and up to eleven letters, digits or _")
         digits = isinstance(value, str) and re.fullmatch("[0-9A-Fa-f]{3,4}", value)
         number = isinstance(value, int) and not isinstance(value, bool) and 0 <= value <= 15
+        if not digits and not number and name in PROJECT_KEYS:
+            raise reader.fail("equates", name, f"{name} is a key of the project: write it before the line [equates]")
         if not digits and not number:
             raise reader.fail("equates", name, f'found {shown(value)}, expected an address like "27F3", a word like "0C0", or a decimal '
                               f"number from 0 to 15 like 3{in_digits(name, value)}")
@@ -256,7 +266,7 @@ def project_in(path: str) -> Project:
     """Returns the project in a file, or in the file module.toml of a folder."""
     reader = Reader(path)
     table = reader.table
-    reader.known("", table, ("name", "memory", "size", "programs", "tests", "before", "include", "equates", "page"))
+    reader.known("", table, (*PROJECT_KEYS, "equates", "page"))
     if isinstance(table.get("page"), list):
         raise reader.fail("", "page", "found [[page]], expected a table with a name in single brackets, for example [page.MAIN]")
     tables = reader.value("", table, "page", dict, {}, "tables such as [page.MAIN]")

@@ -1,6 +1,6 @@
 """Single calls for tools/module run and trace."""
 from calls import Call, Caller, Views, ended_well
-from cases import Case, row_of
+from cases import CALLED, Case, is_target, row_of
 from decks import Failure
 from linking import Linked
 from settings import STACK, Wrong
@@ -14,6 +14,9 @@ CPU_SHOWN = ("A", "B", "C", "M", "N", "G", "cpu.T", "ST", "P", "Q", "PT", "CY", 
 def case_of(linked: Linked, target: str, words: list[str]) -> Case:
     """Returns the case of a command line."""
     common = usual(linked.project)
+    if "=" in target and not is_target(target):
+        from case_causes import of_order
+        raise Failure(f"found `{target}`, expected {CALLED}{of_order([target, *words], is_target)}")
     try:
         name, before, _ = row_of([target, *map(requoted, words)], common)
     except Wrong as why:

@@ -1,6 +1,7 @@
 """Work that is divided among cores, machines or the jobs of a batch system: for tools/check, tools/catalogue and tools/play --script. The
 work is a list of items; share I of N has every Nth item from the Ith on. A part is the results of a share, as a text: a line that says
 which share it is, and a line of JSON for each item. Parts are joined in the order of the items."""
+import contextlib
 import json
 import os
 import re
@@ -104,19 +105,23 @@ def spread(work: Callable[[List[Item]], List[Result]], items: Sequence[Item], wo
     together = max(1, min(together, -(-len(items) // (2 * workers))))
     parts = [list(items[at:at + together]) for at in range(0, len(items), together)]
     progress = Progress(len(items), what, has_bar)
+    pool = processes(min(workers, len(parts)))
     try:
-        if len(parts) <= 1 or workers == 1:
-            for part in parts:
-                found = work(part)
+        with pool or contextlib.nullcontext():
+            for part, found in zip(parts, pool.map(work, parts) if pool else map(work, parts)):
                 progress.add(len(part))
                 yield from found
-        else:
-            with ProcessPoolExecutor(min(workers, len(parts))) as pool:
-                for part, found in zip(parts, pool.map(work, parts)):
-                    progress.add(len(part))
-                    yield from found
     finally:
         progress.end()
+
+
+def processes(count: int) -> Optional[ProcessPoolExecutor]:
+    """Returns processes that share work. None if one process is enough, or if the system has no memory that processes share (for example
+    because /dev/shm cannot be written), so that this process does all."""
+    try:
+        return ProcessPoolExecutor(count) if count > 1 else None
+    except (ImportError, NotImplementedError, PermissionError, FileNotFoundError):
+        return None
 
 
 # Parts.

@@ -8,6 +8,7 @@ from difflib import get_close_matches
 from functools import lru_cache
 from typing import Collection, Optional
 
+import keystroke_causes
 import line_causes
 import operand_causes
 from arithmetic import meant
@@ -93,7 +94,8 @@ class Mistake:
         if not self.words:
             return None
         Mistake.names = Mistake.names or own_names() | {"NAME"}
-        of_lines = (self.early, self.colon, self.written_label, self.comment, self.case, self.space) if is_bad_line else (self.digits,)
+        of_lines = ((self.early, self.colon, self.written_label, self.keystrokes, self.comment, self.case, self.letters, self.space)
+                    if is_bad_line else (self.digits,))
         for reading in (self.signs, self.quotes, *of_lines, self.of_others, self.elsewhere, self.operation, self.two, self.label,
                         self.number, self.register, self.bit, self.page_label, *(() if is_bad_line else (self.operand,))):
             found = reading()
@@ -124,6 +126,10 @@ class Mistake:
             return after.end(1) + 1, f"the colon of the label is missing: write {after[1]}:"
         return line_causes.of_label(self.code, self.words[0][0], self.is_instruction)
 
+    def keystrokes(self) -> Optional[tuple[int, str]]:
+        """Finds a line of a keystroke program."""
+        return None if self.is_instruction(self.code) or '"' in self.code else keystroke_causes.cause_of(self.words)
+
     def comment(self) -> Optional[tuple[int, str]]:
         """Finds a comment that begins with other signs."""
         return line_causes.of_comment(self.code, self.words[0][0])
@@ -131,6 +137,10 @@ class Mistake:
     def case(self) -> Optional[tuple[int, str]]:
         """Finds an instruction in lower case."""
         return line_causes.of_case(self.words, {*self.names, *operations()}, self.code)
+
+    def letters(self) -> Optional[tuple[int, str]]:
+        """Finds a letter in place of a digit in an instruction."""
+        return line_causes.of_letters(self.words, [*self.names, *operations()])
 
     def space(self) -> Optional[tuple[int, str]]:
         """Finds an operand that touches its instruction."""
@@ -206,8 +216,9 @@ class Mistake:
         """Finds an operation that the processor does not have."""
         column, first = self.words[0]
         flat = "".join(word for _, word in self.words) if len(self.words) > 2 and self.words[1][1] == "=" else first
-        registers = (line_causes.of_registers(flat, column) or line_causes.of_special(self.body(), column)
-                     or line_causes.of_condition(self.words))
+        body = self.body()
+        registers = (line_causes.of_registers(flat, column) or line_causes.of_exchange(body, column)
+                     or line_causes.of_special(body, column) or line_causes.of_condition(self.words))
         if first in self.names or registers or not OPERATION.fullmatch(flat) or flat in operations():
             is_own = first in self.names or first in operations()
             return registers or (None if is_own else line_causes.of_operation(self.code, column, operations()))
@@ -263,7 +274,7 @@ class Mistake:
         if name in ("LDI", "CON") and re.fullmatch("[0-9A-Fa-f]{3,}", text) and int(text, 16) > GREATEST_WORD:
             return column, operand_causes.above(text)
         if name in OF_NUMBERS and re.fullmatch(r"\$\w+|0x\w+|#\w+|[0-9A-F]+H|0\d+", text) and name not in OF_PLACES and name != "LD@R":
-            return column, f"{text} is not decimal without leading zeros: {name} takes a number such as 5"
+            return self.operand() or (column, f"found {text}, expected " + operand_causes.example(name, operand_causes.kind_of(name, operations())))
         if name in LONG and re.fullmatch("[0-9A-Fa-f]{1,3}|[0-9A-Fa-f]{5,}", text):
             return column, f"{text} has {len(text)} {'digit' if len(text) == 1 else 'digits'}: an address has four, for example 8010"
         return None
@@ -293,6 +304,13 @@ class Mistake:
                 return column, f"{word[1:]} has {len(word) - 1} characters: a name has at most 12"
         return None
 
+    def unknown(self) -> str:
+        """Returns what is reported for a line that shows no cause."""
+        wanted = "expected a label, a mnemonic or a directive"
+        if re.fullmatch(r"[A-Za-z]\w{0,11}", self.code) and self.words[0][0] == 1:
+            wanted = f"expected a mnemonic or a directive; if it is a label, its colon is missing: write {self.code}:"
+        return f"column {self.words[0][0]}: found {self.words[0][1]}, {wanted}" if self.words else wanted
+
     def likely(self) -> Optional[tuple[int, str]]:
         """Returns what a word that is no instruction may be."""
         column, first = self.words[0]
@@ -312,6 +330,9 @@ class Mistake:
         near = [name for name in self.names if sorted(name) == sorted(first.upper()) and len(first) > 2] or near
         if near and near[0] != two.upper():
             return column, f"no instruction {two if ' ' in near[0] else first}; the nearest is {near[0]}"
+        near = line_causes.one_off(first.upper(), {*self.names, *operations()}) if len(first) > 2 else []
+        if near:
+            return column, f"no instruction {first}; the nearest {'is' if len(near) == 1 else 'are'} {' and '.join(near)}"
         near = get_close_matches(first.upper(), [*self.names, *operations()], 1, 0.7)
         if near and near[0] != first.upper():
             return column, f"no instruction {first}; the nearest is {near[0]}"

@@ -11,7 +11,7 @@ from typing import Iterable, Optional
 from decks import (BENCH, LONGEST_LINE, MARK_OF_UTF8, MARKS_OF_UTF16, NO_ANSWER, Failure, block, bytes_of, ended, lines_of, refused,
                    shown, text_of, words_of)
 from matches import begin
-from misplaced import PACKED, UNPACK
+from misplaced import of_content
 
 BLANKS = b" \t"
 PAGES = "456789ABCDEF"
@@ -67,15 +67,16 @@ def source_in(path: str) -> bytes:
     """Returns the text of a file that is a source. Other files are refused with what they may be."""
     data = text_in(path)
     commands = [words_of(line)[:2] for line in data.split(b"\n") if words_of(line) and not line.startswith(b"#")]
-    why = ("the file is empty: expected a source" if not data.strip() else UNPACK if data.startswith(PACKED) else
-           "this is an image of a page, expected a source: plug it with tools/import, and write a source with tools/export source"
-           if path.lower().endswith(".rom") else
-           "found a byte 00, which no text has, expected a source: bytes of a program and images are for tools/import" if b"\0" in data else
-           "this is a deck, expected a source: run it with ./bench run" if path.lower().endswith(".deck") or is_deck(commands) else
-           "this is a project file, expected a source: use tools/module" if path.lower().endswith(".toml") else
-           "this is a file of cases, expected a source: `tests` of a project names it" if path.lower().endswith(".cases") else
-           "this is a file of commands, expected a source: give it to tools/import after the source" if path.lower().endswith(".calls") else
-           "this is a table of inputs, expected a source: tools/module test --table runs it" if path.lower().endswith(".csv") else None)
+    why = ("the file is empty: expected a source" if not data.strip() else of_content(data) or
+           ("this is an image of a page, expected a source: plug it with tools/import, and write a source with tools/export source"
+            if path.lower().endswith(".rom") else
+            f"found a byte 00 in line {data[:data.index(0)].count(10) + 1}, which no text has, expected a source: bytes of a program and "
+            "images are for tools/import" if b"\0" in data else
+            "this is a deck, expected a source: run it with ./bench run" if path.lower().endswith(".deck") or is_deck(commands) else
+            "this is a project file, expected a source: use tools/module" if path.lower().endswith(".toml") else
+            "this is a file of cases, expected a source: `tests` of a project names it" if path.lower().endswith(".cases") else
+            "this is a file of commands, expected a source: give it to tools/import after the source" if path.lower().endswith(".calls") else
+            "this is a table of inputs, expected a source: tools/module test --table runs it" if path.lower().endswith(".csv") else None))
     if why:
         raise Faulty(f"{path}: {why}")
     return data

@@ -1,8 +1,9 @@
 """The theorem of a function as the prover reads it: what it requires, and what the function leaves."""
 from __future__ import annotations
 
+from activebanks import NUMBERS, PAGES, pages_text
 from claims import AnyClaim, Atom, Decimal, Named, Others, Sum
-from codes import Code, Result, known_at_start, negative_free, plain, value_of
+from codes import ADDRESSES, Code, Result, known_at_start, negative_free, plain, value_of
 from symbols import OUTSIDE, REGISTERS, record, register_at, stack, start_of
 
 RELATIONS = {"=": "≡", "<": "<", "<=": "≤", "<>": "≢"}
@@ -85,6 +86,16 @@ use Rattle.h41_reasoning.specs.Decimals.{IsDecimal}
 use Rattle.h41_reasoning.specs.Memory.{HasMemory}
 use Rattle.h41_reasoning.specs.Runs.{HasWords, Reaches, Takes}
 """
+# What the files about a project name too.
+PROJECT_SPEC_IMPORTS = """\
+use Rattle.h41_pages.specs.PageMap.{chosen_at, with_chosen}
+use Rattle.h41_words.specs.declared.rows.Bank.TheVariants.{First, Second, Third, Fourth}
+"""
+PROJECT_IMPORTS = f"""\
+{PROJECT_SPEC_IMPORTS}use Rattle.h41_reasoning.proofs.Banks.{{bank_active, bank_again}}
+use Rattle.h41_reasoning.proofs.OneWord.{{bank_enabled}}
+use Rattle.h41_reasoning.proofs.Plugged.{{chosen_elsewhere, chosen_there, plugged_some, plugged_words}}
+"""
 # The laws that each proof gets, in this order: their types, and what they are called in an answer.
 LAWS = [("straight", "WordIsExecuted", "c.word_is_executed.ensures.straight"),
         ("arithmetic", "ArithmeticIsExecuted", "c.word_is_executed.ensures.arithmetic"),
@@ -121,6 +132,8 @@ def sum_text(one: Sum, now: str) -> str:
 
 def claim_text(claim: AnyClaim, now: str) -> str:
     """Returns a claim as a type."""
+    if isinstance(claim, Named) and claim.name == "BANK":
+        return f"chosen_at {now}.pages {claim.page} ≡ {NUMBERS[int(claim.value) - 1]}"
     if isinstance(claim, Named):
         name, value = value_of(claim) or ("", "")
         return f"{now}.processor.{name} ≡ {value}"
@@ -145,6 +158,8 @@ def only_text(result: Result, of: str = "s", t: str = "t") -> str:
     """Returns the state after a function, in which everything that it does not change is as before."""
     parts = {name: known if known is not None else start_of(name, t) for name, known in sorted(result.changed.items())}
     outside = {name: parts.pop(name) for name in OUTSIDE if name in parts}
+    if result.banks.end:
+        outside[PAGES] = pages_text(f"{of}.{PAGES}", result.banks.end)
     parts |= {"carry": "false", "pc": "r0", "returns": stack(result.returns)}
     return record(of, {"processor": record(f"{of}.processor", parts), **outside})
 
@@ -171,11 +186,22 @@ def laws_of(result: Result) -> list[tuple[str, str, str]]:
     return [*LAWS, *(MEMORY_LAWS if result.uses_memory else [])]
 
 
+def pages_of(code: Code, result: Result) -> list[tuple[str, str]]:
+    """Returns the requirements of a theorem on pages, as names and types: the words are there, and in a project, which banks are
+    active."""
+    if not code.is_project:
+        return [("has", f"HasWords s.pages {code.origin:#06x} module_words")]
+    return [("has", "HasModule s.pages"), *((f"active_0_{page}", f"chosen_at s.pages {page} ≡ {NUMBERS[number - 1]}")
+                                            for page, number in sorted(result.banks.start.items()))]
+
+
 def spec_of(code: Code, result: Result) -> str:
     """Returns the specification of a function."""
-    label, address = result.label, code.labels[result.label]
-    rows = [f"-- What {label} at {address:04X} leaves, and in how many steps it returns.", SPEC_IMPORTS,
-            f"use Rattle.{CRATE}.specs.Words.{{module_words}}", "",
+    label, address = result.label, code.labels[result.label] % ADDRESSES
+    where = f"{address:04X}" if not code.is_project else f"{address:04X} in bank {result.banks.number} of page {result.banks.page:X}"
+    rows = [f"-- What {label} at {where} leaves, and in how many steps it returns.",
+            SPEC_IMPORTS + (PROJECT_SPEC_IMPORTS if code.is_project else ""),
+            f"use Rattle.{CRATE}.specs.Words.{{{'HasModule' if code.is_project else 'module_words'}}}", "",
             f"pub record {done_name(label)} (s : Nut) (r0 r1 r2 r3 : ℕ) (t : Nut) : Type 0 where", "  pub whole : IsWhole t",
             *(f"  pub {name} : ℕ" for name in lost_returns(result)), f"  pub only : t ≡ {only_text(result)}"]
     if "ram" in result.changed:
@@ -183,7 +209,7 @@ def spec_of(code: Code, result: Result) -> str:
     for at, claim in enumerate(result.contract.ensures, 1):
         rows += [f"  -- {claim.text}", f"  pub claim_{at} : {claim_text(claim, 't')}"]
     rows += ["", f"abbrev pub {label}_Returns : Type 0", f"{label}_Returns =", "    (s : Nut) (r0 r1 r2 r3 : ℕ) → IsWhole s",
-             f"    → s.processor.pc ≡ {address:#06x} → HasWords s.pages {code.origin:#06x} module_words",
+             f"    → s.processor.pc ≡ {address:#06x} → {' → '.join(text for _, text in pages_of(code, result))}",
              *([f"    → HasMemory {REGISTERS} s.ram"] if result.uses_memory else []),
              "    → s.processor.returns ≡ r0 ∷ r1 ∷ r2 ∷ r3 ∷ [] → is_closed r0 ≡ false"]
     rows += [f"    → {text}" for _, text in requirements(result)]

@@ -84,10 +84,15 @@ def why_refused(path: str, deck: bytes) -> str:
     return "\n".join(f"{path}:{one.at() + 1}: {one.quoted()}" for one in found)
 
 
-def lines_written(deck: bytes) -> Optional[list[str]]:
-    """Returns the lines that a deck prints; None if a command is refused."""
+def lines_written(deck: bytes) -> tuple[list[str], Optional[str]]:
+    """Returns the lines that a deck prints, and how its first refusal ends a sentence, for example `is refused (16 NoRoom)`; None if no
+    command is refused."""
     status, output = run(deck)
-    return output.decode().splitlines() if status == 0 else None
+    if status not in (0, 1):
+        raise Failure(ended(status, "when it was asked to read the export again"))
+    lines = output.decode().splitlines()
+    refusal = next((f" ({line[2:]})" for line in lines if line.startswith("! ")), "")
+    return lines, f"is refused{refusal}" if status or refusal else None
 
 
 def images_of(state: State, pages: str, bank: int) -> dict[str, bytes]:

@@ -140,7 +140,7 @@ def junit(name: str, reports: list[Report]) -> str:
             lines.append(f"{head}/>")
             continue
         text = "\n".join(report.lines)
-        message = report.lines[0] if report.lines else "the case failed"
+        message = report.lines[0] if report.lines else "the result depends on what the registers contain before the call"
         lines += [f"{head}>", f"<failure message={quoteattr(message)}>{escape(text)}</failure>", "</testcase>"]
     return "\n".join([*lines, "</testsuite>", ""])
 

@@ -4,10 +4,11 @@ from __future__ import annotations
 
 from typing import Any, Iterable
 
+from banksteps import left_by
 from claimproofs import omega
 from codes import Code, Loop, Result, known_at_start
 from loopproofs import LoopProof
-from statements import CRATE, IMPORTS, RETURNS, UNFOLDING, done_name, laws_of, requirements, sum_text
+from statements import CRATE, IMPORTS, PROJECT_IMPORTS, RETURNS, UNFOLDING, done_name, laws_of, pages_of, requirements, sum_text
 from symbols import REGISTERS, Fact, Form, Node, State, Way, argument, form_text, keys_in, stack
 
 
@@ -30,13 +31,13 @@ class Proof:
     def text(self) -> str:
         """Returns the proof as the text of a file."""
         result, label = self.result, self.result.label
-        for row in [f"-- The proof of {label}.", *IMPORTS.splitlines(),
-                    f"use Rattle.{CRATE}.specs.Words.{{module_words}}",
+        for row in [f"-- The proof of {label}.", *IMPORTS.splitlines(), *(PROJECT_IMPORTS if self.code.is_project else "").splitlines(),
+                    words_import(self.code),
                     *(f"use Rattle.{CRATE}.specs.Of_{name}.{{{done_name(name)}, {name}_Returns}}" for name in [label, *result.calls]), ""]:
             self.put(0, row)
         binders = [f"({name} : {law})" for name, law, _ in laws_of(result)]
         binders += [f"(theorem_{name} : {name}_Returns)" for name in result.calls]
-        binders += ["(s : Nut) (r0 r1 r2 r3 : ℕ)", f"(has : HasWords s.pages {self.code.origin:#06x} module_words)"]
+        binders += ["(s : Nut) (r0 r1 r2 r3 : ℕ)", *(f"({name} : {text})" for name, text in pages_of(self.code, result))]
         binders += [f"(is_memory : HasMemory {REGISTERS} s.ram)"] if result.uses_memory else []
         binders += ["(may_return : is_closed r0 ≡ false)"]
         binders += [f"({name} : {text})" for name, text in requirements(result) if name.startswith("required")]
@@ -58,9 +59,10 @@ class Proof:
         needs = [name for name, _ in requirements(result)]
         given = [name for name in needs if name.startswith("required")]
         memory = " is_memory" if result.uses_memory else ""
-        self.put(0, f"proved {' '.join(names)} s r0 r1 r2 r3 whole next has{memory} stack may_return {' '.join(needs)} =")
+        has = " ".join(name for name, _ in pages_of(self.code, result))
+        self.put(0, f"proved {' '.join(names)} s r0 r1 r2 r3 whole next {has}{memory} stack may_return {' '.join(needs)} =")
         self.put(2, f"let here : {root.text()} ≡ s = {here(known)} in")
-        went = (f"go_0 {' '.join(names)} s r0 r1 r2 r3 has{memory} may_return {' '.join(given)} (subst IsWhole (sym here) whole)")
+        went = (f"go_0 {' '.join(names)} s r0 r1 r2 r3 {has}{memory} may_return {' '.join(given)} (subst IsWhole (sym here) whole)")
         count = sum_text(result.bound, "s")
         if not result.is_exact and not result.is_budgeted:
             went = f"more_suffice {result.steps} ({count}) {root.text()} ({done_name(label)} s r0 r1 r2 r3) (omega arith) ({went})"
@@ -80,6 +82,10 @@ class Proof:
             self.put(depth + 1, f"{name} : {kind}")
             self.put(depth + 1, f"{name} = {term}")
         self.facts(node.facts, depth + 1)
+        if node is self.result.root and self.code.is_project:
+            for name, kind, term in self.result.banks.definitions():
+                self.put(depth + 1, f"{name} : {kind}")
+                self.put(depth + 1, f"{name} = {term}")
         if node is self.result.root and self.result.loops:
             self.loops.write(depth + 1)
             self.line, self.claim = node.line, ""
@@ -207,7 +213,7 @@ class Proof:
 
     def write_call(self, node: Node, depth: int, callee: Result, lemma: str, inner: State, *more: Any) -> None:
         """Adds the call of a function that has a theorem."""
-        done, t, steps = more
+        done, t, steps, pages = more
         after = node.nexts[0]
         self.node(after, depth)
         self.head(node, depth)
@@ -219,8 +225,8 @@ class Proof:
         join = "takes_in_turn" if is_exact else "in_turn"
         total = f"(suc {count})" if is_exact else f"(1 + {count})"
         went = (f"{join} {total} {self.count(after)} _ {between} {self.after} ({self.words[1]} {count} _ _ {between} step ({theorem})) "
-                f"(λ {t} {done}. subst (λ v. {self.words[0]} {self.count(after)} v {self.after}) (sym {done}.only) "
-                f"({after.go} {t} {done} (subst IsWhole {done}.only {done}.whole)))")
+                f"(λ {t} {done}. subst (λ v. {self.words[0]} {self.count(after)} v {self.after}) (sym {left_by(done, after, pages)}) "
+                f"({after.go} {t} {done} (subst IsWhole {left_by(done, after, pages)} {done}.whole)))")
         self.put(depth + 2, self.with_steps(node, f"({total} + {self.count(after)})", went, node.proofs[-1]))
 
     def applied(self, node: Node, callee: Result, inner: State, steps: Form, between: str) -> tuple[str, str]:
@@ -228,7 +234,8 @@ class Proof:
         needs = " ".join(f"({proof})" for proof in node.proofs[:-1])
         known = " ".join("refl" for _ in known_at_start(callee.contract))
         memory = f" {self.result.knowledge.rams[inner.of('ram')].has}" if callee.uses_memory else ""
-        theorem = f"theorem_{callee.label} {inner.text()} {' '.join(inner.returns)} step.whole refl has{memory} refl refl {known} {needs}"
+        has = self.result.banks.needs(inner, callee.banks) if self.code.is_project else "has"
+        theorem = f"theorem_{callee.label} {inner.text()} {' '.join(inner.returns)} step.whole refl {has}{memory} refl refl {known} {needs}"
         count = f"({form_text(steps)})" if keys_in(steps) else str(steps.get(None, 0))
         if callee.is_exact and not self.result.is_exact:
             theorem = f"exactly {count} _ {between} ({theorem})"
@@ -236,6 +243,14 @@ class Proof:
             most = str(node.cost - 1)
             return f"more_suffice {count} {most} _ {between} ({node.proofs[-1]}) ({theorem})", most
         return theorem, count
+
+
+def words_import(code: Code) -> str:
+    """Returns the import of the words of the code."""
+    if not code.is_project:
+        return f"use Rattle.{CRATE}.specs.Words.{{module_words}}"
+    names = ", ".join(["HasModule", *(f"words_{bank.name}" for bank in code.banks)])
+    return f"use Rattle.{CRATE}.specs.Words.{{{names}}}\nuse Rattle.{CRATE}.proofs.Kept.{{module_kept}}"
 
 
 def here(known: dict[str, str]) -> str:

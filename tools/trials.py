@@ -9,11 +9,11 @@ from typing import Iterable, Iterator, NamedTuple
 from claims import MEMORY, STACK, WIDE, AnyClaim, Atom, Claim, Contract, Decimal, Named, Others, Steps, Sum
 from decks import BENCH, NO_ANSWER, Failure, ended
 from codes import Code, known_at_start
+from plugging import Plugged, active_bank
 from stubs import stub_of
 
 # How many states are tried, how many are drawn for each that meets the requirements, and the steps after which a call is ended.
 TRIALS, DRAWS, LIMIT = 150, 200, 100_000
-IN_A_LINE = 40
 SHOWN = ("A", "B", "C", "M", "N", "G", "T", "ST", "P", "Q", "PT", "CY", "MODE", "RAM")
 LAST, BESIDE = 13, 16
 
@@ -64,7 +64,8 @@ def total(one: Sum, before: dict[str, str], after: dict[str, str]) -> int:
 def is_true(claim: AnyClaim, before: dict[str, str], after: dict[str, str]) -> bool:
     """Returns whether a claim is true after a call."""
     if isinstance(claim, Named):
-        return after[claim.name] == claim.value
+        name = f"BANK{claim.page:X}" if claim.name == "BANK" else claim.name
+        return after.get(name, claim.value) == claim.value
     if isinstance(claim, Decimal):
         state = before if claim.atom.old else after
         return state[register_of(claim.atom)][LAST - (claim.atom.hi or 0):LAST - (claim.atom.lo or 0) + 1].isdigit()
@@ -153,24 +154,20 @@ class States:
                 return
 
 
-def block(page: str, words: Iterable[int]) -> str:
-    """Returns the block that plugs a page with words."""
-    words = list(words)
-    rows = [" ".join(f"{word:03X}" for word in words[at:at + IN_A_LINE]) for at in range(0, len(words), IN_A_LINE)]
-    return "".join(f"{row}\n" for row in [f"words {page}", *rows, "end"])
-
-
 def run_all(code: Code, label: str, states: list[dict[str, str]]) -> list[Trial]:
     """Returns what calls of a function do from some states."""
-    page = f"{code.origin >> 12:X}"
-    free = "F" if page != "F" else "E"
-    deck = block(page, code.words)
-    shown = "show cpu\n" + "".join(f"show ram {name}\n" for name in shown_memory(code, label))
+    free = code.free or ("F" if code.banks[0].page != 0xF else "E")
+    plugged = Plugged(code, label)
+    if plugged.entry is None:
+        return []
+    deck = plugged.text
+    shown = "show cpu\n" + "".join(f"show ram {name}\n" for name in shown_memory(code, label)) + plugged.shown
     for state in states:
         cpu = {("cpu.T" if name == "T" else name): value for name, value in state.items() if name != "CY" and not name[0].isdigit()}
         memory = {int(name, 16): value for name, value in state.items() if name[0].isdigit()}
-        stub = stub_of(memory, cpu, code.labels[label])
-        deck += f"reset\nunplug {free}\nwords {free}\n{stub.text}end\ncall {free}000\nstep {stub.steps}\n{shown}run {LIMIT}\n{shown}"
+        stub = stub_of(memory, cpu, plugged.entry)
+        deck += (f"reset\nunplug {free}\nwords {free}\n{stub.text}end\ncall {free}000\nstep {stub.steps + plugged.steps}\n{shown}"
+                 f"run {LIMIT}\n{shown}")
     ran = subprocess.run([BENCH, "run", "-"], input=deck.encode(), stdout=subprocess.PIPE, check=False)
     if ran.returncode == NO_ANSWER:
         raise Failure("./bench gave no answer: see its message above", NO_ANSWER)
@@ -208,7 +205,7 @@ def trials_of(lines: list[str]) -> Iterator[Trial]:
 
 
 def registers(lines: list[str], at: int) -> tuple[dict[str, str], int]:
-    """Returns the registers in the five lines of `show cpu` and the lines of `show ram`, and the line after them."""
+    """Returns the registers in the five lines of `show cpu` and the lines of `show ram`, the active banks, and the line after them."""
     found: dict[str, str] = {}
     for part in " ".join(lines[at:at + 4]).split():
         name, _, value = part.partition("=")
@@ -216,6 +213,9 @@ def registers(lines: list[str], at: int) -> tuple[dict[str, str], int]:
     at += 5
     while at < len(lines) and OF_MEMORY.fullmatch(lines[at]):
         name, _, found[lines[at][:3]] = lines[at].partition("=")
+        at += 1
+    while at < len(lines) and (bank := active_bank(lines[at])):
+        found[bank[0]] = bank[1]
         at += 1
     return found, at
 
@@ -230,6 +230,7 @@ def named_in(contract: Contract, claim: AnyClaim | Steps) -> list[str]:
     """Returns the registers that a counterexample shows: those of the claim and of the requirements."""
     claims = [one for one in [*contract.requires, claim] if not isinstance(one, Steps)]
     atoms = [one for each in claims for one in each.atoms()]
+    atoms += claim.count.atoms() if isinstance(claim, Steps) else []
     names = {"ST" if one.name[0] == "S" and one.lo is None else register_of(one) for one in atoms}
     names |= {each.name for each in claims if isinstance(each, Named)}
     names |= {"C"} if not names and not isinstance(claim, Others) else set()
@@ -243,8 +244,14 @@ def judged(contract: Contract, trial: Trial) -> Counterexample | None:
         line = contract.steps.line if contract.steps else contract.line
         why = f"it is refused: {trial.reason}" if is_refused else f"it has not returned after {LIMIT:,} steps"
         return Counterexample(line, "returns", f"from {told(trial.before, SHOWN)} {why}")
+    claimed = {f"BANK{claim.page:X}" for claim in contract.ensures if isinstance(claim, Named)}
+    changed = [name for name in trial.before if name.startswith("BANK") and name not in claimed and trial.after[name] != trial.before[name]]
+    if changed:
+        return other_bank(contract, trial, changed[0][-1])
     for claim in contract.ensures:
         if not is_true(claim, trial.before, trial.after):
+            if isinstance(claim, Named) and claim.name == "BANK":
+                return other_bank(contract, trial, f"{claim.page:X}", claim)
             names = named_in(contract, claim)
             if isinstance(claim, Others):
                 names = [*(name for name in names if not name[0].isdigit()), *changed_registers(claim, trial.before, trial.after)[:1]]
@@ -256,8 +263,18 @@ def judged(contract: Contract, trial: Trial) -> Counterexample | None:
             names = named_in(contract, contract.steps)
             most = f"{'' if contract.steps.is_exact else 'at most '}{count}"
             return Counterexample(contract.steps.line, contract.steps.text,
-                                  f"from {told(trial.before, names)} it takes {trial.steps} steps, expected {most}")
+                                  f"from {told(trial.before, names)} it takes {trial.steps} "
+                                  f"step{'' if trial.steps == 1 else 's'}, expected {most}")
     return None
+
+
+def other_bank(contract: Contract, trial: Trial, page: str, claim: Named | None = None) -> Counterexample:
+    """Returns the counterexample that another bank of a page is active after a call than is claimed, or than before it."""
+    now, before = trial.after[f"BANK{page}"], trial.before[f"BANK{page}"]
+    expected = f"bank {before}: put ENBANK{before} before RTN, or claim `BANK = {now}`" if claim is None else f"bank {claim.value}"
+    names = [name for name in named_in(contract, claim) if name in SHOWN] if claim else ["C"]
+    return Counterexample(claim.line if claim else contract.line, claim.text if claim else "returns",
+                          f"from {told(trial.before, names or ['C'])} it returns with bank {now} of page {page} active, expected {expected}")
 
 
 def sides(claim: AnyClaim, trial: Trial) -> str:

@@ -87,8 +87,8 @@ def copied(name: str, to: IO[bytes]) -> bool:
     return True
 
 
-def rt_try(words: list[str], given: Union[int, IO[bytes]]) -> tuple[bytes, bytes]:
-    """Runs rt try. Returns both outputs. If this process is ended by a signal, it ends too."""
+def rt_try(words: list[str], given: Union[int, IO[bytes]]) -> tuple[int, bytes, bytes]:
+    """Runs rt try. Returns its status and both outputs. If this process is ended by a signal, it ends too."""
     with tempfile.TemporaryFile() as output, tempfile.TemporaryFile() as told:
         rt = subprocess.Popen(["rt", "try", "--seconds", str(SECONDS), *words], cwd=CRATE, stdin=given, stdout=output, stderr=told)
 
@@ -108,14 +108,16 @@ def rt_try(words: list[str], given: Union[int, IO[bytes]]) -> tuple[bytes, bytes
             signal.signal(number, was)
         output.seek(0)
         told.seek(0)
-        return output.read(), told.read()
+        return rt.returncode, output.read(), told.read()
 
 
-def reason_of(told: bytes) -> str:
-    """Returns the reason why the program has not ended, from the messages of rt."""
+def reason_of(status: int, told: bytes) -> str:
+    """Returns the reason why the program has not ended, from the status and the messages of rt."""
     why = NO_ANSWER.search(told)
     if why:
         return next((ours for theirs, ours in REASONS.items() if theirs in why[1]), why[1].decode(errors="replace"))
+    if not told.strip():
+        return f"rt try printed no message and {f'was ended by signal {-status}' if status < 0 else f'ended with status {status}'}"
     return "rt try failed:\n" + told.decode(errors="replace").rstrip()
 
 
@@ -127,10 +129,10 @@ def answer(words: list[str]) -> tuple[int, bytes, bytes]:
     with tempfile.TemporaryFile() as given:
         if at is not None:
             words[at] = "-" if copied(words[at], given) else NO_FILE
-        output, told = rt_try(["--", *words], given)
+        status, output, told = rt_try(["--", *words], given)
     ended = ENDED.search(told)
     if not ended:
-        raise NoAnswer(reason_of(told))
+        raise NoAnswer(reason_of(status, told))
     return int(ended[1]), output, CAUSE.sub(b"", told[:ended.start()])
 
 
@@ -151,10 +153,10 @@ def answers(decks: list[str], memory: str = MEMORY) -> list[Optional[tuple[int, 
                 file.write(named)
             if not is_whole:
                 os.remove(f"{room}/{name}")
-        output, told = rt_try(["--cases", room, "--", *running(memory)], subprocess.DEVNULL)
+        status, output, told = rt_try(["--cases", room, "--", *running(memory)], subprocess.DEVNULL)
     statuses = {name.decode(): int(status) for name, status in CASE.findall(told)}
     if not statuses:
-        raise NoAnswer(reason_of(told))
+        raise NoAnswer(reason_of(status, told))
     parts = re.split(rb"^== (%s-\d+)\n" % mark.encode(), output, flags=re.M)
     written = dict(zip((name.decode() for name in parts[1::2]), parts[2::2]))
     return [(statuses[name], written.get(name, b"")) if name in statuses else None for name in names]

@@ -10,7 +10,8 @@ from typing import Optional, Union
 from decks import block, refused, words_of
 from dialects import as_own
 from documents import codes_of, pairs_of, plain, section_of, tables_of
-from source_causes import Mistake
+from operand_causes import example, kind_of
+from source_causes import Mistake, operations
 from sources import NAME, OF_THE_LINE, Fault, Line
 
 # Operands that are tried. The set of those that an instruction takes is its class.
@@ -164,11 +165,11 @@ def tell_causes(faults: list[Fault]) -> None:
             fault.told.append(f"{one.first.decode()} is a name of another dialect, which tools/import reads as `{name}`"
                               if as_own([fault.text])[0] else
                               f"{one.first.decode()} is `{name}` of another dialect, and its operand cannot be "
-                              f"read" + (f": `{name}` takes {takes[name]}" if name in takes else ""))
+                              f"read: `{name}` takes {takes.get(name) or example(name, kind_of(name, operations())) or 'no operand'}")
         elif like and not may_be_of_others(kind):
             fault.told.append(max(like)[-1])
         elif like or one.refusal == OF_THE_LINE[0]:
-            unknown.append((fault, max(like)[-1] if like else "expected a label, a mnemonic or a directive"))
+            unknown.append((fault, max(like)[-1] if like else Mistake(fault.text, one.line.code).unknown()))
         else:
             fault.told += [f"`{name}` takes {takes[name]}" for name in one.names() if name in takes]
     for (fault, cause), own in zip(unknown, as_own([fault.text for fault, _ in unknown])):

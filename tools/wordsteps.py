@@ -3,18 +3,20 @@ from __future__ import annotations
 
 from typing import TYPE_CHECKING, Callable
 
+from activebanks import in_pages
+from banksteps import back_from, enabled
 from budgets import most
 from bytesteps import BYTES, after_byte
 from claims import FIELDS
-from codes import Instruction, NotProved, Result, form_of, known_at_start, register_of
+from codes import ADDRESSES, Instruction, NotProved, Result, claim_text, form_of, known_at_start, register_of
 from memorysteps import after_memory, is_memory
 from symbols import WIDE, Fact, Form, Node, Span, State, Value, Way, argument, keys_in, literal, start_of, status_bit, with_status
 
 if TYPE_CHECKING:
     from executing import Execution
 
-# The number of addresses.
-ADDRESSES = 0x10000
+# Why an instruction has no step.
+UNSUPPORTED = "tools/prove-module does not support this instruction: see docs/PROVE-YOUR-MODULE.md, What is not supported"
 
 FIELD_NAMES = {"@R": "AtPointer", "S&X": "SignAndExponent", "R<": "ToPointer", "ALL": "All", "P-Q": "PToQ", "XS": "ExponentSign",
                "M": "Mantissa", "MS": "MantissaSign"}
@@ -46,12 +48,13 @@ class Step:
         self.run, self.node, self.instruction, self.state = run, node, instruction, node.state
         self.name, _, self.operand = instruction.text.rpartition(" ")
         self.next_pc = (node.state.pc + len(instruction.words)) % ADDRESSES
-        self.at_next = f"(has {instruction.place} (omega arith))"
+        self.at_next: str = in_pages(instruction, run.banks.has(node.state))
+        self.at_second: str = in_pages(instruction, run.banks.has(node.state), 1)
 
     def unsupported(self, why: str = "") -> NotProved:
         """Returns the error that the instruction is not supported."""
         return NotProved(self.instruction.line, f"`{self.instruction.text}`: "
-                                                f"{why or 'tools/prove-module does not support this instruction'}")
+                                                f"{why or UNSUPPORTED}")
 
     def nexts(self) -> list[Node]:
         """Returns the nodes after the step; none after the return of the function."""
@@ -70,6 +73,8 @@ class Step:
             return [after_byte(self)]
         if is_memory(text):
             return [after_memory(self)]
+        if name == "" and text.startswith("ENBANK"):
+            return [enabled(self)]
         if name in ("JNC", "JC"):
             return self.short_jump()
         if name in ("?NC XQ", "?C XQ", "?NC GO", "?C GO"):
@@ -257,8 +262,7 @@ class Step:
         """Returns the node after LDI."""
         word, before, name = self.instruction.words[1], self.state.of("c"), self.fresh("c")
         digits = word & 15, word >> 4 & 15, word >> 8
-        lemma = (f"load_immediate straight {self.state_text()} {word} {self.node.whole} {self.at_next} (has {self.instruction.place + 1} "
-                 "(omega arith)) refl")
+        lemma = f"load_immediate straight {self.state_text()} {word} {self.node.whole} {self.at_next} {self.at_second} refl"
         node = self.step(lemma, self.state.after(self.next_pc, c=name))
         self.put(node, "c", name, f"slice_set (slice_set (slice_set {argument(before)} 0 {digits[0]}) 1 {digits[1]}) 2 {digits[2]}",
                  Value(name, "word", node, register_of(node, "c"), before, lo=0, hi=2, digits=digits))
@@ -422,13 +426,12 @@ class Step:
         """Returns the nodes after ?NC XQ, ?C XQ, ?NC GO or ?C GO."""
         condition = "Carry" if self.name.startswith("?C") else "NoCarry"
         target, is_call = int(self.operand, 16), self.name.endswith("XQ")
-        second = f"(has {self.instruction.place + 1} (omega arith))"
         args = (f"straight {self.state_text()} {self.node.whole} {target & 0xFF} {self.instruction.words[1]} (omega arith) {self.at_next} "
-                f"{second}")
+                f"{self.at_second}")
         pushed = [f"{self.next_pc:#06x}", *self.state.returns[:3]] if is_call else self.state.returns
         after = self.state.after(target).with_returns(pushed)
         is_taken = self.state.of("carry") == ("true" if condition == "Carry" else "false")
-        callee = self.run.called(target, self.instruction.line) if is_call and is_taken else None
+        callee = self.run.called(self.run.banks.place(after), self.instruction.line) if is_call and is_taken else None
         if callee:
             return [self.call(callee, f"long_jump_taken {args} refl refl", after)]
         return self.split(condition, lambda proof: (f"long_jump_taken {args} ({proof}) refl", after),
@@ -445,7 +448,8 @@ class Step:
             terms[name] = known if known is not None else start_of(name, t)
         names = {"r0": inner.returns[0], "r1": inner.returns[1], "r2": inner.returns[2], "r3": inner.returns[3]}
         returns = tuple(f"{done}.{one}" if one.startswith("return_") else names.get(one, one) for one in callee.returns)
-        node = self.go_on(State(self.next_pc, returns, terms))
+        state, pages = back_from(self, callee, State(self.next_pc, returns, terms))
+        node = self.go_on(state)
         node.variables = [(t, "Nut"), (done, f"{callee.label}_Done {inner.text()} {' '.join(inner.returns)} {t}")]
         run.unknown(node, t, done, [name for name in (*WIDE, "ram") if callee.changed.get(name, "") is None])
         run.assume(node, callee.contract.ensures, inner, f"{done}.claim")
@@ -457,10 +461,12 @@ class Step:
         claimed = run.contract.steps
         if keys_in(steps) and (run.now or not (claimed and claimed.count.parts)):
             if claimed and claimed.is_exact:
-                raise self.unsupported(f"the number of steps of {callee.label} depends on its state, expected a constant: claim `within`")
+                text = f", `{callee.contract.steps.text}`," if callee.contract.steps else ""
+                raise self.unsupported(f"the number of steps of {callee.label}{text} depends on its state, expected a constant: claim "
+                                       "`within`")
             self.node.cost = 1 + most(know, steps, self.node.passed)
             self.node.spent = {None: self.node.cost}
-        self.node.form = "call", callee, lemma, inner, done, t, steps
+        self.node.form = "call", callee, lemma, inner, done, t, steps, pages
         if callee.label not in run.calls:
             run.calls.append(callee.label)
         return node
@@ -470,4 +476,5 @@ class Step:
         for name, value in known_at_start(callee.contract).items():
             found = "false" if name == "carry" else self.state.of(name)
             if found != value:
-                raise self.unsupported(f"{callee.label} requires {name} = {value}, which is not known here")
+                why = f"but here `{claim_text(name, found)}`" if literal(found) else "which is not known here: set it before, or require it"
+                raise self.unsupported(f"{callee.label} requires `{claim_text(name, value)}`, {why}")

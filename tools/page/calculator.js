@@ -25,6 +25,7 @@ let isGone = false;         // whether the bench or the server has ended
 let isServerGone = false;   // whether the server has ended
 let told = -1;              // the number of the last change that the page knows
 let since = 0;              // the first entry that the last action of the user made
+let replayed = 0;           // how many of the first entries repeat commands of a session before, whose refusals were shown already
 let branches = [];          // the branches of the session that were left: their numbers, and what a list shows of them
 let plugs = -1;             // how often pages were plugged or unplugged
 let unsupported = {};       // why keys are not supported, by what is pressed
@@ -50,7 +51,7 @@ async function act(call, tellWhy = tell) {
   }
 }
 
-/** Performs an action that the user has begun. What was shown about the action before it goes away. */
+/** Performs an action that the user has begun. What was shown about the action before it goes away, and so does a question. */
 function begun(call, tellWhy = tell) {
   forget();
   return act(call, tellWhy);
@@ -59,6 +60,8 @@ function begun(call, tellWhy = tell) {
 function forget() {
   since = entries.length;
   tell("");
+  asked = question;
+  closeQuestion();
 }
 
 /** Sends a request. It is repeated if no answer arrives, for example because the server had too many connections. The server executes
@@ -99,7 +102,7 @@ function ask(body, path = "do") {
 /** Stores the states in an answer, and shows the last one. */
 function take(answer) {
   if (answer.session !== session) {
-    [session, entries, past, older, goal, lesson, since, reasons] = [answer.session, [], [], null, null, null, 0, {}];
+    [session, entries, past, older, goal, lesson, since, replayed, reasons] = [answer.session, [], [], null, null, null, 0, 0, {}];
     by("rate").textContent = "";
   }
   if (answer.unsupported) unsupported = answer.unsupported;
@@ -108,7 +111,10 @@ function take(answer) {
   if (answer.lesson) lesson = { ...lesson, ...answer.lesson };
   for (const [number, bytes, reply] of answer.entries) entries[number] = { bytes, text: textOf(bytes), reply };
   remember(answer.states);
-  if (answer.version !== told) [shown, goal] = [null, null];
+  if (answer.version !== told) {
+    [shown, goal] = [null, null];
+    closeQuestion();
+  }
   [waits, told, doing, plugs, branches] = [answer.waits, answer.version, answer.doing, answer.plugs, answer.branches];
   gone(answer.ended, false);
   show();
@@ -198,12 +204,27 @@ function tell(text, isNote = false, ...more) {
 
 const isRefused = ({ text, reply }) => (reply.at(-1) ?? "").startsWith("! ") && !/^\s*show\s+(alpha|display)\s*$/.test(text);
 
+// Commands that execute lines or instructions. They may be those of a button or a key.
+const EXECUTING = /^\s*(?:run|step|trace|key(?:\s+\S+)*\s+SST)\b/;
+
+/** Returns what was refused of an entry: its command, and before it the line or instruction that the command has executed. A refused one
+    remains the next one. */
+function refusedOf({ text, reply }, at) {
+  const words = text.split("\n")[0];
+  const state = EXECUTING.test(words) && past.filter((one) => one.entries === at + 1).at(-1);
+  if (!state?.word) return words;
+  const [mode, place] = state.pos[0].split(" ");
+  if (mode === "Micro") return `${state.word} at ${place} (${words})`;
+  const [, line] = linesOf(state);
+  return line && reply.at(-1).startsWith("! 13 ") ? `line ${line[2]}, ${state.word}, is not supported (${words})` : words;
+}
+
 /** Shows the refusals of the commands that the last action executed, with the usual causes of the last one. */
 function tellRefusals() {
-  const refused = entries.map((entry, at) => [entry, at]).slice(since).filter(([entry]) => isRefused(entry));
+  const refused = entries.map((entry, at) => [entry, at]).slice(Math.max(since, replayed)).filter(([entry]) => isRefused(entry));
   if (!refused.length) return tellStop();
   const [entry, at] = refused.length > 1 ? refused[0] : refused.at(-1);
-  const words = entry.text.split("\n")[0];
+  const words = refusedOf(entry, at);
   const count = refused.length > 1 ? `${refused.length} commands were refused, the first is command ${at + 1}: ` : "";
   const later = refused.length === 1 && at < entries.length - 1 && !waits ? `command ${at + 1} was refused: ` : "";
   const why = reasons[at] ? `: ${reasons[at]}` : "";
@@ -225,7 +246,7 @@ async function tellCauses(text, number) {
 /** Shows why a run stopped, unless it ended by itself. */
 function tellStop() {
   const entry = entries.at(-1);
-  const reason = since < entries.length && !waits && /^ran (\d+) (Break|Limit)$/.exec(entry.reply[0] ?? "");
+  const reason = Math.max(since, replayed) < entries.length && !waits && /^ran (\d+) (Break|Limit)$/.exec(entry.reply[0] ?? "");
   if (!reason) return;
   const why = reason[2] === "Break" ? "Stopped at a breakpoint" : `Stopped after ${Number(reason[1]).toLocaleString("en")} steps`;
   tell(`${why}: Run goes on`, true);

@@ -23,12 +23,18 @@ function fill(id, ...children) {
 const drawings = {};
 const isNew = (id, ...parts) => drawings[id] !== (drawings[id] = JSON.stringify(parts));
 
-/** Scrolls a box, without scrolling the page, so that a part of it is visible. On the large page its panel scrolls instead. */
+/** Scrolls a box, without scrolling the page, so that a part of it is visible as a whole, or as far as the box has room. On the large page
+    its panel scrolls instead. */
 function reveal(inner, part) {
-  if (!part) return;
+  if (!part || !inner.checkVisibility()) return;
   const box = getComputedStyle(inner).overflowY === "visible" ? inner.closest("details") : inner;
-  const place = part.getBoundingClientRect().top - box.getBoundingClientRect().top + box.scrollTop;
-  if (place < box.scrollTop || place > box.scrollTop + box.clientHeight - 40) box.scrollTop = place - box.clientHeight / 3;
+  const { top, height } = part.getBoundingClientRect();
+  const place = top - box.getBoundingClientRect().top + box.scrollTop;
+  // The head of a lesson covers the start of its panel.
+  const covered = box.querySelector("#lesson-head")?.offsetHeight ?? 0;
+  const needed = Math.min(Math.max(height, 40), box.clientHeight - covered - 8);
+  if (place >= box.scrollTop + covered && place + needed <= box.scrollTop + box.clientHeight) return;
+  box.scrollTop = place - Math.max(covered + 8, Math.min(box.clientHeight / 3, box.clientHeight - needed - 8));
 }
 
 /** Moves the focus from one control to another by the arrow keys; `rows` are the controls as they are seen. Tab reaches one of them. */

@@ -28,9 +28,18 @@ async function bringIn(files) {
   const given = await Promise.all(files.map(async (file) => ({ name: file.name, data: await base64Of(file) })));
   tellOfFiles("…", true);
   const answer = await ask({ files: given, page: by("page-in").value }, "import");
-  tellOfFiles(answer.told || "All files were imported.", answer.good);
-  await ask({ do: "go", ...pieces() });
+  if (!answer.good) return tellOfFiles(answer.told);
+  // A file is in if the bench accepts the commands that tools/import made of it.
+  let { brought } = await ask({ do: "go", ...pieces() });
   drive();
+  while (brought?.waits && driver && !isGone) {
+    await moment(50);
+    ({ brought } = await ask(null));
+  }
+  // Another session has begun meanwhile.
+  if (!brought) return tellOfFiles("");
+  const waiting = brought.waits ? "The commands of the files wait: press Continue." : "";
+  return tellOfFiles(brought.told || waiting || "All files were imported.", brought.good);
 }
 
 async function openDeck(file) {

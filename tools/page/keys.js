@@ -80,11 +80,17 @@ async function pressNow(names) {
   }
 }
 
+let fading = null;
+
+/** Lights a key for a moment. No key keeps this, because it would flash again whenever the keys are hidden and shown. */
 function flash(name, isRefused) {
   const key = [...document.querySelectorAll(".key")].find((one) => one.dataset.key === name);
-  key.classList.remove("pressed", "refused");
+  const fade = () => document.querySelectorAll(".pressed, .refused").forEach((one) => one.classList.remove("pressed", "refused"));
+  clearTimeout(fading);
+  fade();
   void key.offsetWidth;
   key.classList.add(isRefused ? "refused" : "pressed");
+  fading = setTimeout(fade, 600);
 }
 
 const TYPED = {

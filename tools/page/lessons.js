@@ -3,6 +3,7 @@
 
 let lessonNames = [];       // the names of all lessons, in their order
 let question = null;        // what is asked before a step: the name of the value, and how the step is made
+let asked = null;           // the question that the last action has answered or removed
 
 /** Fills the list of lessons, in their groups, with their numbers. */
 function listLessons(groups) {
@@ -16,7 +17,6 @@ async function openLesson(name) {
   if (!await isSure()) return;
   await ask({ do: "lesson", name });
   forget();
-  closeQuestion();
   for (const id of ["trace-panel", "lesson"]) by(id).open = true;
   choosePanel("lesson");
   by("lesson").scrollIntoView({ block: "nearest" });
@@ -25,9 +25,9 @@ async function openLesson(name) {
 /** Opens the lesson before the current one, or the one after it. */
 const openBeside = (step) => openLesson(lessonNames[lessonNames.indexOf(lesson.name) + step]);
 
+/** Goes on with the lesson, after a question if there is one. While it is asked, the same button goes on without an answer. */
 async function next(how) {
-  if (how !== "all" && by("asking").checked && openQuestion({ kind: how }, currentCommand(), how === "step")) return;
-  closeQuestion();
+  if (how !== "all" && !asked && by("asking").checked && openQuestion({ kind: how }, currentCommand(), how === "step")) return;
   await makeNext(how);
 }
 
@@ -81,24 +81,25 @@ function showLesson() {
 // ---- Questions
 
 /** Returns the value of a name in a state, as the page shows it. */
-function valueOf(state, name) {
+function valueOf(state, { name, isWord }) {
   if (name === "display") return state.display[0];
   if (name === "ALPHA") return state.alpha[0];
-  if (state.pos[0].startsWith("Micro") || question?.isWord) return partsOf(state.cpu)[name];
+  if (state.pos[0].startsWith("Micro") || isWord) return partsOf(state.cpu)[name];
   const at = ["T", "Z", "Y", "X", "LAST X"].indexOf(name);
   return at >= 0 ? state.numbers[at] : state.values[Number(name.slice(1))];
 }
 
 /** Asks for the next value before a step or a command is executed. Returns whether there is a question about it. */
 function openQuestion(how, command, isStep) {
-  if (question || isGone) return false;
+  if (isGone) return false;
   const { asks, word, pos } = present();
   const isStepped = isStep && /^(step|trace)\b/.test(command) && asks;
   if (!isStepped && !/^key\s/.test(command)) return false;
   question = { ...how, name: isStepped ? asks : "display", isWord: isStepped && pos[0].startsWith("Micro") };
   if (by("large").checked) choosePanel("lesson");
   by("question").hidden = false;
-  by("question-text").textContent = isStepped ? `What is ${asks} after ${word}?` : `What does the display show after ${command}?`;
+  const what = asks === "RTN" ? "are the return addresses, RTN," : `is ${asks}`;
+  by("question-text").textContent = isStepped ? `What ${what} after ${word}?` : `What does the display show after ${command}?`;
   by("answer").value = "";
   by("verdict").textContent = "";
   by("answer").focus();
@@ -111,22 +112,24 @@ function closeQuestion() {
   by("verdict").textContent = "";
 }
 
-/** Returns whether an answer names a value: numbers may be written in other ways, and digits without the zeros before them. */
-function isSame(answer, value) {
+/** Returns whether an answer names a value: numbers may be written in other ways, digits without the zeros before them, and return
+    addresses without the empty ones after them. */
+function isSame(answer, value, { name, isWord }) {
   const [given, wanted] = [answer, value].map((text) => text.trim().toUpperCase().replace(/^"(.*)"$/, "$1"));
   if (given === wanted) return true;
-  if (question.isWord) return /^[0-9A-F]+$/.test(given) && given.replace(/^0+(?=.)/, "") === wanted.replace(/^0+(?=.)/, "");
+  if (name === "RTN") return given !== "" && given.split(/[ ,]+/).join(" ").padEnd(wanted.length, " 0000") === wanted;
+  if (isWord) return /^[0-9A-F]+$/.test(given) && given.replace(/^0+(?=.)/, "") === wanted.replace(/^0+(?=.)/, "");
   return given !== "" && wanted !== "" && Number(given) === Number(wanted);
 }
 
 /** Executes the step that was asked about, and compares the answer with what the bench shows then. */
 async function answerQuestion() {
-  const { name, kind } = question;
-  await makeNext(kind);
-  const value = valueOf(present(), name) ?? "";
+  const answered = asked;
+  if (!answered) return;
   const given = by("answer").value.trim();
-  const [isRight, shownName] = [given !== "" && isSame(given, value), name === "display" ? "the display" : name];
+  await makeNext(answered.kind);
+  const value = valueOf(present(), answered) ?? "";
+  const [isRight, shownName] = [given !== "" && isSame(given, value, answered), answered.name === "display" ? "the display" : answered.name];
   const text = `${shownName} is ${value}${given === "" || isRight ? "" : `, and not ${given}`}.`;
-  closeQuestion();
   by("verdict").textContent = isRight ? `Right: ${text}` : text.replace(/^t/, "T");
 }

@@ -2,12 +2,15 @@
 // The map of memory: each register is a cell that shows its digits on demand.
 
 const STATUS_NAMES = ["T", "Z", "Y", "X", "L", "M", "N", "O", "P", "Q", "⊢", "a", "b", "c", "d", "e"];
-const [MAIN_START, IN_A_ROW] = [0xC0, 16];
+const MAIN_START = 0xC0;
+// How many cells a row has: the first of these numbers for which the rows are not wider than the panel.
+const IN_A_ROW = [16, 8];
 // What a cell shows of its kind, and how it is called.
 const KINDS = { status: ["", "status register"], data: ["R", "data register"], program: ["p", "program"], end: ["E", "program with .END."],
   free: ["·", "free"], unknown: ["?", "not divided"] };
 
 let cellShown = null;       // the address of the register whose digits are shown
+let mapWidth = -1;          // the width of the map for which its rows were made
 
 const hexadecimal = (number) => number.toString(16).toUpperCase().padStart(3, "0");
 
@@ -28,10 +31,10 @@ function nameOf(address, kind, curtain) {
 }
 
 /** Returns the rows of cells, from the highest address down, each with its first address. */
-function rowsOf(count) {
+function rowsOf(count, most) {
   const rows = [];
-  for (let first = 0; first < count; first += IN_A_ROW) {
-    const cells = Array.from({ length: Math.min(IN_A_ROW, count - first) }, (_, at) => {
+  for (let first = 0; first < count; first += most) {
+    const cells = Array.from({ length: Math.min(most, count - first) }, (_, at) => {
       const place = first + at;
       const cell = make("button", { type: "button", class: "cell", tabindex: place ? -1 : 0, "data-at": place });
       for (const kind of ["click", "focus"]) cell.addEventListener(kind, () => showCell(place));
@@ -44,10 +47,25 @@ function rowsOf(count) {
   return rows;
 }
 
+/** Makes the rows of the map. A cell must have room for a finger, and so a narrow panel has fewer cells in a row. */
+function drawCells(count) {
+  const map = by("map");
+  for (const most of IN_A_ROW) {
+    fill("map", ...rowsOf(count, most));
+    if (map.scrollWidth <= map.clientWidth) break;
+  }
+  mapWidth = map.clientWidth;
+}
+
+/** Makes the rows of the map anew if its width has changed. */
+const fitMap = new ResizeObserver(() => {
+  if (past.length && isOpen("memory-panel") && by("map").clientWidth !== mapWidth) showMemory(...looked());
+});
+
 /** Shows the map, with what the last step changed. */
 function showMemory(state, before) {
   const { memory, divided } = state;
-  if (by("map").querySelectorAll(".cell").length !== memory.length) fill("map", ...rowsOf(memory.length));
+  if (by("map").querySelectorAll(".cell").length !== memory.length || by("map").clientWidth !== mapWidth) drawCells(memory.length);
   for (const cell of by("map").querySelectorAll(".cell")) {
     const place = Number(cell.dataset.at);
     const [address, kind] = [addressAt(place), kindOf(addressAt(place), divided)];

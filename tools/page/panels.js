@@ -26,7 +26,7 @@ function show() {
   by("pos").textContent = state.pos[0];
   document.body.classList.toggle("busy", driver !== null && waits > 0);
   document.body.classList.toggle("micro", state.pos[0].startsWith("Micro"));
-  by("next").textContent = state.next ? `${state.word}: ${state.next}` : state.word || withoutModule(state);
+  showNext(state);
   showBreakpoints();
   showStack(state, before);
   showProgram(state);
@@ -43,6 +43,13 @@ function show() {
   showLesson();
 }
 
+/** Shows what is executed next, and whether this is only when a program runs. */
+function showNext(state) {
+  const text = state.next ? `${state.word}: ${state.next}` : state.word || withoutModule(state);
+  const isWaiting = text && state.pos[0].startsWith("Idle");
+  by("next").replaceChildren(...(isWaiting ? [make("span", { class: "none" }, "When the program runs: ")] : []), text);
+}
+
 let saying = null;
 
 /** Shows the annunciators. A screen reader gets the display and the lit ones when they have not changed for a moment. */
@@ -50,7 +57,7 @@ function showLights(state) {
   const lights = lightsOf(state);
   fill("lights", ...lights.map(([name, isLit]) => make("span", { class: isLit ? "lit" : "" }, name)));
   const lit = lights.filter(([, isLit]) => isLit).map(([name]) => name);
-  const said = `${state.display[0] || "(off)"}${lit.length ? ` (${lit.join(" ")})` : ""}`;
+  const said = `${state.display[0].trim() || "empty display"}${lit.length ? ` (${lit.join(" ")})` : ""}`;
   clearTimeout(saying);
   if (!(driver && waits) && by("live").textContent !== said) saying = setTimeout(() => by("live").textContent = said, 200);
 }
@@ -111,13 +118,19 @@ function programLines(kind, lines, next, hasKeys = false) {
     ...(hasKeys && keys ? [make("span", { class: "typing" }, `keys ${keys}`)] : [])));
 }
 
+/** Returns the lines of a program in memory, or while the position is in a page, those of the programs in this page; and the next one. */
+function linesOf(state) {
+  const [mode, place] = state.pos[0].split(" ");
+  const lines = place.startsWith("P") ? state.paged : state.lines.map((text, at) => [text.slice(0, 4), text.slice(5), ...state.coded[at]]);
+  // Null bytes before a line are skipped.
+  return [lines, mode === "Micro" ? undefined : lines.find(([at]) => at >= place.replace("P", ""))];
+}
+
 /** Shows the lines in memory; while the position is in a page, those of the programs in this page. */
 function showProgram(state) {
-  const [mode, place] = state.pos[0].split(" ");
-  const isInPage = place.startsWith("P");
-  const lines = isInPage ? state.paged : state.lines.map((text, at) => [text.slice(0, 4), text.slice(5), ...state.coded[at]]);
-  // Null bytes before a line are skipped.
-  const next = mode === "Micro" ? null : lines.find(([at]) => at >= place.replace("P", ""))?.[0];
+  const isInPage = state.pos[0].split(" ")[1].startsWith("P");
+  const [lines, line] = linesOf(state);
+  const next = line?.[0] ?? null;
   if (!isNew("program", isInPage, lines, next, present().breaks, isGone, state.program)) return;
   fill("program", ...programLines(isInPage ? "p" : "l", lines, next, state.program));
   reveal(by("program"), by("program").querySelector(".next"));
@@ -125,6 +138,7 @@ function showProgram(state) {
 
 let listing = null;         // the page that is listed: its page, its bank, how it is listed, and its rows
 let plugsKnown = -1;        // for which number of plugs the plugged banks are listed
+let pageNames = {};         // the names of the pages: those of their files, or of their first labels
 
 /** Lists the page that is chosen in the panel. */
 async function listPage() {
@@ -141,7 +155,8 @@ function showModules(state) {
     act(findPages);
   }
   const names = state.functions.map((text) => text.replace(/^XROM /, ""));
-  const pages = `Pages ${state.pages.join(", ")}${names.length ? `: ${names.join(", ")}` : ""}`;
+  const plugged = state.pages.map((page) => pageNames[page] ? `${page} (${pageNames[page]})` : page);
+  const pages = `Pages ${plugged.join(", ")}${names.length ? `: ${names.join(", ")}` : ""}`;
   by("modules").textContent = state.pages.length ? pages : "No module is plugged.";
   const next = state.pos[0].split(" ")[1].replace("P", "");
   const isNext = (place) => place === next && (listing.kind === "words") === state.pos[0].startsWith("Micro");
@@ -157,8 +172,10 @@ function showModules(state) {
 async function findPages() {
   const { pages } = await ask({ do: "pages" });
   const chosen = by("list-page").value;
-  by("list-page").replaceChildren(make("option", { value: "" }, "none"), ...pages.map(([page, bank]) =>
-    make("option", { value: `${page} b${bank}` }, `${page}, bank ${bank}`)));
+  pageNames = {};
+  for (const [page, , name] of pages) pageNames[page] ||= name;
+  by("list-page").replaceChildren(make("option", { value: "" }, "none"), ...pages.map(([page, bank, name]) =>
+    make("option", { value: `${page} b${bank}` }, `${page}, bank ${bank}${name ? `: ${name}` : ""}`)));
   by("list-page").value = pages.some(([page, bank]) => `${page} b${bank}` === chosen) ? chosen : "";
   await listPage();
 }
@@ -252,9 +269,9 @@ function goingOn(entry) {
 function showSession(state) {
   const end = shown === null ? entries.length : state.entries;
   const first = Math.max(0, end - MOST_ENTRIES);
-  if (!isNew("session", first, end, entries.slice(first, end).at(-1), session, shown === null ? 0 : state.last)) return;
+  if (!isNew("session", first, end, entries.slice(first, end).at(-1), session, shown === null ? 0 : [state.last, state.doing])) return;
   const rows = entries.slice(first, end).map((entry, at) => {
-    const { text, reply } = shown !== null && first + at === end - 1 ? { text: textOf(state.last[0]), reply: state.last[1] } : entry;
+    const { text, reply } = shown !== null && first + at === end - 1 ? { text: runMade(state) ?? textOf(state.last[0]), reply: state.last[1] } : entry;
     const kind = `reply${reply.at(-1)?.startsWith("! ") ? " refusal" : ""}`;
     const isComment = text.startsWith("#") || !text.trim();
     return make("li", { class: isComment ? "comment" : "" }, ...(isComment ? [] : [goingOn(first + at)]),

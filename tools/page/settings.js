@@ -76,14 +76,19 @@ function choosePanel(id) {
   dress();
 }
 
-/** Keeps the height of the bars at the bottom of the window, so that they do not hide what has the focus. */
-const measureBars = new ResizeObserver(() => document.documentElement.style.setProperty("--bar", `${by("bars").offsetHeight}px`));
+/** Keeps the height of the bars at the bottom of the window. The panels end above them, and what is next in them stays in view. */
+const measureBars = new ResizeObserver(() => {
+  document.documentElement.style.setProperty("--bar", `${by("bars").offsetHeight}px`);
+  for (const id of ["program", "listing", "trace", "parts"]) reveal(by(id), by(id).querySelector(".next"));
+});
 
 function listenToSettings() {
   measureBars.observe(by("bars"));
+  fitMap.observe(by("map"));
   for (const id of CHECKS) by(id).addEventListener("change", keep);
   for (const id of CHOICES) by(id).addEventListener("change", keep);
   by("zeros").addEventListener("change", show);
+  by("asking").addEventListener("change", closeQuestion);
   for (const id of ["large", "tall", "theme", "panel"]) by(id).addEventListener("change", dress);
   darkness.addEventListener("change", dress);
   for (const panel of document.querySelectorAll("details")) {

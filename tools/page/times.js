@@ -24,6 +24,10 @@ function lineMade(state, before) {
   return found ? `${mode} ${place} ${mode === "Micro" ? found[2].slice(9) : found.slice(5)}` : null;
 }
 
+/** Returns the command of a run that is executed in pieces, with the lines or words that were executed up to a state; null if there is
+    none. */
+const runMade = (state) => /^run \d+/.exec(state.doing)?.[0] ?? null;
+
 /** Returns what led to a state: a step, or a command and its reply. */
 function ledTo(state, before) {
   const [bytes, reply] = state.last;
@@ -31,7 +35,7 @@ function ledTo(state, before) {
   // A command that was executed in pieces has a state for each: its name has the steps of this piece.
   const [, kind, count] = /^(step|trace) (\d+)$/.exec(first) ?? [];
   const isPiece = kind && state.made > 0 && state.made < Number(count) && !reply.at(-1)?.startsWith("! ");
-  const head = isPiece ? `${kind} ${state.made}` : first;
+  const head = isPiece ? `${kind} ${state.made}` : runMade(state) ?? first;
   return lineMade(state, before) ?? (reply.length === 1 && !head.startsWith("show") ? `${head}: ${reply[0]}` : head);
 }
 
@@ -85,6 +89,7 @@ let goal = null;            // the number of the state that is looked for, while
     does not have is found first; if another one is asked for meanwhile, that one is shown. */
 async function goTo(place) {
   driver = null;
+  closeQuestion();
   await line;
   const isUnderway = goal !== null;
   goal = Math.max(firstNumber(), Math.min(lastNumber(), place(goal ?? shown ?? lastNumber())));
@@ -176,7 +181,8 @@ const branchHere = () => branchFrom({ state: shown ?? lastNumber() });
 
 async function branchFrom(place) {
   driver = null;
-  await ask({ do: "branch", ...place });
+  const { session: number, waits: count } = await ask({ do: "branch", ...place });
+  if (number === session) replayed = count;
   await drive();
 }
 

@@ -67,23 +67,23 @@ pub(crate) enum Opening {
     /// `READ` or `WRIT`: with `DATA` after it, the instruction with the given word; with a number, the given
     /// instruction that takes a number.
     Data(u16, Numbered),
-    /// The first word of `PUSH ADR`.
+    /// `PUSH`, with which a source line begins if its mnemonic is `PUSH ADR`.
     Push,
-    /// The first word of `POP ADR`.
+    /// `POP`, with which a source line begins if its mnemonic is `POP ADR`.
     Pop,
-    /// The first word of `RAM SLCT`.
+    /// `RAM`, with which a source line begins if its mnemonic is `RAM SLCT`.
     Ram,
-    /// The first word of `PRPH SLCT`.
+    /// `PRPH`, with which a source line begins if its mnemonic is `PRPH SLCT`.
     Peripheral,
-    /// The first word of `FETCH S&X`.
+    /// `FETCH`, with which a source line begins if its mnemonic is `FETCH S&X`.
     Fetch,
-    /// The first word of `SLCT P` and `SLCT Q`.
+    /// `SLCT`, with which a source line begins if its mnemonic is `SLCT P` or `SLCT Q`.
     Select,
-    /// The first word of `GOTO ADR` and `GOTO KEY`.
+    /// `GOTO`, with which a source line begins if its mnemonic is `GOTO ADR` or `GOTO KEY`.
     GoTo,
-    /// The first word of `C=C OR A` and `C=C AND A`.
+    /// `C=C`, with which a source line begins if its mnemonic is `C=C OR A` or `C=C AND A`.
     Logic,
-    /// `?C` or `?NC`: the first word of a return or a jump by address with a condition.
+    /// `?C` or `?NC`, with which a source line begins if it is a return, a call or a jump with a condition.
     If(Condition),
 }
 

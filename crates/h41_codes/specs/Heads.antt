@@ -2,6 +2,8 @@
 -- definitions; of the public contracts only those for lines of one to three bytes do.
 use Rattle.h41_codes.specs.ByteGrammar.{Spells}
 use Rattle.h41_codes.specs.declared.line.Line.{Line}
+use Rattle.h41_codes.specs.declared.heads.Head.{Head}
+use Rattle.h41_codes.specs.declared.heads.Head.TheVariants as heads
 use Rattle.std.specs.Prelude.{ℕ, ◌<◌, ◌≤◌, ◌⊎◌, ◌≡◌, ◌≢◌, ◌+◌, List, [], ◌∷◌, length, slice_index}
 
 -- A number is in the range from the first bound to just below the second.
@@ -21,6 +23,18 @@ IsAlone byte = (line : Line) × Spells (byte ∷ []) line
 -- 00 to GTO 14.
 abbrev pub IsTwoBytes : ℕ → Type 0
 IsTwoBytes first = IsIn 0x90 0xAF first ⊎ IsIn 0xB1 0xC0 first ⊎ IsIn 0xCE 0xD0 first
+
+-- A line of this kind begins with this first byte.
+abbrev pub BeginsKind : ℕ → Head → Type 0
+BeginsKind first heads.OneByte = IsOneByte first
+BeginsKind first heads.Number = IsIn 0x10 0x1D first
+BeginsKind first heads.Named = IsIn 0x1D 0x20 first
+BeginsKind first heads.TwoBytes = IsTwoBytes first
+BeginsKind first heads.Linked = IsIn 0xC0 0xCE first
+BeginsKind first heads.ThreeBytes = IsIn 0xD0 0xF0 first
+BeginsKind first heads.Text = IsIn 0xF0 0x100 first
+-- No line begins with AF or B0.
+BeginsKind first heads.Nothing = IsIn 0xAF 0xB1 first
 
 -- A short line that begins with this first byte has this many bytes.
 abbrev pub IsShort : ℕ → ℕ → Type 0

@@ -1,17 +1,18 @@
 //! The decoder: reads the program line with which bytes begin.
 ghost use Rattle.std.specs.Prelude.{◌≡◌, ℕ, ◌+◌, ◌*◌, ◌<◌, ◌≤◌, ◌↔◌, ◌⊎◌, [], ◌∷◌, map, length};
 ghost use Rattle.std.specs.Prelude.{take, drop, slice_index, IfOk, OnErr, IfSome, IfNone, IsErr};
-ghost use Rattle.std.specs.Prelude.{IsTrue, Ok};
+ghost use Rattle.std.specs.Prelude.{Ok};
 ghost use Rattle.h41_codes.specs.ByteGrammar.{spelling, text_bytes, IsBytes, IsLine, Spells};
 ghost use Rattle.h41_codes.specs.ByteGrammar.{Begins, BeginsNoLine, AnswersLine};
 ghost use Rattle.h41_codes.specs.ByteGrammar.{link_high, link_low};
 ghost use Rattle.h41_codes.specs.Codes as code;
-ghost use Rattle.h41_codes.specs.Heads.{IsAlone, IsOneByte, IsTwoBytes, IsIn, LacksText};
+ghost use Rattle.h41_codes.specs.Heads.{IsOneByte, IsTwoBytes, IsIn, LacksText};
 ghost use Rattle.h41_codes.specs.Heads.{IsWholeRun};
 
 use crate::characters::{Character, NUMBER_MOST, Number, Text};
 use crate::faults::BrokenProgram;
 use crate::functions::NameFunction;
+use crate::heads::{Head, head_of};
 use crate::line::Line;
 use crate::numbers::{EndMarks, FinalMarks, Link};
 use crate::short_lines::{short_branch, short_byte, short_pair};
@@ -38,15 +39,15 @@ fn front(bytes: &[u8]) -> Result<(Line, usize), BrokenProgram>
         return Err(BrokenProgram);
     }
     let first = bytes[0];
-    match first {
-        0x00..=0x0F | 0x20..=0x8F => Ok((one_byte(first), 1)),
-        0x10..=0x1C => Ok(number(bytes)),
-        0x1D..=0x1F => named(bytes),
-        0x90..=0xAE | 0xB1..=0xBF | 0xCE | 0xCF => pair(bytes),
-        0xC0..=0xCD => linked(bytes),
-        0xD0..=0xEF => triple(bytes),
-        0xF0..=0xFF => text(bytes),
-        0xAF | 0xB0 => Err(BrokenProgram),
+    match head_of(first) {
+        Head::OneByte => Ok((one_byte(first), 1)),
+        Head::Number => Ok(number(bytes)),
+        Head::Named => named(bytes),
+        Head::TwoBytes => pair(bytes),
+        Head::Linked => linked(bytes),
+        Head::ThreeBytes => triple(bytes),
+        Head::Text => text(bytes),
+        Head::Nothing => Err(BrokenProgram),
     }
 }
 
@@ -56,24 +57,9 @@ pub fn one_byte_line(byte: u8) -> Option<Line>
     ensures some { IfSome result (λ line. IsOneByte byte × Spells (byte ∷ []) line) }
     ensures none { IfNone result (IsOneByte byte → ⊥) }
 {
-    match byte {
-        0x00..=0x0F | 0x20..=0x8F => Some(one_byte(byte)),
+    match head_of(byte) {
+        Head::OneByte => Some(one_byte(byte)),
         _ => None,
-    }
-}
-
-/// Returns whether a byte is a program line on its own (the null, a label 00 to 14, `RCL` or `STO` of a register 00 to
-/// 15, or a function without an operand), without building the line.
-pub fn is_one_byte(byte: u8) -> bool
-    ensures which { IsTrue result ↔ IsOneByte byte }
-    ensures line { IsTrue result → IsAlone byte }
-{
-    match byte {
-        0x00..=0x0F | 0x20..=0x8F => {
-            let _line = one_byte(byte);
-            true
-        }
-        _ => false,
     }
 }
 
@@ -84,15 +70,15 @@ pub fn two_byte_line(first: u8, second: u8) -> Option<Line>
     ensures some { IfSome result (λ line. IsTwoBytes first × Spells (first ∷ second ∷ []) line) }
     ensures none { IfNone result (IsTwoBytes first → ⊥) }
 {
-    match first {
-        0x90..=0xAE | 0xB1..=0xBF | 0xCE | 0xCF => Some(two_bytes(first, second)),
+    match head_of(first) {
+        Head::TwoBytes => Some(two_bytes(first, second)),
         _ => None,
     }
 }
 
 /// Returns the program line that is spelled by one byte: the null, a label 00 to 14, `RCL` or `STO` of a register 00 to
 /// 15, or a function without an operand.
-fn one_byte(first: u8) -> Line
+pub(crate) fn one_byte(first: u8) -> Line
     requires { IsOneByte first }
     ensures spelled { spelling result ≡ first ∷ [] }
     ensures valid { IsLine result }
@@ -165,7 +151,7 @@ fn number_length(bytes: &[u8]) -> usize
     ensures whole { IsWholeRun bytes.now result }
 {
     for (count, byte) in bytes.iter().enumerate() {
-        if count == NUMBER_MOST || *byte < 0x10 || *byte > 0x1C {
+        if count == NUMBER_MOST || !matches!(head_of(*byte), Head::Number) {
             return count;
         }
     }

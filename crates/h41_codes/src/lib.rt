@@ -8,6 +8,7 @@ mod decoder;
 mod encoder;
 mod faults;
 mod functions;
+mod heads;
 pub mod laws;
 mod line;
 mod numbers;
@@ -16,10 +17,11 @@ mod table;
 
 pub use canonical::canon;
 pub use characters::{Character, NUMBER_MOST, Number, Text, exponent_place};
-pub use decoder::{decode, is_one_byte, one_byte_line, two_byte_line};
+pub use decoder::{decode, one_byte_line, two_byte_line};
 pub use encoder::{LINE_CAPACITY, encode};
 pub use faults::{BrokenProgram, BufferShort};
 pub use functions::{Branch, Function, NameFunction, ParameterFunction, RegisterFunction};
+pub use heads::{Head, head_of};
 pub use line::{Line, Operand};
 pub use numbers::{
     Distance, EndMarks, EntryNumber, FinalMarks, Link, ModuleNumber, Parameter, ShortLabel,

@@ -6,6 +6,7 @@ ghost use Rattle.h41_codes.specs.Heads.{IsIn, IsOneByte, IsShort, IsTwoBytes};
 ghost use Rattle.h41_codes.specs.ShortLines.{BeginsNoShort, BeginsShorts, line_of};
 
 use crate::functions::{Branch, Function, ParameterFunction, RegisterFunction};
+use crate::heads::{Head, head_of};
 use crate::line::{Line, Operand};
 use crate::numbers::{Distance, EntryNumber, ModuleNumber, Parameter, ShortLabel, ShortRegister};
 use crate::table::{function, parameter_function};
@@ -54,21 +55,20 @@ impl ShortLine {
 }
 
 /// Returns the number of bytes, 1 to 3, of a program line without characters that begins with a given byte. `None` if
-/// the byte begins other lines (null, number, text, global label, END, line with a name) or none. The kinds of lines
-/// that are most frequent in programs are tested first.
+/// the byte begins other lines (null, number, text, global label, END, line with a name) or none.
 #[inline(always)]
 pub fn short_size(first: u8) -> Option<u16>
     ensures some { IfSome result (IsShort first) }
     ensures size { IfSome result (BeginsShorts first) }
     ensures none { IfNone result ((rest : List ℕ) → BeginsNoShort (first ∷ rest)) }
 {
-    if first >= 0x20 && first < 0x90 {
-        return Some(1);
+    if first == 0x00 {
+        return None;
     }
-    match first {
-        0x01..=0x0F => Some(1),
-        0x90..=0xAE | 0xB1..=0xBF | 0xCE | 0xCF => Some(2),
-        0xD0..=0xEF => Some(3),
+    match head_of(first) {
+        Head::OneByte => Some(1),
+        Head::TwoBytes => Some(2),
+        Head::ThreeBytes => Some(3),
         _ => None,
     }
 }

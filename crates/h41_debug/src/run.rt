@@ -96,8 +96,10 @@ impl<const REGS: usize> Bench<REGS> {
     }
 
     /// Executes words while a function in microcode runs: up to the limit, to the end of the function, to a breakpoint,
-    /// or to a word that is refused. `from` steps of at most `limit` were made before. Returns how many are made then
-    /// in all, and why the next one is refused, if it is. The machine code of words is in this loop only.
+    /// or to a word that is refused. `caller` is what continues when the function ends. `from` steps of at most `limit`
+    /// were made before. Breakpoints are tested if `watched` is true; otherwise none may be set. Returns how many steps
+    /// are made then in all, and why the next one is refused, if it is. Only this function calls `step_word`, so that
+    /// its machine code exists once.
     #[inline(never)]
     fn words(
         &mut self,
@@ -207,8 +209,9 @@ impl<const REGS: usize> Bench<REGS> {
     }
 }
 
-/// Returns after how many steps in all breakpoints are tested next: after one more than the `made` ones if `watched`,
-/// otherwise after the last, `limit`.
+/// Returns the number of steps from the start of the run after which breakpoints are next tested. If a breakpoint is
+/// set (`watched`), this is one more than the `made` steps so far. Otherwise it is `limit`, the greatest number of
+/// steps.
 #[inline(always)]
 fn next_look(made: u32, limit: u32, watched: bool) -> u32
     requires { made < limit }

@@ -184,25 +184,25 @@ impl Key {
 /// A decimal digit that a digit key types.
 #[derive(Clone, Copy, Debug, PartialEq, Eq)]
 pub enum Digit {
-    /// The digit 0.
+    /// `0`, as the key with this digit types it.
     Zero,
-    /// The digit 1.
+    /// `1`, as the key with this digit types it.
     One,
-    /// The digit 2.
+    /// `2`, as the key with this digit types it.
     Two,
-    /// The digit 3.
+    /// `3`, as the key with this digit types it.
     Three,
-    /// The digit 4.
+    /// `4`, as the key with this digit types it.
     Four,
-    /// The digit 5.
+    /// `5`, as the key with this digit types it.
     Five,
-    /// The digit 6.
+    /// `6`, as the key with this digit types it.
     Six,
-    /// The digit 7.
+    /// `7`, as the key with this digit types it.
     Seven,
-    /// The digit 8.
+    /// `8`, as the key with this digit types it.
     Eight,
-    /// The digit 9.
+    /// `9`, as the key with this digit types it.
     Nine,
 }
 

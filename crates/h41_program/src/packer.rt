@@ -123,8 +123,8 @@ impl Packer {
         }
     }
 
-    /// Appends the encoded bytes of a line to those of the packed lines if there are then at most 2237. Otherwise sets
-    /// `full` and appends nothing.
+    /// Appends the encoded bytes of a line to those of the packed lines if there are then at most 2237, and `full` is
+    /// not set. Otherwise sets `full` and appends nothing.
     fn push_line(&mut self, line: &Line)
         requires { IsLine line.now }
         ensures { Pushes self.old self.new (spelling line.now) }
@@ -134,8 +134,8 @@ impl Packer {
         self.push(&out[..count]);
     }
 
-    /// Appends bytes to those of the packed lines if there are then at most 2237. Otherwise sets `full` and appends
-    /// nothing.
+    /// Appends bytes to those of the packed lines if there are then at most 2237, and `full` is not set. Otherwise sets
+    /// `full` and appends nothing.
     fn push(&mut self, more: &[u8])
         ensures { Pushes self.old self.new more.now }
     {

@@ -23,7 +23,7 @@ use crate::refusal::ProgramRefusal;
 use arrayvec::ArrayVec;
 use h41_codes::laws::{byte_round_trip, first_bytes, line_or_none};
 use h41_codes::{
-    Line, ShortLine, decode, is_one_byte, one_byte_line, short_line as short_line_of, short_size,
+    Head, Line, ShortLine, decode, head_of, one_byte_line, short_line as short_line_of, short_size,
     two_byte_line,
 };
 use h41_digits::{Reg, eight_bytes, number_byte};
@@ -270,22 +270,20 @@ fn place_at<const REGS: usize>(ram: &Ram<REGS>, at: u16, byte: u8, limit: u16) -
     ensures none { IfNone result (BeginsNothing ram.now.registers at limit) }
 {
     first_bytes();
-    if is_one_byte(byte) {
-        return Some(LinePlace {
+    match head_of(byte) {
+        Head::OneByte => Some(LinePlace {
             position: at,
             behind: at + 1,
             ends_program: false,
             ends_memory: false,
-        });
-    }
-    match byte {
-        0x10..=0x1C => fitting(ram, at, limit, number_size(ram, at, limit)),
-        0x1D..=0x1F => named_at(ram, at, limit),
-        0xAF | 0xB0 => None,
-        0xC0..=0xCD => linked_at(ram, at, limit),
-        0xD0..=0xEF => fitting(ram, at, limit, 3),
-        0xF0..=0xFF => fitting(ram, at, limit, u16::from(byte - 0xF0) + 1),
-        _ => fitting(ram, at, limit, 2),
+        }),
+        Head::Number => fitting(ram, at, limit, number_size(ram, at, limit)),
+        Head::Named => named_at(ram, at, limit),
+        Head::TwoBytes => fitting(ram, at, limit, 2),
+        Head::Linked => linked_at(ram, at, limit),
+        Head::ThreeBytes => fitting(ram, at, limit, 3),
+        Head::Text => fitting(ram, at, limit, u16::from(byte - 0xF0) + 1),
+        Head::Nothing => None,
     }
 }
 
@@ -321,8 +319,9 @@ fn number_size<const REGS: usize>(ram: &Ram<REGS>, at: u16, limit: u16) -> u16
     let most = limit.min(at + NUMBER_MOST);
     for position in at + 1..most {
         let byte = byte_at(ram, position);
-        if byte < 0x10 || byte > 0x1C {
-            return position - at;
+        match head_of(byte) {
+            Head::Number => {}
+            _ => return position - at,
         }
     }
     most - at
@@ -549,12 +548,12 @@ fn position_past_nulls<const REGS: usize>(ram: &Ram<REGS>, at: u16) -> u16
     if position == last {
         return final_place(ram, last).position;
     }
-    if is_one_byte(byte) || byte < 0x1D {
-        return position;
-    }
-    match place_at(ram, position, byte, last) {
-        Some(first) => first.position,
-        None => at,
+    match head_of(byte) {
+        Head::OneByte | Head::Number => position,
+        _ => match place_at(ram, position, byte, last) {
+            Some(first) => first.position,
+            None => at,
+        },
     }
 }
 

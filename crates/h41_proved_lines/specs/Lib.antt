@@ -1,2 +1,4 @@
 pub mod AbsoluteDifference
 pub mod GreatestCommonDivisor
+pub mod SumOfRegisters
+pub mod Bisection

@@ -13,3 +13,4 @@ pub mod Changes
 pub mod Memory
 pub mod Decimals
 pub mod Bytes
+pub mod Plugged

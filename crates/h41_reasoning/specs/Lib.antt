@@ -3,3 +3,4 @@ pub mod WordRuns
 pub mod Rounds
 pub mod Memory
 pub mod Decimals
+pub mod Plugged

@@ -1,36 +1,37 @@
 -- What functions of one number and of two compute, from the numbers in registers.
-use Rattle.std.proofs.Common.{◌≡◌, ℕ, Bool, true, false, List, Option, Some, None, Ok, refl, sym, ap, ◌∙◌, subst}
-use Rattle.std.specs.Prelude.{◌&&◌, is_some, ℤ, pos, ◌+ℤ◌, ◌-ℤ◌, ◌*ℤ◌, unsigned_abs}
+use Rattle.std.proofs.Common.{◌≡◌, ℕ, Bool, true, false, List, [], ◌∷◌, Option, Some, None, Ok, refl, sym, ap, ◌∙◌, subst}
+use Rattle.std.specs.Prelude.{◌&&◌, int_le, int_lt, is_some, ℤ, pos, ◌+ℤ◌, ◌-ℤ◌, ◌*ℤ◌, unsigned_abs}
 use Rattle.std.specs.Option.{option_map_or}
 use Rattle.h41_decimal.specs.Holding.{Number, holding_of, number_in, worth}
 use Rattle.h41_decimal.specs.NearestDecimal.{Nearest}
-use Rattle.h41_decimal.specs.Operations.{NearestModulo}
+use Rattle.h41_decimal.specs.Operations.{NearestModulo, NearestQuotient}
 use Rattle.h41_decimal.specs.Units.{one, units}
 use Rattle.h41_decimal.specs.declared.ten.Ten.{Ten}
 use Rattle.h41_decimal.proofs.Registers.{worth-holding_of}
 use Rattle.h41_focal.specs.LineStep.{Works}
 use Rattle.h41_ram.specs.RegisterMap.{RegisterMap}
-use Rattle.h41_rows.specs.Places.{X, Y, amount_in}
-use Rattle.h41_rows.specs.Rows.{of_x, of_y_and_x}
+use Rattle.h41_rows.specs.Places.{X, Y, amount_in, are_numbers}
+use Rattle.h41_rows.specs.RowEffects.{holds_in}
+use Rattle.h41_rows.specs.Rows.{AtMost, Below, In, of_x, of_y_and_x}
 use Rattle.h41_rows.specs.Values.{IsRegisterOf}
 use Rattle.h41_rows.specs.Values as values
 use Rattle.h41_reasoning_lines.specs.Stacks.{Stack, with_stack}
 use Rattle.h41_reasoning_lines.proofs.Stepping.{holding_true}
 
 -- The number that a register contains can be read.
-number_there : (register : List ℕ) (number : ℤ) → holding_of register ≡ Number number → number_in register ≡ Some number
+pub number_there : (register : List ℕ) (number : ℤ) → holding_of register ≡ Number number → number_in register ≡ Some number
 number_there register number holds = sym (worth-holding_of register) ∙ ap worth holds
 
-there : (found : Option ℤ) (number : ℤ) → found ≡ Some number → is_some found ≡ true
+pub there : (found : Option ℤ) (number : ℤ) → found ≡ Some number → is_some found ≡ true
 there (Some other) number is = refl
 there None number is = absurd (cc)
 
-both : (first second : Bool) → first ≡ true → second ≡ true → (first && (second && true)) ≡ true
+pub both : (first second : Bool) → first ≡ true → second ≡ true → (first && (second && true)) ≡ true
 both true true is other = refl
 both true false is other = other
 both false second is other = is
 
-amount_of : (register : List ℕ) (number : ℤ) → holding_of register ≡ Number number
+pub amount_of : (register : List ℕ) (number : ℤ) → holding_of register ≡ Number number
     → option_map_or (λ (value : ℤ). value) (worth (holding_of register)) (pos 0) ≡ number
 amount_of register number holds = ap (λ holding. option_map_or (λ (value : ℤ). value) (worth holding) (pos 0)) holds
 
@@ -84,6 +85,17 @@ module _ (stack : Stack) (memory : RegisterMap) (y x : ℤ) (in_y : holding_of s
         kept = is;
       }
 
+  pub divided : NearestQuotient y x (Ok answer) → Works here 0 (of_y_and_x (values.Quotient Y X)) (Ok result)
+  divided nearest =
+      holding_true (is_some (number_in stack.y) && (is_some (number_in stack.x) && true)) _ _ numbers
+      record {
+        answer = Ok answer;
+        nearest =
+            subst (λ (a : ℤ). NearestQuotient a (amount_in here 0 X) (Ok answer)) (sym y_is)
+            (subst (λ (b : ℤ). NearestQuotient y b (Ok answer)) (sym x_is) nearest);
+        kept = is;
+      }
+
   pub reduced : (a b : Ten) → units a ≡ y → units b ≡ x → NearestModulo a b (Ok answer)
       → Works here 0 (of_y_and_x (values.Remainder Y X)) (Ok result)
   reduced a b a_is b_is nearest =
@@ -96,6 +108,18 @@ module _ (stack : Stack) (memory : RegisterMap) (x : ℤ) (in_x : holding_of sta
   only_x : (is_some (number_in stack.x) && true) ≡ true
   only_x = both true (is_some (number_in stack.x)) refl (there (number_in stack.x) x (number_there stack.x x in_x))
 
+  -- X^2.
+  pub squared : Nearest (x *ℤ x) one (Ok answer) → Works (with_stack stack memory) 0 (of_x (values.Product X X)) (Ok result)
+  squared nearest =
+      holding_true (is_some (number_in stack.x) && (is_some (number_in stack.x) && true)) _ _
+      (both (is_some (number_in stack.x)) (is_some (number_in stack.x)) (there (number_in stack.x) x (number_there stack.x x in_x))
+      (there (number_in stack.x) x (number_there stack.x x in_x)))
+      record {
+        answer = Ok answer;
+        nearest = subst (λ (a : ℤ). Nearest (a *ℤ a) one (Ok answer)) (sym (amount_of stack.x x in_x)) nearest;
+        kept = is;
+      }
+
   pub made_absolute : Nearest (pos (unsigned_abs x)) 1 (Ok answer)
       → Works (with_stack stack memory) 0 (of_x (values.AbsoluteValue X)) (Ok result)
   made_absolute nearest =
@@ -106,3 +130,34 @@ module _ (stack : Stack) (memory : RegisterMap) (x : ℤ) (in_x : holding_of sta
             subst (λ (a : ℤ). Nearest (pos (unsigned_abs a)) 1 (Ok answer)) (sym (amount_of stack.x x in_x)) nearest;
         kept = is;
       }
+
+-- Comparisons of X and Y.
+module _ (stack : Stack) (memory : RegisterMap) (y x : ℤ) (in_y : holding_of stack.y ≡ Number y)
+    (in_x : holding_of stack.x ≡ Number x) where
+  pub comparable : are_numbers (with_stack stack memory) 0 (X ∷ Y ∷ []) ≡ true
+  comparable =
+      both (is_some (number_in stack.x)) (is_some (number_in stack.y)) (there (number_in stack.x) x (number_there stack.x x in_x))
+      (there (number_in stack.y) y (number_there stack.y y in_y))
+
+  -- X<Y?
+  pub tells_below : holds_in (with_stack stack memory) 0 (Below (In X) (In Y)) ≡ int_lt x y
+  tells_below =
+      ap (λ (a : ℤ). int_lt a (amount_in (with_stack stack memory) 0 Y)) (amount_of stack.x x in_x)
+      ∙ ap (λ (b : ℤ). int_lt x b) (amount_of stack.y y in_y)
+
+  -- X<=Y?
+  pub tells_at_most : holds_in (with_stack stack memory) 0 (AtMost (In X) (In Y)) ≡ int_le x y
+  tells_at_most =
+      ap (λ (a : ℤ). int_le a (amount_in (with_stack stack memory) 0 Y)) (amount_of stack.x x in_x)
+      ∙ ap (λ (b : ℤ). int_le x b) (amount_of stack.y y in_y)
+
+  pub comparable_turned : are_numbers (with_stack stack memory) 0 (Y ∷ X ∷ []) ≡ true
+  comparable_turned =
+      both (is_some (number_in stack.y)) (is_some (number_in stack.x)) (there (number_in stack.y) y (number_there stack.y y in_y))
+      (there (number_in stack.x) x (number_there stack.x x in_x))
+
+  -- X>Y?
+  pub tells_above : holds_in (with_stack stack memory) 0 (Below (In Y) (In X)) ≡ int_lt y x
+  tells_above =
+      ap (λ (b : ℤ). int_lt b (amount_in (with_stack stack memory) 0 X)) (amount_of stack.y y in_y)
+      ∙ ap (λ (a : ℤ). int_lt y a) (amount_of stack.x x in_x)

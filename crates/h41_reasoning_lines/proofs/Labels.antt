@@ -193,6 +193,28 @@ module _ (memory : RegisterMap) (sound : is_sound memory ≡ true) where
     is = none_or (label_in n onward) (label_in n listed) (Some target) nothing found;
   }
 
+  found_here : (first second : Option ListedLine) (target : ℕ) → Some target ≡ position_of first
+      → Some target ≡ position_of (option_or first second)
+  found_here None second target is = absurd (cc)
+  found_here (Some line) second target is = is
+
+  -- GTO finds a label between itself and the END.
+  pub found_onward : ReadIsDetermined → (start at n target : ℕ) (all listed onward : List ListedLine) → ReadsThere 0 all
+      → ReadsThere start listed → ReadsThere at onward → start ≡ start_in start all → start ≤ at
+      → NoneOf (ends_before at) listed → Some target ≡ position_of (label_in n onward)
+      → AnswersLocal memory at n (Some target)
+  found_onward determined start at n target all listed onward all_read read onward_read begins from none found = record {
+    lines = all;
+    onward = onward;
+    own = listed;
+    all = lines_from memory sound 0 all all_read;
+    from = lines_from memory sound at onward onward_read;
+    program =
+        subst (λ (own : ℕ). LinesFrom memory own listed) (sym (own_start determined start at all listed all_read read begins from none))
+        (lines_from memory sound start listed read);
+    is = found_here (label_in n onward) (label_in n listed) target found;
+  }
+
   -- Searches in a list of lines.
   pub label_here : (at n : ℕ) (listed : List ListedLine) (line : Line) (here : IsListed memory at listed line) → is_label n line ≡ true
       → Some here.first.position ≡ position_of (label_in n listed)

@@ -5,3 +5,5 @@ pub mod Stepping
 pub mod Computing
 pub mod Wholes
 pub mod Labels
+pub mod Registers
+pub mod DataRegisters

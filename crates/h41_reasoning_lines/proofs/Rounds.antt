@@ -61,6 +61,18 @@ module _ (pages : PageMap) where
   by_last s left After step is =
       record { count = 0; bound = omega arith; before = s; run = refl; left = left; last = step; property = is }
 
+  pub more_lines_suffice : (most more : ℕ) (s : Machine) (After : Left → Type 0) → most ≤ more → Leaves pages most s After
+      → Leaves pages more s After
+  more_lines_suffice most more s After enough one = record {
+    count = one.count;
+    bound = omega (arith, enough, one.bound);
+    before = one.before;
+    run = one.run;
+    left = one.left;
+    last = one.last;
+    property = one.property;
+  }
+
   -- A line, and the lines after it up to the last one.
   pub line_then : (most : ℕ) (s t : Machine) (After : Left → Type 0) → Continues pages s t → Leaves pages most t After
       → Leaves pages (1 + most) s After

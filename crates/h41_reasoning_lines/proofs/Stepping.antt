@@ -6,8 +6,9 @@ use Rattle.std.specs.Option.{option_map_or}
 use Rattle.h41_codes.specs.declared.functions.Function.{Function}
 use Rattle.h41_codes.specs.declared.functions.Function.TheVariants as functions
 use Rattle.h41_codes.specs.declared.line.Line.{Line}
-use Rattle.h41_codes.specs.declared.line.Line.TheVariants.{End, GlobalLabel, LocalLabel, Plain, ShortGoTo}
-use Rattle.h41_focal.specs.Destinations.{Arrives, GoesBack, Halts, Stepped}
+use Rattle.h41_codes.specs.declared.functions.Branch.TheVariants.{Execute, GoTo}
+use Rattle.h41_codes.specs.declared.line.Line.TheVariants.{BranchTo, End, GlobalLabel, LocalLabel, Plain, ShortGoTo}
+use Rattle.h41_focal.specs.Destinations.{Arrives, GoesBack, Halts, Stepped, with_return}
 use Rattle.h41_focal.specs.LineStep.{Applies, Left, StepsLine, TakesLine, Works}
 use Rattle.h41_focal.specs.Outcomes.{Done, Stopped}
 use Rattle.h41_focal.specs.declared.refusal.FocalRefusal.TheVariants.{NotInProfile}
@@ -99,7 +100,31 @@ module _ (pages : PageMap) (memory : RegisterMap) (at next : ℕ) (zero : Bool) 
         taken (ShortGoTo n distance) _ is
         (Ok zeros, refl, (Arrives (Memory target) returns, (Some (Memory target), (Some target, found, refl), refl), refl))
 
-    -- A test of registers as they are, which needs no numbers.
+    -- GTO of three bytes.
+    pub go_to_far : (n distance target : ℕ) (backwards : Bool) → IsLineAt memory at (BranchTo GoTo distance backwards n) next
+        → AnswersLocal memory next n (Some target)
+        → Continues pages (before_line memory at zero returns lift) (after_line memory target returns lift)
+    go_to_far n distance target backwards is found =
+        taken (BranchTo GoTo distance backwards n) _ is
+        (Ok zeros, refl, (Arrives (Memory target) returns, (Some (Memory target), (Some target, found, refl), refl), refl))
+
+    -- XEQ of a local label: the next line becomes the newest return address.
+    pub executes : (n distance target : ℕ) (backwards : Bool) → IsLineAt memory at (BranchTo Execute distance backwards n) next
+        → AnswersLocal memory next n (Some target)
+        → Continues pages (before_line memory at zero returns lift)
+        (after_line memory target (with_return returns (Memory next)) lift)
+    executes n distance target backwards is found =
+        taken (BranchTo Execute distance backwards n) _ is (
+          Ok zeros,
+          refl,
+          (
+            Arrives (Memory target) (with_return returns (Memory next)),
+            (Some (Memory target), (Some target, found, refl), refl),
+            refl,
+          ),
+        )
+
+    -- A test, given that the registers that it compares contain numbers where it needs them.
     module _ (function : Function) (condition : rows.Condition) (has : function_row function ≡ Some (rows.test condition))
         (is : IsLineAt memory at (Plain function) next)
         (numbers : are_numbers memory 0 (rows.places_in_condition condition) ≡ true) where

@@ -1,7 +1,8 @@
 -- Whole numbers of up to ten digits: their decimals, their remainders, and the register of zero.
 use Rattle.std.proofs.Common.{◌≡◌, ℕ, zero, suc, ◌+◌, ◌-◌, ◌*◌, ◌^◌, ◌<◌, ◌≤◌, ◌⊎◌, true, false, List, Result, Ok, ⊎_elim}
 use Rattle.std.proofs.Common.{inl, inr, refl, sym, ap, ◌∙◌, subst, arith}
-use Rattle.std.specs.Prelude.{not, ℤ, pos, ◌==◌, MatchBool, unsigned_abs}
+use Rattle.std.specs.Prelude.{not, ℤ, pos, negsuc, neg_ℤ, ◌*ℤ◌, ◌==◌, MatchBool, unsigned_abs}
+use Rattle.std.proofs.Math.IntN.{neg_ℤ-neg_ℤ, negsuc-*ℤ-pos, pos-*ℤ-pos}
 use Rattle.std.specs.Str.{bytes_eq}
 use Rattle.std.proofs.lemmas.Bool.{cases_lt, false_from_ne_true}
 use Rattle.std.proofs.lemmas.List.Elements.{All-replicate}
@@ -10,9 +11,9 @@ use Rattle.h41_decimal.specs.Holding.{Number, holding_of}
 use Rattle.h41_decimal.specs.Laws.{DecimalIsItsNearest, RegisterIsDetermined, UnitsAreInjective}
 use Rattle.h41_decimal.specs.NearestDecimal.{Nearest}
 use Rattle.h41_decimal.specs.Operations.{NearestModulo, RoundsRest}
-use Rattle.h41_decimal.specs.Units.{one, units}
+use Rattle.h41_decimal.specs.Units.{one, size, units}
 use Rattle.h41_decimal.specs.declared.fault.DecimalFault.{DecimalFault}
-use Rattle.h41_decimal.specs.declared.sign.Sign.TheVariants.{Plus}
+use Rattle.h41_decimal.specs.declared.sign.Sign.TheVariants.{Minus, Plus}
 use Rattle.h41_decimal.specs.declared.ten.Ten.{Ten}
 use Rattle.h41_decimal.specs.declared.ten.Ten.TheVariants.{Zero, Nonzero}
 use Rattle.h41_decimal.proofs.Floors.{rest_of_same}
@@ -65,17 +66,35 @@ filled (suc fuel) number small enough =
     (filled fuel (number * 10) (omega (arith, less)) (let same = next_power number fuel in omega (arith, same, enough))))
     (λ (least : 10 ^ 9 ≤ number). no_more (suc fuel) number small least) (cases_lt number (10 ^ 9))
 
--- The decimal of a whole number.
-pub whole_ten : (number : ℕ) → number < 10 ^ 10 → (ten : Ten) × (units ten ≡ whole number)
-whole_ten zero small = (Zero, refl)
-whole_ten (suc n) small =
+-- The decimal of up to ten digits times a power of ten.
+pub ten_at : (number steps : ℕ) → number < 10 ^ 10 → 9 ≤ steps → steps ≤ 198 → (ten : Ten) × (units ten ≡ pos (number * 10 ^ steps))
+ten_at zero steps small enough bounded = let nothing : 0 ≡ 0 * 10 ^ steps = omega arith in (Zero, ap pos nothing)
+ten_at (suc n) steps small enough bounded =
     let digits = filled 9 (suc n) small (omega arith) in (
       Nonzero Plus record {
         mantissa = record { digits = suc n * 10 ^ digits.missing; at_least = digits.at_least; below = digits.below };
-        exponent = record { biased = 108 - digits.missing; in_range = omega (arith, digits.few) };
+        exponent = record { biased = steps - digits.missing; in_range = omega (arith, bounded) };
       },
-      ap pos (filled_worth (suc n) digits.missing 108 (10 ^ digits.missing) refl (omega (arith, digits.few))),
+      ap pos (filled_worth (suc n) digits.missing steps (10 ^ digits.missing) refl (omega (arith, digits.few, enough))),
     )
+
+-- The same with a sign.
+opposite : (ten : Ten) (n : ℕ) → units ten ≡ pos n → (other : Ten) × (units other ≡ neg_ℤ (pos n))
+opposite Zero n is = (Zero, ap neg_ℤ is)
+opposite (Nonzero Plus x) n is = (Nonzero Minus x, ap neg_ℤ is)
+opposite (Nonzero Minus x) n is = (Nonzero Plus x, sym (neg_ℤ-neg_ℤ (pos (size x))) ∙ ap neg_ℤ is)
+
+pub signed_ten_at : (number : ℤ) (steps : ℕ) → unsigned_abs number < 10 ^ 10 → 9 ≤ steps → steps ≤ 198
+    → (ten : Ten) × (units ten ≡ number *ℤ pos (10 ^ steps))
+signed_ten_at (pos n) steps small enough bounded =
+    let ten = ten_at n steps small enough bounded in (ten.0, ten.1 ∙ sym (pos-*ℤ-pos n (10 ^ steps)))
+signed_ten_at (negsuc n) steps small enough bounded =
+    let ten = ten_at (suc n) steps small enough bounded in
+    let other = opposite ten.0 (suc n * 10 ^ steps) ten.1 in (other.0, other.1 ∙ sym (negsuc-*ℤ-pos n (10 ^ steps)))
+
+-- The decimal of a whole number.
+pub whole_ten : (number : ℕ) → number < 10 ^ 10 → (ten : Ten) × (units ten ≡ whole number)
+whole_ten number small = ten_at number 108 small (omega arith) (omega arith)
 
 -- A remainder: of a number by zero it is the number itself.
 pub record IsRemainder (a b quotient rest : ℕ) : Type 0 where

@@ -26,19 +26,19 @@ use h41_ram::flags::RANGE_IGNORE;
 /// A value that a program line computes from one number, for example its square root.
 #[derive(Clone, Copy, Debug, PartialEq, Eq)]
 pub enum ValueOfOne {
-    /// The square root of the number.
+    /// The square root of the number from which the line computes.
     Root,
-    /// 1 divided by the number.
+    /// 1 divided by the number from which the line computes.
     Inverse,
-    /// The number with its sign changed.
+    /// The number from which the line computes, with its sign changed.
     Negative,
-    /// The number without its sign.
+    /// The number from which the line computes, without its sign.
     AbsoluteValue,
-    /// The digits before the radix mark of the number, with its sign.
+    /// The digits of a number before its radix mark, with the sign of the number.
     IntegerPart,
-    /// The digits after the radix mark of the number, with its sign.
+    /// The digits of a number after its radix mark, with the sign of the number.
     Fraction,
-    /// The number rounded to the display format.
+    /// The number from which the line computes, rounded to the display format.
     Displayed,
     /// 1 with the sign of the number, or 0 if the register contains no number, as SIGN returns it.
     Unit,
@@ -51,7 +51,7 @@ pub enum ValueOfOne {
 /// A value that a program line computes from two numbers, for example their sum.
 #[derive(Clone, Copy, Debug, PartialEq, Eq)]
 pub enum ValueOfTwo {
-    /// The sum of the two numbers.
+    /// The sum of the two numbers from which the line computes.
     Sum,
     /// The first number minus the second.
     Difference,

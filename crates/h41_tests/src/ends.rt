@@ -77,7 +77,7 @@ pub struct Slow {
     pub taken: Vec<u8>,
     /// The most bytes that one write accepts.
     pub most: usize,
-    /// How many writes still succeed before each write and flush fails.
+    /// How many further writes succeed. After them, each write and each flush fails.
     pub calls: usize,
     /// The error flag: whether a call has failed, or a write has accepted nothing.
     pub has_failed: bool,

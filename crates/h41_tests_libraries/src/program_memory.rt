@@ -39,9 +39,9 @@ enum Step {
     Recall(u16, u16, u16),
     /// The program lines at two positions are expected to be equal.
     SameLine(u16, u16),
-    /// The number is written into the register at an address. The variant `Register` is the expected content of a
-    /// register.
+    /// Writes a number, the second field, into the register at an address, the first field.
     Write(u16, u64),
+    /// The register at an address, the first field, is expected to contain a number, the second field.
     Register(u16, u64),
 }
 

@@ -1,5 +1,7 @@
-use Rattle.std.proofs.Common.{None, Some, arith, inl, inr, refl, sym, false, ◌+◌, ◌<◌, ◌≤◌, ◌∙◌}
-use Rattle.std.proofs.lemmas.Bool.{cases_lt, true≢false}
+use Rattle.std.proofs.Common.{None, Some, arith, inl, inr, refl, subst, false, ℕ, ◌≡◌, ◌+◌, ◌<◌}
+use Rattle.h41_codes.specs.Heads.{BeginsKind, IsIn}
+use Rattle.h41_codes.specs.declared.heads.Head.{Head}
+use Rattle.h41_codes.specs.declared.heads.Head.TheVariants as heads
 use Rattle.h41_program.specs.Lines.{is_end, is_final_end}
 use Rattle.h41_program.specs.declared.reading.LinePlace.{LinePlace}
 use Rattle.h41_program.proofs.Onward.{at_the_end}
@@ -24,8 +26,8 @@ returns-then-position-last g c =
     c.if-position-last.true)
     (Some c.final_place.result) c.final_place.ensures)
 
-pub returns-then-is_one_byte : goal.returns-then-is_one_byte
-returns-then-is_one_byte g c =
+pub returns-in-OneByte : goal.returns-in-OneByte
+returns-in-OneByte g c =
     let memory = c.args.ram.now.registers in
     let last = c.final_position-last in
     let p = c.past_nulls-position in
@@ -33,22 +35,20 @@ returns-then-is_one_byte g c =
     let looked =
     looked_before memory c.args.at p.result.0 last.result last.ensures.value last.ensures.count p.ensures.from p.ensures.to p.ensures.nulls
     inside p.ensures.stop in
-    elim c.then-is_one_byte.either [
-      | inl alone ↦
+    let is_kind : (head : Head) → c.head_of.result ≡ head → BeginsKind p.result.1 head =
+    λ head is. subst (λ (kind : Head). BeginsKind p.result.1 kind) is c.head_of.ensures.kind in
+    elim c.in-OneByte.is [
+      | inl one ↦
           let place : LinePlace =
           record { position = p.result.0; behind = p.result.0 + 1; ends_program = false; ends_memory = false } in
           position_of memory c.args.at place
           (some_place c.byte_round_trip.ensures.one memory c.requires c.args.at p.result.0 last.result last.result looked (Some place)
           (alone_there memory p.result.0 last.result c.first_bytes.ensures.number inside p.result.1 p.ensures.byte
-          (c.is_one_byte.ensures.which.0 alone) (c.is_one_byte.ensures.line alone)))
-      | inr longer ↦
-          let from : 0x10 ≤ p.result.1 = elim (cases_lt p.result.1 0x10) [
-            | inl low ↦ absurd (true≢false (sym (c.is_one_byte.ensures.which.1 (inl low)) ∙ longer.0))
-            | inr high ↦ high
-          ] in
+          (is_kind heads.OneByte one) (c.head_of.ensures.alone one)))
+      | inr entry ↦
           let number =
           number_begins memory p.result.0 last.result inside
-          (omega (arith, from, p.ensures.byte), omega (arith, longer.1, p.ensures.byte)) in
+          (subst (λ (byte : ℕ). IsIn 0x10 0x1D byte) p.ensures.byte (is_kind heads.Number entry)) in
           let place : LinePlace = record {
             position = p.result.0;
             behind = p.result.0 + number.0;

@@ -1,0 +1,147 @@
+"""Measures what users found wrong in the layout of the page: the bar of a past state, refusals on the large page, tall steps of the trace,
+keys that flash again, and the sizes of printed letters."""
+from visits import Visit, row
+
+# Sizes of windows in which the page itself does not scroll; the one of 853 by 480 is that of 1280 by 720 at 150 %.
+WIDE = [(1366, 650), (1024, 650), (853, 480), (1280, 720)]
+
+
+def sized(visit: Visit, width: int, height: int) -> None:
+    """Gives the window a size."""
+    visit.browser.look(width, height)
+    visit.browser.until(f"return innerWidth === {width} && innerHeight === {height}")
+
+
+def choose(visit: Visit, name: str, value: str) -> None:
+    """Chooses in a list."""
+    visit.browser.run("by(arguments[0]).value = arguments[1]; by(arguments[0]).dispatchEvent(new Event('change'))", name, value)
+
+
+# Whether the buttons below the keys end above the bar of a past state, and the panels too; and where the panels begin.
+ABOVE = """
+const [bar, bottom] = [by('bars').getBoundingClientRect(), (one) => one.getBoundingClientRect().bottom];
+const panels = [...document.querySelectorAll('#beside, #beside details')].filter((one) => one.checkVisibility());
+const ends = [by('runs'), ...(by('large').checked ? panels : [by('beside')])];
+return [bar.height > 20, ends.filter((one) => bottom(one) > bar.top).map((one) => one.id)]"""
+PANELS = "return ['display', 'runs', 'next-panel', 'program-panel'].map((id) => Math.round(by(id).getBoundingClientRect().top))"
+NEXT = """
+const [next, bar] = [document.querySelector('#program .next'), by('bars')].map((one) => one.getBoundingClientRect());
+return next.bottom <= bar.top"""
+
+
+def bars(visit: Visit) -> None:
+    """The bar of a past state covers no button and no panel, moves nothing, and the next line stays in view; arrows are in one column."""
+    browser = visit.browser
+    browser.run("return give('program\\n' + '1\\n+\\n'.repeat(30) + 'end\\nkey R/S\\nrun 22\\nkey 1\\nkey 2\\nkey 3\\n')")
+    browser.run("by('deck-panel').open = true")
+    arrows = "return new Set([...document.querySelectorAll('#session .break')].map((one) => one.getBoundingClientRect().left)).size"
+    visit.row("the columns of arrows in the deck", arrows, 1)
+    for is_large, panel in ((False, "stack-panel"), (True, "stack-panel"), (True, "keys")):
+        if is_large != browser.run("return by('large').checked"):
+            browser.click("#large")
+        choose(visit, "panel", panel)
+        for width, height in WIDE:
+            sized(visit, width, height)
+            where = f"{'large with ' + panel if is_large else 'the page'} at {width} by {height}"
+            browser.run("by('program').scrollTop = 0; return goTo(() => Infinity)")
+            tops = browser.run(PANELS)
+            browser.run("return goTo((at) => at - 2)")
+            visit.row(f"what is below the bar, {where}", ABOVE, [True, []])
+            row(f"the bar moves nothing, {where}", browser.run(PANELS), tops)
+            visit.row(f"the next line above the bar, {where}", NEXT, True)
+    browser.click("#large")
+    sized(visit, 1280, 900)
+    visit.anew()
+
+
+# Whether the refusal as a whole and its causes are in view, nothing lies over them, the page has no scroll bar, and the texts of the row
+# of buttons are not cut off.
+REFUSED = """
+const [causes, root] = [by('causes'), document.documentElement];
+const { left, right, top, bottom } = causes.getBoundingClientRect();
+const over = [[left + 9, top + 9], [right - 30, bottom - 9]].map(([x, y]) => causes.contains(document.elementFromPoint(x, y)));
+const runs = [...by('runs').children].filter((one) => one.checkVisibility()).map((one) => one.getBoundingClientRect());
+return [causes.querySelector('p').textContent === by('refusal').title, causes.querySelectorAll('dd').length > 0, over,
+  top >= 0 && bottom <= innerHeight && bottom - top > 90, root.scrollHeight > innerHeight || root.scrollWidth > innerWidth,
+  by('program-panel').getBoundingClientRect().height > 40, by('pos').scrollWidth > by('pos').clientWidth,
+  new Set(runs.map((one) => Math.round((one.top + one.bottom) / 16))).size, by('pos').getClientRects()[0].height < 40]"""
+LIST = """
+const [list, style] = [by('pace'), getComputedStyle(by('pace'))];
+const pen = document.createElement('canvas').getContext('2d');
+pen.font = style.font;
+return list.clientWidth - pen.measureText('full speed').width >= 20"""
+
+
+def large_refusals(visit: Visit) -> None:
+    """On the large page a refusal and its causes are readable in the window, and the buttons are in one line."""
+    browser = visit.browser
+    browser.click("#large")
+    for panel in ("stack-panel", "keys"):
+        choose(visit, "panel", panel)
+        for width, height in WIDE:
+            sized(visit, width, height)
+            browser.run("return press(['7', 'SIN'])")
+            visit.row(f"a refusal, large with {panel} at {width} by {height}", REFUSED,
+                      [True, True, [True, True], True, False, True, False, 1, True])
+            if panel != "keys":
+                visit.row(f"the list of speeds at {width} by {height}", LIST, True)
+    browser.click("#large")
+    sized(visit, 1280, 900)
+    visit.anew()
+
+
+def tall_steps(visit: Visit) -> None:
+    """The last step of the trace is in view as a whole, also if it has several rows."""
+    browser = visit.browser
+    browser.run("by('trace-panel').open = true")
+    browser.run("return give('program\\n' + '1\\n2\\n+\\nX<>Y\\n'.repeat(9) + 'end\\nkey R/S\\n')")
+    browser.click("#large")
+    choose(visit, "panel", "trace-panel")
+    cut = "const [one, panel] = [document.querySelector('#trace .next'), by('trace-panel')].map((part) => part.getBoundingClientRect()); " \
+          "return [one.height > 60, one.bottom <= panel.bottom && one.top >= panel.top]"
+    for width, height in WIDE:
+        sized(visit, width, height)
+        seen = []
+        for _ in range(7):
+            browser.run("return step()")
+            visit.quiet()
+            seen.append(browser.run(cut))
+        found = [any(is_tall for is_tall, _ in seen), all(is_whole for _, is_whole in seen)]
+        row(f"tall steps at {width} by {height}", found, [True, True])
+    browser.click("#large")
+    browser.run("by('trace-panel').open = false")
+    sized(visit, 1280, 900)
+    visit.anew()
+
+
+def flashes(visit: Visit) -> None:
+    """Keys that were pressed do not flash again, and a screen reader says that ALPHA is empty."""
+    browser = visit.browser
+    browser.run("return press(['1', 'SIN', 'ALPHA'])")
+    visit.comes("keys that flash later", "return document.querySelectorAll('.pressed, .refused').length", 0)
+    visit.comes("an empty ALPHA is said", "return by('live').textContent", "empty display (ALPHA)")
+    visit.anew()
+# The sizes of letters, but for those of the annunciators and the keys.
+PRINTED = """
+const hasText = (one) => [...one.childNodes].some((node) => node.nodeType === 3 && node.textContent.trim());
+const printed = [...document.querySelectorAll('main *')].filter((one) => one.checkVisibility() && hasText(one)
+  && !one.closest('#lights, #live, #keys'));
+return [...new Set(printed.map((one) => getComputedStyle(one).fontSize))].sort()"""
+
+
+def prints(visit: Visit) -> None:
+    """The large page is printed in the sizes of the other page."""
+    browser = visit.browser
+    browser.run("return give('program\\nLBL 01\\n1\\n+\\nend\\nwords 8\\n130 123 226 3E0\\nend\\ncall 8000\\nstep 2\\nkey SIN\\n')")
+    browser.run("for (const one of document.querySelectorAll('details:not(#files-panel)')) one.open = true")
+    visit.quiet()
+    found = []
+    for _ in range(2):
+        browser.tell("Emulation.setEmulatedMedia", {"media": "print"})
+        found.append(browser.run(PRINTED))
+        browser.tell("Emulation.setEmulatedMedia", {"media": ""})
+        browser.click("#large")
+    row("sizes of letters in print, large and not", found[1], found[0])
+    browser.run("for (const one of document.querySelectorAll('details')) "
+                "one.open = ['next-panel', 'program-panel', 'stack-panel', 'deck-panel'].includes(one.id)")
+    visit.anew()

@@ -1,0 +1,65 @@
+-- The counter i.nnn, which counts up to nnn.
+use Rattle.std.proofs.Common.{◌≡◌, ℕ, ◌+◌, ◌*◌, ◌/◌, ◌%◌, ◌^◌, ◌<◌, ◌≤◌, true, false, ap, ◌∙◌, arith}
+use Rattle.std.specs.Prelude.{ℤ, pos, ◌==◌, if◌then◌else◌, int_le, unsigned_abs, ◌+ℤ◌}
+use Rattle.std.proofs.lemmas.Grind.{common_steps}
+use Rattle.h41_decimal.specs.Signs.{sign_of, with_sign}
+use Rattle.h41_decimal.specs.Units.{one, units}
+use Rattle.h41_decimal.specs.declared.ten.Ten.{Ten}
+use Rattle.h41_rows.specs.Counters.{Up, count_of, counter_after, goes_on, number_after}
+use Rattle.h41_reasoning_lines.proofs.Wholes.{ten_at}
+
+-- i.nnn, in units.
+abbrev pub counter : (i n : ℕ) → ℕ
+counter i n = i * one + n * 10 ^ 105
+
+module _ (i n : ℕ) (few : n < 1000) where
+  -- i of the counter.
+  pub whole_is : counter i n / one ≡ i
+  whole_is = omega (arith, few)
+
+  fraction_is : counter i n % one ≡ n * 10 ^ 105
+  fraction_is = omega (arith, few)
+
+  last_is : counter i n % one / 10 ^ 105 ≡ n
+  last_is = ap (λ (f : ℕ). f / 10 ^ 105) fraction_is ∙ omega arith
+
+  no_step : counter i n % one / 10 ^ 103 % 100 ≡ 0
+  no_step = ap (λ (f : ℕ). f / 10 ^ 103 % 100) fraction_is ∙ omega arith
+
+  counts_one : count_of (pos (counter i n)) ≡ 1
+  counts_one = ap (λ (step : ℕ). if step == 0 then 1 else step) no_step
+
+  after_is : counter_after Up (pos (counter i n)) ≡ pos (i + 1)
+  after_is =
+      ap (λ (count : ℕ). pos (counter i n / one) +ℤ pos count) counts_one
+      ∙ ap (λ (whole : ℕ). pos whole +ℤ pos 1) whole_is
+
+  -- The counter after counting.
+  pub number_is : number_after Up (pos (counter i n)) ≡ pos (counter (i + 1) n)
+  number_is =
+      ap (λ (z : ℤ). with_sign (sign_of z) (unsigned_abs z * one + counter i n % one)) after_is
+      ∙ ap (λ (f : ℕ). pos ((i + 1) * one + f)) fraction_is
+
+  tested : goes_on Up (pos (counter i n)) ≡ int_le (pos (i + 1)) (pos n)
+  tested =
+      ap (λ (z : ℤ). int_le z (pos (counter i n % one / 10 ^ 105))) after_is
+      ∙ ap (λ (last : ℕ). int_le (pos (i + 1)) (pos last)) last_is
+
+  -- The loop continues while there is another register.
+  pub continues : i + 1 ≤ n → goes_on Up (pos (counter i n)) ≡ true
+  continues more = tested ∙ at_most (i + 1) n more
+    where
+      at_most : (a b : ℕ) → a ≤ b → int_le (pos a) (pos b) ≡ true
+      at_most a b order = grind (arith, common_steps)
+
+  pub ends : i ≡ n → goes_on Up (pos (counter i n)) ≡ false
+  ends same = tested ∙ above (i + 1) n (omega (arith, same))
+    where
+      above : (a b : ℕ) → b < a → int_le (pos a) (pos b) ≡ false
+      above a b order = grind (arith, common_steps)
+
+-- The decimal of the counter.
+pub counter_ten : (i n : ℕ) → i ≤ 1000 → n < 1000 → (ten : Ten) × (units ten ≡ pos (counter i n))
+counter_ten i n small few =
+    let ten = ten_at (i * 1000 + n) 105 (omega (arith, small, few)) (omega arith) (omega arith) in
+    (ten.0, ten.1 ∙ ap pos (omega arith))

@@ -34,7 +34,7 @@ pub fn head_of(first: u8) -> Head
     ensures alone { result ≡ Head.OneByte → IsAlone first }
 {
     match first {
-        0x00..=0x0F | 0x20..=0x8F => {
+        0x20..=0x8F | 0x00..=0x0F => {
             // Only for the proof, which needs the line that the byte is.
             let _line = one_byte(first);
             Head::OneByte

@@ -81,9 +81,9 @@ pub fn short_line(first: u8, second: u8, third: u8) -> ShortLine
     ensures { (size : ℕ) → IsShort first size
         → Begins (first ∷ second ∷ third ∷ []) (line_of result) size }
 {
-    match first {
-        0xD0.. => short_branch(first, second, third),
-        0x90.. => short_pair(first, second),
+    match head_of(first) {
+        Head::ThreeBytes => short_branch(first, second, third),
+        Head::TwoBytes => short_pair(first, second),
         _ => short_byte(first),
     }
 }

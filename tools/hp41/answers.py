@@ -8,7 +8,7 @@ import subprocess
 import sys
 import tempfile
 import threading
-from typing import Any, Callable, Optional, Protocol
+from typing import TYPE_CHECKING, Any, Callable, Optional
 
 from . import TOOLS
 from .decks import MARKS_OF_UTF16, NO_ANSWER, Failure, bytes_of, lines_of, shown
@@ -17,12 +17,14 @@ from .brought import Brought
 from .desk import PAGES, Desk
 from .keyboard import ROWS, places
 from .lessons import Lesson, grouped, lessons
-from .loading import tool as load
 from .parts import parts_of, refusal_of
 from .recorded import recorded
 from .repeating import Repeat
 from .refusals import Refused, look_into_blocks
 from .unsupported import unsupported
+
+if TYPE_CHECKING:
+    from .commands.where import Documents
 
 # The longest time in seconds for an import or an export, and for one request that executes commands.
 LONGEST_TOOL, LONGEST_GO = 120, 0.25
@@ -37,13 +39,6 @@ Request = dict[str, Any]
 Reply = dict[str, Any]
 
 
-class Documents(Protocol):
-    """What the documents say about refusals, as tools/where reads them."""
-
-    def causes_of(self, one: Refused) -> dict[str, Optional[str]]:
-        """Returns the causes of a refusal: what is printed first for each, and the explanation, if there is one."""
-
-
 class Causes:
     """The usual causes of refusals, as tools/where prints them. A thread reads its tables, so that the page does not have to wait."""
 
@@ -55,7 +50,8 @@ class Causes:
 
     def read(self) -> None:
         """Reads the tables."""
-        self.documents = load("where").Documents()
+        from .commands.where import Documents
+        self.documents = Documents()
 
     def of(self, text: bytes, refusal: str) -> tuple[str, list[list[str]]]:
         """Returns the refused line of a command or block, and the usual causes of the refusal: a list of pairs, what is printed first and

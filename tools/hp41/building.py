@@ -4,7 +4,6 @@ import os
 from .decks import MEMORY, Failure, escape_output
 from .files import put, why_no_folder
 from .linking import LONG, Linked, Unit
-from .loading import tool
 from .rules import Lint, lines_of
 
 PAGE_SIZE = 4096
@@ -51,7 +50,7 @@ def target_of(linked: Linked, unit: Unit, at: int) -> str:
 
 def listing(linked: Linked) -> int:
     """Prints the listing of all banks, and their labels."""
-    rows_of = tool("list").rows_of
+    from .commands.list import rows_of
     escape_output()
     for unit in linked.units:
         print(f"{heading(unit)}\n")

@@ -6,9 +6,9 @@ import sys
 from collections.abc import Callable
 from typing import Any
 
+from .commands import trace
 from .debugging import DIGITS, FIELDS, RETURNS, Machine, Point, Taken, Watch
 from .decks import NO_ANSWER, Failure
-from .loading import tool
 from .settings import DATA_NAME, MEMORY_NAME, STACK, WIDE
 from .sourcing import Places
 from .stepping import VIEWS
@@ -68,7 +68,6 @@ class Debugger:
         """Begins at the point at which the machine is."""
         self.machine, self.places, self.rest = machine, places, rest
         self.breaks: dict[int, tuple[str, Any]] = {}
-        self.trace = tool("trace")
         self.state = self.views()
         self.changed: set[str] = set()
         self.commands: dict[str, Callable[[list[str]], None]] = {
@@ -82,7 +81,7 @@ class Debugger:
 
     def views(self) -> dict[str, Any]:
         """Returns the values of all registers."""
-        found: dict[str, Any] = self.trace.parts_of(self.machine.ask(VIEWS))
+        found: dict[str, Any] = trace.parts_of(self.machine.ask(VIEWS))
         return found
 
     def name(self, address: int, bank: int | None = None) -> str:
@@ -119,7 +118,7 @@ class Debugger:
             print(f"{count:,} step{'' if count == 1 else 's'}: {reason}")
         print(self.next_line())
         state = self.views()
-        changes = self.trace.changes_of(self.state, state)
+        changes = trace.changes_of(self.state, state)
         self.changed = {name for name in state if state[name] != self.state[name]}
         self.state = state
         print(*(f"    {change}" for change in changes), sep="\n", end="\n" if changes else "")
@@ -338,7 +337,7 @@ class Debugger:
         self.none(words)
         point = self.machine.point
         line = self.next_line() if point.address is None else f"{point.position} {self.listed(point.address)[15:]}"
-        print(*self.trace.explained(line, self.state, {}) or ["    no sentence is known for it"], sep="\n")
+        print(*trace.explained(line, self.state, {}) or ["    no sentence is known for it"], sep="\n")
 
     def do_deck(self, words: list[str]) -> None:
         """Executes a command of the bench."""

@@ -3,6 +3,7 @@ import ast
 import gzip
 import hashlib
 import io
+import keyword
 import os
 import re
 import shutil
@@ -29,8 +30,19 @@ PATHS = ("README.md", "CHANGELOG.md", "CITATION.cff", "bench", "install", "compl
 OF_CRATES = re.compile(r"crates/\w+/(?:README\.md|specs/.*)")
 
 # Tools that need the sources, the kit or the repository itself.
-FOR_CONTRIBUTORS = {f"tools/{name}" for name in ("completions", "gate-times", "index", "layers", "man", "places", "proof-seconds", "prove",
-                                                 "release", "hp41/releases.py", "hp41/packages.py", "touched", "try", "wrong-bodies")}
+COMMANDS_FOR_CONTRIBUTORS = ("completions", "gate-times", "index", "layers", "man", "places", "prove", "release", "touched", "try",
+                             "wrong-bodies")
+
+
+def module_of(tool: str) -> str:
+    """Returns the path of the module that has the help and the work of a tool. For `import`, for example, it is `import_.py` of
+    tools/hp41/commands/, because a module cannot have the name of a keyword."""
+    name = tool.replace("-", "_")
+    return f"tools/hp41/commands/{name}{'_' if keyword.iskeyword(name) else ''}.py"
+
+
+FOR_CONTRIBUTORS = {*map(module_of, COMMANDS_FOR_CONTRIBUTORS),
+                    *(f"tools/{name}" for name in (*COMMANDS_FOR_CONTRIBUTORS, "proof-seconds", "hp41/releases.py", "hp41/packages.py"))}
 
 INTRODUCTION = """\
 This is a release of the HP-41 bench. README.md is the introduction.
@@ -184,7 +196,9 @@ class Release:
             program = opened.read()
         files = [*self.committed(), File(f"program/{NAME}", program, True)]
         for file in [file for file in files if file.is_program and file.path.startswith("tools/")]:
-            name, text = file.path.partition("/")[2], ast.get_docstring(ast.parse(file.data)) or ""
+            name = file.path.partition("/")[2]
+            module = next(other for other in files if other.path == module_of(name))
+            text = ast.get_docstring(ast.parse(module.data)) or ""
             files.append(File(f"docs/man/bench-{name}.1", manual_page(name, text, self.version).encode()))
         files.append(File("RELEASE", self.text(program).encode()))
         files.sort(key=path_of)

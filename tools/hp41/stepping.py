@@ -6,7 +6,6 @@ from typing import Any, NamedTuple
 from .calls import Call, Caller
 from .decks import NO_ANSWER, Failure, ended
 from .linking import Linked
-from .loading import tool
 from .values import lost_of
 
 MICRO = re.compile(r"Micro ([0-9A-F]{4}) (.*)")
@@ -80,7 +79,7 @@ def traced(caller: Caller, calls: list[tuple[Call, int]], more: list[str] | None
     more = more or []
     calls = [(call, min(steps, MOST_TRACED)) for call, steps in calls]
     lines = caller.lines("".join(traced_deck(call, steps, more) for call, steps in calls))
-    parts_of = tool("trace").parts_of
+    from .commands.trace import parts_of
     found: list[list[Step]] = []
     try:
         for _, steps in calls:
@@ -137,7 +136,7 @@ def place_of(linked: Linked, step: Step) -> str:
 
 def rows_of(linked: Linked, steps: list[Step]) -> Iterator[str]:
     """Yields the lines of a trace."""
-    trace = tool("trace")
+    from .commands import trace
     names = [linked.name_of(step.address, step.bank) if step.address is not None else "" for step in steps]
     width = max(map(len, names), default=0)
     banks = Banks(linked)

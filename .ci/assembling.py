@@ -5,7 +5,7 @@ from typing import Optional
 
 from judging import Data, judge, put, tool
 
-from sources import Assembled, Faulty
+from hp41.sources import Assembled, Faulty
 
 
 def tried(words: list[str], source: Optional[Data] = None) -> tuple[str, str, int]:

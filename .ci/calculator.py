@@ -12,7 +12,7 @@ from judging import sure
 
 from calculator_lines import MEMORY_LOST, Lines
 from calculator_memory import Refused, length
-from keyboard import KEYS, Key
+from hp41.keyboard import KEYS, Key
 from registers import register_digits, register_text, typed
 
 KEY_NOT_HELD = "! 18 KeyNotHeld"

@@ -6,7 +6,7 @@ from typing import Literal
 
 from judging import Data, Jobs, Ran, fill, judge, output_of, tool
 
-from doubts import DOUBTFUL, Doubt, summed
+from hp41.doubts import DOUBTFUL, Doubt, summed
 
 jobs = Jobs()
 

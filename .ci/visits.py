@@ -12,8 +12,8 @@ from typing import Any, Optional, TextIO, cast
 from judging import BENCH, TOP, judge, run, sure
 
 from browser import PATIENCE, Browser
-from decks import answered
-from history import applied
+from hp41.decks import answered
+from hp41.history import applied
 
 LOOP = "program\nLBL 01\n1\n+\nGTO 01\nend\nkey R/S\n"
 

@@ -18,10 +18,10 @@ TOP = os.path.join(os.path.dirname(os.path.realpath(__file__)), "..")
 sys.dont_write_bytecode = True
 sys.path.insert(0, f"{TOP}/tools")
 
-from containers import packed  # noqa: E402
-from exchange import WRITERS  # noqa: E402
-from lif import write_image  # noqa: E402
-from records import sum_of  # noqa: E402
+from hp41.containers import packed  # noqa: E402
+from hp41.exchange import WRITERS  # noqa: E402
+from hp41.lif import write_image  # noqa: E402
+from hp41.records import sum_of  # noqa: E402
 
 # A line: its bytes and its text. What makes one or several lines.
 Line = tuple[bytes, str]

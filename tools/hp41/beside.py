@@ -1,0 +1,65 @@
+"""Finds out what an instruction will do: a bench beside the session executes it with the same registers of the processor."""
+from typing import Callable, Optional, Protocol
+
+from .decks import Failure
+from .explaining import values_of
+from .settings import CPU
+from .stubs import stub_of
+
+# The pages of the words that set the registers, and of the instruction.
+SETTING, INSTRUCTION = "8", "9"
+# How many lines `show cpu` prints.
+CPU_LINES = 5
+
+
+class Bench(Protocol):
+    """A bench that is asked several commands at a time."""
+
+    def ask_all(self, commands: list[bytes]) -> list[list[str]]:
+        """Returns the lines that each of some whole commands prints."""
+
+    def close(self) -> None:
+        """Ends the bench."""
+
+
+class Beside:
+    """A bench beside the session. It is started when it is first asked."""
+
+    def __init__(self, start: Callable[[], Bench]) -> None:
+        """`start` starts a bench."""
+        self.start = start
+        self.bench: Optional[Bench] = None
+        self.known: dict[tuple[str, ...], Optional[list[str]]] = {}
+
+    def after(self, words: str, cpu: list[str]) -> Optional[list[str]]:
+        """Returns the lines of `show cpu` after an instruction, given by its words; `cpu` are these lines before it."""
+        key = (words, *cpu)
+        if key not in self.known:
+            if len(self.known) > 100:
+                self.known.clear()
+            self.known[key] = self.asked(words, values_of(cpu))
+        return self.known[key]
+
+    def asked(self, words: str, values: dict[str, str]) -> Optional[list[str]]:
+        """Asks the bench; None if it does not answer, refuses a command, or does not have the registers before the instruction."""
+        registers = {name: values[name.removeprefix("cpu.")] for name in CPU if name not in ("CY",)}
+        stub = stub_of({}, registers, int(f"{INSTRUCTION}000", 16))
+        # The function of the previous question still runs, and `call` is refused while one runs: `reset` ends it.
+        block = ["reset", f"unplug {SETTING}", f"unplug {INSTRUCTION}", f"words {SETTING}\n{stub.text}end",
+                 f"words {INSTRUCTION}\n{words}\nend", f"call {SETTING}000", f"step {stub.steps}", "show cpu", "step", "show cpu"]
+        try:
+            self.bench = self.bench or self.start()
+            # Before the first question nothing is plugged, and `unplug` is refused.
+            reset, _, _, *done, before, step, after = self.bench.ask_all([command.encode() for command in block])
+        except Failure:
+            self.bench = None
+            return None
+        is_set = not any((reset, *done, step)) and len(before) == len(after) == CPU_LINES
+        found = values_of(before) if is_set else {}
+        is_same = is_set and all(found[name.removeprefix("cpu.")] == value for name, value in registers.items())
+        return after if is_same else None
+
+    def close(self) -> None:
+        """Ends the bench."""
+        if self.bench:
+            self.bench.close()

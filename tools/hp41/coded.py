@@ -1,0 +1,42 @@
+"""Program lines with what belongs to them: the number that program mode shows, the bytes in memory, and the keys that type the line."""
+import re
+from functools import lru_cache
+
+from .records import length_at
+from .typed import NoKeys, line_keys
+
+# Bytes of which each is a digit, a sign, a point or an exponent of a number.
+NUMBER = re.compile(rb"[\x10-\x1c]+")
+
+ENDS = ("END", ".END.")
+
+
+def bytes_at(data: bytes, at: int, end: int) -> bytes:
+    """Returns the bytes of the line that begins at `at`, without the nulls after it. The next line begins at `end`."""
+    number = NUMBER.match(data, at, end)
+    return data[at:min(number.end() if number else at + length_at(data, at), end)] if at < len(data) else b""
+
+
+@lru_cache(maxsize=4096)
+def keys_of(text: str) -> str:
+    """Returns the keys that type a line in program mode; an empty text if no keys do."""
+    if text in ENDS:
+        # GTO . . adds an END to the last program.
+        return "SHIFT RCL . ." if text == "END" else ""
+    try:
+        return " ".join(line_keys(text))
+    except NoKeys:
+        return ""
+
+
+def coded(lines: list[tuple[int, str]], data: bytes) -> list[list[str]]:
+    """Returns for each line its number, its bytes and its keys. `lines` are pairs of a place in `data` and a text."""
+    found: list[list[str]] = []
+    number = 0
+    ends = [place for place, _ in lines[1:]] + [len(data)]
+    for (place, text), end in zip(lines, ends):
+        number += 1
+        found.append([f"{number:02}", bytes_at(data, place, end).hex(" ").upper(), keys_of(text)])
+        if text in ENDS:
+            number = 0
+    return found

@@ -1,0 +1,411 @@
+"""A desk with a bench: one process of `bench run -`, the commands that it was given, and its replies.
+
+Everything about the calculator is computed by the bench; this module only splits its replies into parts. Runs, steps and traces are
+executed in pieces, so that they can be stopped."""
+import re
+import time
+from typing import Optional, TypedDict
+
+from .addresses import Labels
+from .alpha import PROBES, takes_letters, typed_keys
+from .benches import Bench
+from .beside import Beside
+from .coded import coded
+from .decks import LONGEST_DECK, MEMORY, NO_ANSWER, Failure, lines_of
+from .decks import text_of as text_of_line
+from .keyboard import KEYS
+from .explaining import is_carrying, of_line, of_word
+from .history import History, Place, State
+from .lights import AFTER, BEFORE, PROMPT, Lights, Seen
+from .matches import whole
+from .memory import MAIN_START, Memory
+from .paging import Pages
+from .parts import MOST_STEPS, NO_END, Entry, Part, parts_of, refusal_of
+from .plugged import Names
+from .repeating import Renewal
+from .typed import Text
+from .values import text_of
+
+# The intended time for a piece of a run, in seconds.
+PIECE = 0.02
+
+# How many of the last steps of a long trace are read one by one, and after how many of the last commands that wait the state is read.
+LAST_STEPS = 200
+
+# After how many bytes another bench goes on. A bench reads at most LONGEST_DECK bytes, and a command of a request has up to 8 MB.
+MOST_SENT = 50_000_000
+
+RAN = re.compile(r"ran ([0-9]+) ([A-Z][a-z]+)")
+
+# A name that is being typed. Keys are letters in it, as they are with flag 48 set outside a prompt.
+NAME = re.compile(r'^(?:GTO|XEQ|LBL) "[^"]*_$')
+
+PAGES = "456789ABCDEF"
+MOST_REGISTERS = 320
+VIEWS = ("cpu", "stack", "flags", "alpha", "display", "pos", "lines", "functions")
+WORDS_BEFORE, WORDS_BEHIND = 16, 32
+
+
+class OpenLesson(TypedDict):
+    """A lesson that is open: its name and title, its parts, and those that are left."""
+    name: str
+    title: str
+    parts: list[Part]
+    left: list[Part]
+
+
+class Desk:
+    """The bench, the commands that it was given, the commands that wait, and the state of the bench."""
+
+    def __init__(self, memory: Optional[str] = None, beside: Optional[Beside] = None) -> None:
+        """Starts a bench with `memory` registers of main memory; None means the default. `beside` is the bench that is asked about
+        instructions, if there is one already."""
+        self.words = [] if memory is None else ["--memory", memory]
+        self.top = MAIN_START + (int(memory) if memory and memory.isdigit() else MOST_REGISTERS)
+        self.number, self.pages = 0, Pages()
+        # Its command line differs from that of the session's bench, so that a list of processes shows which one it is.
+        self.beside = beside or Beside(lambda: Bench(["--memory", MEMORY]))
+        self.start()
+
+    def another(self) -> "Desk":
+        """Returns an empty desk with the same memory. The command line of its bench differs too."""
+        return Desk(self.words[1] if self.words else MEMORY, self.beside)
+
+    def begin(self) -> None:
+        """Starts an empty bench in place of the one that runs."""
+        self.bench.close()
+        if self.renewal:
+            self.renewal.bench.close()
+        self.start()
+
+    def start(self) -> None:
+        """Starts an empty bench."""
+        self.bench, self.most = Bench(self.words), MOST_SENT
+        self.renewal: Optional[Renewal] = None
+        self.number += 1
+        self.log: list[Entry] = []
+        self.queue: list[Part] = []
+        self.lesson: Optional[OpenLesson] = None
+        self.breaks: set[tuple[str, str]] = set()
+        self.lights, self.labels, self.names = Lights(), Labels(), Names()
+        self.coded: tuple[list[str], bytes, list[list[str]]] = ([], b"", [])
+        # The last states, and how often pages were plugged or unplugged.
+        self.history, self.plugs = History(), 0
+        # The number of steps in a piece, the number of steps that were made, and how many of them were made before the last look.
+        self.size, self.made, self.seen = 256, 0, 0
+        try:
+            self.look()
+        except Failure as failure:
+            self.bench.close_input()
+            raise Failure(self.bench.why() or str(failure), NO_ANSWER) from failure
+
+    # Commands that are given.
+
+    def deck(self) -> bytes:
+        """Returns the session as a deck. Of a command that is being executed in pieces, it has the steps that were made."""
+        texts = [entry.text for entry in self.log]
+        doing = self.doing()
+        if doing is not None:
+            texts[-1] = doing
+        return b"".join(text if text.endswith(b"\n") else text + b"\n" for text in texts)
+
+    def deck_to(self, entry: int) -> bytes:
+        """Returns the session up to the end of an entry as a deck."""
+        return b"".join(one.text if one.text.endswith(b"\n") else one.text + b"\n" for one in self.log[:entry + 1])
+
+    def deck_at(self, number: int) -> bytes:
+        """Returns the deck that leads to the state with a number."""
+        if not 0 <= number <= self.history.end:
+            raise Failure(f"there is no state {number}: the last one of the session is {self.history.end}")
+        place = self.history.place(number)
+        if not place.steps:
+            return self.deck_to(place.entries - 1)
+        kind = self.log[place.entries - 1].text.split()[0]
+        return self.deck_to(place.entries - 2) + b"%s %d\n" % (kind, place.steps)
+
+    def doing(self) -> Optional[bytes]:
+        """Returns the command that is being executed in pieces, with the number of steps that were made; None if there is none."""
+        part = self.queue[0] if self.queue else None
+        if part and part.kind and part.entry:
+            return b"%s %d\n" % (part.kind.encode(), part.asked)
+        return None
+
+    def give(self, deck: bytes, is_first: bool = False, goes_on: bool = False) -> list[Part]:
+        """Adds the parts of a deck after those that wait, and returns them. If `is_first` is set, they are added before all others, and a running command
+        is split. If `goes_on` is set, a run that ends at its limit is followed by another one."""
+        parts = parts_of(deck)
+        for part in parts:
+            part.goes_on = goes_on and part.kind == "run"
+        if is_first:
+            self.part_here()
+            self.queue = parts + self.queue
+        else:
+            self.queue += parts
+        return parts
+
+    def part_here(self) -> None:
+        """Splits a command that is executed in pieces: its entry gets the number of steps that were made, and the rest becomes a command
+        of its own."""
+        part, doing = self.queue[0] if self.queue else None, self.doing()
+        if part and part.kind and part.entry and doing is not None:
+            part.entry.text = doing
+            self.queue[0] = Part(b"%s %d\n" % (part.kind.encode(), part.left), True, part.goes_on)
+
+    def stop(self) -> None:
+        """Drops the commands that wait."""
+        self.part_here()
+        self.queue = []
+
+    # Commands that are executed.
+
+    def go(self, seconds: float, steps: Optional[int] = None, parts: Optional[int] = None) -> None:
+        """Executes commands that wait for about `seconds`: at most so many steps and parts, and at least one command or a piece of one.
+        Each step of a trace adds a state to the history."""
+        until, has_asked = time.monotonic() + seconds, False
+        while self.queue and (steps is None or steps > 0) and (parts is None or parts > 0):
+            if has_asked and time.monotonic() >= until or not self.is_renewed(until if parts is None else None):
+                break
+            part = self.queue[0]
+            has_asked |= part.is_command
+            before = part.asked
+            self.carry_out(part, self.piece(part, steps))
+            if part.kind:
+                steps = None if steps is None else steps - (part.asked - before)
+            if part.kind == "trace":
+                self.look()
+            if part.left == 0:
+                self.queue.pop(0)
+                if part.is_command and part.kind != "trace":
+                    if len(self.queue) <= LAST_STEPS:
+                        self.look()
+                    else:
+                        self.skip()
+                parts = None if parts is None else parts - 1
+                if part.goes_on and part.reason == "Limit":
+                    self.queue.insert(0, Part(b"run %d\n" % MOST_STEPS, True, True))
+
+    @staticmethod
+    def piece(part: Part, steps: Optional[int]) -> Optional[int]:
+        """Returns the most steps of the next piece of a part; None if there is no limit. The last steps of a trace are made one by one."""
+        if part.kind != "trace":
+            return steps
+        most = 1 if part.left <= LAST_STEPS else part.left - LAST_STEPS
+        return most if steps is None else min(most, steps)
+
+    def is_renewed(self, until: Optional[float]) -> bool:
+        """Has another bench go on, if this one has read nearly as many bytes as it reads. Returns whether commands can be executed."""
+        if self.renewal is None:
+            if self.bench.sent < self.most:
+                return True
+            doing, texts = self.doing(), [entry.text for entry in self.log if entry.reply != [NO_END]]
+            self.renewal = Renewal(Bench(self.words), texts if doing is None else [*texts[:-1], doing])
+        if not self.renewal.is_over(until):
+            return False
+        self.bench.close()
+        self.bench, self.renewal = self.renewal.bench, None
+        # A session that is too long itself is not executed again.
+        self.most = MOST_SENT if self.bench.sent < MOST_SENT // 2 else LONGEST_DECK
+        return True
+
+    def carry_out(self, part: Part, most: Optional[int]) -> None:
+        """Executes a part, or its next piece."""
+        self.is_seen = False
+        entry = part.entry
+        if entry is None:
+            if self.log and self.log[-1].reply == [NO_END]:
+                self.history.withdraw(len(self.log))
+                self.log.pop()
+            entry = part.entry = Entry(part.text)
+            self.log.append(entry)
+        if part.is_open:
+            # The bench would wait for the `end`. At the end of its input it would print this refusal.
+            entry.reply = [NO_END]
+        elif part.kind:
+            self.carry_piece(part, part.kind, entry, most)
+        elif part.pieces and all(isinstance(piece, Text) or piece in KEYS for piece in part.pieces):
+            self.press(part, entry)
+        elif part.is_command:
+            entry.reply = self.bench.ask_all([part.text.rstrip(b"\n")])[0]
+            self.keep_up(part, entry)
+
+    def carry_piece(self, part: Part, kind: str, entry: Entry, most: Optional[int]) -> None:
+        """Executes the next piece of a run, of a step with a count, or of a trace. Pieces become longer while they are fast."""
+        count = min(part.left, self.size, most or self.size)
+        begun = time.monotonic()
+        reply = self.bench.ask_all([b"%s %d" % (kind.encode(), count)])[0]
+        took = time.monotonic() - begun
+        if count == self.size:
+            self.size = min(2 * count, 1_000_000) if took < PIECE else max(count // 2, 16) if took > 4 * PIECE else count
+        part.left, part.asked = part.left - count, part.asked + count
+        if kind == "run":
+            ran, reason = whole(RAN, reply[0]).groups()
+            part.reason = reason
+            part.ran, self.made = part.ran + int(ran), self.made + int(ran)
+            entry.reply = [f"ran {part.ran} {reason}", *reply[1:]]
+            part.left = part.left if reason == "Limit" else 0
+        else:
+            is_refused = refusal_of(reply) is not None
+            self.made += count - is_refused
+            entry.add(reply)
+            part.left = 0 if is_refused else part.left
+
+    def press(self, part: Part, entry: Entry) -> None:
+        """Presses keys in turn, up to the first one that is refused. In the session, the names of keys replace texts and numbers."""
+        names: list[str] = []
+        for piece in part.pieces:
+            keys = [piece]
+            if isinstance(piece, Text):
+                keys = typed_keys(piece, entry.key is None and takes_letters(
+                    *(answer[0] for answer in self.bench.ask_all([probe.encode() for probe in PROBES]))))
+            names += keys
+            if entry.key is None:
+                self.press_names(entry, keys)
+        if names != part.words[1:]:
+            entry.text = f"key {' '.join(names)}".encode("latin-1") + part.text[len(text_of_line(part.text)):]
+
+    def press_names(self, entry: Entry, names: list[str]) -> None:
+        """Presses keys by their names, up to the first one that is refused."""
+        for name in names:
+            asked = [*BEFORE, b"key " + name.encode(), *AFTER]
+            replies = self.bench.ask_all(asked)
+            # X is in the fourth line of the stack.
+            views = [reply[3 if asked[at] == b"show stack" else 0] for at, reply in enumerate(replies) if at != len(BEFORE)]
+            if replies[len(BEFORE)]:
+                entry.reply, entry.key = replies[len(BEFORE)], name
+                return
+            self.lights.press(name, Seen(*views[:len(BEFORE)]), Seen(*views[len(BEFORE):]))
+
+    def keep_up(self, part: Part, entry: Entry) -> None:
+        """Records what an accepted command changes if no command shows it."""
+        if refusal_of(entry.reply) or not part.words:
+            return
+        word, words = part.words[0], part.words
+        if word == "reset":
+            self.lights = Lights()
+        elif word in ("break", "unbreak"):
+            place = (words[1], words[2].upper() if words[1] in ("w", "p") else f"{int(words[2]):04d}")
+            (self.breaks.add if word == "break" else self.breaks.discard)(place)
+        elif word in ("asm", "words", "image", "unplug"):
+            self.labels.follow(lines_of(part.text))
+            before = self.log[-2].text if len(self.log) > 1 else b""
+            self.names.follow(lines_of(part.text), before, self.labels)
+            self.plugs += 1
+
+    # The state of the bench.
+
+    def look(self) -> State:
+        """Reads the views of the bench. Returns its state, which is then the last one of the history."""
+        asked = [*(f"show {view}" for view in VIEWS), *(f"list {page}000 1" for page in PAGES)]
+        *replies, printed = self.bench.ask_all([*(command.encode() for command in asked), Memory.command(self.top)])
+        views: State = dict(zip(VIEWS, replies))
+        memory = Memory([line[4:] for line in printed], self.top)
+        mode, place = views["pos"][0].split()
+        lists = self.lists_at(int(place, 16)) if mode == "Micro" else []
+        views["memory"], views["divided"] = memory.digits, [*memory.divided()]
+        views["registers"] = memory.data_registers()
+        views["values"] = [text_of(digits) for digits in views["registers"]]
+        views["numbers"] = [text_of(line[2:]) for line in views["stack"]]
+        views["pages"] = [page for page, listed in zip(PAGES, replies[len(VIEWS):]) if refusal_of(listed) is None]
+        views["listing"] = self.listing(self.bench.ask_all(lists), place) if lists else []
+        views["coded"] = self.coded_lines(views["lines"], memory.program_bytes())
+        views["made"], self.seen, self.is_seen = self.made - self.seen, self.made, True
+        views["paged"] = self.paged(place[1]) if place.startswith("P") else []
+        self.views = views
+        state = self.state()
+        self.history.add(state, self.place(views["made"]))
+        return state
+
+    def place(self, made: int) -> Place:
+        """Returns the place of the state in the session; `made` are the steps since the state before."""
+        steps = self.queue[0].asked if self.doing() is not None else 0
+        return Place(len(self.log), steps, made, self.lights.shift, self.lights.program)
+
+    def skip(self) -> None:
+        """Notes where the state is, without reading it."""
+        self.history.skip(self.place(self.made - self.seen))
+        self.seen = self.made
+
+    def coded_lines(self, lines: list[str], data: bytes) -> list[list[str]]:
+        """Returns the number, the bytes and the keys of each line in memory. They are kept until lines or bytes change."""
+        if self.coded[:2] != (lines, data):
+            self.coded = lines, data, coded([(int(line[:4]), line[5:]) for line in lines], data)
+        return self.coded[2]
+
+    def paged(self, page: str) -> list[list[str]]:
+        """Returns the lines of the programs in a page."""
+        image, = self.bench.ask_all([b"show image %s" % page.encode()])
+        return [] if refusal_of(image) else self.pages.lines(page, tuple(image))
+
+    def lists_at(self, at: int) -> list[bytes]:
+        """Returns the commands that list the words around an address. The words before it are listed from several start addresses,
+        because instructions have one word or two."""
+        start, end = at & 0xF000, (at | 0x0FFF) + 1
+        begins = sorted({max(start, at - WORDS_BEFORE + skip) for skip in range(4)} - {at})
+        return [b"list %04X %d" % (begin, at - begin) for begin in begins] + \
+            [b"list %04X %d" % (at, min(WORDS_BEHIND, end - at))]
+
+    def listing(self, lists: list[list[str]], place: str) -> list[list[str]]:
+        """Returns the lines around an address, taken from the first of these lists in which an instruction ends at the address."""
+        def ends(lines: list[str]) -> bool:
+            """Returns whether the last instruction of a list ends at the address."""
+            last = lines[-1]
+            return int(last[:4], 16) + len(last[6:13].split()) == int(place, 16)
+
+        *before, behind = [[] if refusal_of(lines) else lines for lines in lists]
+        lines = next((some for some in before if some and ends(some)), []) + behind
+        return [[line[:4], self.labels.of(line[:4]), line[6:]] for line in lines]
+
+    def state(self) -> State:
+        """Returns the state for the page."""
+        display = self.views["display"][0]
+        spells = NAME.search(display) is not None or "48" in self.views["flags"][0].split() and not PROMPT.fullmatch(display)
+        return {**self.views, "shift": self.lights.shift, "program": self.lights.program,
+                "breaks": sorted([kind, place] for kind, place in self.breaks), "spells": spells,
+                "label": self.labels.of(self.views["pos"][0].split()[1]) if self.views["listing"] else "",
+                "last": self.log[-1].told() if self.log else ["", []], "entries": len(self.log),
+                "doing": (self.doing() or b"").decode(), **self.explained()}
+
+    def explained(self) -> dict[str, str]:
+        """Returns what the next instruction or line is, what it does, in a sentence, and the name of a register that it changes; empty
+        texts if this is not known."""
+        views, (mode, place) = self.views, self.views["pos"][0].split()
+        if mode == "Micro":
+            words, text = next(((text[:9].strip(), text[9:]) for at, _, text in views["listing"] if at == place), ("", ""))
+            one = of_word(text, views["cpu"], self.beside.after(words, views["cpu"]) if is_carrying(text) else None)
+            return {"word": text, "next": one.sentence(), "asks": one.asks()}
+        lines = ([(f"P{at}", text) for at, text, *_ in views["paged"]] if place[0] == "P" else
+                 [(line[:4], line[5:]) for line in views["lines"]])
+        # Null bytes before a line are skipped.
+        text = next((text for at, text in lines if at >= place), "")
+        one = of_line(text, views["numbers"], views["values"], views["alpha"][0], views["flags"][0])
+        return {"word": text, "next": one.sentence(), "asks": one.asks()}
+
+    def plugged(self) -> list[tuple[str, str, str]]:
+        """Returns the plugged banks: for each its page, its bank, and the name of its file or of its first label, if it has one."""
+        asked = [(page, bank) for page in PAGES for bank in "1234"]
+        replies = self.bench.ask_all([f"show image {page} b{bank}".encode() for page, bank in asked])
+        return [(*one, self.names.of(*one)) for one, reply in zip(asked, replies) if refusal_of(reply) is None]
+
+    def listed(self, page: str, bank: str, is_words: bool) -> list[list[str]]:
+        """Returns the instructions in a bank of a page, or the lines of its programs, whether they run or not."""
+        image, = self.bench.ask_all([f"show image {page} b{bank}".encode()])
+        if refusal_of(image):
+            raise Failure(f"page {page}, bank {bank}: {image[-1]}: plug a module there first")
+        if not is_words:
+            return self.pages.lines(page, tuple(image))
+        return [[place, self.labels.of(place), words, text] for place, words, text in self.pages.words(page, tuple(image))]
+
+    # Exports.
+
+    def leaves(self, kind: str, page: str) -> bytes:
+        """Returns a deck for tools/export, with the image of a page or with the bytes of the programs."""
+        if kind in ("rom", "source"):
+            image, = self.bench.ask_all([b"show image %s" % page.encode()])
+            if refusal_of(image):
+                raise Failure(f"page {page}: {image[-1]}: plug a module there first")
+            return "\n".join([f"image {page}", *image, "end", ""]).encode()
+        printed, = self.bench.ask_all([Memory.command(self.top)])
+        # The bench drops the last END of a block: with one more, that of the last program stays as it is.
+        data = Memory([line[4:] for line in printed], self.top).program_bytes().hex().upper()[:-6] + "C0000D"
+        lines = [data[at:at + 64] for at in range(0, len(data), 64)]
+        return "\n".join(["size 0", "load", *lines, "end", ""]).encode()

@@ -1,0 +1,239 @@
+"""Explains an instruction or a program line in a sentence, from the table tools/explanations and the values that the bench shows."""
+import os
+import re
+from functools import lru_cache
+from typing import Callable, NamedTuple, Optional, Union
+
+from . import TOOLS
+from .decks import bytes_of
+
+TABLE = os.path.join(TOOLS, "explanations")
+
+# What the letters in patterns stand for.
+LETTERS = {"F": "(?P<F>@R|S&X|R<|ALL|P-Q|XS|MS|M)", "N": "[0-9]+", "H": "[0-9A-F]+",
+           "R": "(?P<R>(?:IND )?(?:[0-9]{2,3}|[TZYXLMNOPQa-eA-J]|append|[0-9]))"}
+PLACEHOLDER = re.compile(r"\{([^}]*)\}")
+# The names of registers of the processor, and of those of programs, for whose next value a learner can be asked.
+ASKED = re.compile("[ABCMNGXYZT]|ST|RTN|ALPHA|LAST X|R[0-9]+")
+FIELDS = {"S&X": (2, 0), "ALL": (13, 0), "XS": (2, 2), "M": (12, 3), "MS": (13, 13)}
+
+
+class Row(NamedTuple):
+    """A row of the table: the pattern of a text, what the step changes, and the sentence."""
+    pattern: re.Pattern[str]
+    changes: list[str]
+    sentence: str
+
+
+@lru_cache(maxsize=None)
+def rows() -> dict[str, list[Row]]:
+    """Returns the rows of the table, those of words and those of lines."""
+    found: dict[str, list[Row]] = {}
+    section: list[Row] = []
+    for line in bytes_of(TABLE).decode("utf-8").splitlines():
+        if line.startswith("["):
+            section = found.setdefault(line.strip("[]"), [])
+        elif line and not line.startswith("#"):
+            pattern, changes, sentence = line.split(" | ")
+            pattern = re.sub(r"(?:(?<=[ (])|(?<=ENBANK\())[FNHR](?=[ )|]|$)", lambda one: LETTERS[one[0]], pattern)
+            section.append(Row(re.compile(pattern), [] if changes == "-" else changes.split(), sentence))
+    return found
+
+
+def row_of(text: str, kind: str) -> tuple[Optional[Row], Optional[re.Match[str]]]:
+    """Returns the row for a text, and the match of its pattern; None and None if there is none. `kind` is words or lines."""
+    for row in rows()[kind]:
+        found = row.pattern.fullmatch(text)
+        if found:
+            return row, found
+    return None, None
+
+
+class Explained:
+    """A text with the values before its step, and the sentence about it. The carry after the step is named if it is known."""
+
+    def __init__(self, text: str, values: dict[str, str], is_word: bool, after: Optional[dict[str, str]] = None) -> None:
+        """Finds the row of an instruction if `is_word` is set, otherwise that of a program line."""
+        self.text, self.values, self.after = text, values, after or {}
+        self.row, self.found = row_of(text, "words" if is_word else "lines")
+
+    def sentence(self) -> str:
+        """Returns the sentence; an empty text if the table has no row."""
+        if self.row is None:
+            return ""
+        # A value after a comma is followed by a comma if the sentence goes on.
+        text = re.sub(r"\{(value|indirect|flag)\}(?= )", r"{\1},", self.row.sentence)
+        return re.sub(r",+(?=[,.;])|(?<=names),(?= is)", "", PLACEHOLDER.sub(lambda one: self.part(one[1]), text))
+
+    def asks(self) -> str:
+        """Returns the name of a register that the step changes, whose next value can be asked for; an empty text if there is none."""
+        for change in self.row.changes if self.row else []:
+            name = re.split("[.=?]", change)[0].strip("{}")
+            name = self.part_R() if name == "R" else self.named(name)
+            if ASKED.fullmatch(name):
+                return name
+        return ""
+
+    def part(self, name: str) -> str:
+        """Returns what a placeholder stands for."""
+        special: Optional[Callable[[], str]] = getattr(self, f"part_{name}", None)
+        if special:
+            return special()
+        if name in ("0", "text"):
+            return self.text if name == "text" else "0"
+        return self.value(name)
+
+    def group(self, which: Union[int, str]) -> str:
+        """Returns the text of a group of the pattern; an empty text if the table has no row."""
+        return self.found[which] if self.found else ""
+
+    def named(self, name: str) -> str:
+        """Returns a name without groups: `1` is the first group, `PT` the active pointer, `x1` the first group in hexadecimal."""
+        if name.isdigit():
+            return self.group(int(name))
+        if re.fullmatch("x[0-9]", name):
+            return f"{int(self.group(int(name[1]))):X}"
+        return self.values.get("PT", "?") if name == "PT" else name
+
+    def value(self, name: str) -> str:
+        """Returns the value of a name: `A`, `A.F` for its digits in the field, `A.6-3` for digits, `=1` for what a group names."""
+        whole, _, part = name.lstrip("=").partition(".")
+        if not name.startswith("=") and (whole.isdigit() or whole == "PT" or whole[:1] == "x"):
+            return self.named(whole)
+        value = self.values.get(self.named(whole))
+        if value is None:
+            return "?"
+        return value if not part else "".join(value[len(value) - 1 - at] for at in self.places(part))
+
+    def places(self, part: str) -> list[int]:
+        """Returns the places of digits, the highest first: those of the field F, or of `6-3`, `@R` or `G`."""
+        pointer = int(self.values.get(self.values.get("PT", "P"), "0"), 16)
+        if part == "G":
+            return [(pointer + 1) % 14, pointer]
+        if part == "F":
+            part = self.group("F")
+        if part in FIELDS:
+            high, low = FIELDS[part]
+        elif part in ("@R", "R<"):
+            high, low = pointer, pointer if part == "@R" else 0
+        elif part == "P-Q":
+            low, high = int(self.values["P"], 16), int(self.values["Q"], 16)
+            high = 13 if low > high else high
+        else:
+            high, _, low = (int(digit or 0) for digit in part.replace("-", "--").split("-")) if "-" in part else (int(part), 0, int(part))
+        return list(range(high, low - 1, -1))
+
+    # Placeholders with names.
+
+    def part_F(self) -> str:
+        """Returns the name of the field's digits."""
+        places = self.places("F")
+        return f"the digits {places[0]} to {places[-1]}" if len(places) > 1 else f"the digit {places[0]}"
+
+    def part_are(self) -> str:
+        """Returns the verb for the field's digits."""
+        return "are" if len(self.places("F")) > 1 else "is"
+
+    def part_those(self) -> str:
+        """Returns the pronoun for the field's digits."""
+        return "those" if len(self.places("F")) > 1 else "that"
+
+    def part_sum(self) -> str:
+        """Returns what a sum adds."""
+        target, second = self.group(1), self.group(2)
+        first = self.text[2]
+        if first == second:
+            return f"Doubles {self.part_F()} of {first}, {self.value(first + '.F')}"
+        return (f"Adds {self.part_F()} of {first}, {self.value(first + '.F')}, and {self.part_those()} of {second}, "
+                f"{self.value(second + '.F')}, and writes the sum to {target}")
+
+    def part_carry(self) -> str:
+        """Returns what the carry will be."""
+        changes = self.row.changes if self.row else []
+        known = next((change[3:] for change in changes if change.startswith("CY=")), None)
+        if known is None and "CY?" in changes:
+            known = self.after.get("CY")
+        elif known is None:
+            known = "0"
+        return f"the carry will be {known}" if known else ("the carry will be the answer" if self.text[0] == "?" else
+                                                              "the carry will be what the last digit carries")
+
+    def part_wanted(self) -> str:
+        """Returns the carry for which a jump is taken."""
+        return "0" if self.group(1) == "NC" else "1"
+
+    def part_taken(self) -> str:
+        """Returns whether a jump is taken."""
+        return "it does" if self.values.get("CY") == self.part_wanted() else "it does not; the next word follows"
+
+    def part_return(self) -> str:
+        """Returns the newest return address."""
+        return self.values.get("RTN", "?")[:4]
+
+    def part_R(self) -> str:
+        """Returns the register of an operand."""
+        operand = self.group("R")
+        if operand.startswith("IND "):
+            return f"the register that {self.part_indirect()}, names"
+        return register(operand)
+
+    def part_value(self) -> str:
+        """Returns the value of the operand's register, after a comma."""
+        operand = self.group("R")
+        return "" if operand.startswith("IND ") else self.told(register(operand))
+
+    def part_operand(self) -> str:
+        """Returns the operand as it is written, or what names it."""
+        operand = self.found.groupdict().get("R") if self.found else None
+        if operand is None:
+            return self.text.partition(" ")[2]
+        return f"of the number in {self.part_indirect()}," if operand.startswith("IND ") else operand
+
+    def part_indirect(self) -> str:
+        """Returns the register of an indirect operand with its value."""
+        name = register(self.group("R").removeprefix("IND "))
+        return f"{name}{self.told(name)}"
+
+    def part_flag(self) -> str:
+        """Returns the flag of an operand, and whether it is set."""
+        operand = self.group("R")
+        if operand.startswith("IND "):
+            return f"the flag that {self.part_indirect()}, names"
+        is_set = operand in self.values.get("flags", "").split()
+        return f"flag {operand}, which is {'set' if is_set else 'clear'}"
+
+    def told(self, name: str) -> str:
+        """Returns the value of a register after a comma; nothing if it is not known."""
+        value = self.values.get(name)
+        return f", {value}" if value is not None else ""
+
+
+def register(operand: str) -> str:
+    """Returns the name of a register of an operand."""
+    return {"L": "LAST X"}.get(operand, operand) if not operand.isdigit() else f"R{operand}"
+
+
+def values_of(cpu: list[str]) -> dict[str, str]:
+    """Returns the values in the lines of `show cpu`."""
+    values = dict(part.split("=") for line in cpu[:4] for part in line.split())
+    return {**values, "RTN": cpu[4].removeprefix("RTN=")}
+
+
+def of_word(text: str, cpu: list[str], after: Optional[list[str]] = None) -> Explained:
+    """Returns what is said about an instruction; `cpu` are the lines of `show cpu` before its step, and `after` those after it."""
+    return Explained(text, values_of(cpu), True, values_of(after) if after else None)
+
+
+def of_line(text: str, numbers: list[str], registers: list[str], alpha: str, flags: str) -> Explained:
+    """Returns what is said about a program line: `numbers` are those of T, Z, Y, X and LAST X, `registers` those of the data registers."""
+    values = dict(zip(("T", "Z", "Y", "X", "LAST X"), numbers))
+    values.update((f"R{at:02}", value) for at, value in enumerate(registers))
+    if "LAST X" in values:
+        values["L"] = values["LAST X"]
+    return Explained(text, {**values, "ALPHA": f'"{alpha}"', "flags": flags}, False)
+
+
+def is_carrying(text: str) -> bool:
+    """Returns whether the carry after an instruction follows from its result."""
+    row, _ = row_of(text, "words")
+    return row is not None and "CY?" in row.changes

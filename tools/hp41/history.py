@@ -1,0 +1,123 @@
+"""The states of a session. The last ones are kept, and sent as differences, because a step changes little. Of each earlier one only its
+place in the session is kept: tools/hp41/repeating.py executes the session again up to there."""
+from array import array
+from typing import Any, NamedTuple, Optional, TypedDict
+
+# How many states are kept.
+MOST_STATES = 2000
+
+# Of a list that is at least as long, only the items that have changed are kept.
+LONG = 16
+
+
+# A state: what the views of the bench show, by name, as the page gets it.
+State = dict[str, Any]
+
+
+class Told(TypedDict):
+    """States that are sent: the number of the state before the changes, this state or None, and the changes."""
+    at: int
+    base: Optional[State]
+    changes: list[State]
+
+
+def difference(old: State, new: State) -> State:
+    """Returns what differs between two states: by name the new value, or for a long list the items that have changed, with their places."""
+    change = {}
+    for name, value in new.items():
+        was = old.get(name)
+        if was == value:
+            continue
+        change[name] = value
+        if isinstance(value, list) and isinstance(was, list) and LONG <= len(value) == len(was):
+            items = [[at, one] for at, (one, other) in enumerate(zip(value, was)) if one != other]
+            if 2 * len(items) < len(value):
+                change[name] = {"items": items}
+    return change
+
+
+def applied(state: State, change: State) -> State:
+    """Returns the state after a change."""
+    result = dict(state)
+    for name, value in change.items():
+        if isinstance(value, dict):
+            result[name] = list(state[name])
+            for at, one in value["items"]:
+                result[name][at] = one
+        else:
+            result[name] = value
+    return result
+
+
+class Place(NamedTuple):
+    """The place of a state in its session, and what no view of the bench shows of it."""
+    # How many entries the session has, and how many steps of the last one were made, if it is being executed in pieces.
+    entries: int
+    steps: int = 0
+    # How many steps were made since the state before.
+    made: int = 0
+    shift: bool = False
+    program: bool = False
+
+
+class History:
+    """The states of a session, numbered from 0. The last ones are kept, from `first` on; of the others, only the places are."""
+
+    def __init__(self) -> None:
+        """Begins without states."""
+        self.first = 0
+        self.base: Optional[State] = None
+        self.last: Optional[State] = None
+        self.changes: list[State] = []
+        self.places = [array("I") for _ in Place._fields]
+
+    @property
+    def end(self) -> int:
+        """The number of the last state."""
+        return len(self.places[0]) - 1
+
+    def place(self, number: int) -> Place:
+        """Returns the place of a state."""
+        entries, steps, made, shift, program = (column[number] for column in self.places)
+        return Place(entries, steps, made, bool(shift), bool(program))
+
+    def is_read(self) -> bool:
+        """Returns whether the last state is kept."""
+        return self.base is not None and self.first + len(self.changes) == self.end
+
+    def add(self, state: State, place: Place) -> None:
+        """Adds a state, if it differs from the last one. If the last one was skipped, the state is that one, or the next."""
+        if self.is_read() and self.base is not None and self.last is not None:
+            change = difference(self.last, state)
+            if not change:
+                return
+            self.skip(place)
+            self.last = state
+            self.changes.append(change)
+            if len(self.changes) >= MOST_STATES:
+                self.base = applied(self.base, self.changes.pop(0))
+                self.first += 1
+            return
+        if self.end < 0 or self.place(self.end)[:2] != place[:2]:
+            self.skip(place)
+        # Those that are kept have no gaps.
+        self.first, self.base, self.last, self.changes = self.end, state, state, []
+
+    def skip(self, place: Place) -> None:
+        """Adds the place of a state that is not read."""
+        for column, value in zip(self.places, place):
+            column.append(value)
+
+    def withdraw(self, entries: int) -> None:
+        """Notes that the last entry, number `entries`, is replaced, because it was not executed: its states have the place before it."""
+        for at in range(self.end, -1, -1):
+            if self.places[0][at] != entries:
+                break
+            self.places[0][at] -= 1
+
+    def told(self, known: Optional[int]) -> Told:
+        """Returns the states after the one with the number `known`, or all that are kept if that one is not kept or there is none: the
+        number of the state before the changes, this state or None, and the changes."""
+        if known is not None and self.first <= known <= self.first + len(self.changes):
+            return {"at": known, "base": None, "changes": self.changes[known - self.first:]}
+        return {"at": self.first, "base": self.base, "changes": self.changes}

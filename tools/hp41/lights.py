@@ -1,0 +1,58 @@
+"""SHIFT and program mode, which no view of the bench prints. They are read from what the bench replies to each key.
+
+Each key is sent with the views of the display and of the position before and after it. The display decides: in program mode it is the
+program line at the position, and a prompt shows IND if SHIFT was pressed in it."""
+import re
+from typing import NamedTuple
+
+from .values import text_of
+
+# A prompt on the display, in which SHIFT adds IND. While a name is typed there is no prompt.
+PROMPT = re.compile(r"(?:RCL|STO|ISG|VIEW|ASTO|ARCL|ST[-+*/]|SF|CF|FS\?|FIX|SCI|ENG|GTO|XEQ|LBL)(?: IND)?(?: ST)? [.0-9]?_{1,2}")
+
+# A program line on the display, with its number, or the sign for a line that cannot be read. No number in X looks like this.
+PROGRAM_LINE = re.compile(r"[0-9]{2,4} .*|\?")
+
+# What is asked before and after each key.
+BEFORE, AFTER = (b"show pos", b"show display"), (b"show pos", b"show display", b"show alpha", b"show flags", b"show stack")
+
+
+class Seen(NamedTuple):
+    """What the bench shows before or after a key."""
+    pos: str
+    display: str
+    alpha: str = ""
+    flags: str = ""
+    x: str = ""
+
+    @property
+    def is_idle(self) -> bool:
+        """Whether neither a program nor a function runs, so that keys have their effects."""
+        return self.pos.startswith("Idle")
+
+    @property
+    def is_alpha(self) -> bool:
+        """Whether the display may show a text: that of ALPHA, if flag 48 is set, or that of X."""
+        is_x = text_of(self.x[2:]) == f'"{self.display}"'
+        return is_x or "48" in self.flags.split() and self.display == self.alpha
+
+
+class Lights:
+    """SHIFT and program mode, as they are after the last key."""
+
+    def __init__(self) -> None:
+        """Begins with both off."""
+        self.shift = self.program = False
+
+    def press(self, name: str, before: Seen, after: Seen) -> None:
+        """Reads the state after an accepted key. While something runs, keys have no effect on it."""
+        if not before.is_idle:
+            return
+        if name == "SHIFT":
+            is_prompt = PROMPT.fullmatch(after.display) and before.display != after.display
+            self.shift = not (self.shift or is_prompt)
+            return
+        self.shift = False
+        if name == "PRGM":
+            # PRGM removes each message and is refused in prompts, so that the display shows the line, ALPHA or X.
+            self.program = not self.program if after.is_alpha else PROGRAM_LINE.fullmatch(after.display) is not None

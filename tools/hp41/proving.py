@@ -1,0 +1,115 @@
+"""Proves a crate of theorems about microcode with the prover of the kit, and finds the source line of what is not proved."""
+from __future__ import annotations
+
+import os
+import re
+import shutil
+import subprocess
+from typing import NamedTuple
+
+from . import TOP
+from .crates import NAME
+from .decks import NO_ANSWER, Failure
+from .statements import CRATE
+from .theorems import Proof
+
+# Where ./bench prove --all keeps the libraries, and the crates that a theorem can name.
+LIBRARIES = f"{TOP}/crates/{NAME}/out/rlib"
+USED = ("h41_digits", "h41_lines", "h41_fields", "h41_arith", "h41_words", "h41_dis", "h41_asm", "h41_decimal", "h41_ram", "h41_pages",
+        "h41_nut", "h41_laws_words", "h41_reasoning")
+ERROR = re.compile(r"\./(proofs/\S+|specs/\S+):(\d+):\d+: error: (.*)")
+OF_FUNCTION = re.compile(rf"fn {CRATE}::functions::of_(\w+): (.*)")
+PROVED = "logic=proved "
+
+# What the prover says of a proof that rests on another one that is not proved.
+FOLLOWS = re.compile(r"declarations? that depends? on .* not checked")
+
+# What the prover says of a claim that does not follow.
+NO_DECISION = re.compile(r"`omega`: the goal does not follow from what it read")
+
+
+class Verdict(NamedTuple):
+    """What the prover says: the labels, in lower case, whose theorems are proved, and for each claim that is not proved its source line,
+    its text and the reason."""
+    proved: set[str]
+    faults: list[tuple[int, str, str]]
+    text: str
+
+
+def library(folder: str, name: str) -> str:
+    """Returns the path of a library. `rt ci` makes it in the folder of its crate, which is used if the folder of ./bench prove lacks it."""
+    path, of_rt = f"{os.path.abspath(folder)}/{name}.rlib", f"{TOP}/crates/{name}/out/rlib/{name}.rlib"
+    return of_rt if folder == LIBRARIES and not os.path.isdir(path) and os.path.isdir(of_rt) else path
+
+
+def missing(folder: str) -> list[str]:
+    """Returns the libraries that a folder lacks."""
+    return [name for name in USED if not os.path.isdir(library(folder, name))]
+
+
+def check_libraries(folder: str) -> None:
+    """Raises Failure if a library is missing."""
+    lacks = missing(folder)
+    if lacks:
+        raise Failure(f"{folder}: the library {lacks[0]}.rlib is missing: make it with ./bench prove --all, or "
+                      "try the claims without a proof with --try", NO_ANSWER)
+
+
+def kit() -> str:
+    """Returns the folder of the kit."""
+    rt = shutil.which("rt")
+    if not rt:
+        raise Failure("rt, the command of the Rattle kit, is not on PATH: install the kit, see README.md, or "
+                      "try the claims without a proof with --try", NO_ANSWER)
+    return os.path.dirname(os.path.dirname(os.path.realpath(rt)))
+
+
+def command(folder: str) -> list[str]:
+    """Returns the command that proves the crate in the current folder."""
+    top = kit()
+    words = [f"{top}/bin/rattle", "check", "--crate-name", CRATE, "src/lib.rt", "--extern", f"std={top}/rlibs/std.rlib"]
+    paths = {name: library(folder, name) for name in USED}
+    for name, path in paths.items():
+        words += ["--extern", f"{name}={path}"]
+    for within in dict.fromkeys([*(os.path.dirname(path) for path in paths.values()), f"{top}/rlibs"]):
+        words += ["-L", f"dependency={within}"]
+    words += ["--links", f"{CRATE}="]
+    return [*words, "--antt-project", f"{top}/rattle/logic/antt-project.json", "--logic-built", f"{top}/logic_built"]
+
+
+def prove(crate: str, libraries: str, proofs: dict[str, Proof]) -> Verdict:
+    """Returns what the prover says of a crate in a folder."""
+    ran = subprocess.run(command(libraries), cwd=crate, stdin=subprocess.DEVNULL, stdout=subprocess.PIPE, stderr=subprocess.STDOUT,
+                         check=False)
+    return verdict_of(ran.stdout.decode(errors="replace"), proofs)
+
+
+def verdict_of(text: str, proofs: dict[str, Proof]) -> Verdict:
+    """Returns the verdict in the output of the prover."""
+    lines = text.splitlines()
+    is_judged = any(line.startswith("logic=") for line in lines)
+    if not is_judged:
+        last = next((line for line in reversed(lines) if line.strip()), "it printed nothing")
+        raise Failure(f"the prover gave no verdict: {last}", NO_ANSWER)
+    faults = []
+    for line in lines:
+        found = ERROR.match(line)
+        if found and FOLLOWS.search(found[3]):
+            continue
+        if found and found[1] in proofs:
+            _, source, claim = proofs[found[1]].rows[int(found[2]) - 1]
+            faults.append((source, claim, reason_of(found[3])))
+        elif found:
+            faults.append((0, "", f"{found[1]}:{found[2]}: {found[3]}"))
+    proved = {found[1] for found in map(OF_FUNCTION.match, lines) if found and found[2] == "proved"}
+    if not faults and not any(line.startswith(PROVED) for line in lines):
+        faults.append((0, "", next((line for line in lines if "error" in line), next((line for line in lines if "not proved" in line),
+                                                                                     "logic=not-proved"))))
+    return Verdict(proved, list(dict.fromkeys(faults)), text)
+
+
+def reason_of(message: str) -> str:
+    """Returns the reason in a message of the prover, in words for a writer of modules."""
+    if NO_DECISION.search(message):
+        return "it does not follow from what is known at the end of the function"
+    return f"the prover says: {message}"

@@ -6,10 +6,15 @@ from visits import Visit, row
 WIDE = [(1366, 650), (1024, 650), (853, 480), (1280, 720)]
 
 
-def sized(visit: Visit, width: int, height: int) -> None:
-    """Gives the window a size."""
-    visit.browser.look(width, height)
+# What is measured when the page is drawn is measured after two frames.
+DRAWN = "return new Promise((done) => requestAnimationFrame(() => requestAnimationFrame(() => done(true))))"
+
+
+def sized(visit: Visit, width: int, height: int, is_dark: bool = False) -> None:
+    """Gives the window a size, and waits until the page is drawn in it."""
+    visit.browser.look(width, height, is_dark)
     visit.browser.until(f"return innerWidth === {width} && innerHeight === {height}")
+    visit.browser.run(DRAWN)
 
 
 def choose(visit: Visit, name: str, value: str) -> None:

@@ -1,5 +1,5 @@
-"""Measures what users found wrong in the layout of the page: the bar of a past state, refusals on the large page in wide and narrow windows,
-tall steps of the trace, keys that flash again, and the sizes of printed letters."""
+"""Measures what users found wrong in the layout of the page: the bar of a past state, refusals on the large page in wide and narrow
+windows, tall steps of the trace, keys that flash again, and the sizes of printed letters."""
 from visits import Visit, row
 
 # Sizes of windows in which the page itself does not scroll; the one of 853 by 480 is that of 1280 by 720 at 150 %.
@@ -97,8 +97,8 @@ def large_refusals(visit: Visit) -> None:
 
 # Windows with one column, in which the page itself scrolls.
 NARROW = [(390, 844), (320, 640), (700, 900)]
-# Whether a refusal as a whole and its causes are shown, which of their texts are covered, whether they are cut off, which parts of the page
-# they cover, whether the page is wider than the window, which buttons below the keys are cut off, and which keys are too small for a finger.
+# Whether a refusal as a whole and its causes are shown, which of their texts are covered, whether they are cut off, which parts of the
+# page they cover, whether the page is wider than the window, which buttons below the keys are cut off, and which keys are too small.
 CAUSES = """
 const [causes, boxOf] = [by('causes'), (one) => one.getBoundingClientRect()];
 const hidden = [...causes.querySelectorAll('p, dt, dd')].filter((one) => {
@@ -107,10 +107,12 @@ const hidden = [...causes.querySelectorAll('p, dt, dd')].filter((one) => {
   return !causes.contains(document.elementFromPoint(left + 9, (top + bottom) / 2));
 }).map((one) => one.textContent);
 const lies = boxOf(causes);
-const covered = ['case', 'runs', 'next-panel', 'program-panel'].filter((id) => boxOf(by(id)).top < lies.bottom && boxOf(by(id)).bottom > lies.top);
+const isCovered = ({ top, bottom }) => top < lies.bottom && bottom > lies.top;
+const covered = ['case', 'runs', 'next-panel', 'program-panel'].filter((id) => isCovered(boxOf(by(id))));
 const isCut = (one) => boxOf(one).right > innerWidth || one.scrollWidth > one.clientWidth + 1;
 const cut = [...by('runs').children].filter((one) => one.checkVisibility() && isCut(one)).map((one) => one.id);
-const small = [...document.querySelectorAll('.key')].filter((one) => one.checkVisibility() && Math.min(boxOf(one).width, boxOf(one).height) < 24);
+const isSmall = ({ width, height }) => Math.min(width, height) < 24;
+const small = [...document.querySelectorAll('.key')].filter((one) => one.checkVisibility() && isSmall(boxOf(one)));
 return [causes.querySelector('p').textContent === by('refusal').title, causes.querySelectorAll('dd').length > 0, hidden,
   causes.scrollHeight > causes.clientHeight + 1 || causes.scrollWidth > causes.clientWidth + 1, covered,
   document.documentElement.scrollWidth > innerWidth, cut, small.map((one) => one.dataset.key)]"""

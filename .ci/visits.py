@@ -40,8 +40,8 @@ AWAY = 100_000
 
 
 def started(away: int, warning: int, *words: str) -> list[str]:
-    """Returns the command that starts tools/calculator with these words. It ends `away` seconds after its last page was closed, and prints a
-    warning `warning` seconds before."""
+    """Returns the command that starts tools/calculator with these words. It ends `away` seconds after its last page was closed, and prints
+    a warning `warning` seconds before."""
     code = ("import sys; sys.path.insert(0, %r); import serving; serving.AWAY, serving.WARNING = %d, %d\n"
             "from importlib.machinery import SourceFileLoader as Loader\nsys.argv[0] = 'calculator'\n"
             "Loader('__main__', %r).exec_module(sys.modules['__main__'])" % (f"{TOP}/tools", away, warning, f"{TOP}/tools/calculator"))

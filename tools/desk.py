@@ -124,8 +124,8 @@ class Desk:
         return None
 
     def give(self, deck: bytes, is_first: bool = False, goes_on: bool = False) -> list[Part]:
-        """Adds the parts of a deck after those that wait, and returns them. If `is_first` is set, they are added before all others, and a running command
-        is split. If `goes_on` is set, a run that ends at its limit is followed by another one."""
+        """Adds the parts of a deck after those that wait, and returns them. If `is_first` is set, they are added before all others, and a
+        running command is split. If `goes_on` is set, a run that ends at its limit is followed by another one."""
         parts = parts_of(deck)
         for part in parts:
             part.goes_on = goes_on and part.kind == "run"

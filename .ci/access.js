@@ -132,18 +132,27 @@ const functions = {
     return [left + width / 2, top + height / 2];
   },
 
-  /** Counts, for so many milliseconds, how often the display changes; returns the most changes within a second, and how long they took. */
-  async changes(milliseconds) {
-    const [times, begun] = [[], performance.now()];
-    const look = () => [...by("lcd").querySelectorAll(".on")].map((one) => one.dataset.segment).join();
-    for (let last = look(); performance.now() - begun < milliseconds;) {
-      await new Promise((done) => setTimeout(done, 10));
-      const now = look();
-      if (now !== last) times.push(performance.now());
-      last = now;
-    }
-    const most = Math.max(0, ...times.map((first) => times.filter((time) => time >= first && time < first + 990).length));
-    return [most, Math.round((times.at(-1) ?? 0) - (times[0] ?? 0))];
+  /** Waits until the display has changed so many times. Returns when it changed, in milliseconds. */
+  changes: (count) => new Promise((done) => {
+    const times = [];
+    new MutationObserver((_, observer) => {
+      if (times.push(displayedAt) < count) return;
+      observer.disconnect();
+      done(times);
+    }).observe(by("lcd"), { attributes: true, attributeFilter: ["data-text"] });
+  }),
+
+  /** Shows the text of the display again, with its timer called at once. Returns how often the text moves, and how many milliseconds that
+      takes at the pace of the timer. */
+  moves() {
+    const { setInterval: begin, clearInterval: end } = window;
+    let [move, pace, isOver, count] = [null, 0, false, 0];
+    window.setInterval = (call, milliseconds) => ([move, pace] = [call, milliseconds], -1);
+    window.clearInterval = (timer) => timer === -1 ? isOver = true : end.call(window, timer);
+    showDisplay(displayed, true);
+    for (isOver = false; move && !isOver && count < 1000; count++) move();
+    Object.assign(window, { setInterval: begin, clearInterval: end });
+    return [count, count * pace];
   },
 
   /** Changes each choice and box by its own event; returns those that move the focus, or open something. */

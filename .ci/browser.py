@@ -83,6 +83,10 @@ class Browser:
         """Opens an address."""
         self.ask("POST", "/url", {"url": address})
 
+    def reload(self) -> None:
+        """Loads the page again."""
+        self.ask("POST", "/refresh", {})
+
     def run(self, script: str, *words: object) -> Any:
         """What a script answers, or the promise that it answers."""
         return self.ask("POST", "/execute/sync", {"script": script, "args": list(words)})

@@ -1,15 +1,20 @@
-"""Measures what users found wrong in the layout of the page: the bar of a past state, refusals on the large page, tall steps of the trace,
-keys that flash again, and the sizes of printed letters."""
+"""Measures what users found wrong in the layout of the page: the bar of a past state, refusals on the large page in wide and narrow
+windows, tall steps of the trace, keys that flash again, and the sizes of printed letters."""
 from visits import Visit, row
 
 # Sizes of windows in which the page itself does not scroll; the one of 853 by 480 is that of 1280 by 720 at 150 %.
 WIDE = [(1366, 650), (1024, 650), (853, 480), (1280, 720)]
 
 
-def sized(visit: Visit, width: int, height: int) -> None:
-    """Gives the window a size."""
-    visit.browser.look(width, height)
+# What is measured when the page is drawn is measured after two frames.
+DRAWN = "return new Promise((done) => requestAnimationFrame(() => requestAnimationFrame(() => done(true))))"
+
+
+def sized(visit: Visit, width: int, height: int, is_dark: bool = False) -> None:
+    """Gives the window a size, and waits until the page is drawn in it."""
+    visit.browser.look(width, height, is_dark)
     visit.browser.until(f"return innerWidth === {width} && innerHeight === {height}")
+    visit.browser.run(DRAWN)
 
 
 def choose(visit: Visit, name: str, value: str) -> None:
@@ -90,6 +95,44 @@ def large_refusals(visit: Visit) -> None:
     visit.anew()
 
 
+# Windows with one column, in which the page itself scrolls.
+NARROW = [(390, 844), (320, 640), (700, 900)]
+# Whether a refusal as a whole and its causes are shown, which of their texts are covered, whether they are cut off, which parts of the
+# page they cover, whether the page is wider than the window, which buttons below the keys are cut off, and which keys are too small.
+CAUSES = """
+const [causes, boxOf] = [by('causes'), (one) => one.getBoundingClientRect()];
+const hidden = [...causes.querySelectorAll('p, dt, dd')].filter((one) => {
+  one.scrollIntoView({ block: 'center' });
+  const { left, top, bottom } = boxOf(one);
+  return !causes.contains(document.elementFromPoint(left + 9, (top + bottom) / 2));
+}).map((one) => one.textContent);
+const lies = boxOf(causes);
+const isCovered = ({ top, bottom }) => top < lies.bottom && bottom > lies.top;
+const covered = ['case', 'runs', 'next-panel', 'program-panel'].filter((id) => isCovered(boxOf(by(id))));
+const isCut = (one) => boxOf(one).right > innerWidth || one.scrollWidth > one.clientWidth + 1;
+const cut = [...by('runs').children].filter((one) => one.checkVisibility() && isCut(one)).map((one) => one.id);
+const isSmall = ({ width, height }) => Math.min(width, height) < 24;
+const small = [...document.querySelectorAll('.key')].filter((one) => one.checkVisibility() && isSmall(boxOf(one)));
+return [causes.querySelector('p').textContent === by('refusal').title, causes.querySelectorAll('dd').length > 0, hidden,
+  causes.scrollHeight > causes.clientHeight + 1 || causes.scrollWidth > causes.clientWidth + 1, covered,
+  document.documentElement.scrollWidth > innerWidth, cut, small.map((one) => one.dataset.key)]"""
+
+
+def narrow_refusals(visit: Visit) -> None:
+    """On the large page in a narrow window a refusal and all its causes are readable, cover nothing, and the keys are as large as a finger."""
+    browser = visit.browser
+    browser.click("#large")
+    for panel in ("stack-panel", "keys"):
+        choose(visit, "panel", panel)
+        for width, height in NARROW:
+            sized(visit, width, height)
+            browser.run("return press(['7', 'SIN'])")
+            visit.row(f"a refusal, large with {panel} at {width} by {height}", CAUSES, [True, True, [], False, [], False, [], []])
+    browser.click("#large")
+    sized(visit, 1280, 900)
+    visit.anew()
+
+
 def tall_steps(visit: Visit) -> None:
     """The last step of the trace is in view as a whole, also if it has several rows."""
     browser = visit.browser
@@ -121,6 +164,8 @@ def flashes(visit: Visit) -> None:
     visit.comes("keys that flash later", "return document.querySelectorAll('.pressed, .refused').length", 0)
     visit.comes("an empty ALPHA is said", "return by('live').textContent", "empty display (ALPHA)")
     visit.anew()
+
+
 # The sizes of letters, but for those of the annunciators and the keys.
 PRINTED = """
 const hasText = (one) => [...one.childNodes].some((node) => node.nodeType === 3 && node.textContent.trim());

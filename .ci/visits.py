@@ -6,6 +6,8 @@ import os
 import re
 import signal
 import subprocess
+import sys
+import time
 from email.message import Message
 from typing import Any, Optional, TextIO, cast
 
@@ -33,6 +35,19 @@ data.items.add(new File([Uint8Array.from(atob(arguments[1]), (letter) => letter.
 for (const kind of ['dragover', 'drop']) document.dispatchEvent(new DragEvent(kind, {dataTransfer: data, cancelable: true}));"""
 
 
+# For how many seconds a page may be away here: for as long as another check shows another calculator, however slow the machine is.
+AWAY = 100_000
+
+
+def started(away: int, warning: int, *words: str) -> list[str]:
+    """Returns the command that starts tools/calculator with these words. It ends `away` seconds after its last page was closed, and prints
+    a warning `warning` seconds before."""
+    code = ("import sys; sys.path.insert(0, %r); from hp41 import serving; serving.AWAY, serving.WARNING = %d, %d\n"
+            "from importlib.machinery import SourceFileLoader as Loader\nsys.argv[0] = 'calculator'\n"
+            "Loader('__main__', %r).exec_module(sys.modules['__main__'])" % (f"{TOP}/tools", away, warning, f"{TOP}/tools/calculator"))
+    return [sys.executable, "-c", code, "--no-browser", *words]
+
+
 def row(name: str, found: object, wanted: object) -> None:
     """Counts what was found."""
     judge(found == wanted, name, f"{str(found)[:600]!r} and not {str(wanted)[:600]!r}")
@@ -48,7 +63,7 @@ class Page:
 
     def __init__(self, *words: str) -> None:
         """Starts the calculator with these words."""
-        self.process = subprocess.Popen([f"{TOP}/tools/calculator", "--no-browser", *words], stdout=subprocess.PIPE, text=True)
+        self.process = subprocess.Popen(started(AWAY, AWAY // 2, *words), stdout=subprocess.PIPE, text=True)
         self.address = cast(TextIO, self.process.stdout).readline().strip()
         found = sure(re.fullmatch(r"http://127\.0\.0\.1:([0-9]+)(/[^/]+/)(.*)", self.address))
         self.port, self.path = int(found[1]), found[2]
@@ -106,7 +121,7 @@ class Page:
 
     def replies(self) -> list[str]:
         """All that the session's commands have printed."""
-        return [line for _, _, reply in self.ask(do="stop")["entries"] for line in reply]
+        return [line for _, _, reply, _ in self.ask(do="stop")["entries"] for line in reply]
 
     def end(self) -> int:
         """Ends it, by a signal as Ctrl-C gives it."""
@@ -180,8 +195,9 @@ def same_displays(name: str, visit: Visit, found: list[Any]) -> None:
     row(name, found, shown)
 
 
-def bench_of(page: Page) -> int:
-    """The process of the bench."""
+def benches_of(page: Page) -> list[int]:
+    """Returns the processes that tools/calculator has started, and that have the command line of the session's bench."""
+    found = []
     for name in filter(str.isdigit, os.listdir("/proc")):
         try:
             with open(f"/proc/{name}/stat", encoding="latin-1") as file:
@@ -191,5 +207,15 @@ def bench_of(page: Page) -> int:
         except OSError:
             continue
         if fields[1] == str(page.process.pid) and words[1:3] == ["run", "-"]:
-            return int(name)
-    raise LookupError("the bench is not found")
+            found.append(int(name))
+    return found
+
+
+def bench_of(page: Page) -> int:
+    """Returns the process of the session's bench. A bench that reads the tables of causes may run beside it: its end is waited for."""
+    end = time.monotonic() + PATIENCE
+    while len(found := benches_of(page)) != 1:
+        if time.monotonic() > end:
+            raise LookupError(f"found the benches {found}, expected one")
+        time.sleep(0.02)
+    return found[0]

@@ -12,11 +12,11 @@ from typing import TYPE_CHECKING, Any, Callable, Optional
 
 from . import TOOLS
 from .decks import MARKS_OF_UTF16, NO_ANSWER, Failure, bytes_of, lines_of, shown
-from .branches import Branches
+from .branches import Branch, Branches
 from .brought import Brought
 from .desk import PAGES, Desk
 from .keyboard import ROWS, places
-from .lessons import Lesson, grouped, lessons
+from .lessons import Lesson, OpenLesson, grouped, lessons
 from .parts import parts_of, refusal_of
 from .recorded import recorded
 from .repeating import Repeat
@@ -110,7 +110,7 @@ class Answers:
     def deck(self, asked: Optional[Request] = None) -> bytes:
         """Returns the session as the bytes of a deck, or a branch that was left."""
         with self.lock:
-            return self.branches.deck(int(asked["branch"])) if asked and "branch" in asked else self.desk.deck()
+            return self.branches.branch(int(asked["branch"])).deck() if asked and "branch" in asked else self.desk.deck()
 
     def recorded(self) -> bytes:
         """Returns the session as a page that needs no server, as bytes."""
@@ -133,7 +133,7 @@ class Answers:
         doing = desk.doing()
         answer = {"version": self.number, "session": desk.number, "states": desk.history.told(known), "plugs": desk.plugs,
                   "doing": doing.decode("latin-1") if doing else None,
-                  "entries": [[number, *entry.told()] for number, entry in enumerate(desk.log[since:], since)],
+                  "entries": [[number, *entry.told(), entry.is_repeated] for number, entry in enumerate(desk.log[since:], since)],
                   "waits": len(desk.queue), "ended": self.ended, "lesson": self.lesson_told(is_known),
                   "branches": self.branches.told()}
         if self.brought:
@@ -151,9 +151,9 @@ class Answers:
         lesson = self.desk.lesson
         if lesson is None:
             return None
-        told: Reply = {"name": lesson["name"], "title": lesson["title"], "at": len(lesson["parts"]) - len(lesson["left"])}
-        if not is_known:
-            told["parts"] = [[part.shown(), part.is_command, part.paragraphs()] for part in lesson["parts"]]
+        told: Reply = {"name": lesson.name, "title": lesson.title, "at": lesson.at()}
+        if not is_known or lesson.is_split:
+            told["parts"] = [[part.shown(), part.is_command, part.paragraphs()] for part in lesson.parts]
         return told
 
     # Requests that change the session.
@@ -215,11 +215,8 @@ class Answers:
                 self.look()
 
     def stop(self, _: Request) -> None:
-        """Drops the commands that wait. Those of a lesson that have not been started go back to the lesson."""
-        waiting, lesson = [part for part in self.desk.queue if part.entry is None], self.desk.lesson
+        """Drops the commands that wait."""
         self.desk.stop()
-        if lesson:
-            lesson["left"] = [part for part in waiting if any(part is other for other in lesson["parts"])] + lesson["left"]
         self.look()
 
     def begin(self, _: Request) -> None:
@@ -244,24 +241,26 @@ class Answers:
 
     def again(self, _: Request) -> None:
         """Repeats the session on a new bench."""
-        parts = parts_of(self.desk.deck(), True)
+        self.go_on(self.desk.branch_to(len(self.desk.log)))
+
+    def go_on(self, branch: Branch) -> None:
+        """Has an empty bench repeat a session up to some place. The lesson stays open at the step of this place."""
+        parts, lesson = branch.parts()
         self.renew()
-        self.desk.queue = parts
+        self.desk.queue, self.desk.lesson = parts, lesson
 
     def branch(self, asked: Request) -> None:
         """Goes on from a past state, from the end of an entry of the session, or from the end of a branch that was left. The session so
         far is kept as a branch."""
         desk = self.desk
         if "branch" in asked:
-            deck = self.branches.deck(int(asked["branch"]))
+            branch = self.branches.branch(int(asked["branch"]))
             self.branches.drop(int(asked["branch"]))
         else:
-            deck = desk.deck_to(int(asked["entry"])) if "entry" in asked else desk.deck_at(int(asked["state"]))
-        parts = parts_of(deck, True)
-        if desk.deck() != deck:
-            self.branches.keep(desk.deck())
-        self.renew()
-        desk.queue = parts
+            branch = desk.branch_to(int(asked["entry"]) + 1) if "entry" in asked else desk.branch_at(int(asked["state"]))
+        if desk.deck() != branch.deck():
+            self.branches.keep(desk.branch_to(len(desk.log)))
+        self.go_on(branch)
 
     def past(self, asked: Request) -> Reply:
         """Returns states of the session that are not kept, around the one with a number; before they are found, how many entries of the
@@ -293,22 +292,15 @@ class Answers:
         lesson = self.lessons[name]
         parts = parts_of(bytes_of(lesson.path), True)
         self.begin(asked)
-        self.desk.lesson = {"name": name, "title": lesson.title, "parts": parts, "left": list(parts)}
+        self.desk.lesson = OpenLesson(name, lesson.title, parts, list(parts))
 
     def next(self, asked: Request) -> None:
         """Executes the next step or the next command of the lesson, or all the rest of it."""
         lesson, how = self.desk.lesson, asked["how"]
         if lesson is None:
             return
-        if not self.desk.queue:
-            while lesson["left"]:
-                part = lesson["left"].pop(0)
-                self.desk.queue.append(part)
-                if part.is_command and how != "all":
-                    break
-        elif how == "all":
-            self.desk.queue += lesson["left"]
-            lesson["left"] = []
+        if how == "all" or not self.desk.queue:
+            self.desk.queue += lesson.take(how == "all")
         command = next((part for part in self.desk.queue if part.is_command), None)
         is_stepped = how == "step" and command is not None and command.kind in ("step", "trace")
         self.go({**asked, "steps": 1} if is_stepped else asked)

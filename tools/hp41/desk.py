@@ -4,23 +4,25 @@ Everything about the calculator is computed by the bench; this module only split
 executed in pieces, so that they can be stopped."""
 import re
 import time
-from typing import Optional, TypedDict
+from typing import Optional
 
 from .addresses import Labels
 from .alpha import PROBES, takes_letters, typed_keys
 from .benches import Bench
 from .beside import Beside
+from .branches import Branch
 from .coded import coded
 from .decks import LONGEST_DECK, MEMORY, NO_ANSWER, Failure, lines_of
 from .decks import text_of as text_of_line
 from .keyboard import KEYS
 from .explaining import is_carrying, of_line, of_word
 from .history import History, Place, State
+from .lessons import OpenLesson
 from .lights import AFTER, BEFORE, PROMPT, Lights, Seen
 from .matches import whole
 from .memory import MAIN_START, Memory
 from .paging import Pages
-from .parts import MOST_STEPS, NO_END, Entry, Part, parts_of, refusal_of
+from .parts import MOST_STEPS, NO_END, Entry, Part, command_of, parts_of, refusal_of
 from .plugged import Names
 from .repeating import Renewal
 from .typed import Text
@@ -44,14 +46,6 @@ PAGES = "456789ABCDEF"
 MOST_REGISTERS = 320
 VIEWS = ("cpu", "stack", "flags", "alpha", "display", "pos", "lines", "functions")
 WORDS_BEFORE, WORDS_BEHIND = 16, 32
-
-
-class OpenLesson(TypedDict):
-    """A lesson that is open: its name and title, its parts, and those that are left."""
-    name: str
-    title: str
-    parts: list[Part]
-    left: list[Part]
 
 
 class Desk:
@@ -103,36 +97,35 @@ class Desk:
 
     def deck(self) -> bytes:
         """Returns the session as a deck. Of a command that is being executed in pieces, it has the steps that were made."""
-        texts = [entry.text for entry in self.log]
-        doing = self.doing()
-        if doing is not None:
-            texts[-1] = doing
-        return b"".join(text if text.endswith(b"\n") else text + b"\n" for text in texts)
+        return self.branch_to(len(self.log)).deck()
 
-    def deck_to(self, entry: int) -> bytes:
-        """Returns the session up to the end of an entry as a deck."""
-        return b"".join(one.text if one.text.endswith(b"\n") else one.text + b"\n" for one in self.log[:entry + 1])
+    def branch_to(self, count: int, steps: int = 0) -> Branch:
+        """Returns the session up to the end of an entry: the first `count` entries. Of the last one only some steps were made, if `steps` is
+        not 0."""
+        entries, doing = self.log[:count], self.doing()
+        texts = [entry.text if entry.text.endswith(b"\n") else entry.text + b"\n" for entry in entries]
+        if steps or doing is not None and len(entries) == len(self.log):
+            steps = steps or self.queue[0].asked
+            texts[-1] = command_of(texts[-1].split()[0].decode(), steps)
+        return Branch(texts, self.lesson.kept(entries, steps) if self.lesson else None)
 
-    def deck_at(self, number: int) -> bytes:
-        """Returns the deck that leads to the state with a number."""
+    def branch_at(self, number: int) -> Branch:
+        """Returns the session up to the state with a number."""
         if not 0 <= number <= self.history.end:
             raise Failure(f"there is no state {number}: the last one of the session is {self.history.end}")
         place = self.history.place(number)
-        if not place.steps:
-            return self.deck_to(place.entries - 1)
-        kind = self.log[place.entries - 1].text.split()[0]
-        return self.deck_to(place.entries - 2) + b"%s %d\n" % (kind, place.steps)
+        return self.branch_to(place.entries, place.steps)
 
     def doing(self) -> Optional[bytes]:
         """Returns the command that is being executed in pieces, with the number of steps that were made; None if there is none."""
         part = self.queue[0] if self.queue else None
         if part and part.kind and part.entry:
-            return b"%s %d\n" % (part.kind.encode(), part.asked)
+            return command_of(part.kind, part.asked)
         return None
 
     def give(self, deck: bytes, is_first: bool = False, goes_on: bool = False) -> list[Part]:
-        """Adds the parts of a deck after those that wait, and returns them. If `is_first` is set, they are added before all others, and a running command
-        is split. If `goes_on` is set, a run that ends at its limit is followed by another one."""
+        """Adds the parts of a deck after those that wait, and returns them. If `is_first` is set, they are added before all others, and a
+        running command is split. If `goes_on` is set, a run that ends at its limit is followed by another one."""
         parts = parts_of(deck)
         for part in parts:
             part.goes_on = goes_on and part.kind == "run"
@@ -148,12 +141,17 @@ class Desk:
         of its own."""
         part, doing = self.queue[0] if self.queue else None, self.doing()
         if part and part.kind and part.entry and doing is not None:
-            part.entry.text = doing
-            self.queue[0] = Part(b"%s %d\n" % (part.kind.encode(), part.left), True, part.goes_on)
+            part.text = part.entry.text = doing
+            rest = self.queue[0] = Part(command_of(part.kind, part.left), True, part.goes_on)
+            rest.is_repeated = part.is_repeated
+            if self.lesson:
+                self.lesson.split(part, rest)
 
     def stop(self) -> None:
-        """Drops the commands that wait."""
+        """Drops the commands that wait. Those of a lesson that have not been started go back to the lesson."""
         self.part_here()
+        if self.lesson:
+            self.lesson.take_back(self.queue)
         self.queue = []
 
     # Commands that are executed.
@@ -215,7 +213,7 @@ class Desk:
             if self.log and self.log[-1].reply == [NO_END]:
                 self.history.withdraw(len(self.log))
                 self.log.pop()
-            entry = part.entry = Entry(part.text)
+            entry = part.entry = Entry(part.text, part.is_repeated)
             self.log.append(entry)
         if part.is_open:
             # The bench would wait for the `end`. At the end of its input it would print this refusal.

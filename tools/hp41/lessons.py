@@ -1,10 +1,12 @@
-"""The lessons of tools/calculator: the examples in their groups, the decks of a folder of one's own, and a deck that is given."""
+"""The lessons of tools/calculator: the examples in their groups, the decks of a folder of one's own, and a deck that is given; and the
+lesson that is open."""
 import os
 import re
 from typing import NamedTuple, Optional
 
 from . import TOP
 from .decks import Failure, bytes_of, lines_of
+from .parts import Entry, Part
 
 EXAMPLES = os.path.join(TOP, "examples")
 
@@ -71,3 +73,52 @@ def grouped(found: dict[str, Lesson]) -> list[tuple[str, list[list[str]]]]:
     for name, lesson in found.items():
         groups.setdefault(lesson.group, []).append([name, lesson.title])
     return list(groups.items())
+
+
+class KeptLesson(NamedTuple):
+    """A lesson as a branch keeps it: its name, its title, and its parts. Each part has its text, whether it is a command, and the number of
+    its entry in the session, or None if it was not executed."""
+    name: str
+    title: str
+    parts: list[tuple[bytes, bool, Optional[int]]]
+
+
+class OpenLesson:
+    """A lesson that is open: its name and title, its parts, and those of them that are left."""
+
+    def __init__(self, name: str, title: str, parts: list[Part], left: list[Part]) -> None:
+        """`left` are the last of the parts."""
+        self.name, self.title, self.parts, self.left = name, title, parts, left
+        # Whether a part was split since the lesson was opened.
+        self.is_split = False
+
+    def at(self) -> int:
+        """Returns how many parts are not left."""
+        return len(self.parts) - len(self.left)
+
+    def take(self, is_all: bool) -> list[Part]:
+        """Returns the parts up to the next command, or all that are left. They are not left any more."""
+        count = len(self.left) if is_all else next((at for at, part in enumerate(self.left, 1) if part.is_command), len(self.left))
+        taken, self.left = self.left[:count], self.left[count:]
+        return taken
+
+    def take_back(self, waiting: list[Part]) -> None:
+        """Takes back those parts that wait and were not begun."""
+        self.left = [part for part in waiting if part.entry is None and part in self.parts] + self.left
+
+    def split(self, part: Part, rest: Part) -> None:
+        """Adds the rest of a part after it, if the part is one of the lesson's."""
+        if part in self.parts:
+            self.parts.insert(self.parts.index(part) + 1, rest)
+            self.is_split = True
+
+    def kept(self, entries: list[Entry], steps: int) -> KeptLesson:
+        """Returns the lesson as it was after some first entries of the session. Of the last one only some steps were made; 0 means all."""
+        numbers = {id(entry): number for number, entry in enumerate(entries)}
+        parts: list[tuple[bytes, bool, Optional[int]]] = []
+        for part in self.parts:
+            number = None if part.entry is None else numbers.get(id(part.entry))
+            done, rest = part.parted(steps) if steps and number == len(entries) - 1 else (part.text, None)
+            parts.append((done, part.is_command, number))
+            parts += [] if rest is None else [(rest, True, None)]
+        return KeptLesson(self.name, self.title, parts)

@@ -19,6 +19,11 @@ IN_PIECES = re.compile(r"(run|step|trace)(?: 0*([0-9]{1,7}))?")
 NO_END = "! 52 NoEnd"
 
 
+def command_of(kind: str, steps: int) -> bytes:
+    """Returns a command that makes so many steps."""
+    return b"%s %d\n" % (kind.encode(), steps)
+
+
 def refusal_of(reply: list[str]) -> Optional[str]:
     """Returns the refusal at the end of a reply, or None."""
     return reply[-1] if reply and reply[-1].startswith("! ") else None
@@ -41,11 +46,17 @@ class Part:
         self.left, self.asked, self.ran = count if self.kind else 0, 0, 0
         # The keys of a key line, with texts among them.
         self.pieces = [] if self.words[:1] != ["key"] else spelled_lines([text]).get(0, self.words[1:])
-        # The entry of this part in the session, and whether it is a block without `end` at the end of the deck.
+        # The entry of this part in the session, whether it is a block without `end` at the end of the deck, and whether it repeats an
+        # entry of a session before.
         self.entry: Optional[Entry] = None
-        self.is_open = False
+        self.is_open, self.is_repeated = False, False
         # Why a run stopped, as the bench printed it.
         self.reason: Optional[str] = None
+
+    def parted(self, steps: int) -> tuple[bytes, Optional[bytes]]:
+        """Returns this command in pieces as two: one that makes so many steps, and one that makes those that are left, or None."""
+        kind, left = self.words[0], Part(self.text, True).left - steps
+        return command_of(kind, steps), command_of(kind, left) if left > 0 else None
 
     def shown(self) -> str:
         """Returns the part as text."""
@@ -89,11 +100,11 @@ def parts_of(deck: bytes, may_be_open: bool = False) -> list[Part]:
 
 class Entry:
     """An entry of the session: its text, its reply, and the refused key if there were several. Of a long reply, the lines in the middle
-    are dropped."""
+    are dropped. The page has shown the refusal of an entry that repeats one of a session before."""
 
-    def __init__(self, text: bytes) -> None:
+    def __init__(self, text: bytes, is_repeated: bool = False) -> None:
         """Begins with an empty reply."""
-        self.text = text
+        self.text, self.is_repeated = text, is_repeated
         self.reply: list[str] = []
         self.key: Optional[str] = None
         # How many lines were dropped. They were between the first FIRST_LINES lines and the others.

@@ -12,7 +12,7 @@ const LONGEST_FILES = (LONGEST_BODY - 65536) / 4 * 3;
 const inBytes = (count) => `${count.toLocaleString("en")} bytes`;
 
 let session = null;         // the number of the session that the page shows
-let entries = [];           // its commands with their replies, as the server sent them
+let entries = [];           // its commands with their replies, as the server sent them, and whether they repeat those of a session before
 let doing = null;           // the last command with the steps that were made, while it is executed in pieces
 let past = [];              // the last states, the oldest first
 let pastFirst = 0;          // the number of the first of them
@@ -25,7 +25,6 @@ let isGone = false;         // whether the bench or the server has ended
 let isServerGone = false;   // whether the server has ended
 let told = -1;              // the number of the last change that the page knows
 let since = 0;              // the first entry that the last action of the user made
-let replayed = 0;           // how many of the first entries repeat commands of a session before, whose refusals were shown already
 let branches = [];          // the branches of the session that were left: their numbers, and what a list shows of them
 let plugs = -1;             // how often pages were plugged or unplugged
 let unsupported = {};       // why keys are not supported, by what is pressed
@@ -102,14 +101,16 @@ function ask(body, path = "do") {
 /** Stores the states in an answer, and shows the last one. */
 function take(answer) {
   if (answer.session !== session) {
-    [session, entries, past, older, goal, lesson, since, replayed, reasons] = [answer.session, [], [], null, null, null, 0, 0, {}];
+    [session, entries, past, older, goal, lesson, since, reasons] = [answer.session, [], [], null, null, null, 0, {}];
     by("rate").textContent = "";
+    tell("");
+    tellOfFiles("", true);
   }
   if (answer.unsupported) unsupported = answer.unsupported;
   if (answer.keys) drawKeys(answer.keys);
-  if (answer.lessons) listLessons(answer.lessons);
   if (answer.lesson) lesson = { ...lesson, ...answer.lesson };
-  for (const [number, bytes, reply] of answer.entries) entries[number] = { bytes, text: textOf(bytes), reply };
+  if (answer.lessons) listLessons(answer.lessons);
+  for (const [number, bytes, reply, isRepeated] of answer.entries) entries[number] = { bytes, text: textOf(bytes), reply, isRepeated };
   remember(answer.states);
   if (answer.version !== told) {
     [shown, goal] = [null, null];
@@ -119,6 +120,7 @@ function take(answer) {
   gone(answer.ended, false);
   show();
   tellRefusals();
+  if (by("told").textContent === WAITING && answer.brought?.waits === 0) tellOfBrought(answer.brought);
 }
 
 /** Returns the state after a change. Of long lists the change has only the items that differ. */
@@ -179,7 +181,10 @@ function listen(isAgain) {
   events.onopen = () => by("refusal").textContent === TOO_MANY && tell("");
   events.onmessage = (event) => {
     const { version, ended } = JSON.parse(event.data);
-    if (version > told || (ended !== null) !== isGone) act(() => ask(null));
+    if (version <= told && (ended !== null) === isGone) return;
+    // Another page has done something: what this page shows about its own last action is over.
+    if (version > told && isQuiet()) forget();
+    act(() => ask(null));
   };
   events.onerror = () => {
     if (events.readyState !== EventSource.CLOSED) return fetched("state").catch(() => events.close());
@@ -219,9 +224,10 @@ function refusedOf({ text, reply }, at) {
   return line && reply.at(-1).startsWith("! 13 ") ? `line ${line[2]}, ${state.word}, is not supported (${words})` : words;
 }
 
-/** Shows the refusals of the commands that the last action executed, with the usual causes of the last one. */
+/** Shows the refusals of the commands that the last action executed, with the usual causes of the last one. Those of commands that are
+    repeated were shown before. */
 function tellRefusals() {
-  const refused = entries.map((entry, at) => [entry, at]).slice(Math.max(since, replayed)).filter(([entry]) => isRefused(entry));
+  const refused = entries.map((entry, at) => [entry, at]).slice(since).filter(([entry]) => !entry.isRepeated && isRefused(entry));
   if (!refused.length) return tellStop();
   const [entry, at] = refused.length > 1 ? refused[0] : refused.at(-1);
   const words = refusedOf(entry, at);
@@ -246,7 +252,8 @@ async function tellCauses(text, number) {
 /** Shows why a run stopped, unless it ended by itself. */
 function tellStop() {
   const entry = entries.at(-1);
-  const reason = Math.max(since, replayed) < entries.length && !waits && /^ran (\d+) (Break|Limit)$/.exec(entry.reply[0] ?? "");
+  const isDone = since < entries.length && !entry.isRepeated && !waits;
+  const reason = isDone && /^ran (\d+) (Break|Limit)$/.exec(entry.reply[0] ?? "");
   if (!reason) return;
   const why = reason[2] === "Break" ? "Stopped at a breakpoint" : `Stopped after ${Number(reason[1]).toLocaleString("en")} steps`;
   tell(`${why}: Run goes on`, true);
@@ -349,7 +356,7 @@ function listenToControls() {
   for (const [id, call] of Object.entries(calls)) by(id).addEventListener("click", () => begun(call));
   by("display").addEventListener("click", () => showDisplay(displayed, true));
   by("export").addEventListener("click", () => begun(takeOut, tellOfFiles));
-  by("moment").addEventListener("input", () => act(() => goTo(() => Number(by("moment").value))));
+  by("moment").addEventListener("input", () => begun(() => goTo(() => Number(by("moment").value))));
   for (const id of ["list-page", "list-kind"]) by(id).addEventListener("change", () => begun(listPage));
   by("branches").addEventListener("change", linkBranch);
   by("commands").addEventListener("keydown", (event) => event.key === "Enter" && event.ctrlKey && begun(giveTyped));
@@ -414,9 +421,13 @@ function begin() {
   return act(async () => {
     await ask(null);
     forget();
+    // A run that goes on may be refused yet.
+    if (doing) since = entries.length - 1;
     listen();
     by("needs").hidden = true;
     const name = new URLSearchParams(location.search).get("lesson");
+    // A reload keeps what was opened afterwards.
+    if (name !== null) history.replaceState(null, "", location.pathname);
     if (name && !lessonNames.includes(name)) tell(`Unknown lesson '${name}': choose one from the list.`);
     else if (name && lesson?.name !== name) await openLesson(name);
     else if (isDriven && waits) drive();

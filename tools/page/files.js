@@ -38,8 +38,14 @@ async function bringIn(files) {
   }
   // Another session has begun meanwhile.
   if (!brought) return tellOfFiles("");
-  const waiting = brought.waits ? "The commands of the files wait: press Continue." : "";
-  return tellOfFiles(brought.told || waiting || "All files were imported.", brought.good);
+  return tellOfBrought(brought);
+}
+
+const WAITING = "The commands of the files wait: press Continue.";
+
+/** Shows what became of the files that were imported last. */
+function tellOfBrought({ told: messages, waits: count, good }) {
+  tellOfFiles(messages || (count ? WAITING : "All files were imported."), good);
 }
 
 async function openDeck(file) {

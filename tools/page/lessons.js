@@ -11,10 +11,16 @@ function listLessons(groups) {
   const options = groups.map(([label, rows]) => make("optgroup", { label }, ...rows.map(([value, title]) =>
     make("option", { value }, `${lessonNames.indexOf(value) + 1}. ${title}`))));
   by("lessons").replaceChildren(make("option", { value: "" }, "Lessons"), ...options);
+  chooseOpen();
+}
+
+/** Chooses the lesson that is open in the list. */
+function chooseOpen() {
+  by("lessons").value = lesson?.name ?? "";
 }
 
 async function openLesson(name) {
-  if (!await isSure()) return;
+  if (!await isSure()) return chooseOpen();
   await ask({ do: "lesson", name });
   forget();
   for (const id of ["trace-panel", "lesson"]) by(id).open = true;

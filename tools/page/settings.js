@@ -13,6 +13,7 @@ addEventListener("beforeunload", () => {
   // (the user may decide to stay)
   setTimeout(() => { isLeaving = false; }, 2000);
 });
+addEventListener("pagehide", () => { isLeaving = true; });
 
 const cookieOf = (name) => document.cookie.split("; ").find((part) => part.startsWith(`${name}=`))?.slice(name.length + 1);
 

@@ -48,7 +48,7 @@ function showTrace() {
     const [one, before] = [stateAt(number), stateAt(number - 1)];
     const button = make("button", { type: "button", class: "step", "aria-current": number === at ? "step" : null, "data-at": number },
       make("code", {}, ledTo(one, before)), ...changesOf(one, before).slice(0, 6).map((text) => make("span", { class: "change" }, text)));
-    button.addEventListener("click", () => act(() => goTo(() => number)));
+    button.addEventListener("click", () => begun(() => goTo(() => number)));
     rows.push(make("li", { class: number === at ? "next" : "" }, button));
   }
   fill("trace", ...rows);
@@ -181,8 +181,7 @@ const branchHere = () => branchFrom({ state: shown ?? lastNumber() });
 
 async function branchFrom(place) {
   driver = null;
-  const { session: number, waits: count } = await ask({ do: "branch", ...place });
-  if (number === session) replayed = count;
+  await ask({ do: "branch", ...place });
   await drive();
 }
 

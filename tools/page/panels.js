@@ -138,7 +138,7 @@ function showProgram(state) {
 }
 
 let returns = {};           // the state whose return addresses were asked for: its session and its number, and the addresses
-let searching = null;          // what asks for them
+let searching = null;       // what asks for them
 
 /** Shows to which lines the program returns. They are asked for when the page has shown a state for a moment, because a second bench must
     execute the session again. A function in microcode, and an empty program memory, are not asked about. */
@@ -146,14 +146,18 @@ function showReturns(state) {
   const number = shown ?? lastNumber();
   const isFound = returns.session === session && returns.number === number;
   const found = (isFound && returns.found) || [];
-  const [lines] = linesOf(state);
-  const name = (place) => `${place} ${lines.find(([at]) => at === place.replace("P", ""))?.[1] ?? ""}`.trim();
+  const held = { P: state.paged, "": state.lines.map((text) => [text.slice(0, 4), text.slice(5)]) };
+  const name = (place) => {
+    const [, page, at] = /^(P?)(.*)$/.exec(place);
+    // Null bytes before a line are skipped.
+    return `${place} ${held[page].find(([position]) => position >= at)?.[1] ?? ""}`.trim();
+  };
   by("returns").hidden = !found.length;
-  if (isNew("returns", found, lines)) {
+  if (isNew("returns", found.map(name))) {
     fill("returns", "RTN returns to ", ...found.flatMap((place, at) => [at ? ", then to " : "", make("code", {}, name(place))]));
   }
   clearTimeout(searching);
-  if (isFound || isGone || waits || state.pos[0].startsWith("Micro") || lines.length < 2) return;
+  if (isFound || isGone || waits || state.pos[0].startsWith("Micro") || linesOf(state)[0].length < 2) return;
   searching = setTimeout(() => findReturns(number).catch(() => {}), 150);
 }
 

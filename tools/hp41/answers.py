@@ -21,6 +21,7 @@ from .parts import parts_of, refusal_of
 from .recorded import recorded
 from .repeating import Repeat
 from .refusals import Refused, look_into_blocks
+from .returns import Returns
 from .unsupported import unsupported
 
 if TYPE_CHECKING:
@@ -80,6 +81,7 @@ class Answers:
         self.last_id: Any = None
         self.desk = Desk(memory)
         self.repeat: Optional[Repeat] = None
+        self.returns: Optional[Returns] = None
         # The files that were imported last.
         self.brought: Optional[Brought] = None
         self.unsupported = unsupported()
@@ -115,7 +117,7 @@ class Answers:
     def recorded(self) -> bytes:
         """Returns the session as a page that needs no server, as bytes."""
         with self.lock:
-            return recorded({**self.told({}), "branches": [], "lesson": None})
+            return recorded({**self.told({}), "branches": [], "lesson": None, "pages": self.desk.plugged()})
 
     # The state of the session.
 
@@ -164,7 +166,7 @@ class Answers:
         calls: dict[str, Callable[[Request], Optional[Reply]]] = {
             "give": self.give, "go": self.go, "stop": self.stop, "next": self.next, "lesson": self.open_lesson,
             "open": self.open, "again": self.again, "begin": self.begin, "causes": self.causes_of, "list": self.listed,
-            "pages": self.pages, "branch": self.branch, "past": self.past}
+            "pages": self.pages, "branch": self.branch, "past": self.past, "returns": self.returning}
         call = calls.get(name)
         if call is None:
             raise ValueError(name)
@@ -265,9 +267,7 @@ class Answers:
     def past(self, asked: Request) -> Reply:
         """Returns states of the session that are not kept, around the one with a number; before they are found, how many entries of the
         session were executed again."""
-        number, end = int(asked["state"]), self.desk.history.end
-        if not 0 <= number <= end:
-            raise Failure(f"there is no state {number}: the last one of the session is {end}")
+        number = self.state_in(asked)
         try:
             if self.repeat is None or self.repeat.session != self.desk.number:
                 self.forget()
@@ -276,13 +276,34 @@ class Answers:
             return {"found": self.repeat.go(LONGEST_GO), "reached": len(self.repeat.desk.log)}
         except Failure as failure:
             self.forget()
-            raise Failure(f"the session cannot be executed again: {failure}") from failure
+            raise again(failure) from failure
+
+    def state_in(self, asked: Request) -> int:
+        """Returns the number of a state that a request names."""
+        number, end = int(asked["state"]), self.desk.history.end
+        if not 0 <= number <= end:
+            raise Failure(f"there is no state {number}: the last one of the session is {end}")
+        return number
 
     def forget(self) -> None:
-        """Ends the bench that executes the session again."""
-        if self.repeat:
-            self.repeat.close()
-        self.repeat = None
+        """Ends the benches that execute the session again."""
+        for one in (self.repeat, self.returns):
+            if one:
+                one.close()
+        self.repeat = self.returns = None
+
+    def returning(self, asked: Request) -> Reply:
+        """Returns whether the return addresses of the program in a state are found, and these; None if they cannot be found."""
+        number = self.state_in(asked)
+        try:
+            if self.returns is None or self.returns.key != (self.desk.number, number):
+                if self.returns:
+                    self.returns.close()
+                self.returns = Returns(self.desk, number)
+            return {"done": self.returns.go(LONGEST_GO), "returns": self.returns.found}
+        except Failure as failure:
+            self.forget()
+            raise again(failure) from failure
 
     def open_lesson(self, asked: Request) -> None:
         """Opens a lesson at its first step."""
@@ -367,15 +388,23 @@ class Answers:
         if kind not in ("rom", "source", "raw", "text") or page and page not in list(PAGES):
             raise ValueError((kind, page))
         with self.lock:
+            if kind in ("raw", "text") and self.desk.has_no_program():
+                raise Failure("no program is in memory: type, load or import one, then export it")
             if kind in ("rom", "source") and not page:
                 page = next(iter(self.desk.views["pages"]), "8")
             deck = self.desk.leaves(kind, page)
         words = ["--page", page] if kind in ("rom", "source") else [f"--label={label}"] if label else []
         ran = tool("export", [kind, *words, "-", "-"], None, deck)
         if ran.returncode:
-            raise Failure(ran.stderr.decode(errors="replace").strip() or
+            # The page gives the deck, which has no name.
+            raise Failure(ran.stderr.decode(errors="replace").replace("export: -: ", "").strip() or
                           f"tools/export ended with status {ran.returncode} and printed no message: please report it")
         return ran.stdout
+
+
+def again(failure: Failure) -> Failure:
+    """Returns the error for a session that cannot be executed again."""
+    return Failure(f"the session cannot be executed again: {failure}")
 
 
 def file_name(name: str) -> str:

@@ -9,13 +9,14 @@ from typing import Optional
 from .addresses import Labels
 from .alpha import PROBES, takes_letters, typed_keys
 from .benches import Bench
-from .beside import Beside
+from .beside import R00, Beside
 from .branches import Branch
 from .coded import coded
 from .decks import LONGEST_DECK, MEMORY, NO_ANSWER, Failure, lines_of
 from .decks import text_of as text_of_line
 from .keyboard import KEYS
 from .explaining import is_carrying, of_line, of_word
+from .foreseen import Around, program_at
 from .history import History, Place, State
 from .lessons import OpenLesson
 from .lights import AFTER, BEFORE, PROMPT, Lights, Seen
@@ -25,6 +26,7 @@ from .paging import Pages
 from .parts import MOST_STEPS, NO_END, Entry, Part, command_of, parts_of, refusal_of
 from .plugged import Names
 from .repeating import Renewal
+from .stubs import FLAGS_AT
 from .typed import Text
 from .values import text_of
 
@@ -43,6 +45,7 @@ RAN = re.compile(r"ran ([0-9]+) ([A-Z][a-z]+)")
 NAME = re.compile(r'^(?:GTO|XEQ|LBL) "[^"]*_$')
 
 PAGES = "456789ABCDEF"
+FLAG_25 = 1 << 55 - 25
 MOST_REGISTERS = 320
 VIEWS = ("cpu", "stack", "flags", "alpha", "display", "pos", "lines", "functions")
 WORDS_BEFORE, WORDS_BEHIND = 16, 32
@@ -369,14 +372,27 @@ class Desk:
         views, (mode, place) = self.views, self.views["pos"][0].split()
         if mode == "Micro":
             words, text = next(((text[:9].strip(), text[9:]) for at, _, text in views["listing"] if at == place), ("", ""))
-            one = of_word(text, views["cpu"], self.beside.after(words, views["cpu"]) if is_carrying(text) else None)
+            around = Around(pages=views["pages"], writable=self.names.pages(True), protected=self.names.pages(False), top=self.top)
+            after = self.beside.after(words, views["cpu"]) if is_carrying(text) else None
+            one = of_word(text, views["cpu"], after, around)
             return {"word": text, "next": one.sentence(), "asks": one.asks()}
-        lines = ([(f"P{at}", text) for at, text, *_ in views["paged"]] if place[0] == "P" else
-                 [(line[:4], line[5:]) for line in views["lines"]])
+        held = [(line[:4], line[5:]) for line in views["lines"]]
+        lines, at = ([(at, text) for at, text, *_ in views["paged"]], place[1:]) if place[0] == "P" else (held, place)
         # Null bytes before a line are skipped.
-        text = next((text for at, text in lines if at >= place), "")
-        one = of_line(text, views["numbers"], views["values"], views["alpha"][0], views["flags"][0])
+        text = next((text for position, text in lines if position >= at), "")
+        around = Around(len(views["registers"]), program_at(lines, at), [text for _, text in held], views["functions"])
+        one = of_line(text, views["numbers"], views["values"], views["alpha"][0], views["flags"][0], around)
+        one.error()
+        if one.unsure:
+            one.is_over = self.is_over(*one.unsure)
         return {"word": text, "next": one.sentence(), "asks": one.asks()}
+
+    def is_over(self, line: str, register: str) -> Optional[bool]:
+        """Returns whether the bench beside finds the result of a line out of range; R00 in the line is this data register."""
+        # Flag 25 would hide the message.
+        flags = f"{int(self.views['memory'][FLAGS_AT], 16) & ~FLAG_25:014X}"
+        memory = {**dict(enumerate(row[2:] for row in self.views["stack"])), FLAGS_AT: flags}
+        return self.beside.is_over(line, {**memory, R00: self.views["registers"][int(register[1:])]} if register else memory)
 
     def plugged(self) -> list[tuple[str, str, str]]:
         """Returns the plugged banks: for each its page, its bank, and the name of its file or of its first label, if it has one."""
@@ -394,6 +410,10 @@ class Desk:
         return [[place, self.labels.of(place), words, text] for place, words, text in self.pages.words(page, tuple(image))]
 
     # Exports.
+
+    def has_no_program(self) -> bool:
+        """Returns whether memory has no line of a program but `.END.`."""
+        return [line[5:] for line in self.views["lines"]] == [".END."]
 
     def leaves(self, kind: str, page: str) -> bytes:
         """Returns a deck for tools/export, with the image of a page or with the bytes of the programs."""

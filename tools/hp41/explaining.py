@@ -6,6 +6,7 @@ from typing import Callable, NamedTuple, Optional, Union
 
 from . import TOOLS
 from .decks import bytes_of
+from .foreseen import STACK_NUMBERS, Around, Error, Foreseen, register
 
 TABLE = os.path.join(TOOLS, "explanations")
 
@@ -13,16 +14,21 @@ TABLE = os.path.join(TOOLS, "explanations")
 LETTERS = {"F": "(?P<F>@R|S&X|R<|ALL|P-Q|XS|MS|M)", "N": "[0-9]+", "H": "[0-9A-F]+",
            "R": "(?P<R>(?:IND )?(?:[0-9]{2,3}|[TZYXLMNOPQa-eA-J]|append|[0-9]))"}
 PLACEHOLDER = re.compile(r"\{([^}]*)\}")
+# A text that a name of a function cannot be.
+NO_FUNCTION = re.compile(r"-?[0-9.E][0-9.E+-]*|NEG.*|[\">].*|LBL .*|\.?END\.?")
+# Where a sentence is cut if its step fails: what follows is what would happen afterwards.
+CUT = re.compile(r"; |, after lifting |\.$")
 # The names of registers of the processor, and of those of programs, for whose next value a learner can be asked.
 ASKED = re.compile("[ABCMNGXYZT]|ST|RTN|ALPHA|LAST X|R[0-9]+")
 FIELDS = {"S&X": (2, 0), "ALL": (13, 0), "XS": (2, 2), "M": (12, 3), "MS": (13, 13)}
 
 
 class Row(NamedTuple):
-    """A row of the table: the pattern of a text, what the step changes, and the sentence."""
+    """A row of the table: the pattern of a text, what the step changes, the sentence, and what the bench checks before the step."""
     pattern: re.Pattern[str]
     changes: list[str]
     sentence: str
+    checks: list[str]
 
 
 @lru_cache(maxsize=None)
@@ -34,9 +40,10 @@ def rows() -> dict[str, list[Row]]:
         if line.startswith("["):
             section = found.setdefault(line.strip("[]"), [])
         elif line and not line.startswith("#"):
-            pattern, changes, sentence = line.split(" | ")
+            pattern, changes, sentence, checks = (line + " | " * (line.count(" | ") < 3)).split(" | ")
             pattern = re.sub(r"(?:(?<=[ (])|(?<=ENBANK\())[FNHR](?=[ )|]|$)", lambda one: LETTERS[one[0]], pattern)
-            section.append(Row(re.compile(pattern), [] if changes == "-" else changes.split(), sentence))
+            named = [] if changes == "-" else changes.split()
+            section.append(Row(re.compile(pattern), named, sentence, checks.split(", ") if checks else []))
     return found
 
 
@@ -50,20 +57,72 @@ def row_of(text: str, kind: str) -> tuple[Optional[Row], Optional[re.Match[str]]
 
 
 class Explained:
-    """A text with the values before its step, and the sentence about it. The carry after the step is named if it is known."""
+    """A text with the values before its step, and the sentence about it. The carry after the step is named if it is known. `is_over` is
+    whether the bench finds the result out of range; None if it was not asked."""
 
-    def __init__(self, text: str, values: dict[str, str], is_word: bool, after: Optional[dict[str, str]] = None) -> None:
+    def __init__(self, text: str, values: dict[str, str], is_word: bool, after: Optional[dict[str, str]] = None,
+                 around: Around = Around(), is_over: Optional[bool] = None) -> None:
         """Finds the row of an instruction if `is_word` is set, otherwise that of a program line."""
-        self.text, self.values, self.after = text, values, after or {}
+        self.text, self.values, self.after, self.around = text, values, after or {}, around
         self.row, self.found = row_of(text, "words" if is_word else "lines")
+        self.is_word, self.is_over = is_word, is_over
+        # The line for which the bench must be asked whether its result is out of range.
+        self.unsure: Optional[tuple[str, str]] = None
+
+    def is_supported(self) -> bool:
+        """Returns whether the bench supports the operand of a line, if it has one."""
+        operand = (self.found.groupdict().get("R") or "") if self.found else ""
+        name = operand.removeprefix("IND ")
+        return not name or name in STACK_NUMBERS or re.fullmatch("[0-9]{1,2}", name) is not None
+
+    def error(self) -> Optional[Error]:
+        """Returns the error of a line, or the refusal of an instruction, that can be foreseen. Afterwards `unsure` is the line for which
+        the bench must be asked, as Foreseen has it."""
+        foreseen = Foreseen(self, self.around)
+        error = foreseen.error() if self.is_supported() else None
+        self.unsure = foreseen.unsure
+        return error
+
+    def function(self, name: str) -> Optional["Explained"]:
+        """Returns the calculator's own function of a name, as its line; None if it has none."""
+        one = Explained(name, self.values, False, self.after, self.around, self.is_over)
+        return one if one.found and not one.found.re.groups and not NO_FUNCTION.fullmatch(name) else None
+
+    def called(self) -> Optional["Explained"]:
+        """Returns the calculator's own function that a line calls by its name; None if it calls none, or if this is not known."""
+        name, lines, functions = self.group(1) if self.text.startswith('XEQ "') else "", self.around.lines, self.around.functions or []
+        is_other = lines is None or f"LBL {name}" in lines or any(line[11:] == name[1:-1] for line in functions)
+        return None if not name or is_other else self.function(name[1:-1])
 
     def sentence(self) -> str:
         """Returns the sentence; an empty text if the table has no row."""
         if self.row is None:
             return ""
-        # A value after a comma is followed by a comma if the sentence goes on.
-        text = re.sub(r"\{(value|indirect|flag)\}(?= )", r"{\1},", self.row.sentence)
-        return re.sub(r",+(?=[,.;])|(?<=names),(?= is)", "", PLACEHOLDER.sub(lambda one: self.part(one[1]), text))
+        if not self.is_supported():
+            return f"{self.text} is not supported: the step is refused."
+        called = self.called()
+        if called:
+            told = called.sentence()
+            return told if told.startswith(called.text) else f"Executes the function {called.text}: {told[0].lower()}{told[1:]}"
+        error = self.error()
+        if error is None:
+            return self.filled(self.row.sentence) + (" The result may be OUT OF RANGE." if self.unsure else "")
+        done = self.filled(CUT.split(self.row.sentence)[0])
+        if self.is_word:
+            return f"{done}, but the step is refused as {error.message}: {error.cause}."
+        ignored = "; flag 25 is set, so the error is ignored, and the flag is cleared"
+        is_ignored = "25" in self.values.get("flags", "").split()
+        return f"{done}: {error.message}, because {error.cause}{ignored if is_ignored else ''}."
+
+    def filled(self, sentence: str) -> str:
+        """Returns a sentence of the table with its values."""
+        text = re.sub(r"\{(value|indirect|flag)\}(?= )", lambda one: self.going_on(one[1]), sentence)
+        return re.sub(r",+(?=[,.;]|$)|(?<=names),", "", PLACEHOLDER.sub(lambda one: self.part(one[1]), text))
+
+    def going_on(self, name: str) -> str:
+        """Returns what a placeholder stands for within a sentence: a value after a comma is followed by a comma."""
+        part = self.part(name)
+        return f"{part}," if ", " in part else part
 
     def asks(self) -> str:
         """Returns the name of a register that the step changes, whose next value can be asked for; an empty text if there is none."""
@@ -174,7 +233,7 @@ class Explained:
         """Returns the register of an operand."""
         operand = self.group("R")
         if operand.startswith("IND "):
-            return f"the register that {self.part_indirect()}, names"
+            return f"the register that {self.going_on('indirect')} names"
         return register(operand)
 
     def part_value(self) -> str:
@@ -187,7 +246,7 @@ class Explained:
         operand = self.found.groupdict().get("R") if self.found else None
         if operand is None:
             return self.text.partition(" ")[2]
-        return f"of the number in {self.part_indirect()}," if operand.startswith("IND ") else operand
+        return f"of the number in {self.going_on('indirect')}" if operand.startswith("IND ") else operand
 
     def part_indirect(self) -> str:
         """Returns the register of an indirect operand with its value."""
@@ -198,7 +257,7 @@ class Explained:
         """Returns the flag of an operand, and whether it is set."""
         operand = self.group("R")
         if operand.startswith("IND "):
-            return f"the flag that {self.part_indirect()}, names"
+            return f"the flag that {self.going_on('indirect')} names"
         is_set = operand in self.values.get("flags", "").split()
         return f"flag {operand}, which is {'set' if is_set else 'clear'}"
 
@@ -207,10 +266,28 @@ class Explained:
         value = self.values.get(name)
         return f", {value}" if value is not None else ""
 
+    def part_selects(self) -> str:
+        """Returns that no register of memory has the address in C, if none has it."""
+        address = int(self.value("C.2-0"), 16) & 0x3FF
+        return "" if Foreseen(self, self.around).has_register(address) else ": there is no such register"
 
-def register(operand: str) -> str:
-    """Returns the name of a register of an operand."""
-    return {"L": "LAST X"}.get(operand, operand) if not operand.isdigit() else f"R{operand}"
+    def part_reads(self) -> str:
+        """Returns what a read of an address without a register gives, if it has none."""
+        foreseen = Foreseen(self, self.around)
+        return "" if foreseen.has_register(foreseen.selected()) else ": there is no such register, so C becomes 0"
+
+    def part_writes(self) -> str:
+        """Returns what a write to an address without a register does, if it has none."""
+        foreseen = Foreseen(self, self.around)
+        return "" if foreseen.has_register(foreseen.selected()) else ": there is no such register, so nothing is written"
+
+    def part_protected(self) -> str:
+        """Returns what happens if the page of the address in C is read-only, unless it is known to be writable."""
+        return "" if self.value("C.6-3")[:1] in self.around.writable else ", unless the page is read-only: then the step is refused"
+
+    def part_fetches(self) -> str:
+        """Returns what a read from a page without a module gives, if it has none."""
+        return "; no module is plugged there, so the digits become 000" if Foreseen(self, self.around).is_unplugged() else ""
 
 
 def values_of(cpu: list[str]) -> dict[str, str]:
@@ -219,18 +296,18 @@ def values_of(cpu: list[str]) -> dict[str, str]:
     return {**values, "RTN": cpu[4].removeprefix("RTN=")}
 
 
-def of_word(text: str, cpu: list[str], after: Optional[list[str]] = None) -> Explained:
+def of_word(text: str, cpu: list[str], after: Optional[list[str]] = None, around: Around = Around()) -> Explained:
     """Returns what is said about an instruction; `cpu` are the lines of `show cpu` before its step, and `after` those after it."""
-    return Explained(text, values_of(cpu), True, values_of(after) if after else None)
+    return Explained(text, values_of(cpu), True, values_of(after) if after else None, around)
 
 
-def of_line(text: str, numbers: list[str], registers: list[str], alpha: str, flags: str) -> Explained:
+def of_line(text: str, numbers: list[str], registers: list[str], alpha: str, flags: str, around: Around = Around()) -> Explained:
     """Returns what is said about a program line: `numbers` are those of T, Z, Y, X and LAST X, `registers` those of the data registers."""
     values = dict(zip(("T", "Z", "Y", "X", "LAST X"), numbers))
     values.update((f"R{at:02}", value) for at, value in enumerate(registers))
     if "LAST X" in values:
         values["L"] = values["LAST X"]
-    return Explained(text, {**values, "ALPHA": f'"{alpha}"', "flags": flags}, False)
+    return Explained(text, {**values, "ALPHA": f'"{alpha}"', "flags": flags}, False, None, around)
 
 
 def is_carrying(text: str) -> bool:

@@ -1,5 +1,5 @@
-"""Names for the pages that a session has plugged: that of the file, which tools/import writes as a comment before the block, or that of
-the first label of the source."""
+"""The pages that a session has plugged: their names, which are that of the file, which tools/import writes as a comment before the block,
+or that of the first label of the source; and whether they can be written."""
 import re
 
 from .addresses import Labels
@@ -15,6 +15,8 @@ class Names:
     def __init__(self) -> None:
         """Begins without names."""
         self.known: dict[tuple[str, str], str] = {}
+        # The banks that can be written.
+        self.written: set[tuple[str, str]] = set()
 
     def follow(self, lines: list[bytes], before: bytes, labels: Labels) -> None:
         """Notes what a block or command that the bench has accepted plugs or unplugs. `before` is the entry of the session before it, and
@@ -27,7 +29,13 @@ class Names:
         bank = next((word for word in words[2:] if word.startswith(b"b")), b"b1")
         found = OF_FILE.fullmatch((before.splitlines() or [b""])[-1])
         own = labels.pages.get(page.encode(), {}).get(bank, [])
+        (self.written.add if b"rw" in words[2:] else self.written.discard)((page, bank[1:].decode()))
         self.known[page, bank[1:].decode()] = found[1].decode("utf-8", "replace") if found else own[0][1] if own else ""
+
+    def pages(self, can_be_written: bool) -> list[str]:
+        """Returns the pages of which each bank can be written, or of which none can."""
+        others = {page for page, bank in self.known if ((page, bank) in self.written) != can_be_written}
+        return sorted({page for page, _ in self.known} - others)
 
     def of(self, page: str, bank: str) -> str:
         """Returns the name of a bank; an empty text if it has none."""

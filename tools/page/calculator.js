@@ -397,6 +397,7 @@ function listenToKeys() {
 
 /** Shows a session that was saved in this file, without a server. */
 function replay(answer) {
+  namePages(answer.pages);
   take({ ...answer, ended: null, waits: 0 });
   isGone = true;
   document.body.classList.add("recorded");

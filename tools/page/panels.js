@@ -30,6 +30,7 @@ function show() {
   showBreakpoints();
   showStack(state, before);
   showProgram(state);
+  showReturns(state);
   if (isOpen("modules-panel")) showModules(state);
   if (isOpen("processor-panel")) showProcessor(state, before);
   if (isOpen("listing-panel")) showListing(state);
@@ -136,6 +137,42 @@ function showProgram(state) {
   reveal(by("program"), by("program").querySelector(".next"));
 }
 
+let returns = {};           // the state whose return addresses were asked for: its session and its number, and the addresses
+let searching = null;       // what asks for them
+
+/** Shows to which lines the program returns. They are asked for when the page has shown a state for a moment, because a second bench must
+    execute the session again. A function in microcode, and an empty program memory, are not asked about. */
+function showReturns(state) {
+  const number = shown ?? lastNumber();
+  const isFound = returns.session === session && returns.number === number;
+  const found = (isFound && returns.found) || [];
+  const held = { P: state.paged, "": state.lines.map((text) => [text.slice(0, 4), text.slice(5)]) };
+  const name = (place) => {
+    const [, page, at] = /^(P?)(.*)$/.exec(place);
+    // Null bytes before a line are skipped.
+    return `${place} ${held[page].find(([position]) => position >= at)?.[1] ?? ""}`.trim();
+  };
+  by("returns").hidden = !found.length;
+  if (isNew("returns", found.map(name))) {
+    fill("returns", "RTN returns to ", ...found.flatMap((place, at) => [at ? ", then to " : "", make("code", {}, name(place))]));
+  }
+  clearTimeout(searching);
+  if (isFound || isGone || waits || state.pos[0].startsWith("Micro") || linesOf(state)[0].length < 2) return;
+  searching = setTimeout(() => findReturns(number).catch(() => {}), 150);
+}
+
+async function findReturns(number) {
+  const of = session;
+  const isShown = () => of === session && number === (shown ?? lastNumber()) && !waits && !isGone;
+  while (isShown()) {
+    const answer = await ask({ do: "returns", state: number });
+    if (answer.done === false) continue;
+    returns = { session: of, number, found: answer.returns };
+    if (isShown()) showReturns(looked()[0]);
+    break;
+  }
+}
+
 let listing = null;         // the page that is listed: its page, its bank, how it is listed, and its rows
 let plugsKnown = -1;        // for which number of plugs the plugged banks are listed
 let pageNames = {};         // the names of the pages: those of their files, or of their first labels
@@ -168,12 +205,17 @@ function showModules(state) {
   return reveal(by("listed"), by("listed").querySelector(".next"));
 }
 
+/** Stores the names of plugged pages, of which each bank has one. */
+function namePages(pages) {
+  pageNames = {};
+  for (const [page, , name] of pages) pageNames[page] ||= name;
+}
+
 /** Fills the list of plugged banks, and lists the chosen one again. */
 async function findPages() {
   const { pages } = await ask({ do: "pages" });
   const chosen = by("list-page").value;
-  pageNames = {};
-  for (const [page, , name] of pages) pageNames[page] ||= name;
+  namePages(pages);
   by("list-page").replaceChildren(make("option", { value: "" }, "none"), ...pages.map(([page, bank, name]) =>
     make("option", { value: `${page} b${bank}` }, `${page}, bank ${bank}${name ? `: ${name}` : ""}`)));
   by("list-page").value = pages.some(([page, bank]) => `${page} b${bank}` === chosen) ? chosen : "";

@@ -260,7 +260,7 @@ def chosen(state: State, options: argparse.Namespace) -> list[Program]:
             raise Failure(f"{state.path}: {why}", why.status) from why
         where = f"at page {page}"
     if not programs:
-        raise Failure(f"{state.path}: no program {where}: the deck must load one")
+        raise Failure(f"{state.path}: found no program {where}, expected one: load it in the deck, with a block `program` or `load`")
     if options.label is None:
         return programs
     found = [(name, [program for program in programs if program.has_label(name)]) for name in options.label]

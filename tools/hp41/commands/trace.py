@@ -238,7 +238,9 @@ def explained(line: str, before: Values, after: Values) -> list[str]:
     values.update((name.removeprefix("stack ").replace("L", "LAST X"), text_of(digits)) for name, digits in before.items()
                   if name.startswith("stack ") and found[1] != "Micro")
     values["flags"] = " ".join(before["flags"])
-    sentence = Explained(found[2], values, found[1] == "Micro", after).sentence()
+    # If flag 25 is set, an error clears it, and there is no message.
+    is_over = after["display"] == '"OUT OF RANGE"' or "25" in before["flags"] - after["flags"] if after else None
+    sentence = Explained(found[2], values, found[1] == "Micro", after, is_over=is_over).sentence()
     return [f"    {sentence}"] if sentence else []
 
 

@@ -1,0 +1,91 @@
+"""Finds the return addresses of keystroke programs, which no view of the bench prints.
+
+A bench beside the session executes it again up to a state. There all bytes of programs become those of RTN, so that each step goes to a
+return address, and `show pos` prints it."""
+from __future__ import annotations
+
+import time
+from typing import TYPE_CHECKING, Iterator, Optional
+
+from .memory import Memory
+from .parts import MOST_STEPS
+from .repeating import Repeat, is_over
+from .stubs import LDI, RAM_SLCT, WRIT_DATA, Stub, constant, stub_of_words
+
+if TYPE_CHECKING:
+    from .desk import Desk
+
+# How many return addresses a program has at most.
+MOST = 6
+# The byte of RTN, and a word that begins a program line with it.
+RTN_BYTE, RTN_WORD = "85", "185"
+# A session with more steps is not executed again.
+MOST_AGAIN = MOST_STEPS // 10
+
+A_IS_C_SX, B_IS_A_SX, C_IS_B_SX, M_IS_C, C_IS_M, A_PLUS_1_SX, A_BELOW_C_SX, RTN = 0x106, 0x086, 0x0C6, 0x158, 0x198, 0x166, 0x306, 0x3E0
+# Jumps back over the nine instructions of the loop, which have ten words.
+JC_LOOP = (0x80 - 9) * 8 + 7
+
+
+def writing(memory: Memory) -> Stub:
+    """Returns words that fill program memory with RTN, up to `.END.`, whose three bytes stay."""
+    divided = memory.divided()
+    curtain, end = divided.curtain, divided.end
+    last, = memory.part(end, end + 1)
+    loop = [B_IS_A_SX, C_IS_B_SX, RAM_SLCT, C_IS_M, WRIT_DATA, A_PLUS_1_SX, LDI, curtain, A_BELOW_C_SX, JC_LOOP]
+    count = curtain - end - 1
+    filling = [*constant(RTN_BYTE * 7), M_IS_C, LDI, end + 1, A_IS_C_SX, *loop] if count else []
+    ending = [LDI, end, RAM_SLCT, *constant(RTN_BYTE * 4 + last[8:]), WRIT_DATA, RTN]
+    # Each LDI has a second word, which is no step.
+    stub = stub_of_words([*filling, *ending], 3 if count else 1)
+    return stub._replace(steps=stub.steps + max(count - 1, 0) * (len(loop) - 1))
+
+
+class Returns:
+    """A search for the return addresses in a state of a session."""
+
+    def __init__(self, source: Desk, number: int) -> None:
+        """`source` is the desk of the session, and `number` that of the state."""
+        self.key = source.number, number
+        self.repeat: Optional[Repeat] = None
+        self.found: Optional[list[str]] = None
+        self.work: Iterator[None] = iter(())
+        if source.made <= MOST_AGAIN:
+            self.repeat = Repeat(source, source.another())
+            self.work = self.repeat.reach(source.history.place(number))
+
+    def go(self, seconds: float) -> bool:
+        """Goes on for about `seconds`. Returns whether the search is at its end."""
+        if not is_over(self.work, time.monotonic() + seconds):
+            return False
+        if self.repeat:
+            self.found = self.addresses(self.repeat.desk)
+            self.close()
+        return True
+
+    def addresses(self, desk: Desk) -> Optional[list[str]]:
+        """Returns the positions of the lines to which the program returns, the next one first; None if they cannot be found."""
+        state = desk.look()
+        mode, plugged = state["pos"][0].split()[0], state["pages"]
+        memory = Memory(state["memory"], desk.top)
+        if mode == "Micro" or not memory.divided().is_sound:
+            return None
+        stub, page = writing(memory), next((page for page in "456789ABCDEF" if page not in plugged), "4")
+        rows = "\n".join([" ".join([RTN_WORD] * 32)] * 128)
+        commands = [*(["key R/S"] if mode == "Run" else []), *([f"unplug {page}"] if page in plugged else []),
+                    f"words {page}\n{stub.text}end", f"call {page}000", f"step {stub.steps}", f"unplug {page}",
+                    *(command for one in plugged for command in ([f"unplug {one}"] * (one != page) + [f"words {one}\n{rows}\nend"]))]
+        if any(desk.bench.ask_all([command.encode() for command in commands])):
+            return None
+        replies = desk.bench.ask_all([b"step", b"show pos"] * (MOST + 1))
+        places = [reply[0].split()[1] for reply in replies[1::2]]
+        # Without a return address, RTN goes to line 00 of its program, and stays there. No return address is there.
+        while places[1:] and places[-2] == places[-1]:
+            places.pop()
+        return None if any(replies[::2]) else places[:-1]
+
+    def close(self) -> None:
+        """Ends its bench."""
+        if self.repeat:
+            self.repeat.close()
+        self.repeat = None

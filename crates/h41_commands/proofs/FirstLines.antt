@@ -1,15 +1,16 @@
 -- What was read up to the first line of an item, as the next of a deck's items.
 use Rattle.std.proofs.Common.{inl, inr, ◌≡◌, ◌⊎◌, ◌≤◌, ℕ, Bool, true, false, if◌then◌else◌, List, [], ◌∷◌, ◌++◌, drop, length, Option, Some}
-use Rattle.std.proofs.Common.{None, Result, Ok, Err, refl, sym, ap, subst, ◌∙◌}
+use Rattle.std.proofs.Common.{None, Result, Ok, Err, IfOk, refl, sym, ap, subst, ◌∙◌}
 use Rattle.std.specs.Option.{is_some}
-use Rattle.std.proofs.lemmas.Bool.{cond-true, cond-false, eq-eqb, le-ltb, ltb-false, or_left}
+use Rattle.std.proofs.lemmas.Bool.{cond-true, cond-false, eq-eqb, ltb-false, or_left}
 use Rattle.h41_ends.specs.InputLines.{line_in}
 use Rattle.h41_ends.specs.declared.fault.LineReadFault.{LineReadFault}
 use Rattle.h41_ends.specs.declared.input_lines.InputLines.{InputLines}
 use Rattle.h41_ends.proofs.InputReading.{reads_both}
 use Rattle.h41_commands.specs.private.BlockReading.{ReadsBlock}
 use Rattle.h41_commands.specs.Blocks.{block_values}
-use Rattle.h41_commands.specs.Commands.{and_then, command_of, is_opening, kind_of, kind_of_word, plain_of_word, read_plain}
+use Rattle.h41_commands.specs.Commands.{and_then, command_of, is_opening, kind_of, kind_of_word, opening_command, plain_of_word}
+use Rattle.h41_commands.specs.Commands.{read_plain}
 use Rattle.h41_commands.specs.DeckLines.{is_long, is_skipped, longest_line}
 use Rattle.h41_commands.specs.private.Entries.{what_is_spelled}
 use Rattle.h41_commands.specs.Faults.{of_line}
@@ -93,6 +94,13 @@ opening_words (name ∷ operands) kind e =
     let word : first_word name ≡ Opening kind = cc in
     ap is_some (opening_by kind (kind_of_word name) (plain_of_word name) word)
 
+opening_read : (words : List (List ℕ)) (kind : BlockKind) → kind_by_words words ≡ Some (Named (Opening kind))
+    → command_of words ≡ opening_command kind (drop 1 words)
+opening_read [] kind e = cc
+opening_read (name ∷ operands) kind e =
+    let word : first_word name ≡ Opening kind = cc in
+    rw (opening_by kind (kind_of_word name) (plain_of_word name) word) refl
+
 plain_words : (words : List (List ℕ)) (kind : PlainKind) → kind_by_words words ≡ Some (Named (Plain kind))
     → (is_opening words ≡ false) × (command_of words ≡ read_plain kind (drop 1 words))
 plain_words [] kind e = cc
@@ -137,8 +145,22 @@ named_spelled line kind e =
     let parts = named line (Plain kind) e in
     cond-false (is_long line) _ _ parts.0 ∙ ap plain_spelled (plain_words (words_of line) kind parts.2).1
 
-pub short_spelled : (line : List ℕ) → length line ≤ longest_line → line_spelled line ≡ spelled_by line []
-short_spelled line short = cond-false (is_long line) _ _ (le-ltb longest_line (length line) short)
+-- No command without a block has values.
+without_values : (command : Result Command LineRefusal) → IfOk command (λ given. kind_of given ≡ None)
+    → plain_spelled command ≡ and_then command (λ given. Ok (given, []))
+without_values (Ok given) alone = ap (λ (kind : Option BlockKind). with_values (block_values kind []) given) alone
+without_values (Err why) alone = refl
+
+pub alone_spelled : (line : List ℕ) (kind : PlainKind) (command : Result Command LineRefusal)
+    → line_kind line ≡ Some (Named (Plain kind)) → command ≡ read_plain kind (drop 1 (words_of line))
+    → IfOk command (λ given. kind_of given ≡ None) → line_spelled line ≡ and_then command (λ given. Ok (given, []))
+alone_spelled line kind command is read alone =
+    named_spelled line kind is ∙ ap plain_spelled (sym read) ∙ without_values command alone
+
+-- The command of a line that opens a block.
+pub opening_spelled : (line : List ℕ) (kind : BlockKind) → line_kind line ≡ Some (Named (Opening kind))
+    → command_of (words_of line) ≡ opening_command kind (drop 1 (words_of line))
+opening_spelled line kind e = opening_read (words_of line) kind (named line (Opening kind) e).2
 
 pub named_short : (line : List ℕ) (word : FirstWord) → line_kind line ≡ Some (Named word) → length line ≤ longest_line
 named_short line word e = ltb-false longest_line (length line) (named line word e).0

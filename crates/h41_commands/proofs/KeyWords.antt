@@ -1,12 +1,13 @@
 -- The keys that words name, and how many a line has room for.
 use Rattle.std.proofs.Common.{◌≡◌, ℕ, suc, ◌+◌, ◌*◌, ◌<◌, ◌≤◌, Bool, true, false, cond, nat_lt, List, [], ◌∷◌, ◌++◌, length, ◌==◌, filter}
-use Rattle.std.proofs.Common.{Result, Ok, Err, refl, ◌∙◌, ap, arith, append-nil}
+use Rattle.std.proofs.Common.{Result, Ok, Err, refl, ◌∙◌, ap, arith, append-nil, drop, length-drop}
 use Rattle.std.specs.List.{slice_split, onto_first}
 use Rattle.std.proofs.lemmas.Bool.{eqb-true, ltb-true}
 use Rattle.std.proofs.lemmas.List.Splits.{length-slice_split}
 use Rattle.h41_keys.specs.declared.key.Key.{Key}
 use Rattle.h41_lines.specs.Words.{is_blank, words_of}
 use Rattle.h41_commands.specs.Commands.{and_then, key_command, key_of, keys_of}
+use Rattle.h41_commands.specs.DeckLines.{key_room, longest_line}
 use Rattle.h41_commands.specs.declared.refusal.LineRefusal.{LineRefusal}
 use Rattle.h41_commands.specs.declared.refusal.LineRefusal.TheVariants.{BadCommand}
 
@@ -42,26 +43,10 @@ words-size : (parts : List (List ℕ)) → 2 * length (filter is_word parts) ≤
 words-size [] = omega arith
 words-size (word ∷ parts) = words-cond word parts (filter is_word parts) (is_word word) refl (words-size parts)
 
-first-cond : (word : List ℕ) (parts rest others : List (List ℕ)) (name : List ℕ) (b : Bool) → cond b (word ∷ rest) rest ≡ name ∷ others
-    → 2 * length rest ≤ size parts → (rest ≡ name ∷ others → length name + 1 + 2 * length others ≤ size parts)
-    → length name + 1 + 2 * length others ≤ length word + 1 + size parts
-first-cond word parts rest others name true e least later =
-    let first : word ≡ name = cc in
-    let behind : rest ≡ others = cc in
-    omega (arith, ap length first, ap length behind, least)
-first-cond word parts rest others name false e least later = let least = later e in omega (arith, least)
-
-words-first : (parts others : List (List ℕ)) (name : List ℕ) → filter is_word parts ≡ name ∷ others
-    → length name + 1 + 2 * length others ≤ size parts
-words-first [] others name e = cc
-words-first (word ∷ parts) others name e =
-    first-cond word parts (filter is_word parts) others name (is_word word) e (words-size parts) (words-first parts others name)
-
--- The words after the first word of a line do too.
-pub words_within : (line name : List ℕ) (others : List (List ℕ)) → words_of line ≡ name ∷ others
-    → length name + 2 * length others ≤ length line
-words_within line name others e =
-    omega (arith, words-first (slice_split is_blank line) others name e, size-slice_split is_blank line)
+-- A line of 200 bytes has at most 100 words.
+pub words_within : (line : List ℕ) → length line ≤ longest_line → length (drop 1 (words_of line)) ≤ key_room
+words_within line short =
+    omega (arith, short, words-size (slice_split is_blank line), size-slice_split is_blank line, length-drop 1 (words_of line))
 
 -- The keys so far, followed by those that the remaining words name.
 abbrev pub with_more : List Key → List (List ℕ) → Result (List Key) LineRefusal

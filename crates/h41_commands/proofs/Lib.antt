@@ -9,7 +9,6 @@ pub mod HeardItems
 pub mod ItemLines
 pub mod KeptBytes
 pub mod KeyWords
-pub mod KeysInCells
 pub mod NameEnds
 pub mod ParsedCommands
 pub mod ProgramTextLines

@@ -1,6 +1,6 @@
 -- What the lines of a block contain, by the kind of block, or why they are refused. The language is
 -- this project's own.
-use Rattle.std.specs.Prelude.{ℕ, ◌-◌, Bool, not, ◌||◌, List, [], ◌∷◌, ◌++◌, map, length}
+use Rattle.std.specs.Prelude.{ℕ, ◌-◌, Bool, not, ◌||◌, List, [], ◌++◌, map, length}
 use Rattle.std.specs.Prelude.{replicate, filter, flat_map, nat_lt, if◌then◌else◌, Option, Some}
 use Rattle.std.specs.Prelude.{None, Result, Ok, Err, is_ok, codes}
 use Rattle.std.specs.Result.{result_unwrap_or}

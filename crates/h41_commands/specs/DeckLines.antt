@@ -12,10 +12,10 @@ longest_line = 200
 abbrev pub is_long : List ℕ → Bool
 is_long line = nat_lt longest_line (length line)
 
--- The most keys that a line of 200 bytes can name: after 'key', each needs a space and at least one
--- byte.
-abbrev pub most_keys : ℕ
-most_keys = 98
+-- The most words of a line of 200 bytes: each word has a byte, and there is a separator between two.
+-- So there is room for the keys that a line names.
+abbrev pub key_room : ℕ
+key_room = 100
 
 -- A line that is skipped: one without a word, or a comment, whose first byte is '#'.
 abbrev pub is_skipped : List ℕ → Bool

@@ -5,14 +5,13 @@ ghost use Rattle.std.specs.Prelude.{◌≡◌, ◌≤◌, IfOk, None, vec_len};
 ghost use Rattle.std.specs.Result.{result_err};
 ghost use Rattle.h41_pages.specs.Addresses.{page_size};
 ghost use Rattle.h41_commands.specs.private.TakenBlocks.{IsNew, Takes, judgement};
-ghost use Rattle.h41_commands.specs.Commands.{kind_of};
 ghost use Rattle.h41_commands.specs.private.Contents.{FillsBy, IsForPage, IsForProgram, MeansBy};
 
 use crate::blocks::hex_bytes::HexBytes;
 use crate::blocks::image_bytes::ImageBytes;
 use crate::blocks::page_words::PageWords;
 use crate::blocks::source_text::SourceText;
-use crate::commands::{BlockKind, Command, PageKind, ProgramKind};
+use crate::commands::{BlockKind, PageKind, ProgramKind};
 use crate::line::is_long;
 use crate::refusal::LineRefusal;
 use std::alloc::{AllocError, Global};
@@ -24,7 +23,7 @@ pub mod page_words;
 mod program_text;
 pub mod source_text;
 
-/// The lines of a command's block that were taken so far. A command without a block has an empty one.
+/// The lines of a command's block that were taken so far.
 #[derive(Debug, Drop)]
 pub struct Block {
     content: Content,
@@ -34,7 +33,7 @@ pub struct Block {
 /// What the lines of a block that were taken so far contain, by the kind of block.
 #[derive(Debug, Drop)]
 enum Content {
-    /// The command has no block.
+    /// The command is refused, so its block is ignored.
     Nothing,
     /// The words of a page, from `words`.
     Words(PageWords),
@@ -62,15 +61,8 @@ impl Model for Block {
 }
 
 impl Block {
-    /// Returns an empty block for a command. The method `line` then adds each deck line that follows the command's line.
-    pub fn new(alloc: Global, command: Command) -> Self
-        ensures { IsNew (kind_of command) result }
-    {
-        Block::of_kind(alloc, command.block_kind())
-    }
-
-    /// Returns an empty block of the given kind. `None` is the kind of a command without a block; the contents of its
-    /// lines are ignored.
+    /// Returns an empty block of the given kind. The method `line` then adds each deck line that follows the command's
+    /// line. `None` is the kind of a line that is refused; the contents of its block's lines are ignored.
     pub(crate) fn of_kind(alloc: Global, kind: Option<BlockKind>) -> Self
         ensures { IsNew kind result }
     {

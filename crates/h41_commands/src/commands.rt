@@ -118,7 +118,6 @@ pub enum PlainKind {
 }
 
 impl PlainKind {
-    ghost use Rattle.std.specs.Prelude.{◌≤◌, length, IsSome};
     ghost use Rattle.h41_commands.specs.Commands.{plain_of_word};
 
     /// Returns the command without a block that a word names as the first word of a deck line, or `None` if it names
@@ -126,8 +125,7 @@ impl PlainKind {
     #[inline(always)]
     #[tactic(auto, unfolding(crate::specs::Commands::plain_of_word))]
     pub(crate) fn of_word(word: &[u8]) -> Option<Self>
-        ensures kind { result ≡ plain_of_word word.now }
-        ensures long { IsSome result → 3 ≤ length word.now }
+        ensures { result ≡ plain_of_word word.now }
     {
         match word {
             b"unplug" => Some(PlainKind::Unplug),
@@ -174,8 +172,8 @@ pub enum View {
 }
 
 /// A command of a deck, with its operands.
-#[derive(Clone, Copy, Debug, PartialEq, Eq)]
-pub enum Command {
+#[derive(Debug, Drop)]
+pub enum Command<'a> {
     /// `words P [bN] [rw]`, `image P [bN] [rw]` or `asm P [bN] [rw]`, with a block up to `end`: plugs the contents of the block
     /// into bank N of page P, 0 to 15; without `bN` into bank 1. With `rw` microcode may write to it. Pages 0 to 3, and banks
     /// other than 1 to 4, are refused only when the command is executed.
@@ -220,20 +218,20 @@ pub enum Command {
     },
     /// `show WHAT`: prints a part of the calculator's state.
     Show(View),
-    /// `key NAME ..`: presses 1 to 98 keys in turn.
-    Key(PressedKeys),
+    /// `key NAME ..`: presses 1 to 98 keys in turn. The keys are in a buffer that the caller of `line_command` lends.
+    Key(PressedKeys<'a>),
 }
 
-impl Command {
+impl Command<'_> {
     ghost use Rattle.h41_commands.specs.Commands.{kind_of};
 
     /// Returns the kind of the command's block (page or program), or `None` if the command has no block.
-    pub fn block_kind(self) -> Option<BlockKind>
-        ensures { result ≡ kind_of self }
+    pub fn block_kind(&self) -> Option<BlockKind>
+        ensures { result ≡ kind_of self.now }
     {
         match self {
-            Command::Plug { kind, .. } => Some(BlockKind::Page(kind)),
-            Command::Load(kind) => Some(BlockKind::Program(kind)),
+            Command::Plug { kind, .. } => Some(BlockKind::Page(*kind)),
+            Command::Load(kind) => Some(BlockKind::Program(*kind)),
             _ => None,
         }
     }

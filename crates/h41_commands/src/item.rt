@@ -13,7 +13,7 @@ use crate::refusal::LineRefusal;
 #[derive(Debug, Drop)]
 pub struct GivenCommand {
     /// The command, with its operands.
-    pub command: Command,
+    pub command: Command<'static>,
     /// The block of the command; it is empty if the command has none.
     pub block: Block,
     ghost own: { block.kind ≡ kind_of command },

@@ -13,13 +13,11 @@ mod refusal;
 
 pub use blocks::Block;
 pub use blocks::page_words::PAGE_WORDS;
-pub use commands::keys::PressedKeys;
-pub use commands::parse::{
-    break_location, most_steps, no_operand, operands, parse, step_count, unplugged_page, view,
-};
+pub use commands::keys::{KeyBuffer, PressedKeys};
+pub use commands::parse::line_command;
 pub use commands::{BlockKind, Command, FirstWord, PageKind, PlainKind, ProgramKind, View};
 pub use fault::ItemFault;
 pub use item::{GivenCommand, Item};
 pub use line::{FirstLine, LineKind};
-pub use reading::{line_item, read_block, read_first_line};
+pub use reading::{read_block, read_first_line};
 pub use refusal::LineRefusal;

@@ -1,7 +1,7 @@
 //! Reads the items (commands with their blocks, or refused lines) of a deck one at a time.
 
 ghost use Rattle.std.specs.Prelude.{◌≡◌, ◌≢◌, ◌⊎◌, ◌≤◌, [], IfOk, OnOk, Err, Ok, true, false, None};
-ghost use Rattle.std.specs.Prelude.{length};
+ghost use Rattle.std.specs.Prelude.{Some};
 ghost use Rattle.std.specs.Io.KnownBytes.{Keeps};
 ghost use Rattle.h41_ends.specs.InputLines.{CountsOn, IsStopped, IsTold, line_in, most_left};
 ghost use Rattle.h41_lines.specs.Words.{words_of};
@@ -9,15 +9,15 @@ ghost use Rattle.h41_commands.specs.private.BlockReading.{HearsBlock, HearsTaken
 ghost use Rattle.h41_commands.specs.private.BlockReading.{ReadsTaken};
 ghost use Rattle.h41_commands.specs.private.TakenBlocks.{HasTaken};
 ghost use Rattle.h41_commands.specs.private.Entries.{what_is_spelled};
-ghost use Rattle.h41_commands.specs.Commands.{command_of};
+ghost use Rattle.h41_commands.specs.Commands.{command_of, kind_of};
+ghost use Rattle.h41_commands.specs.FirstLines.{first_line, opens_block};
 ghost use Rattle.h41_commands.specs.private.ItemReading.{HearsFirst, LeavesFewer, ReadsFirst};
-ghost use Rattle.h41_commands.specs.private.ItemReading.{TellsFirst, is_unended, kind_told};
-ghost use Rattle.h41_commands.specs.DeckLines.{longest_line};
-ghost use Rattle.h41_commands.specs.Items.{is_open, spelled_by};
+ghost use Rattle.h41_commands.specs.private.ItemReading.{TellsFirst, kind_told};
+ghost use Rattle.h41_commands.specs.Items.{is_open};
 
 use crate::blocks::Block;
-use crate::commands::Command;
-use crate::commands::parse::parse;
+use crate::commands::parse::block_command;
+use crate::commands::{BlockKind, Command};
 use crate::fault::ItemFault;
 use crate::item::{GivenCommand, Item};
 use crate::line::{FirstLine, first_line, is_end};
@@ -71,8 +71,8 @@ pub fn read_first_line<R: Talk<W>, W: Sink>(
 }
 
 /// Reads the lines of a block up to `end`, and returns the command with its block. The first line of the command is the
-/// line that `input` read last. Returns a refused item if the deck ends before `end`, NoEnd (52), or otherwise if the
-/// first line is not a valid command, BadCommand (50) or BadNumber (51).
+/// line that `input` read last; `first` says which block it opens. Returns a refused item if the deck ends before `end`,
+/// NoEnd (52), or otherwise if the first line is not a valid command, BadCommand (50) or BadNumber (51).
 ///
 /// # Errors
 ///
@@ -81,13 +81,15 @@ pub fn read_first_line<R: Talk<W>, W: Sink>(
 #[inline(never)]
 pub fn read_block<R: Talk<W>, W: Sink>(
     alloc: Global,
+    first: FirstLine,
     input: &mut InputLines,
     reader: &mut R,
     writer: &mut W,
 ) -> Result<Item, ItemFault>
     requires reader_clear { R.failed reader.old ≡ false }
     requires writer_clear { W.failed writer.old ≡ false }
-    requires line { length (line_in input.old) ≤ longest_line }
+    requires first { first_line (line_in input.old) ≡ Some first }
+    requires opens { opens_block first.kind ≡ true }
     ensures item { ReadsBlock result (command_of (words_of (line_in input.old)))
         (R.remaining reader.old) (R.remaining reader.new) input.old input.new }
     ensures heard { HearsBlock result (command_of (words_of (line_in input.old)))
@@ -105,8 +107,8 @@ pub fn read_block<R: Talk<W>, W: Sink>(
     ensures writer { result ≢ Err ItemFault.WriteFault → W.failed writer.new ≡ false }
     ensures write_fault { result ≡ Err ItemFault.WriteFault → W.failed writer.new ≡ true }
 {
-    let command = parse(input.line());
-    let block = Block::of_kind(alloc, command.ok().and_then(Command::block_kind));
+    let command = block_command(first, input.line());
+    let block = Block::of_kind(alloc, opened_kind(&command));
     let Some(block) = read_lines(block, input, reader, writer)? else {
         return Ok(Item::Refused(LineRefusal::NoEnd));
     };
@@ -116,20 +118,13 @@ pub fn read_block<R: Talk<W>, W: Sink>(
     })
 }
 
-/// Returns the command that a single deck line of at most 200 bytes specifies, with an empty block, or the reason why
-/// the line is refused: BadCommand (50) or BadNumber (51).
-pub fn line_item(alloc: Global, line: &[u8]) -> Item
-    requires { length line.now ≤ longest_line }
-    ensures item { what_is_spelled result ≡ spelled_by line.now [] }
-    ensures shut { is_open (what_is_spelled result) ≡ false }
+/// Returns the kind of the block of a command, or `None` if its line is refused.
+fn opened_kind(command: &Result<Command<'_>, LineRefusal>) -> Option<BlockKind>
+    ensures { IfOk command.now (λ given. result ≡ kind_of given) }
 {
-    match parse(line) {
-        Ok(command) => {
-            let held = command;
-            let block = Block::new(alloc, held);
-            Item::Given(GivenCommand { command, block })
-        }
-        Err(refusal) => Item::Refused(refusal),
+    match command {
+        Ok(given) => given.block_kind(),
+        Err(_) => None,
     }
 }
 

@@ -1,5 +1,5 @@
 -- How a command that was executed is answered.
-use Rattle.std.proofs.Common.{◌≡◌, ◌≢◌, true, ℕ, ◌+◌, Bool, List, [], ◌++◌, length, length-append, take, Option, Some, None, Result}
+use Rattle.std.proofs.Common.{◌≡◌, true, ℕ, ◌+◌, Bool, List, [], ◌++◌, length, length-append, take, Option, Some, None, Result}
 use Rattle.std.proofs.Common.{Ok, Err, refl, sym, ap, subst, ◌∙◌, arith}
 use Rattle.std.proofs.KnownBytes.{Appends-nil, Appends-trans}
 use Rattle.std.proofs.Math.Seq.{take-append-add}
@@ -15,7 +15,6 @@ use Rattle.h41_commands.specs.declared.commands.Command.{Command}
 use Rattle.h41_commands.specs.declared.commands.Command.TheVariants.{Plug, Load}
 use Rattle.h41_commands.specs.declared.commands.Command.TheVariants as commands
 use Rattle.h41_commands.specs.declared.commands.View.{View}
-use Rattle.h41_commands.specs.declared.commands.View.TheVariants as views
 use Rattle.h41_commands.specs.private.TakenBlocks.{TakenBlock}
 use Rattle.h41_commands.specs.Commands.{kind_of}
 use Rattle.h41_commands.specs.private.Contents.{MeansBy, values_in}
@@ -32,7 +31,7 @@ use Rattle.h41_pages.specs.PageMap.{PageMap}
 use Rattle.h41_refusals.specs.declared.fault.CommandFault.{CommandFault}
 use Rattle.h41_deck.specs.Listings.{listing_at}
 use Rattle.h41_deck.specs.private.Blocks.{LoadsTaken, PlugsTaken}
-use Rattle.h41_deck.specs.Replies.{LoadsBlock, LoadsBytes, Plugs, Reply, item_takes_memory, takes_memory, view_takes_memory}
+use Rattle.h41_deck.specs.Replies.{LoadsBlock, LoadsBytes, Plugs, Reply, item_takes_memory, takes_memory}
 use Rattle.h41_deck.specs.private.Writing.{SaysAlone, IsListed, IsRefusalOf, IsShown, LeavesText, Replies, RepliesInPart, SaysText, item_of}
 use Rattle.h41_deck.specs.private.Writing.{made_text, outcome_in, text_in}
 
@@ -41,19 +40,6 @@ pub given_memory : (values : Result (List ℕ) LineRefusal) (command : Command) 
     → item_takes_memory (with_values values command) ≡ true
 given_memory (Ok values) command accepted takes = takes
 given_memory (Err refusal) command accepted takes = cc
-
--- The text of each view but that of the position is allocated.
-pub view_memory : (view : View) → view ≢ views.Position → view_takes_memory view ≡ true
-view_memory views.Cpu other = refl
-view_memory (views.Register address) other = refl
-view_memory views.Stack other = refl
-view_memory views.Flags other = refl
-view_memory views.Alpha other = refl
-view_memory views.Display other = refl
-view_memory views.Position other = absurd (other refl)
-view_memory views.Lines other = refl
-view_memory (views.Image page bank) other = refl
-view_memory views.Functions other = refl
 
 -- A block that is refused.
 pub refused_text : (values : Result (List ℕ) LineRefusal) (command : Command)

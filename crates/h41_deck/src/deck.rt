@@ -8,7 +8,7 @@ ghost use Rattle.h41_deck.specs.private.AnsweredLines.{AnswersLines};
 
 use crate::lines::{answer, answer_line};
 use crate::replies::Outcome;
-use h41_commands::{read_block, read_first_line};
+use h41_commands::{KeyBuffer, read_block, read_first_line};
 use h41_debug::Bench;
 use h41_ends::{InputLines, Sink, Talk, flush};
 use h41_refusals::Fault;
@@ -109,15 +109,16 @@ fn answer_lines<R: Talk<W>, W: Sink, const REGS: usize>(
     ensures bound { GivesWithin (R.given reader.old) (R.given reader.new) }
 {
     let mut input = InputLines::new();
+    let mut keys = KeyBuffer::new();
     let mut outcome = Outcome::Accepted;
     while let Some(first) = read_first_line(&mut input, reader, writer)? {
         if first.kind.opens_block() {
-            let item = read_block(alloc, &mut input, reader, writer)?;
+            let item = read_block(alloc, first, &mut input, reader, writer)?;
             let answered = answer(alloc, bench, item, writer)?;
             outcome = outcome.and(answered);
             continue;
         }
-        let next = answer_line(alloc, bench, first, input.line(), writer)?;
+        let next = answer_line(alloc, bench, first, input.line(), &mut keys, writer)?;
         outcome = outcome.and(next);
     }
     flush(writer)?;

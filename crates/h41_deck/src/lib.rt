@@ -10,7 +10,7 @@ mod replies;
 pub use deck::run_deck;
 pub use h41_breakpoints::{BreakFull, Location, NoBreak};
 pub use h41_commands::{
-    Block, BlockKind, Command, LineRefusal, PageKind, PressedKeys, ProgramKind, View, parse,
+    Block, BlockKind, Command, LineRefusal, PageKind, PressedKeys, ProgramKind, View,
 };
 pub use h41_debug::{Bench, Stop};
 pub use h41_ends::{

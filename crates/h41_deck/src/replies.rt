@@ -12,15 +12,14 @@ ghost use Rattle.h41_refusals.specs.Refusals.{refusal_line};
 ghost use Rattle.h41_deck.specs.Views.{line_of};
 ghost use Rattle.h41_deck.specs.private.Blocks.{LoadsTaken, PlugsTaken, PlugsWordsOf};
 ghost use Rattle.h41_deck.specs.Replies.{LoadsBytes, Reply, is_silent, takes_memory};
-ghost use Rattle.h41_deck.specs.Replies.{view_takes_memory};
 ghost use Rattle.h41_deck.specs.private.Writing.{Acts, SaysAlone, Says, EndsAs, IsAccepted};
 ghost use Rattle.h41_deck.specs.private.Writing.{IsRefusalOf, KeepsIfOutOfMemory, made_text};
 
 use crate::replies::listing::listed;
 use crate::replies::running::{run, set_break, trace, unbreak};
-use crate::replies::view::shown;
+use crate::replies::view::show;
 use arrayvec::ArrayString;
-use h41_commands::{Block, Command, PAGE_WORDS, PressedKeys, View};
+use h41_commands::{Block, Command, PAGE_WORDS, PressedKeys};
 use h41_debug::Bench;
 use h41_ends::{Sink, WriteFault, write_whole};
 use h41_pages::PlugRefusal;
@@ -32,7 +31,7 @@ const SHORT_LINE: usize = 23;
 
 mod image;
 mod listing;
-pub(crate) mod running;
+mod running;
 mod view;
 
 /// Whether a deck has printed a refusal.
@@ -69,7 +68,7 @@ impl Outcome {
 pub fn apply<W: Sink, const REGS: usize>(
     alloc: Global,
     bench: &mut Bench<REGS>,
-    command: Command,
+    command: Command<'_>,
     block: Block,
     writer: &mut W,
 ) -> Result<Outcome, CommandFault>
@@ -77,11 +76,11 @@ pub fn apply<W: Sink, const REGS: usize>(
     requires block { block.kind ≡ kind_of command }
 
     // The reply is written, or a prefix of it if writing failed, or nothing if allocation failed.
-    ensures reply { Acts result command block bench.old.state bench.new.state
+    ensures reply { Acts result command.entry block bench.old.state bench.new.state
         W.contents writer.old writer.new }
 
     // Allocation fails only for commands that allocate memory, and whose blocks are not refused.
-    ensures memory { result ≡ Err CommandFault.OutOfMemory → takes_memory command ≡ true }
+    ensures memory { result ≡ Err CommandFault.OutOfMemory → takes_memory command.entry ≡ true }
     ensures accepted { result ≡ Err CommandFault.OutOfMemory → IsAccepted block }
     ensures unchanged { KeepsIfOutOfMemory result bench.old.state bench.new.state }
 
@@ -99,15 +98,15 @@ pub fn apply<W: Sink, const REGS: usize>(
 fn say<W: Sink, const REGS: usize>(
     alloc: Global,
     bench: &mut Bench<REGS>,
-    command: Command,
+    command: Command<'_>,
     block: Block,
     writer: &mut W,
 ) -> Result<Option<Refusal>, CommandFault>
     requires clear { W.failed writer.old ≡ false }
     requires block { block.kind ≡ kind_of command }
-    ensures text { Says result command block bench.old.state bench.new.state
+    ensures text { Says result command.entry block bench.old.state bench.new.state
         W.contents writer.old writer.new }
-    ensures memory { result ≡ Err CommandFault.OutOfMemory → takes_memory command ≡ true }
+    ensures memory { result ≡ Err CommandFault.OutOfMemory → takes_memory command.entry ≡ true }
     ensures accepted { result ≡ Err CommandFault.OutOfMemory → IsAccepted block }
     ensures unchanged { KeepsIfOutOfMemory result bench.old.state bench.new.state }
     ensures mark { result ≡ Err CommandFault.WriteFault → W.failed writer.new ≡ true }
@@ -131,17 +130,18 @@ fn say<W: Sink, const REGS: usize>(
 /// Executes a command that has no block, and writes what it prints except a refusal. Returns why the command is
 /// refused, if it is; the caller writes the refusal. `OutOfMemory` (21) if allocation failed: nothing is changed.
 /// `WriteFault` (23) if writing fails.
-fn say_alone<W: Sink, const REGS: usize>(
+#[inline(always)]
+pub(crate) fn say_alone<W: Sink, const REGS: usize>(
     alloc: Global,
     bench: &mut Bench<REGS>,
-    command: Command,
+    command: Command<'_>,
     writer: &mut W,
 ) -> Result<Option<Refusal>, CommandFault>
     requires clear { W.failed writer.old ≡ false }
     requires alone { kind_of command ≡ None }
-    ensures text { SaysAlone result command bench.old.state bench.new.state
+    ensures text { SaysAlone result command.entry bench.old.state bench.new.state
         W.contents writer.old writer.new }
-    ensures memory { result ≡ Err CommandFault.OutOfMemory → takes_memory command ≡ true }
+    ensures memory { result ≡ Err CommandFault.OutOfMemory → takes_memory command.entry ≡ true }
     ensures unchanged { KeepsIfOutOfMemory result bench.old.state bench.new.state }
     ensures mark { result ≡ Err CommandFault.WriteFault → W.failed writer.new ≡ true }
     ensures clear { result ≢ Err CommandFault.WriteFault → W.failed writer.new ≡ false }
@@ -160,10 +160,11 @@ fn say_alone<W: Sink, const REGS: usize>(
 
 /// Executes a command that has no block and prints nothing but a refusal, for example `step`, and returns why it is
 /// refused, if it is. The caller writes the refusal.
-fn carry_out<const REGS: usize>(bench: &mut Bench<REGS>, command: Command) -> Option<Refusal>
+#[inline(always)]
+fn carry_out<const REGS: usize>(bench: &mut Bench<REGS>, command: Command<'_>) -> Option<Refusal>
     requires { is_silent command ≡ true }
     ensures { (values : List ℕ)
-        → Reply command values bench.old.state bench.new.state (ends_by result) }
+        → Reply command.entry values bench.old.state bench.new.state (ends_by result) }
 {
     match command {
         Command::Unplug(page) => unplug(bench, page),
@@ -258,7 +259,7 @@ fn load_bytes<const REGS: usize>(bench: &mut Bench<REGS>, bytes: &[u8]) -> Optio
 }
 
 /// Unplugs all banks of a page, and returns why this is refused, if it is. The caller writes the refusal.
-pub(crate) fn unplug<const REGS: usize>(bench: &mut Bench<REGS>, page: u8) -> Option<Refusal>
+fn unplug<const REGS: usize>(bench: &mut Bench<REGS>, page: u8) -> Option<Refusal>
     ensures { Reply (commands.Unplug page) [] bench.old.state bench.new.state (ends_by result) }
 {
     match bench.calculator_mut().unplug(page) {
@@ -278,7 +279,7 @@ fn size<const REGS: usize>(bench: &mut Bench<REGS>, count: u16) -> Option<Refusa
 }
 
 /// Restores the initial state of the calculator, as `reset` does. It returns `None`, because this is never refused.
-pub(crate) fn reset<const REGS: usize>(bench: &mut Bench<REGS>) -> Option<Refusal>
+fn reset<const REGS: usize>(bench: &mut Bench<REGS>) -> Option<Refusal>
     ensures { Reply commands.Reset [] bench.old.state bench.new.state (ends_by result) }
 {
     bench.calculator_mut().reset();
@@ -296,7 +297,8 @@ fn call<const REGS: usize>(bench: &mut Bench<REGS>, address: u16) -> Option<Refu
 }
 
 /// Presses keys in turn, up to the first that is refused, and returns why that one is refused, if there is one.
-fn press<const REGS: usize>(bench: &mut Bench<REGS>, keys: &PressedKeys) -> Option<Refusal>
+#[inline(never)]
+fn press<const REGS: usize>(bench: &mut Bench<REGS>, keys: &PressedKeys<'_>) -> Option<Refusal>
     ensures { Reply (commands.Key keys.now) [] bench.old.state bench.new.state (ends_by result) }
 {
     match bench.press(keys.as_slice()) {
@@ -306,42 +308,13 @@ fn press<const REGS: usize>(bench: &mut Bench<REGS>, keys: &PressedKeys) -> Opti
 }
 
 /// Makes `count` single steps, up to the first that is refused, and returns why that one is refused, if there is one.
-pub(crate) fn step<const REGS: usize>(bench: &mut Bench<REGS>, count: u32) -> Option<Refusal>
+#[inline(never)]
+fn step<const REGS: usize>(bench: &mut Bench<REGS>, count: u32) -> Option<Refusal>
     ensures { Reply (commands.Step count) [] bench.old.state bench.new.state (ends_by result) }
 {
     match bench.steps(count) {
         Ok(()) => None,
         Err(refusal) => Some(Refusal::Calculator(refusal)),
-    }
-}
-
-/// Writes the text of a view, as `show` does, and returns why it is refused, if it is. The text of `show pos` is
-/// written without an allocation. OutOfMemory (21) if allocation failed; nothing is written then. `WriteFault` (23) if
-/// writing fails.
-#[inline(always)]
-pub(crate) fn show<W: Sink, const REGS: usize>(
-    alloc: Global,
-    bench: &mut Bench<REGS>,
-    view: View,
-    writer: &mut W,
-) -> Result<Option<Refusal>, CommandFault>
-    requires clear { W.failed writer.old ≡ false }
-    ensures text { SaysAlone result (commands.Show view) bench.old.state bench.new.state
-        W.contents writer.old writer.new }
-    ensures memory { result ≡ Err CommandFault.OutOfMemory → view_takes_memory view ≡ true }
-    ensures unchanged { KeepsIfOutOfMemory result bench.old.state bench.new.state }
-    ensures mark { result ≡ Err CommandFault.WriteFault → W.failed writer.new ≡ true }
-    ensures clear { result ≢ Err CommandFault.WriteFault → W.failed writer.new ≡ false }
-{
-    match view {
-        View::Position => {
-            write_line(bench.position().as_str(), writer)?;
-            Ok(None)
-        }
-        _ => {
-            let shown = shown(alloc, bench, view)?;
-            Ok(say_made(shown, writer)?)
-        }
     }
 }
 

@@ -1,70 +1,91 @@
 //! The keys that a `key` command presses.
 
-ghost use Rattle.std.specs.Prelude.{◌≡◌, ◌≤◌, ◌<◌, ◌++◌, [], ◌∷◌, length};
-ghost use Rattle.h41_commands.specs.DeckLines.{most_keys};
+ghost use Rattle.std.specs.Prelude.{◌≡◌, ◌<◌, ◌++◌, [], ◌∷◌, length};
+ghost use Rattle.h41_commands.specs.DeckLines.{key_room};
 
 use h41_keys::Key;
 use std::marker::Model;
 
-/// The greatest number of keys of one `key` command: 98, because a line of 200 bytes has no room for more.
-const MOST_KEYS: usize = 98;
+/// The number of keys for which a `KeyBuffer` has room: 100, because a line of 200 bytes has no more words.
+const KEY_ROOM: usize = 100;
 
-/// The keys that one `key` command presses, in their order; at most 98.
-#[derive(Clone, Copy, Debug, PartialEq, Eq)]
-pub struct PressedKeys {
-    cells: [Key; MOST_KEYS],
+/// Room for the keys of one `key` command. A command borrows its keys from it, and each command can use the same room
+/// again, so that a command is small.
+#[derive(Debug, Drop)]
+pub struct KeyBuffer {
+    cells: [Key; KEY_ROOM],
     count: usize,
 }
 
-impl Model for PressedKeys {
-    ghost use Rattle.std.specs.Prelude.{List, length, take};
-    ghost use Rattle.h41_codes.specs.Cells.{with_cells, Keeps, filled_again, count_again};
-    ghost use Rattle.h41_commands.specs.DeckLines.{most_keys};
+impl Model for KeyBuffer {
+    ghost use Rattle.std.specs.Prelude.{List, take, ◌≤◌};
+    ghost use Rattle.h41_commands.specs.DeckLines.{key_room};
     ghost use Rattle.h41_keys.specs.declared.key.Key.{Key as AnyKey};
-    ghost use Rattle.h41_keys.specs.declared.key.Key.TheVariants.{On};
 
     ghost Value = { List AnyKey };
 
     ghost view = { λ keys. take keys.count keys.cells };
 
-    ghost invariant = { λ keys. Keeps On most_keys keys.count keys.cells };
-
-    ghost inverse = { λ keys. record {
-      cells = with_cells On most_keys keys;
-      count = length keys;
-    } };
-
-    ghost inverse_ok = { λ keys h i. record {
-      cells = filled_again On most_keys keys.count keys.cells h.0 h.1 h.2 i;
-      count = count_again most_keys keys.count keys.cells h.0 h.1 i;
-    } };
+    ghost invariant = { λ keys. keys.count ≤ key_room };
 }
 
-impl PressedKeys {
-    /// Returns an empty sequence of keys, to which `push` appends.
-    pub(crate) fn new() -> Self
+impl KeyBuffer {
+    /// Returns room without keys.
+    pub fn new() -> Self
         ensures { result ≡ [] }
     {
-        PressedKeys {
-            cells: [Key::On; MOST_KEYS],
+        KeyBuffer {
+            cells: [Key::On; KEY_ROOM],
             count: 0,
         }
     }
 
-    /// Appends a key to the keys of a `key` command. There must be fewer than 98.
+    /// Removes all keys.
+    pub(crate) fn clear(&mut self)
+        ensures { self.new ≡ [] }
+    {
+        self.count = 0;
+    }
+
+    /// Appends a key. There must be fewer than 100.
     pub(crate) fn push(&mut self, key: Key)
-        requires { length self.old < most_keys }
+        requires { length self.old < key_room }
         ensures { self.new ≡ self.old ++ key ∷ [] }
     {
         self.cells[self.count] = key;
         self.count += 1;
     }
 
-    /// Returns the keys of a `key` command in their order, at most 98.
-    pub fn as_slice(&self) -> &[Key]
-        ensures value { result.now ≡ self.now }
-        ensures bound { length self.now ≤ most_keys }
+    /// Returns the keys, in the order in which they were appended.
+    pub(crate) fn pressed(&self) -> PressedKeys<'_>
+        ensures { result ≡ self.now }
     {
-        &self.cells[..self.count]
+        PressedKeys {
+            keys: &self.cells[..self.count],
+        }
+    }
+}
+
+/// The keys that one `key` command presses, in their order.
+#[derive(Debug, Drop)]
+pub struct PressedKeys<'a> {
+    keys: &'a [Key],
+}
+
+impl<'a> Model for PressedKeys<'a> {
+    ghost use Rattle.std.specs.Prelude.{List};
+    ghost use Rattle.h41_keys.specs.declared.key.Key.{Key as AnyKey};
+
+    ghost Value = { List AnyKey };
+
+    ghost view = { λ pressed. pressed.keys.now };
+}
+
+impl<'a> PressedKeys<'a> {
+    /// Returns the keys of a `key` command in their order.
+    pub fn as_slice(&self) -> &[Key]
+        ensures { result.now ≡ self.now }
+    {
+        self.keys
     }
 }

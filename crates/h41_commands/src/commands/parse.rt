@@ -1,25 +1,28 @@
 //! Parses the words of a deck line as a command.
 
-ghost use Rattle.std.specs.Prelude.{◌≡◌, ◌≤◌, ◌+◌, ◌*◌, ◌∷◌, [], ℕ, Ok, codes, drop, length};
+ghost use Rattle.std.specs.Prelude.{◌≡◌, ◌≤◌, ◌∷◌, [], ℕ, IfOk, None, Ok, Some, codes, drop};
+ghost use Rattle.std.specs.Prelude.{false, length, true};
 ghost use Rattle.h41_commands.specs.Commands.{break_location, call_command, location_by};
-ghost use Rattle.h41_commands.specs.Commands.{placed_command, read_plain, key_command};
+ghost use Rattle.h41_commands.specs.Commands.{read_plain, key_command, kind_of};
 ghost use Rattle.h41_commands.specs.Commands.{load_command, reset_command, size_command};
 ghost use Rattle.h41_commands.specs.Commands.{unplug_command, opening_command};
 ghost use Rattle.h41_commands.specs.Commands.{and_then, command_of};
-ghost use Rattle.h41_commands.specs.Commands.{plain_command, counted_command, plug_at};
-ghost use Rattle.h41_commands.specs.Commands.{plug_command, show_command, step_command, view_named};
+ghost use Rattle.h41_commands.specs.Commands.{counted_command, plug_at};
+ghost use Rattle.h41_commands.specs.Commands.{plug_command, step_command, view_named};
 ghost use Rattle.h41_commands.specs.Commands.{view_of, list_command, plug_at_bank, plug_with};
 ghost use Rattle.h41_commands.specs.Commands.{bank_number, image_view, image_view_at, is_bank_word};
 ghost use Rattle.h41_lines.specs.Words.{words_of};
-ghost use Rattle.h41_commands.specs.DeckLines.{longest_line, most_keys};
-ghost use Rattle.h41_commands.specs.FirstLines.{name_end};
+ghost use Rattle.h41_commands.specs.DeckLines.{key_room};
+ghost use Rattle.h41_commands.specs.FirstLines.{first_line, name_end, opens_block};
+ghost use Rattle.h41_commands.specs.Items.{line_spelled};
 ghost use Rattle.h41_commands.specs.Numbers as spec;
 ghost use Rattle.h41_commands.specs.declared.commands.Command.{Command};
 ghost use Rattle.h41_commands.specs.declared.commands.Command.TheVariants as commands;
 
-use crate::commands::keys::PressedKeys;
+use crate::commands::keys::KeyBuffer;
 use crate::commands::number::{count_up_to, hexadecimal, number_up_to};
-use crate::commands::{BlockKind, Command, PageKind, PlainKind, ProgramKind, View};
+use crate::commands::{BlockKind, Command, FirstWord, PageKind, PlainKind, ProgramKind, View};
+use crate::line::{FirstLine, LineKind};
 use crate::refusal::LineRefusal;
 use h41_breakpoints::Location;
 use h41_keys::Key;
@@ -41,38 +44,63 @@ const MOST_WORDS: u32 = 4_096;
 /// The number of the bank that a command means if it names none: 1.
 const FIRST_BANK: u8 = 1;
 
-/// Returns the command that a deck line of at most 200 bytes specifies.
+/// Returns the command that a deck line which opens no block specifies. `first` says what `read_first_line` found in
+/// the line. The keys of a `key` command are written to `keys`.
 ///
 /// # Errors
 ///
-/// BadCommand (50) if the line is not a command, or a word of it is missing or one too many; otherwise BadNumber (51)
-/// if a number is wrong.
-pub fn parse(line: &[u8]) -> Result<Command, LineRefusal>
-    requires { length line.now ≤ longest_line }
+/// LineTooLong (53) if the line is too long; BadCommand (50) if it is not a command, or a word of it is missing or one
+/// too many; otherwise BadNumber (51) if a number is wrong.
+#[inline(always)]
+pub fn line_command<'a>(
+    first: FirstLine,
+    line: &[u8],
+    keys: &'a mut KeyBuffer,
+) -> Result<Command<'a>, LineRefusal>
+    requires first { first_line line.now ≡ Some first }
+    requires shut { opens_block first.kind ≡ false }
+    ensures command { line_spelled line.now ≡ and_then result (λ command. Ok (command, [])) }
+    ensures alone { IfOk result (λ command. kind_of command ≡ None) }
+{
+    match first.kind {
+        LineKind::Named(FirstWord::Plain(kind)) => {
+            plain(kind, operands(line, first.name_end), keys)
+        }
+        LineKind::Named(FirstWord::Unknown) => Err(LineRefusal::BadCommand),
+        LineKind::Long => Err(LineRefusal::LineTooLong),
+        LineKind::Named(FirstWord::Opening(_)) => unreachable!(),
+    }
+}
+
+/// Returns the command of a deck line that opens a block. `first` says which block it opens. The errors are BadCommand
+/// (50) and BadNumber (51).
+pub(crate) fn block_command(first: FirstLine, line: &[u8]) -> Result<Command<'static>, LineRefusal>
+    requires first { first_line line.now ≡ Some first }
+    requires opens { opens_block first.kind ≡ true }
     ensures { result ≡ command_of (words_of line.now) }
 {
-    let mut words = LineWords::new(line);
-    let Some(name) = words.next() else {
-        return Err(LineRefusal::BadCommand);
-    };
-    match BlockKind::of_word(name) {
-        Some(kind) => with_block(kind, words),
-        None => without_block(name, words),
+    match first.kind {
+        LineKind::Named(FirstWord::Opening(kind)) => {
+            with_block(kind, operands(line, first.name_end))
+        }
+        LineKind::Named(FirstWord::Plain(_) | FirstWord::Unknown) | LineKind::Long => {
+            unreachable!()
+        }
     }
 }
 
 /// Returns the words of a deck line after its first word, which ends at the byte index `at`.
 #[inline(always)]
-pub fn operands(line: &[u8], at: usize) -> LineWords<'_>
+fn operands(line: &[u8], at: usize) -> LineWords<'_>
     requires { at ≡ name_end line.now }
     ensures { words_of result.rest.now ≡ drop 1 (words_of line.now) }
 {
     LineWords::new(&line[at..])
 }
 
-/// Returns the command of a deck line that begins a block of this kind, from the words after its first word. The errors
+/// Returns the command of a deck line that opens a block of this kind, from the words after its first word. The errors
 /// are BadCommand (50) and BadNumber (51).
-fn with_block(kind: BlockKind, operands: LineWords<'_>) -> Result<Command, LineRefusal>
+fn with_block(kind: BlockKind, operands: LineWords<'_>) -> Result<Command<'static>, LineRefusal>
     ensures { result ≡ opening_command kind (words_of operands.entry.rest.now) }
 {
     match kind {
@@ -81,43 +109,43 @@ fn with_block(kind: BlockKind, operands: LineWords<'_>) -> Result<Command, LineR
     }
 }
 
-/// Returns the command of a deck line that begins no block, from its first word and the words after it. The errors are
-/// BadCommand (50) and BadNumber (51).
-fn without_block(name: &[u8], operands: LineWords<'_>) -> Result<Command, LineRefusal>
-    requires { length name.now + 2 * length (words_of operands.rest.now) ≤ longest_line }
-    ensures { result ≡ plain_command name.now (words_of operands.entry.rest.now) }
-{
-    match PlainKind::of_word(name) {
-        Some(kind) => plain(kind, operands),
-        None => Err(LineRefusal::BadCommand),
-    }
-}
-
 /// Returns the command of a given kind without a block, from the words after its first word. The errors are BadCommand
 /// (50) and BadNumber (51).
-fn plain(kind: PlainKind, operands: LineWords<'_>) -> Result<Command, LineRefusal>
-    requires { length (words_of operands.rest.now) ≤ most_keys }
-    ensures { result ≡ read_plain kind (words_of operands.entry.rest.now) }
+#[inline(always)]
+fn plain<'a>(
+    kind: PlainKind,
+    operands: LineWords<'_>,
+    keys: &'a mut KeyBuffer,
+) -> Result<Command<'a>, LineRefusal>
+    requires { length (words_of operands.rest.now) ≤ key_room }
+    ensures command { result ≡ read_plain kind (words_of operands.entry.rest.now) }
+    ensures alone { IfOk result (λ command. kind_of command ≡ None) }
 {
     match kind {
-        PlainKind::Unplug => unplug(operands),
-        PlainKind::Size => size(operands),
-        PlainKind::Reset => reset(operands),
-        PlainKind::Call => call(operands),
-        PlainKind::Step => step(operands),
-        PlainKind::Run => run(operands),
-        PlainKind::Trace => trace(operands),
-        PlainKind::Break => set_break(operands),
-        PlainKind::Unbreak => unbreak(operands),
-        PlainKind::List => list(operands),
-        PlainKind::Show => show(operands),
-        PlainKind::Key => key(operands),
+        PlainKind::Unplug => Ok(Command::Unplug(unplugged_page(operands)?)),
+        PlainKind::Size => Ok(Command::Size(register_count(operands)?)),
+        PlainKind::Reset => {
+            no_operand(operands)?;
+            Ok(Command::Reset)
+        }
+        PlainKind::Call => Ok(Command::Call(called_address(operands)?)),
+        PlainKind::Step => Ok(Command::Step(step_count(operands)?)),
+        PlainKind::Run => Ok(Command::Run(most_steps(operands)?)),
+        PlainKind::Trace => Ok(Command::Trace(most_steps(operands)?)),
+        PlainKind::Break => Ok(Command::Break(break_location(operands)?)),
+        PlainKind::Unbreak => Ok(Command::Unbreak(break_location(operands)?)),
+        PlainKind::List => {
+            let (address, count) = listed_words(operands)?;
+            Ok(Command::List { address, count })
+        }
+        PlainKind::Show => Ok(Command::Show(view(operands)?)),
+        PlainKind::Key => key(operands, keys),
     }
 }
 
 /// Returns the command `words P [bN] [rw]`, `image P [bN] [rw]` or `asm P [bN] [rw]`, whose block fills a bank of a
 /// page, from the words after its first word. The errors are BadCommand (50) and BadNumber (51).
-fn plug(kind: PageKind, mut operands: LineWords<'_>) -> Result<Command, LineRefusal>
+fn plug(kind: PageKind, mut operands: LineWords<'_>) -> Result<Command<'static>, LineRefusal>
     ensures { result ≡ plug_command kind (words_of operands.entry.rest.now) }
 {
     match operands.next() {
@@ -132,7 +160,7 @@ fn plug_with(
     kind: PageKind,
     page: &[u8],
     mut options: LineWords<'_>,
-) -> Result<Command, LineRefusal>
+) -> Result<Command<'static>, LineRefusal>
     ensures { result ≡ plug_with kind page.now (words_of options.entry.rest.now) }
 {
     let Some(option) = options.next() else {
@@ -149,7 +177,7 @@ fn plug_with(
 
 /// Returns the command `words`, `image` or `asm` from the word that gives the page, and the word after it, which names
 /// a bank (`bN`) or is `rw`. The errors are BadCommand (50) and BadNumber (51).
-fn plug_by(kind: PageKind, page: &[u8], option: &[u8]) -> Result<Command, LineRefusal>
+fn plug_by(kind: PageKind, page: &[u8], option: &[u8]) -> Result<Command<'static>, LineRefusal>
     ensures { result ≡ plug_with kind page.now (option.now ∷ []) }
 {
     if option == "rw".as_bytes() {
@@ -166,7 +194,7 @@ fn plug_at_bank(
     page: &[u8],
     bank: &[u8],
     writable: bool,
-) -> Result<Command, LineRefusal>
+) -> Result<Command<'static>, LineRefusal>
     ensures { result ≡ plug_at_bank kind page.now bank.now writable }
 {
     if !is_bank_word(bank) {
@@ -177,7 +205,12 @@ fn plug_at_bank(
 
 /// Returns the command `words`, `image` or `asm` from the word that gives the page, and the number of the bank, 0 to 9.
 /// BadNumber (51) if the page is not one hexadecimal digit.
-fn plug_at(kind: PageKind, page: &[u8], bank: u8, writable: bool) -> Result<Command, LineRefusal>
+fn plug_at(
+    kind: PageKind,
+    page: &[u8],
+    bank: u8,
+    writable: bool,
+) -> Result<Command<'static>, LineRefusal>
     ensures { result ≡ plug_at kind page.now bank writable }
 {
     let page = page_number(page)?;
@@ -209,7 +242,7 @@ fn bank_number(word: &[u8]) -> Result<u8, LineRefusal>
 
 /// Returns the command `load` or `program`, whose block is a program, from the words after its first word. BadCommand
 /// (50) if there are any.
-fn load(kind: ProgramKind, mut operands: LineWords<'_>) -> Result<Command, LineRefusal>
+fn load(kind: ProgramKind, mut operands: LineWords<'_>) -> Result<Command<'static>, LineRefusal>
     ensures { result ≡ load_command kind (words_of operands.entry.rest.now) }
 {
     match operands.next() {
@@ -218,19 +251,12 @@ fn load(kind: ProgramKind, mut operands: LineWords<'_>) -> Result<Command, LineR
     }
 }
 
-/// Returns the command `unplug P`, from the words after `unplug`. The errors are BadCommand (50) and BadNumber (51).
-fn unplug(operands: LineWords<'_>) -> Result<Command, LineRefusal>
-    ensures { result ≡ unplug_command (words_of operands.entry.rest.now) }
-{
-    Ok(Command::Unplug(unplugged_page(operands)?))
-}
-
 /// Returns the page, 0 to 15, that the words after `unplug` name.
 ///
 /// # Errors
 ///
 /// BadCommand (50) if there is not exactly one word, BadNumber (51) if the word is not one hexadecimal digit.
-pub fn unplugged_page(mut operands: LineWords<'_>) -> Result<u8, LineRefusal>
+fn unplugged_page(mut operands: LineWords<'_>) -> Result<u8, LineRefusal>
     ensures { unplug_command (words_of operands.entry.rest.now)
         ≡ and_then result (λ page. Ok (commands.Unplug page)) }
 {
@@ -248,26 +274,16 @@ fn page_number(page: &[u8]) -> Result<u8, LineRefusal>
     Ok(hexadecimal(1, 1, page)? as u8)
 }
 
-/// Returns the command `size n`, with n from 0 to 9,999, from the words after `size`. The errors are BadCommand (50)
+/// Returns the number of data registers, 0 to 9,999, that the word after `size` specifies. The errors are BadCommand (50)
 /// and BadNumber (51).
-fn size(mut operands: LineWords<'_>) -> Result<Command, LineRefusal>
-    ensures { result ≡ size_command (words_of operands.entry.rest.now) }
+fn register_count(mut operands: LineWords<'_>) -> Result<u16, LineRefusal>
+    ensures { size_command (words_of operands.entry.rest.now)
+        ≡ and_then result (λ count. Ok (commands.Size count)) }
 {
     match (operands.next(), operands.next()) {
-        (Some(count), None) => {
-            let count = number_up_to(MOST_REGISTERS, 10, count)? as u16;
-            Ok(Command::Size(count))
-        }
+        (Some(count), None) => Ok(number_up_to(MOST_REGISTERS, 10, count)? as u16),
         _ => Err(LineRefusal::BadCommand),
     }
-}
-
-/// Returns the command `reset`, from the words after `reset`. BadCommand (50) if there are any.
-fn reset(operands: LineWords<'_>) -> Result<Command, LineRefusal>
-    ensures { result ≡ reset_command (words_of operands.entry.rest.now) }
-{
-    no_operand(operands)?;
-    Ok(Command::Reset)
 }
 
 /// Checks that no word follows `reset`.
@@ -275,7 +291,7 @@ fn reset(operands: LineWords<'_>) -> Result<Command, LineRefusal>
 /// # Errors
 ///
 /// BadCommand (50) if a word follows.
-pub fn no_operand(mut operands: LineWords<'_>) -> Result<(), LineRefusal>
+fn no_operand(mut operands: LineWords<'_>) -> Result<(), LineRefusal>
     ensures { reset_command (words_of operands.entry.rest.now)
         ≡ and_then result (λ none. Ok commands.Reset) }
 {
@@ -285,22 +301,16 @@ pub fn no_operand(mut operands: LineWords<'_>) -> Result<(), LineRefusal>
     }
 }
 
-/// Returns the command `call hhhh`, with an address of four hexadecimal digits, from the words after `call`. The errors
-/// are BadCommand (50) and BadNumber (51).
-fn call(mut operands: LineWords<'_>) -> Result<Command, LineRefusal>
-    ensures { result ≡ call_command (words_of operands.entry.rest.now) }
+/// Returns the address of four hexadecimal digits that the word after `call` specifies. The errors are BadCommand (50)
+/// and BadNumber (51).
+fn called_address(mut operands: LineWords<'_>) -> Result<u16, LineRefusal>
+    ensures { call_command (words_of operands.entry.rest.now)
+        ≡ and_then result (λ address. Ok (commands.Call address)) }
 {
     match (operands.next(), operands.next()) {
-        (Some(address), None) => Ok(Command::Call(hexadecimal(4, 4, address)?)),
+        (Some(address), None) => hexadecimal(4, 4, address),
         _ => Err(LineRefusal::BadCommand),
     }
-}
-
-/// Returns the command `step [n]`, from the words after `step`. The errors are BadCommand (50) and BadNumber (51).
-fn step(operands: LineWords<'_>) -> Result<Command, LineRefusal>
-    ensures { result ≡ step_command (words_of operands.entry.rest.now) }
-{
-    Ok(Command::Step(step_count(operands)?))
 }
 
 /// Returns the number of steps that the words after `step` specify, 0 to 9,999,999; 1 if there is none.
@@ -308,7 +318,7 @@ fn step(operands: LineWords<'_>) -> Result<Command, LineRefusal>
 /// # Errors
 ///
 /// BadCommand (50) if there is more than one word, BadNumber (51) if the word is not a number from 0 to 9,999,999.
-pub fn step_count(mut operands: LineWords<'_>) -> Result<u32, LineRefusal>
+fn step_count(mut operands: LineWords<'_>) -> Result<u32, LineRefusal>
     ensures { step_command (words_of operands.entry.rest.now)
         ≡ and_then result (λ count. Ok (commands.Step count)) }
 {
@@ -319,26 +329,12 @@ pub fn step_count(mut operands: LineWords<'_>) -> Result<u32, LineRefusal>
     }
 }
 
-/// Returns the command `run n`, from the words after `run`. The errors are BadCommand (50) and BadNumber (51).
-fn run(operands: LineWords<'_>) -> Result<Command, LineRefusal>
-    ensures { result ≡ counted_command commands.Run (words_of operands.entry.rest.now) }
-{
-    Ok(Command::Run(most_steps(operands)?))
-}
-
-/// Returns the command `trace n`, from the words after `trace`. The errors are BadCommand (50) and BadNumber (51).
-fn trace(operands: LineWords<'_>) -> Result<Command, LineRefusal>
-    ensures { result ≡ counted_command commands.Trace (words_of operands.entry.rest.now) }
-{
-    Ok(Command::Trace(most_steps(operands)?))
-}
-
 /// Returns the number of steps that the words after `run` or `trace` specify, 0 to 9,999,999.
 ///
 /// # Errors
 ///
 /// BadCommand (50) if there is not exactly one word, BadNumber (51) if the word is not a number from 0 to 9,999,999.
-pub fn most_steps(mut operands: LineWords<'_>) -> Result<u32, LineRefusal>
+fn most_steps(mut operands: LineWords<'_>) -> Result<u32, LineRefusal>
     ensures { (command : ℕ → Command) → counted_command command (words_of operands.entry.rest.now)
         ≡ and_then result (λ count. Ok (command count)) }
 {
@@ -348,29 +344,13 @@ pub fn most_steps(mut operands: LineWords<'_>) -> Result<u32, LineRefusal>
     }
 }
 
-/// Returns the command `break w hhhh`, `break l n` or `break p hhhh`, from the words after `break`. The errors are
-/// BadCommand (50) and BadNumber (51).
-fn set_break(operands: LineWords<'_>) -> Result<Command, LineRefusal>
-    ensures { result ≡ placed_command commands.Break (words_of operands.entry.rest.now) }
-{
-    Ok(Command::Break(break_location(operands)?))
-}
-
-/// Returns the command `unbreak w hhhh`, `unbreak l n` or `unbreak p hhhh`, from the words after `unbreak`. The errors
-/// are BadCommand (50) and BadNumber (51).
-fn unbreak(operands: LineWords<'_>) -> Result<Command, LineRefusal>
-    ensures { result ≡ placed_command commands.Unbreak (words_of operands.entry.rest.now) }
-{
-    Ok(Command::Unbreak(break_location(operands)?))
-}
-
 /// Returns the location of a breakpoint that the words after `break` or `unbreak` name.
 ///
 /// # Errors
 ///
 /// BadCommand (50) if there are not exactly two words or the first is not `w`, `l` or `p`; BadNumber (51) if the second
 /// is not a number in its range.
-pub fn break_location(mut operands: LineWords<'_>) -> Result<Location, LineRefusal>
+fn break_location(mut operands: LineWords<'_>) -> Result<Location, LineRefusal>
     ensures { result ≡ break_location (words_of operands.entry.rest.now) }
 {
     match (operands.next(), operands.next(), operands.next()) {
@@ -398,46 +378,41 @@ fn location_by(kind: &[u8], number: &[u8]) -> Result<Location, LineRefusal>
     }
 }
 
-/// Returns the command `list hhhh n`, with n from 1 to 4,096, from the words after `list`. The errors are BadCommand
-/// (50) and BadNumber (51).
-fn list(mut operands: LineWords<'_>) -> Result<Command, LineRefusal>
-    ensures { result ≡ list_command (words_of operands.entry.rest.now) }
+/// Returns the address and the number of words, 1 to 4,096, that the words after `list` specify. The errors are
+/// BadCommand (50) and BadNumber (51).
+fn listed_words(mut operands: LineWords<'_>) -> Result<(u16, u16), LineRefusal>
+    ensures { list_command (words_of operands.entry.rest.now)
+        ≡ and_then result (λ listed. Ok (commands.List listed.0 listed.1)) }
 {
     match (operands.next(), operands.next(), operands.next()) {
         (Some(address), Some(count), None) => {
             let address = hexadecimal(4, 4, address)?;
             let count = count_up_to(MOST_WORDS, count)? as u16;
-            Ok(Command::List { address, count })
+            Ok((address, count))
         }
         _ => Err(LineRefusal::BadCommand),
     }
 }
 
-/// Returns the command `show WHAT`, `show ram hhh` or `show image P [bN]`, from the words after `show`. The errors are
-/// BadCommand (50) and BadNumber (51).
-fn show(operands: LineWords<'_>) -> Result<Command, LineRefusal>
-    ensures { result ≡ show_command (words_of operands.entry.rest.now) }
+/// Returns the command `key NAME ..`, from the words after `key`, and writes its keys to `keys`. BadCommand (50) if
+/// there is none, or if one is not the name of a key.
+fn key<'a>(operands: LineWords<'_>, keys: &'a mut KeyBuffer) -> Result<Command<'a>, LineRefusal>
+    requires { length (words_of operands.rest.now) ≤ key_room }
+    ensures command { result ≡ key_command (words_of operands.entry.rest.now) }
+    ensures alone { IfOk result (λ command. kind_of command ≡ None) }
 {
-    Ok(Command::Show(view(operands)?))
-}
-
-/// Returns the command `key NAME ..`, from the words after `key`. BadCommand (50) if there is none, or if one is not
-/// the name of a key.
-fn key(operands: LineWords<'_>) -> Result<Command, LineRefusal>
-    requires { length (words_of operands.rest.now) ≤ most_keys }
-    ensures { result ≡ key_command (words_of operands.entry.rest.now) }
-{
-    let mut keys = PressedKeys::new();
+    keys.clear();
     for name in operands {
         match Key::named(name) {
             Some(key) => keys.push(key),
             None => return Err(LineRefusal::BadCommand),
         }
     }
-    if keys.as_slice().is_empty() {
+    let pressed = keys.pressed();
+    if pressed.as_slice().is_empty() {
         return Err(LineRefusal::BadCommand);
     }
-    Ok(Command::Key(keys))
+    Ok(Command::Key(pressed))
 }
 
 /// Returns the part of the calculator's state that the words after `show` name.
@@ -445,7 +420,7 @@ fn key(operands: LineWords<'_>) -> Result<Command, LineRefusal>
 /// # Errors
 ///
 /// BadCommand (50) if the words name no part, BadNumber (51) if a number in them is wrong.
-pub fn view(mut operands: LineWords<'_>) -> Result<View, LineRefusal>
+fn view(mut operands: LineWords<'_>) -> Result<View, LineRefusal>
     ensures { result ≡ view_of (words_of operands.entry.rest.now) }
 {
     match (operands.next(), operands.next()) {

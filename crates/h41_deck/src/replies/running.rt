@@ -27,7 +27,7 @@ const TRACED: usize = TRACE_CAPACITY + 1;
 /// # Errors
 ///
 /// `WriteFault` (23): the run was made, and a prefix of the line is written.
-#[inline(always)]
+#[inline(never)]
 pub fn run<W: Sink, const REGS: usize>(
     bench: &mut Bench<REGS>,
     limit: u32,
@@ -88,6 +88,7 @@ fn stop_refusal(stop: Stop) -> Option<Refusal>
 ///
 /// `WriteFault` (23): no further line is written, but the remaining steps are made, because what a command does to the
 /// bench does not depend on its writer.
+#[inline(never)]
 pub fn trace<W: Sink, const REGS: usize>(
     bench: &mut Bench<REGS>,
     count: u32,

@@ -1,27 +1,39 @@
-//! The texts that `show` prints.
+//! Executes `show`.
 
-ghost use Rattle.std.specs.Prelude.{◌≡◌, ◌++◌, IfOk};
+ghost use Rattle.std.specs.Prelude.{◌≡◌, ◌≢◌, ◌++◌, Err, IfOk, false, true};
+ghost use Rattle.h41_commands.specs.declared.commands.Command.TheVariants as commands;
+ghost use Rattle.h41_deck.specs.Replies.{view_takes_memory};
 ghost use Rattle.h41_deck.specs.Views.{line_of};
-ghost use Rattle.h41_deck.specs.private.Writing.{IsShown};
+ghost use Rattle.h41_deck.specs.private.Writing.{SaysAlone};
 
 use crate::replies::image::image_shown;
+use crate::replies::{say_made, write_line};
 use h41_commands::View;
 use h41_debug::Bench;
-use h41_refusals::Refusal;
+use h41_ends::{Sink, write_whole};
+use h41_refusals::{CommandFault, Refusal};
 use h41_show::alpha_text;
 use h41_views::{
     flags_text, functions_text, processor_text, program_text, register_text, stack_text,
 };
 use std::alloc::{AllocError, Global};
 
-/// Returns the text that `show` prints for a view, or why it is refused. OutOfMemory (21) if allocation failed.
+/// Writes the text of a view, as `show` does, and returns why it is refused, if it is. The text of `show pos` is
+/// written without an allocation. OutOfMemory (21) if allocation failed; nothing is written then. `WriteFault` (23) if
+/// writing fails.
 #[inline(never)]
-pub fn shown<const REGS: usize>(
+pub fn show<W: Sink, const REGS: usize>(
     alloc: Global,
     bench: &Bench<REGS>,
     view: View,
-) -> Result<Result<Vec<u8>, Refusal>, AllocError>
-    ensures { IfOk result (IsShown view bench.now.state) }
+    writer: &mut W,
+) -> Result<Option<Refusal>, CommandFault>
+    requires clear { W.failed writer.old ≡ false }
+    ensures text { SaysAlone result (commands.Show view) bench.now.state bench.now.state
+        W.contents writer.old writer.new }
+    ensures memory { result ≡ Err CommandFault.OutOfMemory → view_takes_memory view ≡ true }
+    ensures mark { result ≡ Err CommandFault.WriteFault → W.failed writer.new ≡ true }
+    ensures clear { result ≢ Err CommandFault.WriteFault → W.failed writer.new ≡ false }
 {
     let calculator = bench.calculator();
     let ram = calculator.ram();
@@ -32,12 +44,19 @@ pub fn shown<const REGS: usize>(
         View::Flags => flags_text(alloc, ram)?,
         View::Alpha => line_of(alloc, alpha_text(ram).as_str())?,
         View::Display => line_of(alloc, calculator.display().as_str())?,
-        View::Position => line_of(alloc, bench.position().as_str())?,
+        View::Position => {
+            write_line(bench.position().as_str(), writer)?;
+            return Ok(None);
+        }
         View::Lines => program_text(alloc, ram)?,
-        View::Image(page, bank) => return image_shown(alloc, calculator.pages(), page, bank),
+        View::Image(page, bank) => {
+            let image = image_shown(alloc, calculator.pages(), page, bank)?;
+            return Ok(say_made(image, writer)?);
+        }
         View::Functions => functions_text(alloc, calculator.pages())?,
     };
-    Ok(Ok(text))
+    write_whole(writer, &text)?;
+    Ok(None)
 }
 
 /// Returns a text followed by a line end. OutOfMemory (21) if allocation failed.

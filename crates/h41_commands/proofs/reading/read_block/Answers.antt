@@ -1,5 +1,4 @@
-use Rattle.std.proofs.Common.{◌≡◌, ℕ, Bool, Err, false, List, Ok, Some, ap, refl, rules, subst, sym, ◌∙◌}
-use Rattle.std.specs.Result.{result_ok}
+use Rattle.std.proofs.Common.{◌≡◌, ℕ, Bool, Err, false, List, Ok, ap, refl, rules, subst, sym, ◌∙◌}
 use Rattle.h41_ends.specs.InputLines.{MayFollow}
 use Rattle.h41_commands.specs.Commands.{command_of, kind_of}
 use Rattle.h41_commands.proofs.ClosedBlocks.{never_open}
@@ -22,8 +21,7 @@ use Rattle.h41_commands.proofs.reading.read_block.Goals.{in-Err+in-Nothing-1}
 pub invariant_of-result-clause-own : goal.invariant_of-result-clause-own
 invariant_of-result-clause-own g c =
     let taken = rw c.in-Some.is at c.in_ok-block.ensures.block in
-    let parsed : c.ok.result ≡ Some c.in-Ok.command = c.ok.ensures.value ∙ ap result_ok c.in-Ok.is in
-    let kind : c.and_then.result ≡ kind_of c.in-Ok.command = rw parsed at c.and_then.ensures in
+    let kind : c.opened_kind.result ≡ kind_of c.in-Ok.command = rw c.in-Ok.is at c.opened_kind.ensures in
     taken.taken.taken.kind_is ∙ c.of_kind-block.ensures.kind_is ∙ kind
 
 pub invariant_of-result-clause-ended : goal.invariant_of-result-clause-ended
@@ -33,32 +31,31 @@ invariant_of-result-clause-ended g c =
 
 pub returns-in_default-clause-item : goal.returns-in_default-clause-item
 returns-in_default-clause-item g c =
-    let is = sym (c.parse-command.ensures ∙ ap (λ (line : List ℕ). command_of (words_of line)) c.line.ensures) in
+    let is = sym (c.block_command-command.ensures ∙ ap (λ (line : List ℕ). command_of (words_of line)) c.line.ensures) in
     let taken = rw c.in_default.is at c.in_ok-block.ensures.block in
     let end = rw c.in_default.is at c.in_ok-block.ensures.end in
     rw is (record {
       lines = taken.lines;
       reads = taken.reads;
       spelled = λ more may.
-          block_open taken.lines c.parse-command.result more taken.taken (subst (λ (ended : Bool). MayFollow ended more) (end refl) may);
+          block_open taken.lines c.block_command-command.result more taken.taken (subst (λ (ended : Bool). MayFollow ended more) (end refl) may);
     })
 
 pub returns-clause-item : goal.returns-clause-item
 returns-clause-item g c =
-    let is = sym (c.parse-command.ensures ∙ ap (λ (line : List ℕ). command_of (words_of line)) c.line.ensures) in
+    let is = sym (c.block_command-command.ensures ∙ ap (λ (line : List ℕ). command_of (words_of line)) c.line.ensures) in
     let taken = rw c.in-Some.is at c.in_ok-block.ensures.block in
-    let refused : (why : LineRefusal) → c.match-command.result ≡ Refused why → c.parse-command.result ≡ Err why
-    → SpellBlock {E = ItemFault} c.parse-command.result (Ok c.match-command.result) c.read_lines.new.input.at_end taken.lines =
+    let refused : (why : LineRefusal) → c.match-command.result ≡ Refused why → c.block_command-command.result ≡ Err why
+    → SpellBlock {E = ItemFault} c.block_command-command.result (Ok c.match-command.result) c.read_lines.new.input.at_end taken.lines =
     λ why refuses parsed.
-    rw refuses (λ more may. block_refused _ taken.lines c.in-Some.block c.parse-command.result why more taken.taken parsed) in
-    let spelled : SpellBlock {E = ItemFault} c.parse-command.result (Ok c.match-command.result) c.read_lines.new.input.at_end taken.lines =
+    rw refuses (λ more may. block_refused _ taken.lines c.in-Some.block c.block_command-command.result why more taken.taken parsed) in
+    let spelled : SpellBlock {E = ItemFault} c.block_command-command.result (Ok c.match-command.result) c.read_lines.new.input.at_end taken.lines =
     elim c.match-command.branch [
       | in-Ok w ↦
-          let parsed : c.ok.result ≡ Some w.in-Ok.command = c.ok.ensures.value ∙ ap result_ok w.in-Ok.is in
-          let kind : c.and_then.result ≡ kind_of w.in-Ok.command = rw parsed at c.and_then.ensures in
+          let kind : c.opened_kind.result ≡ kind_of w.in-Ok.command = rw w.in-Ok.is at c.opened_kind.ensures in
           rw w.result-is
           (λ more may.
-          block_given _ taken.lines c.in-Some.block c.parse-command.result w.in-Ok.command more taken.taken w.in-Ok.is
+          block_given _ taken.lines c.in-Some.block c.block_command-command.result w.in-Ok.command more taken.taken w.in-Ok.is
           (c.of_kind-block.ensures.kind_is ∙ kind))
       | in-Err+in-Words-1 w ↦ refused w.in-Err.refusal w.result-is w.in-Err.is
       | in-Err+in-Image-1 w ↦ refused w.in-Err.refusal w.result-is w.in-Err.is
@@ -71,32 +68,31 @@ returns-clause-item g c =
 
 pub returns-in_default-clause-heard : goal.returns-in_default-clause-heard
 returns-in_default-clause-heard g c =
-    let is = sym (c.parse-command.ensures ∙ ap (λ (line : List ℕ). command_of (words_of line)) c.line.ensures) in
+    let is = sym (c.block_command-command.ensures ∙ ap (λ (line : List ℕ). command_of (words_of line)) c.line.ensures) in
     let taken = rw c.in_default.is at c.in_ok-block.ensures.heard in
     let end = rw c.in_default.is at c.in_ok-block.ensures.end in
     rw is (record {
       lines = taken.lines;
       hears = taken.hears;
       spelled = λ more may.
-          block_open taken.lines c.parse-command.result more taken.taken (subst (λ (ended : Bool). MayFollow ended more) (end refl) may);
+          block_open taken.lines c.block_command-command.result more taken.taken (subst (λ (ended : Bool). MayFollow ended more) (end refl) may);
     })
 
 pub returns-clause-heard : goal.returns-clause-heard
 returns-clause-heard g c =
-    let is = sym (c.parse-command.ensures ∙ ap (λ (line : List ℕ). command_of (words_of line)) c.line.ensures) in
+    let is = sym (c.block_command-command.ensures ∙ ap (λ (line : List ℕ). command_of (words_of line)) c.line.ensures) in
     let taken = rw c.in-Some.is at c.in_ok-block.ensures.heard in
-    let refused : (why : LineRefusal) → c.match-command.result ≡ Refused why → c.parse-command.result ≡ Err why
-    → SpellBlock {E = ItemFault} c.parse-command.result (Ok c.match-command.result) c.read_lines.new.input.at_end taken.lines =
+    let refused : (why : LineRefusal) → c.match-command.result ≡ Refused why → c.block_command-command.result ≡ Err why
+    → SpellBlock {E = ItemFault} c.block_command-command.result (Ok c.match-command.result) c.read_lines.new.input.at_end taken.lines =
     λ why refuses parsed.
-    rw refuses (λ more may. block_refused _ taken.lines c.in-Some.block c.parse-command.result why more taken.taken parsed) in
-    let spelled : SpellBlock {E = ItemFault} c.parse-command.result (Ok c.match-command.result) c.read_lines.new.input.at_end taken.lines =
+    rw refuses (λ more may. block_refused _ taken.lines c.in-Some.block c.block_command-command.result why more taken.taken parsed) in
+    let spelled : SpellBlock {E = ItemFault} c.block_command-command.result (Ok c.match-command.result) c.read_lines.new.input.at_end taken.lines =
     elim c.match-command.branch [
       | in-Ok w ↦
-          let parsed : c.ok.result ≡ Some w.in-Ok.command = c.ok.ensures.value ∙ ap result_ok w.in-Ok.is in
-          let kind : c.and_then.result ≡ kind_of w.in-Ok.command = rw parsed at c.and_then.ensures in
+          let kind : c.opened_kind.result ≡ kind_of w.in-Ok.command = rw w.in-Ok.is at c.opened_kind.ensures in
           rw w.result-is
           (λ more may.
-          block_given _ taken.lines c.in-Some.block c.parse-command.result w.in-Ok.command more taken.taken w.in-Ok.is
+          block_given _ taken.lines c.in-Some.block c.block_command-command.result w.in-Ok.command more taken.taken w.in-Ok.is
           (c.of_kind-block.ensures.kind_is ∙ kind))
       | in-Err+in-Words-1 w ↦ refused w.in-Err.refusal w.result-is w.in-Err.is
       | in-Err+in-Image-1 w ↦ refused w.in-Err.refusal w.result-is w.in-Err.is
@@ -109,7 +105,7 @@ returns-clause-heard g c =
 
 pub returns-clause-open : goal.returns-clause-open
 returns-clause-open g c =
-    let shut : is_unended c.parse-command.result ≡ false = ap is_unended c.parse-command.ensures ∙ never_unended _ in search rules
+    let shut : is_unended c.block_command-command.result ≡ false = ap is_unended c.block_command-command.ensures ∙ never_unended _ in search rules
 
 pub returns-in_err-block-clause-bound : goal.returns-in_err-block-clause-bound
 returns-in_err-block-clause-bound g c =
@@ -157,9 +153,6 @@ pub returns-in_err-block-clause-write_fault : goal.returns-in_err-block-clause-w
 returns-in_err-block-clause-write_fault g c =
     λ is. c.in_err-block.ensures.write_fault
     (told c.from_residual.result c.in_err-block.field-0.0 faults.WriteFault c.from_residual.ensures.1 is)
-
-pub and_then-requires : goal.and_then-requires
-and_then-requires g c = assumption
 
 pub line-requires : goal.line-requires
 line-requires g c = assumption

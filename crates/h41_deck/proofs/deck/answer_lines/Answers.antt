@@ -12,7 +12,7 @@ use Rattle.h41_deck.proofs.DeckFaults.{below_most, deck_ended, deck_written, end
 use Rattle.h41_deck.proofs.DeckFaults.{leaves_answer, leaves_first, leaves_item, leaves_whole, never_failed, same_fault, told_fault}
 use Rattle.h41_deck.proofs.DeckReading.{read_item, read_none, whole_done}
 use Rattle.h41_deck.proofs.DeckTurns.{block_heard, block_unheard, heard_item, heard_nothing, turns_end}
-use Rattle.h41_deck.proofs.ShortLines.{block_failed, block_next, block_short}
+use Rattle.h41_deck.proofs.ShortLines.{block_failed, block_next}
 use Rattle.h41_deck.proofs.deck.answer_lines.Goals as goal
 
 pub loop-first-init : goal.loop-first-init
@@ -53,10 +53,11 @@ pub loop-first-smaller-then-opens_block : goal.loop-first-smaller-then-opens_blo
 loop-first-smaller-then-opens_block g c =
     below_most _ _ _ c.in_ok-item.ensures.bound (rw c.in-Some.is at c.in_ok-first.ensures.fewer)
 
-pub read_block-requires-clause-line : goal.read_block-requires-clause-line
-read_block-requires-clause-line g c =
-    let first = rw c.in-Some.is at c.in_ok-first.ensures.line in
-    block_short (line_in c.read_first_line.new.input) c.in-Some.first.kind (sym c.if-opens_block.ensures) first.kind
+pub read_block-requires-clause-first : goal.read_block-requires-clause-first
+read_block-requires-clause-first g c = rw c.in-Some.is at c.in_ok-first.ensures.first
+
+pub read_block-requires-clause-opens : goal.read_block-requires-clause-opens
+read_block-requires-clause-opens g c = sym c.if-opens_block.ensures
 
 pub answer-requires : goal.answer-requires
 answer-requires g c = (search rules, c.in_ok-item.ensures.writer never_failed)

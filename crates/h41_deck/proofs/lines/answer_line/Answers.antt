@@ -1,111 +1,47 @@
-use Rattle.std.proofs.Common.{Some, ap, ◌∙◌, refl}
+use Rattle.std.proofs.Common.{rules, [], Some, sym, subst}
 use Rattle.std.proofs.lemmas.Result.{err_from_is_err_and}
-use Rattle.h41_commands.proofs.FirstLines.{long_spelled, unknown_spelled}
-use Rattle.h41_commands.proofs.NameEnds.{told_kind}
-use Rattle.h41_commands.specs.declared.commands.FirstWord.{FirstWord}
-use Rattle.h41_commands.specs.declared.line.LineKind.{LineKind}
-use Rattle.h41_commands.specs.declared.line.LineKind.TheVariants.{Named}
-use Rattle.h41_commands.specs.declared.refusal.LineRefusal.TheVariants.{BadCommand, LineTooLong}
-use Rattle.h41_deck.proofs.ShortLines.{line_refused, line_refused_part}
+use Rattle.h41_commands.specs.Items.{Spelled}
+use Rattle.h41_deck.specs.private.Writing.{Replies, RepliesInPart}
+use Rattle.h41_refusals.specs.declared.refusal.Refusal.TheVariants.{Line}
+use Rattle.h41_deck.proofs.Commanded.{ends_part, ends_reply}
+use Rattle.h41_deck.proofs.ShortLines.{command_spelled, refusal_spelled, refused_said}
 use Rattle.h41_deck.proofs.lines.answer_line.Goals as goal
 
-pub returns-in_ok-refuse_unknown-in-Named-Unknown-clause-reply : goal.returns-in_ok-refuse_unknown-in-Named-Unknown-clause-reply
-returns-in_ok-refuse_unknown-in-Named-Unknown-clause-reply g c =
-    line_refused c.args.line.now BadCommand
-    (unknown_spelled c.args.line.now (told_kind c.args.line.now c.args.first c.requires.first
-    ∙ ap (λ (kind : LineKind). Some kind) c.in-Named-Unknown.is
-    ∙ ap (λ (word : FirstWord). Some (Named word)) (rw c.in-Named-Unknown.is at c.in-Named-Unknown.field-0-is)))
-    c.args.bench.now.state _ _
-    c.in_ok-refuse_unknown-in-Named-Unknown.field-0 c.in_ok-refuse_unknown-in-Named-Unknown.ensures.outcome
-    c.in_ok-refuse_unknown-in-Named-Unknown.ensures.written
+pub returns-in_ok-end-in-Ok-clause-reply : goal.returns-in_ok-end-in-Ok-clause-reply
+returns-in_ok-end-in-Ok-clause-reply g c =
+    let is = command_spelled c.args.line.now c.line_command.result c.line_command.ensures.command c.in-Ok.command c.in-Ok.is in
+    subst (λ (item : Spelled). Replies item c.args.bench.now.state c.say_alone.new.bench.state (g.W.Sink.contents c.args.writer.now)
+    (g.W.Sink.contents c.end.new.writer) c.in_ok-end-in-Ok.field-0) (sym is)
+    (ends_reply _ c.args.bench.now.state c.say_alone.new.bench.state _ _ _ c.in_ok-refusal-in-Ok.refusal c.in_ok-end-in-Ok.field-0
+    (c.in_ok-refusal-in-Ok.ensures.text []) c.in_ok-end-in-Ok.ensures.outcome c.in_ok-end-in-Ok.ensures.written)
 
-pub returns-in_err-refuse_unknown-in-Named-Unknown-clause-reply : goal.returns-in_err-refuse_unknown-in-Named-Unknown-clause-reply
-returns-in_err-refuse_unknown-in-Named-Unknown-clause-reply g c =
-    let failed = err_from_is_err_and c.from_residual.result c.from_residual.ensures.1 in
+pub returns-in_err-end-in-Ok-clause-reply : goal.returns-in_err-end-in-Ok-clause-reply
+returns-in_err-end-in-Ok-clause-reply g c =
+    let is = command_spelled c.args.line.now c.line_command.result c.line_command.ensures.command c.in-Ok.command c.in-Ok.is in
+    let failed = err_from_is_err_and c.from_residual-in_err-end-in-Ok.result c.from_residual-in_err-end-in-Ok.ensures.1 in
     rw (failed.1, failed.2)
-    (line_refused_part c.args.line.now BadCommand
-    (unknown_spelled c.args.line.now (told_kind c.args.line.now c.args.first c.requires.first
-    ∙ ap (λ (kind : LineKind). Some kind) c.in-Named-Unknown.is
-    ∙ ap (λ (word : FirstWord). Some (Named word)) (rw c.in-Named-Unknown.is at c.in-Named-Unknown.field-0-is)))
-    c.args.bench.now.state _ _
-    c.in_err-refuse_unknown-in-Named-Unknown.ensures.written)
+    (subst (λ (item : Spelled). RepliesInPart item c.args.bench.now.state c.say_alone.new.bench.state
+    (g.W.Sink.contents c.args.writer.now) (g.W.Sink.contents c.end.new.writer)) (sym is)
+    (ends_part _ c.args.bench.now.state c.say_alone.new.bench.state _ _ _ c.in_ok-refusal-in-Ok.refusal
+    (c.in_ok-refusal-in-Ok.ensures.text []) c.in_err-end-in-Ok.ensures.written))
 
-pub returns-in_ok-end-in-Long-clause-reply : goal.returns-in_ok-end-in-Long-clause-reply
-returns-in_ok-end-in-Long-clause-reply g c =
-    line_refused c.args.line.now LineTooLong
-    (long_spelled c.args.line.now (told_kind c.args.line.now c.args.first c.requires.first
-    ∙ ap (λ (kind : LineKind). Some kind) c.in-Long.is))
-    c.args.bench.now.state _ _
-    c.in_ok-end-in-Long.field-0 c.in_ok-end-in-Long.ensures.outcome c.in_ok-end-in-Long.ensures.written
+pub returns-in_ok-end-in-Err-clause-reply : goal.returns-in_ok-end-in-Err-clause-reply
+returns-in_ok-end-in-Err-clause-reply g c =
+    let is = refusal_spelled c.args.line.now c.line_command.result c.line_command.ensures.command c.in-Err.refusal c.in-Err.is in
+    subst (λ (item : Spelled). Replies item c.args.bench.now.state c.args.bench.now.state (g.W.Sink.contents c.args.writer.now)
+    (g.W.Sink.contents c.end-in-Err.new.writer) c.in_ok-end-in-Err.field-0) (sym is)
+    (ends_reply _ c.args.bench.now.state c.args.bench.now.state _ _ _ (Some (Line c.in-Err.refusal)) c.in_ok-end-in-Err.field-0
+    (refused_said c.in-Err.refusal c.args.bench.now.state _) c.in_ok-end-in-Err.ensures.outcome c.in_ok-end-in-Err.ensures.written)
 
-pub returns-in_err-end-in-Long-clause-reply : goal.returns-in_err-end-in-Long-clause-reply
-returns-in_err-end-in-Long-clause-reply g c =
-    let failed = err_from_is_err_and c.from_residual-in_err-end-in-Long.result c.from_residual-in_err-end-in-Long.ensures.1 in
+pub returns-in_err-end-in-Err-clause-reply : goal.returns-in_err-end-in-Err-clause-reply
+returns-in_err-end-in-Err-clause-reply g c =
+    let is = refusal_spelled c.args.line.now c.line_command.result c.line_command.ensures.command c.in-Err.refusal c.in-Err.is in
+    let failed = err_from_is_err_and c.from_residual-in_err-end-in-Err.result c.from_residual-in_err-end-in-Err.ensures.1 in
     rw (failed.1, failed.2)
-    (line_refused_part c.args.line.now LineTooLong
-    (long_spelled c.args.line.now (told_kind c.args.line.now c.args.first c.requires.first
-    ∙ ap (λ (kind : LineKind). Some kind) c.in-Long.is))
-    c.args.bench.now.state _ _
-    c.in_err-end-in-Long.ensures.written)
+    (subst (λ (item : Spelled). RepliesInPart item c.args.bench.now.state c.args.bench.now.state (g.W.Sink.contents c.args.writer.now)
+    (g.W.Sink.contents c.end-in-Err.new.writer)) (sym is)
+    (ends_part _ c.args.bench.now.state c.args.bench.now.state _ _ _ (Some (Line c.in-Err.refusal))
+    (refused_said c.in-Err.refusal c.args.bench.now.state _) c.in_err-end-in-Err.ensures.written))
 
-pub returns-in_ok-refuse_unknown-in-Named-Unknown-clause-memory : goal.returns-in_ok-refuse_unknown-in-Named-Unknown-clause-memory
-returns-in_ok-refuse_unknown-in-Named-Unknown-clause-memory g c = λ is. cc
-
-pub returns-in_ok-refuse_unknown-in-Named-Unknown-clause-mark : goal.returns-in_ok-refuse_unknown-in-Named-Unknown-clause-mark
-returns-in_ok-refuse_unknown-in-Named-Unknown-clause-mark g c = λ is. cc
-
-pub returns-in_ok-refuse_unknown-in-Named-Unknown-clause-clear : goal.returns-in_ok-refuse_unknown-in-Named-Unknown-clause-clear
-returns-in_ok-refuse_unknown-in-Named-Unknown-clause-clear g c = λ other. c.in_ok-refuse_unknown-in-Named-Unknown.ensures.clear
-
-pub returns-in_err-refuse_unknown-in-Named-Unknown-clause-memory : goal.returns-in_err-refuse_unknown-in-Named-Unknown-clause-memory
-returns-in_err-refuse_unknown-in-Named-Unknown-clause-memory g c =
-    let failed = err_from_is_err_and c.from_residual.result c.from_residual.ensures.1 in
-    rw (failed.1, failed.2) (λ is. cc)
-
-pub returns-in_err-refuse_unknown-in-Named-Unknown-clause-mark : goal.returns-in_err-refuse_unknown-in-Named-Unknown-clause-mark
-returns-in_err-refuse_unknown-in-Named-Unknown-clause-mark g c = λ is. c.in_err-refuse_unknown-in-Named-Unknown.ensures.mark
-
-pub returns-in_err-refuse_unknown-in-Named-Unknown-clause-clear : goal.returns-in_err-refuse_unknown-in-Named-Unknown-clause-clear
-returns-in_err-refuse_unknown-in-Named-Unknown-clause-clear g c =
-    let failed = err_from_is_err_and c.from_residual.result c.from_residual.ensures.1 in
-    rw (failed.1, failed.2) (λ other. absurd (other refl))
-
-pub returns-in_ok-end-in-Long-clause-memory : goal.returns-in_ok-end-in-Long-clause-memory
-returns-in_ok-end-in-Long-clause-memory g c = λ is. cc
-
-pub returns-in_ok-end-in-Long-clause-mark : goal.returns-in_ok-end-in-Long-clause-mark
-returns-in_ok-end-in-Long-clause-mark g c = λ is. cc
-
-pub returns-in_ok-end-in-Long-clause-clear : goal.returns-in_ok-end-in-Long-clause-clear
-returns-in_ok-end-in-Long-clause-clear g c = λ other. c.in_ok-end-in-Long.ensures.clear
-
-pub returns-in_err-end-in-Long-clause-memory : goal.returns-in_err-end-in-Long-clause-memory
-returns-in_err-end-in-Long-clause-memory g c =
-    let failed = err_from_is_err_and c.from_residual-in_err-end-in-Long.result c.from_residual-in_err-end-in-Long.ensures.1 in
-    rw (failed.1, failed.2) (λ is. cc)
-
-pub returns-in_err-end-in-Long-clause-mark : goal.returns-in_err-end-in-Long-clause-mark
-returns-in_err-end-in-Long-clause-mark g c = λ is. c.in_err-end-in-Long.ensures.mark
-
-pub returns-in_err-end-in-Long-clause-clear : goal.returns-in_err-end-in-Long-clause-clear
-returns-in_err-end-in-Long-clause-clear g c =
-    let failed = err_from_is_err_and c.from_residual-in_err-end-in-Long.result c.from_residual-in_err-end-in-Long.ensures.1 in
-    rw (failed.1, failed.2) (λ other. absurd (other refl))
-
-pub returns-in-Named-Plain-clause-reply : goal.returns-in-Named-Plain-clause-reply
-returns-in-Named-Plain-clause-reply g c = c.answer_plain.ensures.reply
-
-pub returns-in-Named-Plain-clause-memory : goal.returns-in-Named-Plain-clause-memory
-returns-in-Named-Plain-clause-memory g c = c.answer_plain.ensures.memory
-
-pub returns-in-Named-Plain-clause-mark : goal.returns-in-Named-Plain-clause-mark
-returns-in-Named-Plain-clause-mark g c = c.answer_plain.ensures.mark
-
-pub returns-in-Named-Plain-clause-clear : goal.returns-in-Named-Plain-clause-clear
-returns-in-Named-Plain-clause-clear g c = c.answer_plain.ensures.clear
-
-pub end-requires : goal.end-requires
-end-requires g c = assumption
-
-pub refuse_unknown-requires : goal.refuse_unknown-requires
-refuse_unknown-requires g c = assumption
+pub say_alone-requires : goal.say_alone-requires
+say_alone-requires g c = let alone = rw c.in-Ok.is at c.line_command.ensures.alone in search rules

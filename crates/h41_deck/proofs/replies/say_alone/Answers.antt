@@ -169,7 +169,7 @@ pub returns-in_default-clause-clear : goal.returns-in_default-clause-clear
 returns-in_default-clause-clear g c = λ other. c.requires.clear
 
 pub returns-in-Show-clause-unchanged : goal.returns-in-Show-clause-unchanged
-returns-in-Show-clause-unchanged g c = c.show.ensures.unchanged
+returns-in-Show-clause-unchanged g c = λ is. refl
 
 pub returns-in-Show-clause-mark : goal.returns-in-Show-clause-mark
 returns-in-Show-clause-mark g c = c.show.ensures.mark
@@ -179,7 +179,7 @@ returns-in-Show-clause-clear g c = c.show.ensures.clear
 
 pub returns-in-Show-clause-text : goal.returns-in-Show-clause-text
 returns-in-Show-clause-text g c =
-    alone_is (λ (item : Spelled). LeavesText c.show.result item c.args.bench.now.state c.show.new.bench.state g.W.Sink.contents
+    alone_is (λ (item : Spelled). LeavesText c.show.result item c.args.bench.now.state c.args.bench.now.state g.W.Sink.contents
     c.args.writer.now
     c.show.new.writer) c.args.command (commands.Show c.in-Show.view) c.in-Show.is c.show.ensures.text
 

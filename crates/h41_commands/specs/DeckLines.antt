@@ -12,8 +12,8 @@ longest_line = 200
 abbrev pub is_long : List ℕ → Bool
 is_long line = nat_lt longest_line (length line)
 
--- The most words of a line of 200 bytes: each word has a byte, and there is a separator between two.
--- So there is room for the keys that a line names.
+-- The most words of a line of 200 bytes: each word has a byte, and there is a separator between
+-- two. So there is room for the keys that a line names.
 abbrev pub key_room : ℕ
 key_room = 100
 

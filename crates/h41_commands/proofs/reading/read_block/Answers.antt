@@ -38,7 +38,8 @@ returns-in_default-clause-item g c =
       lines = taken.lines;
       reads = taken.reads;
       spelled = λ more may.
-          block_open taken.lines c.block_command-command.result more taken.taken (subst (λ (ended : Bool). MayFollow ended more) (end refl) may);
+          block_open taken.lines c.block_command-command.result more taken.taken
+          (subst (λ (ended : Bool). MayFollow ended more) (end refl) may);
     })
 
 pub returns-clause-item : goal.returns-clause-item
@@ -75,7 +76,8 @@ returns-in_default-clause-heard g c =
       lines = taken.lines;
       hears = taken.hears;
       spelled = λ more may.
-          block_open taken.lines c.block_command-command.result more taken.taken (subst (λ (ended : Bool). MayFollow ended more) (end refl) may);
+          block_open taken.lines c.block_command-command.result more taken.taken
+          (subst (λ (ended : Bool). MayFollow ended more) (end refl) may);
     })
 
 pub returns-clause-heard : goal.returns-clause-heard

@@ -19,4 +19,5 @@ returns-in-Named-Plain-clause-command c =
     let told = told_kind c.args.line.now c.args.first c.requires.first in
     let word : c.in-Named-Plain.field-0 ≡ Plain c.in-Named-Plain.kind = rw c.in-Named-Plain.is at c.in-Named-Plain.field-0-is in
     let kind = told ∙ ap Some (c.in-Named-Plain.is ∙ ap Named word) in
-    alone_spelled c.args.line.now c.in-Named-Plain.kind c.plain.result kind (c.plain.ensures.command ∙ ap (read_plain c.in-Named-Plain.kind) c.operands.ensures) c.plain.ensures.alone
+    let read = c.plain.ensures.command ∙ ap (read_plain c.in-Named-Plain.kind) c.operands.ensures in
+    alone_spelled c.args.line.now c.in-Named-Plain.kind c.plain.result kind read c.plain.ensures.alone

@@ -50,7 +50,8 @@ returns-clause-item g c =
     → SpellBlock {E = ItemFault} c.block_command-command.result (Ok c.match-command.result) c.read_lines.new.input.at_end taken.lines =
     λ why refuses parsed.
     rw refuses (λ more may. block_refused _ taken.lines c.in-Some.block c.block_command-command.result why more taken.taken parsed) in
-    let spelled : SpellBlock {E = ItemFault} c.block_command-command.result (Ok c.match-command.result) c.read_lines.new.input.at_end taken.lines =
+    let spelled : SpellBlock {E = ItemFault} c.block_command-command.result (Ok c.match-command.result) c.read_lines.new.input.at_end
+    taken.lines =
     elim c.match-command.branch [
       | in-Ok w ↦
           let kind : c.opened_kind.result ≡ kind_of w.in-Ok.command = rw w.in-Ok.is at c.opened_kind.ensures in
@@ -88,7 +89,8 @@ returns-clause-heard g c =
     → SpellBlock {E = ItemFault} c.block_command-command.result (Ok c.match-command.result) c.read_lines.new.input.at_end taken.lines =
     λ why refuses parsed.
     rw refuses (λ more may. block_refused _ taken.lines c.in-Some.block c.block_command-command.result why more taken.taken parsed) in
-    let spelled : SpellBlock {E = ItemFault} c.block_command-command.result (Ok c.match-command.result) c.read_lines.new.input.at_end taken.lines =
+    let spelled : SpellBlock {E = ItemFault} c.block_command-command.result (Ok c.match-command.result) c.read_lines.new.input.at_end
+    taken.lines =
     elim c.match-command.branch [
       | in-Ok w ↦
           let kind : c.opened_kind.result ≡ kind_of w.in-Ok.command = rw w.in-Ok.is at c.opened_kind.ensures in
@@ -107,7 +109,8 @@ returns-clause-heard g c =
 
 pub returns-clause-open : goal.returns-clause-open
 returns-clause-open g c =
-    let shut : is_unended c.block_command-command.result ≡ false = ap is_unended c.block_command-command.ensures ∙ never_unended _ in search rules
+    let shut : is_unended c.block_command-command.result ≡ false = ap is_unended c.block_command-command.ensures ∙ never_unended _ in
+    search rules
 
 pub returns-in_err-block-clause-bound : goal.returns-in_err-block-clause-bound
 returns-in_err-block-clause-bound g c =

@@ -55,6 +55,12 @@ function currentCommand() {
   return current < 0 ? "" : lesson.parts[current][0].trim();
 }
 
+/** Returns a paragraph with the number of steps that were made of a command, if it is executed in pieces. */
+function stepsMade(text) {
+  const [all, made] = [text, doing ?? ""].map((one) => /^(?:step|trace) (\d+)$/.exec(one.trim())?.[1]);
+  return all && made ? [make("p", { class: "none" }, `${made} of ${all} steps were made`)] : [];
+}
+
 function showLesson() {
   // The large page with its lesson would have an empty half without one.
   if (!lesson && by("large").checked && by("panel").value === "lesson") return choosePanel("trace-panel");
@@ -76,8 +82,9 @@ function showLesson() {
     return make("li", { class: kinds.filter(Boolean).join(" "), "aria-current": number === current ? "step" : null },
       ...(isCommand ? [make("pre", {}, text.replace(/\n+$/, ""))] : []),
       ...paragraphs.map((words) => make("p", { class: /^\s/.test(words) ? "set-in" : "" }, words)),
+      ...(number === current && waits ? stepsMade(text) : []),
       ...(reply.length ? [make("pre", { class: "reply" }, reply.join("\n"))] : []));
-  }));
+  }), ...(current < 0 && !waits ? [make("li", { class: "comment" }, make("p", {}, "This is the end of the lesson."))] : []));
   reveal(by("parts"), by("parts").querySelector(".next") || by("parts").lastElementChild);
   for (const id of ["next-step", "next-command", "next-all", "lesson-step"]) by(id).disabled = current < 0 || isGone;
   by("lesson-before").disabled = number <= 0 || isGone;

@@ -63,7 +63,7 @@ class Page:
 
     def __init__(self, *words: str) -> None:
         """Starts the calculator with these words."""
-        self.process = subprocess.Popen(started(AWAY, AWAY // 2, *words), stdout=subprocess.PIPE, text=True)
+        self.process = subprocess.Popen(started(AWAY, 60, *words), stdout=subprocess.PIPE, text=True)
         self.address = cast(TextIO, self.process.stdout).readline().strip()
         found = sure(re.fullmatch(r"http://127\.0\.0\.1:([0-9]+)(/[^/]+/)(.*)", self.address))
         self.port, self.path = int(found[1]), found[2]

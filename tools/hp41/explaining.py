@@ -15,7 +15,7 @@ LETTERS = {"F": "(?P<F>@R|S&X|R<|ALL|P-Q|XS|MS|M)", "N": "[0-9]+", "H": "[0-9A-F
            "R": "(?P<R>(?:IND )?(?:[0-9]{2,3}|[TZYXLMNOPQa-eA-J]|append|[0-9]))"}
 PLACEHOLDER = re.compile(r"\{([^}]*)\}")
 # A text that a name of a function cannot be.
-NO_FUNCTION = re.compile(r"-?[0-9.E][0-9.E+-]*|NEG.*|[\">].*|LBL .*|\.?END\.?")
+NO_FUNCTION = re.compile(r"[0-9.E+-]{2,}|[0-9.E]|NEG.*|[\">].*|LBL .*|\.?END\.?")
 # Where a sentence is cut if its step fails: what follows is what would happen afterwards.
 CUT = re.compile(r"; |, after lifting |\.$")
 # The names of registers of the processor, and of those of programs, for whose next value a learner can be asked.

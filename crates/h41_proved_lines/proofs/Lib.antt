@@ -6,3 +6,6 @@ pub mod SumOfRegisters
 pub mod ExactSums
 pub mod Scales
 pub mod Bisection
+pub mod HalvingRange
+pub mod Bounds
+pub mod BisectionLoop

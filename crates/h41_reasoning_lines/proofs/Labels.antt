@@ -33,7 +33,7 @@ neither : {A : Type 0} (first second : Option A) → first ≡ None → second �
 neither None second one two = two
 neither (Some x) second one two = absurd (cc)
 
-find_none : {A : Type 0} (test : A → Bool) (xs : List A) → NoneOf test xs → find test (reverse xs) ≡ None
+pub find_none : {A : Type 0} (test : A → Bool) (xs : List A) → NoneOf test xs → find test (reverse xs) ≡ None
 find_none test [] none = refl
 find_none test (x ∷ xs) none =
     ap (find test) (reverse-append (x ∷ []) xs)
@@ -127,7 +127,7 @@ module _ (memory : RegisterMap) (sound : is_sound memory ≡ true) where
   reads_later_by first rest false some reads = reads
 
   -- The lines after a line of a list are read from the byte after it.
-  reads_later : (at : ℕ) (early : List ListedLine) (last : ListedLine) (later : List ListedLine) → is_final_end last.line ≡ false
+  pub reads_later : (at : ℕ) (early : List ListedLine) (last : ListedLine) (later : List ListedLine) → is_final_end last.line ≡ false
       → ReadsThere at ((early ++ last ∷ []) ++ later) → ReadsThere (behind last) later
   reads_later at [] last later open_end reads = rest_read memory sound last later (is_final_end last.line) open_end reads.1
   reads_later at (first ∷ early) last later open_end reads =

@@ -9,3 +9,4 @@ pub mod Bisection
 pub mod HalvingRange
 pub mod Bounds
 pub mod BisectionLoop
+pub mod LoadedDivisor

@@ -3,3 +3,4 @@ pub mod GreatestCommonDivisor
 pub mod SumOfRegisters
 pub mod Bisection
 pub mod BisectionLoop
+pub mod LoadedDivisor

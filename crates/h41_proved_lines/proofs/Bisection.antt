@@ -40,7 +40,8 @@ use Rattle.h41_reasoning_lines.proofs.Programs.{IsLast, all_in_turn, leads_on}
 use Rattle.h41_reasoning_lines.proofs.Registers.{data_found, number_in_x, recalled_short, recalled_short_over, stored_short}
 use Rattle.h41_reasoning_lines.proofs.Rounds.{by_last, line_then, more_lines_suffice}
 use Rattle.h41_reasoning_lines.proofs.Stacks.{same_program, still}
-use Rattle.h41_reasoning_lines.proofs.Stepping.{after_line, before_line, by_state, ended, global_label, go_to, label, last_recalled, of_one, of_two}
+use Rattle.h41_reasoning_lines.proofs.Stepping.{after_line, before_line, by_state, ended, global_label, go_to, label, last_recalled, of_one}
+use Rattle.h41_reasoning_lines.proofs.Stepping.{of_two}
 use Rattle.h41_reasoning_lines.proofs.Stepping.{returned, test_false, test_true}
 use Rattle.h41_reasoning_lines.proofs.Wholes.{whole_ten}
 use Rattle.h41_proved_lines.specs.Bisection.{Contains, HalvesBracket, HasHalved, IsBracket, IsMiddle, IsSquare, half_body, half_lines}
@@ -65,7 +66,8 @@ two_nearest itself =
 
 module _ (itself : DecimalIsItsNearest) (registers : DecimalHasOneRegister) (lists : OneList)
     (pages : PageMap) (stack : Stack) (memory : RegisterMap) (at : ℕ) (returns : List Position)
-    (link key distance : ℕ) (end : Line) (ends : ends_program end ≡ true) (sound : is_sound (with_stack stack memory) ≡ true) (listed : List ListedLine)
+    (link key distance : ℕ) (end : Line) (ends : ends_program end ≡ true) (sound : is_sound (with_stack stack memory) ≡ true)
+    (listed : List ListedLine)
     (enough : 2 < size_of (with_stack stack memory)) where
   abbrev first_memory : RegisterMap
   first_memory = with_stack stack memory
@@ -256,7 +258,11 @@ module _ (itself : DecimalIsItsNearest) (registers : DecimalHasOneRegister) (lis
         )
 
         new_one : Contains stored changed (units middle)
-        new_one = (middle_register.0, data_read before_store changed middle_register.0 sound_there (below changed small), middle_register.1.holds)
+        new_one = (
+          middle_register.0,
+          data_read before_store changed middle_register.0 sound_there (below changed small),
+          middle_register.1.holds,
+        )
 
         lines_stay : (from to : ℕ) (line : Line) → IsLineAt first_memory from line to → IsLineAt stored from line to
         lines_stay from to line is =
@@ -271,17 +277,21 @@ module _ (itself : DecimalIsItsNearest) (registers : DecimalHasOneRegister) (lis
           (lines_stay 2 (inr refl) (omega arith) l15.next l16.next _ l16.stands) in
           line_then pages _ _ _ After
           (test_true pages here l7.next l8.next false returns true functions.TestXLessThanY
-          (rows.Below (rows.In places.X) (rows.In places.Y)) refl (still stack test_stack memory sound l7.next l8.next _ l8.stands) numbers_there (tells ∙ is))
+          (rows.Below (rows.In places.X) (rows.In places.Y)) refl
+          (still stack test_stack memory sound l7.next l8.next _ l8.stands) numbers_there (tells ∙ is))
           (line_then pages _ _ _ After
-          (go_to pages here l8.next l9.next false returns true 2 distance l12.next (still stack test_stack memory sound l8.next l9.next _ l9.stands)
+          (go_to pages here l8.next l9.next false returns true 2 distance l12.next
+          (still stack test_stack memory sound l8.next l9.next _ l9.stands)
           (depends.local first_memory here l9.next 2 (Some l12.next) (same_program stack test_stack memory sound) leading))
           (line_then pages _ _ _ After
           (label pages here l12.next l13.next false returns true 2 (still stack test_stack memory sound l12.next l13.next _ l13.stands))
           (line_then pages _ _ _ After
-          (last_recalled pages test_stack memory l13.next l14.next false returns (still stack test_stack memory sound l13.next l14.next _ l14.stands))
+          (last_recalled pages test_stack memory l13.next l14.next false returns
+          (still stack test_stack memory sound l13.next l14.next _ l14.stands))
           (line_then pages _ _ _ After
           (stored_short pages last_stack memory l14.next l15.next false returns (data_address first_memory 2) true 2
-          (data_found (with_stack last_stack memory) 2 (below 2 (omega arith))) (still stack last_stack memory sound l14.next l15.next _ l15.stands))
+          (data_found (with_stack last_stack memory) 2 (below 2 (omega arith)))
+          (still stack last_stack memory sound l14.next l15.next _ l15.stands))
           (by_last pages _ back.left After back.step
           record {
             returned = back.returned;
@@ -316,13 +326,16 @@ module _ (itself : DecimalIsItsNearest) (registers : DecimalHasOneRegister) (lis
           (lines_stay 1 (inl refl) (omega arith) l11.next l12.next _ l12.stands) in
           line_then pages _ _ _ After
           (test_false pages here l7.next l8.next false returns true functions.TestXLessThanY
-          (rows.Below (rows.In places.X) (rows.In places.Y)) refl (still stack test_stack memory sound l7.next l8.next _ l8.stands) numbers_there _ l9.next
+          (rows.Below (rows.In places.X) (rows.In places.Y)) refl
+          (still stack test_stack memory sound l7.next l8.next _ l8.stands) numbers_there _ l9.next
           (still stack test_stack memory sound l8.next l9.next _ l9.stands) (tells ∙ is))
           (line_then pages _ _ _ After
-          (last_recalled pages test_stack memory l9.next l10.next false returns (still stack test_stack memory sound l9.next l10.next _ l10.stands))
+          (last_recalled pages test_stack memory l9.next l10.next false returns
+          (still stack test_stack memory sound l9.next l10.next _ l10.stands))
           (line_then pages _ _ _ After
           (stored_short pages last_stack memory l10.next l11.next false returns (data_address first_memory 1) true 1
-          (data_found (with_stack last_stack memory) 1 (below 1 (omega arith))) (still stack last_stack memory sound l10.next l11.next _ l11.stands))
+          (data_found (with_stack last_stack memory) 1 (below 1 (omega arith)))
+          (still stack last_stack memory sound l10.next l11.next _ l11.stands))
           (by_last pages _ back.left After back.step
           record {
             returned = back.returned;

@@ -189,7 +189,8 @@ module _ (itself : DecimalIsItsNearest) (registers : DecimalHasOneRegister) (lis
           refl refl
           (direct memory 3 (omega arith) (enough_there memory here.keeps)) (there memory here.keeps l2.next l3.next _ l3.stands) works _
           l4.next (there memory here.keeps l3.next l4.next _ l4.stands)
-          (tells_loop memory counter_address Down (whole (suc left)) holds ∙ tested_down_whole left ∙ ap (λ (n : ℕ). int_lt (pos 0) (pos n)) none))
+          (tells_loop memory counter_address Down (whole (suc left)) holds ∙ tested_down_whole left
+          ∙ ap (λ (n : ℕ). int_lt (pos 0) (pos n)) none))
           (by_last pages _ back.left (HasBisected start rounds number first_low first_high) back.step
           record {
             returned = back.returned;
@@ -230,8 +231,8 @@ module _ (itself : DecimalIsItsNearest) (registers : DecimalHasOneRegister) (lis
 
       halving : Leaves pages 14 called Halved
       halving =
-          halves_bracket itself registers lists one_reading pages called count half half_link half_key half_distance half_end number low high
-          middle.0 square.0 (memory_there memory here.keeps) (sound_there memory here.keeps) refl
+          halves_bracket itself registers lists one_reading pages called count half half_link half_key half_distance half_end number
+          low high middle.0 square.0 (memory_there memory here.keeps) (sound_there memory here.keeps) refl
           (program_also first memory half (half_lines half_link half_key half_distance half_end) here.keeps.program half_program) half_ends
           (let more = enough_there memory here.keeps in omega (arith, more)) here.bracket middle.1 square.1
 
@@ -351,12 +352,14 @@ module _ (itself : DecimalIsItsNearest) (registers : DecimalHasOneRegister) (lis
         (λ u back.
         subst (λ (s : Machine). Leaves pages 2 s (HasBisected start 1 number low high))
         (sym (same_state zero low high memory here line_00 lift u back))
-        (last_round zero small back.property.new_low back.property.new_high u.memory (now_here zero low high memory here line_00 lift u back)
+        (last_round zero small back.property.new_low back.property.new_high u.memory
+        (now_here zero low high memory here line_00 lift u back)
         u.focal.lift refl 1 low high
         (more_halvings zero low high memory here line_00 lift u back 0 back.property.new_low back.property.new_high (refl, refl))))
     from_round (suc left) small low high memory here line_00 lift =
         let most : 1 + (15 + (1 + (1 + (18 * left + 18)))) ≡ 18 * suc left + 18 = omega arith in
-        subst (λ (n : ℕ). Leaves pages n (before_line memory l0.next line_00 returns lift) (HasBisected start (suc (suc left)) number low high))
+        subst (λ (n : ℕ). Leaves pages n (before_line memory l0.next line_00 returns lift)
+        (HasBisected start (suc (suc left)) number low high))
         most
         (round_then (suc left) low high memory here line_00 lift (HasBisected start (suc (suc left)) number low high)
         (1 + (1 + (18 * left + 18)))
@@ -384,8 +387,8 @@ module _ (itself : DecimalIsItsNearest) (registers : DecimalHasOneRegister) (lis
 
 pub bisection_returns : DecimalIsItsNearest → DecimalHasOneRegister → OneList → ReadIsDetermined → FractionHasOneNearest → BisectionReturns
 bisection_returns itself registers lists one_reading nearest pages s count at link key distance end half half_link half_key half_distance
-    half_end zero number low high is_memory sound place program ends half_program half_ends finds few enough some small in_3 bracket low_size
-    high_size = absurd (omega (arith, some))
+    half_end zero number low high is_memory sound place program ends half_program half_ends finds few enough some small in_3 bracket
+    low_size high_size = absurd (omega (arith, some))
 bisection_returns itself registers lists one_reading nearest pages s count at link key distance end half half_link half_key half_distance
     half_end (suc left) number low high is_memory sound place program ends half_program half_ends finds few enough some small in_3 bracket
     low_size high_size =

@@ -32,7 +32,8 @@ use Rattle.h41_reasoning_lines.proofs.Listed.{IsLineAt, IsListed}
 use Rattle.h41_reasoning_lines.proofs.Programs.{IsLast, all_in_turn, leads_back}
 use Rattle.h41_reasoning_lines.proofs.Rounds.{at_end, by_last, by_line, leaves_in_turn, line_then, loops_end, more_suffice}
 use Rattle.h41_reasoning_lines.proofs.Stacks.{same_program, still}
-use Rattle.h41_reasoning_lines.proofs.Stepping.{after_line, before_line, by_state, ended, exchanged, global_label, go_to, label, last_recalled}
+use Rattle.h41_reasoning_lines.proofs.Stepping.{after_line, before_line, by_state, ended, exchanged, global_label, go_to, label}
+use Rattle.h41_reasoning_lines.proofs.Stepping.{last_recalled}
 use Rattle.h41_reasoning_lines.proofs.Stepping.{of_two, test_false, test_true}
 use Rattle.h41_reasoning_lines.proofs.Wholes.{modulo_whole, tells_some, tells_zero, whole, whole_ten}
 use Rattle.h41_proved_lines.specs.GreatestCommonDivisor.{GreatestCommonDivisorReturns, HasGreatestCommonDivisor, gcd_body, gcd_lines}

@@ -66,7 +66,8 @@ label_begins = record {
 
 abbrev gcd_listed : List ListedLine
 gcd_listed =
-    at_position 0 (GlobalLabel 0 0 (codes "GCD")) ∷ at_position 7 (LocalLabel 1) ∷ at_position 8 (Plain Modulo) ∷ at_position 9 (Plain LastX)
+    at_position 0 (GlobalLabel 0 0 (codes "GCD")) ∷ at_position 7 (LocalLabel 1) ∷ at_position 8 (Plain Modulo)
+    ∷ at_position 9 (Plain LastX)
     ∷ at_position 10 (Plain ExchangeXY) ∷ at_position 11 (Plain TestXNotZero) ∷ at_position 12 (ShortGoTo 1 0)
     ∷ at_position 14 (Plain ExchangeXY) ∷ at_position 15 (End 0 13) ∷ []
 

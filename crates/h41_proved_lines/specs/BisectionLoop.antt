@@ -1,5 +1,5 @@
--- The program LBL "BISECT", LBL 01, XEQ "HALF", DSE 03, GTO 01, END: a bisection, which searches for
--- the square root of the number in R00. It calls the program HALF as many times as R03 counts.
+-- The program LBL "BISECT", LBL 01, XEQ "HALF", DSE 03, GTO 01, END: a bisection, which searches
+-- for the square root of the number in R00. It calls the program HALF as many times as R03 counts.
 use Rattle.std.specs.Prelude.{◌≡◌, ◌≢◌, ℕ, zero, suc, ◌+◌, ◌*◌, ◌^◌, ◌<◌, ◌≤◌, ◌⊎◌, true, List, []}
 use Rattle.std.specs.Prelude.{◌∷◌, ◌++◌, length, codes, ℤ, pos, unsigned_abs}
 use Rattle.h41_codes.specs.declared.functions.NameFunction.TheVariants.{ExecuteName}
@@ -54,8 +54,8 @@ pub record KeepsOthers (old new : RegisterMap) : Type 0 where
       → address ≢ data_address old 2 → address ≢ data_address old 3
       → register_at new address ≡ register_at old address
 
--- R01 and R02 are the bracket that is left after this many halvings. R03 contains 0. Nothing else of
--- memory has changed but the stack and LAST X.
+-- R01 and R02 are the bracket that is left after this many halvings. R03 contains 0. Nothing else
+-- of memory has changed but the stack and LAST X.
 pub record HasBisected (s : Machine) (rounds : ℕ) (number low high : ℤ) (left : Left) : Type 0 where
   pub returned : HasReturned s left
   pub new_low : ℤ

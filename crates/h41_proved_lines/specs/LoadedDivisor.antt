@@ -19,8 +19,8 @@ gcd_bytes =
     -- END
     ∷ 0xC0 ∷ 0x00 ∷ 0x0D ∷ []
 
--- After these bytes were loaded, memory has the program, as the theorem about it requires. The .END.
--- of memory is its last line.
+-- After these bytes were loaded, memory has the program, as the theorem about it requires. The
+-- .END. of memory is its last line.
 abbrev pub GcdIsLoaded : Type 0
 GcdIsLoaded =
     (memory new : RegisterMap) (start : ℕ) → Loads memory new gcd_bytes (Ok start)

@@ -165,7 +165,8 @@ module _ (memory : RegisterMap) (sound : is_sound memory ≡ true) where
   pub in_turn : (at : ℕ) (lines : List Line) (has : HasProgram memory at lines) → has_no_end lines ≡ true
       → AreListed memory at has.listed lines
   in_turn at lines has inner =
-      followed_in_turn (λ next rest. Unit {0}) at has.listed lines has.others (has.from.sound sound) has.are inner (λ next rest reads are. tt)
+      followed_in_turn (λ next rest. Unit {0}) at has.listed lines has.others (has.from.sound sound) has.are inner
+      (λ next rest reads are. tt)
 
   -- What is read from a position on is the list of lines from there on.
   pub lines_from : (at : ℕ) (listed : List ListedLine) → ReadsHere at listed → LinesFrom memory at listed

@@ -16,7 +16,8 @@ use Rattle.h41_program.proofs.SearchSteps.{label_in-end, label_in-other}
 use Rattle.h41_ram.specs.RamState.{SameProgram}
 use Rattle.h41_ram.specs.RegisterMap.{RegisterMap, is_sound}
 use Rattle.h41_reasoning_lines.specs.ProgramLines.{HasProgram, IsProgram, ends_program}
-use Rattle.h41_reasoning_lines.proofs.Labels.{NoneOf, ends_before, found_back, found_onward, label_after, label_here, no_end, none_late, position_next}
+use Rattle.h41_reasoning_lines.proofs.Labels.{NoneOf, ends_before, found_back, found_onward, label_after, label_here, no_end, none_late}
+use Rattle.h41_reasoning_lines.proofs.Labels.{position_next}
 use Rattle.h41_reasoning_lines.proofs.Listed.{AreFollowed, IsLineAt, IsListed, first_inner, followed_in_turn, has_no_end, next_of}
 
 -- The last line of a program. Nothing is said of the lines after it.
@@ -156,7 +157,8 @@ module _ (memory : RegisterMap) (sound : is_sound memory ≡ true) where
 
   -- GTO n after LBL n leads back to it, if there is no LBL n before LBL n or after GTO n.
   module _ (one_reading : ReadIsDetermined) (at n : ℕ) (listed : List ListedLine) (reads : ReadsThere at listed)
-      (begins : AnswersOf (start_in at) memory 0 at) (label go : Line) (label_inner : is_end label ≡ false) (is_target : is_label n label ≡ true)
+      (begins : AnswersOf (start_in at) memory 0 at) (label go : Line) (label_inner : is_end label ≡ false)
+      (is_target : is_label n label ≡ true)
       (go_inner : is_end go ≡ false) (last : Line) where
     module _ (first : Line) (before middle after : List Line)
         (are : AreAll memory at listed ((first ∷ before) ++ label ∷ (middle ++ go ∷ after)) last) where
@@ -182,7 +184,8 @@ module _ (memory : RegisterMap) (sound : is_sound memory ≡ true) where
           (begins.1.sound sound) reads jump_back.here.reads begins.2 (omega (arith, down_to, past, on_to, past_go))
           (no_end_up_to label (middle ++ go ∷ after) (IsLast memory last) jump_back.here.next at listed (first ∷ before) are inner
           (no_end memory sound jump_back.here.next target_back.from target_back.own label target_back.here label_inner
-          (no_end_up_to go after (IsLast memory last) jump_back.here.next target_back.here.next target_back.here.rest middle target_back.rest
+          (no_end_up_to go after (IsLast memory last)
+          jump_back.here.next target_back.here.next target_back.here.rest middle target_back.rest
           inner_middle
           (no_end memory sound jump_back.here.next jump_back.from jump_back.own go jump_back.here go_inner
           (none_late memory sound jump_back.here.next jump_back.here.next jump_back.here.rest (omega arith) jump_back.here.reads)))))

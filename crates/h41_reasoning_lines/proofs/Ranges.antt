@@ -84,9 +84,11 @@ module _ (first steps : ℕ) (some : 1 ≤ first) (one_digit : first ≤ 9) (lon
         let within = digits_within digits up near in
         let inside : nat_le up 198 ≡ true = holds up 198 (few_steps digits up ten.at_least within) in
         let found = ok_part answer (λ (number : Ten). units number ≡ with_sign sign (size_of digits up))
-        (subst (λ (b : Bool). MatchBool b (IsOkAnd answer (λ number. units number ≡ with_sign sign (size_of digits up))) (answer ≡ Err Range))
+        (subst (λ (b : Bool). MatchBool b (IsOkAnd answer (λ number. units number ≡ with_sign sign (size_of digits up)))
+        (answer ≡ Err Range))
         inside bounded) in
-        let size : unsigned_abs (units found.0) ≡ digits * 10 ^ up = ap unsigned_abs found.2 ∙ unsigned_abs-signed sign (digits * 10 ^ up) in
+        let size : unsigned_abs (units found.0) ≡ digits * 10 ^ up =
+        ap unsigned_abs found.2 ∙ unsigned_abs-signed sign (digits * 10 ^ up) in
         record { ten = found.0; is = found.1; within = omega (arith, size, within) }
       where
         holds : (a b : ℕ) → a ≤ b → nat_le a b ≡ true

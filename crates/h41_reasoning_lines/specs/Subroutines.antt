@@ -9,7 +9,8 @@ use Rattle.h41_reasoning_lines.specs.LineRuns.{Continues, HasReturned, Leaves, W
 
 -- A subroutine that was called in s has returned to the next line, and the state t has the property
 -- that its theorem states. The return addresses are those that s had.
-pub record IsBack (s : Machine) (next : Position) (Property : Left → Type 0) (t : Machine) : Type 0 where
+pub record IsBack (s : Machine) (next : Position) (Property : Left → Type 0)
+    (t : Machine) : Type 0 where
   pub property : Property (left_done t)
   pub position : t.focal.position ≡ next
   pub no_line_00 : t.focal.at_line_00 ≡ false

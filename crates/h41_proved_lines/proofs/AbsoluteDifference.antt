@@ -1,15 +1,14 @@
-use Rattle.std.proofs.Common.{◌≡◌, ℕ, zero, suc, Bool, true, false, List, Ok, refl, sym, ap, ◌∙◌, subst}
-use Rattle.std.specs.Prelude.{ℤ, pos, neg_ℤ, ◌-ℤ◌, unsigned_abs}
+use Rattle.std.proofs.Common.{◌≡◌, ℕ, Bool, true, false, List, Ok, refl, sym, ap, ◌∙◌, subst}
+use Rattle.std.specs.Prelude.{ℤ, pos, ◌-ℤ◌, unsigned_abs}
 use Rattle.h41_codes.specs.declared.functions.Function.TheVariants as functions
 use Rattle.h41_decimal.specs.Holding.{Number, holding_of}
 use Rattle.h41_decimal.specs.Laws.{DecimalIsItsNearest}
 use Rattle.h41_decimal.specs.NearestDecimal.{Nearest}
-use Rattle.h41_decimal.specs.Signs.{with_sign}
 use Rattle.h41_decimal.specs.Units.{size, units}
-use Rattle.h41_decimal.specs.declared.sign.Sign.{Sign}
-use Rattle.h41_decimal.specs.declared.sign.Sign.TheVariants.{Plus, Minus}
+use Rattle.h41_decimal.specs.declared.sign.Sign.TheVariants.{Plus}
 use Rattle.h41_decimal.specs.declared.ten.Ten.{Ten}
 use Rattle.h41_decimal.specs.declared.ten.Ten.TheVariants.{Zero, Nonzero}
+use Rattle.h41_decimal.proofs.Tens.{unsigned_abs-signed}
 use Rattle.h41_laws_words.specs.DecimalAnswers.{DecimalHasOneRegister}
 use Rattle.h41_pages.specs.PageMap.{PageMap}
 use Rattle.h41_positions.specs.FocalState.{Machine}
@@ -27,7 +26,7 @@ use Rattle.h41_reasoning_lines.proofs.Computing.{made_absolute, subtracted}
 use Rattle.h41_reasoning_lines.proofs.Listed.{AreListed, also, in_turn}
 use Rattle.h41_reasoning_lines.proofs.Rounds.{by_last, line_then}
 use Rattle.h41_reasoning_lines.proofs.Stacks.{same_program}
-use Rattle.h41_reasoning_lines.proofs.Stepping.{before_line, of_one, of_two, own_place, own_stack, returned}
+use Rattle.h41_reasoning_lines.proofs.Stepping.{before_line, by_state, of_one, of_two, returned}
 use Rattle.h41_proved_lines.specs.AbsoluteDifference.{AbsoluteDifferenceReturns, HasAbsoluteDifference, absolute_difference_lines}
 
 -- The register of a decimal.
@@ -36,18 +35,10 @@ register_of registers number =
     let found = registers number in
     (found.answer, record { valid = found.right.valid; holds = found.right.holds })
 
-opposite_size : (n : ℕ) → unsigned_abs (neg_ℤ (pos n)) ≡ n
-opposite_size zero = refl
-opposite_size (suc n) = refl
-
-signed_size : (sign : Sign) (n : ℕ) → unsigned_abs (with_sign sign n) ≡ n
-signed_size Plus n = refl
-signed_size Minus n = opposite_size n
-
 -- The absolute value of a decimal is a decimal.
 absolute : (number : Ten) → (other : Ten) × (units other ≡ pos (unsigned_abs (units number)))
 absolute Zero = (Zero, refl)
-absolute (Nonzero sign x) = (Nonzero Plus x, ap pos (sym (signed_size sign (size x))))
+absolute (Nonzero sign x) = (Nonzero Plus x, ap pos (sym (unsigned_abs-signed sign (size x))))
 
 module _ (itself : DecimalIsItsNearest) (registers : DecimalHasOneRegister) (lists : OneList) (pages : PageMap) (stack : Stack)
     (memory : RegisterMap) (at : ℕ) (zero : Bool) (returns : List Position) (lift : Bool) (y x : ℤ) (difference : Ten)
@@ -101,16 +92,11 @@ module _ (itself : DecimalIsItsNearest) (registers : DecimalHasOneRegister) (lis
 
 pub absolute_difference : DecimalIsItsNearest → DecimalHasOneRegister → OneList → AbsoluteDifferenceReturns
 absolute_difference itself registers lists pages s count at y x difference is_memory sound place has in_y in_x nearest =
-    let own : with_stack (stack_of s.memory) s.memory ≡ s.memory = own_stack s.memory is_memory.status in
-    let own_has : HasProgram (with_stack (stack_of s.memory) s.memory) at absolute_difference_lines =
-    subst (λ (memory : RegisterMap). HasProgram memory at absolute_difference_lines) (sym own) has in
-    let own_sound : is_sound (with_stack (stack_of s.memory) s.memory) ≡ true = ap is_sound own ∙ sound in
-    subst (λ (u : Machine). Leaves pages 3 u (HasAbsoluteDifference u difference)) (own_place s at place)
-    (subst
-    (λ (memory : RegisterMap). Leaves pages 3 (before_line memory at s.focal.at_line_00 s.focal.returns s.focal.lift)
-    (HasAbsoluteDifference (before_line memory at s.focal.at_line_00 s.focal.returns s.focal.lift) difference))
-    own
-    (run itself registers lists pages (stack_of s.memory) s.memory at s.focal.at_line_00 s.focal.returns s.focal.lift y x difference
-    own_sound in_y in_x nearest
-    own_has.listed
-    (in_turn (with_stack (stack_of s.memory) s.memory) own_sound at absolute_difference_lines own_has (refl, (refl, (refl, tt))))))
+    by_state at
+    (λ (u : Machine). is_sound u.memory ≡ true → HasProgram u.memory at absolute_difference_lines
+    → holding_of (stack_of u.memory).y ≡ Number y → holding_of (stack_of u.memory).x ≡ Number x
+    → Leaves pages 3 u (HasAbsoluteDifference u difference))
+    (λ stack memory zero returns lift own_sound own_has own_y own_x.
+    run itself registers lists pages stack memory at zero returns lift y x difference own_sound own_y own_x nearest own_has.listed
+    (in_turn (with_stack stack memory) own_sound at absolute_difference_lines own_has refl))
+    s is_memory.status place sound has in_y in_x

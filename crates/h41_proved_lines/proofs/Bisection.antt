@@ -17,10 +17,8 @@ use Rattle.h41_focal.specs.LineStep.{Left}
 use Rattle.h41_pages.specs.PageMap.{PageMap}
 use Rattle.h41_positions.specs.FocalState.{Machine}
 use Rattle.h41_positions.specs.declared.position.Position.{Position}
-use Rattle.h41_program.specs.ProgramBytes.{final_position, program_bytes}
 use Rattle.h41_program.specs.ProgramLaws.{OneList, ReadIsDetermined}
-use Rattle.h41_program.specs.ProgramLines.{Reads}
-use Rattle.h41_program.specs.Searches.{AnswersLocal, start_in}
+use Rattle.h41_program.specs.Searches.{AnswersLocal}
 use Rattle.h41_program.specs.declared.listed_line.ListedLine.{ListedLine}
 use Rattle.h41_program.proofs.Depends as depends
 use Rattle.h41_ram.proofs.Named.{data_read, others_data}
@@ -33,19 +31,20 @@ use Rattle.h41_rows.specs.Rows as rows
 use Rattle.h41_rows.specs.Values.{IsRegisterOf}
 use Rattle.h41_rows.specs.Values as values
 use Rattle.h41_reasoning_lines.specs.LineRuns.{Continues, Leaves}
-use Rattle.h41_reasoning_lines.specs.ProgramLines.{IsProgram}
-use Rattle.h41_reasoning_lines.specs.Stacks.{Stack, stack_of, with_stack}
+use Rattle.h41_reasoning_lines.specs.ProgramLines.{IsProgram, ends_program}
+use Rattle.h41_reasoning_lines.specs.Stacks.{Stack, with_stack}
 use Rattle.h41_reasoning_lines.proofs.Computing.{added, comparable, divided, squared, tells_below}
 use Rattle.h41_reasoning_lines.proofs.DataRegisters.{data_is, same_data, same_data_of, same_program_written}
-use Rattle.h41_reasoning_lines.proofs.Labels.{found_onward, label_after, label_here, no_end, none_late, position_next}
-use Rattle.h41_reasoning_lines.proofs.Listed.{AreListed, IsLineAt, IsListed, also, in_turn}
+use Rattle.h41_reasoning_lines.proofs.Listed.{IsLineAt, IsListed, also}
+use Rattle.h41_reasoning_lines.proofs.Programs.{IsLast, all_in_turn, leads_on}
 use Rattle.h41_reasoning_lines.proofs.Registers.{data_found, number_in_x, recalled_short, recalled_short_over, stored_short}
 use Rattle.h41_reasoning_lines.proofs.Rounds.{by_last, line_then, more_lines_suffice}
-use Rattle.h41_reasoning_lines.proofs.Stacks.{same_program}
-use Rattle.h41_reasoning_lines.proofs.Stepping.{after_line, before_line, ended, global_label, go_to, label, last_recalled, of_one, of_two}
-use Rattle.h41_reasoning_lines.proofs.Stepping.{own_place, own_stack, returned, test_false, test_true}
+use Rattle.h41_reasoning_lines.proofs.Stacks.{same_program, still}
+use Rattle.h41_reasoning_lines.proofs.Stepping.{after_line, before_line, by_state, ended, global_label, go_to, label, last_recalled, of_one}
+use Rattle.h41_reasoning_lines.proofs.Stepping.{of_two}
+use Rattle.h41_reasoning_lines.proofs.Stepping.{returned, test_false, test_true}
 use Rattle.h41_reasoning_lines.proofs.Wholes.{whole_ten}
-use Rattle.h41_proved_lines.specs.Bisection.{Contains, HalvesBracket, HasHalved, IsBracket, IsMiddle, IsSquare, half_lines}
+use Rattle.h41_proved_lines.specs.Bisection.{Contains, HalvesBracket, HasHalved, IsBracket, IsMiddle, IsSquare, half_body, half_lines}
 use Rattle.h41_proved_lines.proofs.AbsoluteDifference.{register_of}
 use Rattle.h41_proved_lines.proofs.Scales.{scaled}
 
@@ -65,9 +64,10 @@ two_nearest itself =
     scaled (2 * one) (10 ^ 99) two.0 (omega arith) (omega arith)
     (subst (λ (z : ℤ). Nearest z 1 (Ok two.0)) two.1 (itself two.0))
 
-module _ (itself : DecimalIsItsNearest) (registers : DecimalHasOneRegister) (lists : OneList) (one_reading : ReadIsDetermined)
+module _ (itself : DecimalIsItsNearest) (registers : DecimalHasOneRegister) (lists : OneList)
     (pages : PageMap) (stack : Stack) (memory : RegisterMap) (at : ℕ) (returns : List Position)
-    (link key distance end_link marks : ℕ) (sound : is_sound (with_stack stack memory) ≡ true) (listed : List ListedLine)
+    (link key distance : ℕ) (end : Line) (ends : ends_program end ≡ true) (sound : is_sound (with_stack stack memory) ≡ true)
+    (listed : List ListedLine)
     (enough : 2 < size_of (with_stack stack memory)) where
   abbrev first_memory : RegisterMap
   first_memory = with_stack stack memory
@@ -88,34 +88,7 @@ module _ (itself : DecimalIsItsNearest) (registers : DecimalHasOneRegister) (lis
       (l13 : IsListed first_memory l12.next l12.rest (lines.LocalLabel 2))
       (l14 : IsListed first_memory l13.next l13.rest (lines.Plain functions.LastX))
       (l15 : IsListed first_memory l14.next l14.rest (lines.Register StoreRegister 2))
-      (l16 : IsListed first_memory l15.next l15.rest (lines.End end_link marks)) where
-    -- GTO 02 leads to LBL 02.
-    leads : (all : List ListedLine) → Reads (program_bytes first_memory) (final_position first_memory) 0 all
-        → Reads (program_bytes first_memory) (final_position first_memory) at listed → at ≡ start_in at all
-        → AnswersLocal first_memory l9.next 2 (Some l12.next)
-    leads all all_read reads begins =
-        let after : at ≤ l9.next =
-        omega (arith, l0.onward, l1.onward, l2.onward, l3.onward, l4.onward, l5.onward, l6.onward, l7.onward, l8.onward, l9.onward) in
-        subst (λ (target : ℕ). AnswersLocal first_memory l9.next 2 (Some target))
-        (sym (position_next first_memory sound l11.next l11.rest _ l12 _ l13))
-        (found_onward first_memory sound one_reading at l9.next 2 l13.first.position all listed l9.rest all_read reads l9.reads begins after
-        (no_end first_memory sound l9.next at listed _ l0 refl
-        (no_end first_memory sound l9.next l0.next l0.rest _ l1 refl
-        (no_end first_memory sound l9.next l1.next l1.rest _ l2 refl
-        (no_end first_memory sound l9.next l2.next l2.rest _ l3 refl
-        (no_end first_memory sound l9.next l3.next l3.rest _ l4 refl
-        (no_end first_memory sound l9.next l4.next l4.rest _ l5 refl
-        (no_end first_memory sound l9.next l5.next l5.rest _ l6 refl
-        (no_end first_memory sound l9.next l6.next l6.rest _ l7 refl
-        (no_end first_memory sound l9.next l7.next l7.rest _ l8 refl
-        (no_end first_memory sound l9.next l8.next l8.rest _ l9 refl
-        (none_late first_memory sound l9.next l9.next l9.rest (omega arith) l9.reads)))))))))))
-        (label_here first_memory sound l12.next 2 l12.rest _ l13 refl
-        ∙ sym
-        (label_after first_memory sound l9.next 2 l9.rest _ l10 refl refl
-        ∙ label_after first_memory sound l10.next 2 l10.rest _ l11 refl refl
-        ∙ label_after first_memory sound l11.next 2 l11.rest _ l12 refl refl)))
-
+      (l16 : IsLast first_memory end l15.next l15.rest) where
     module _ (leading : AnswersLocal first_memory l9.next 2 (Some l12.next)) (number low high : ℤ) (middle square : Ten)
         (bracket : IsBracket first_memory number low high) (half : IsMiddle low high middle) (is_square : IsSquare (units middle) square)
         (zero_line lift : Bool) where
@@ -124,11 +97,6 @@ module _ (itself : DecimalIsItsNearest) (registers : DecimalHasOneRegister) (lis
 
       abbrev After : Left → Type 0
       After = HasHalved start number low high (units middle)
-
-      -- Each line is there with another stack too.
-      still : (other : Stack) (from to : ℕ) (line : Line) → IsLineAt first_memory from line to
-          → IsLineAt (with_stack other memory) from line to
-      still other from to line is = also first_memory (with_stack other memory) from line to (same_program stack other memory sound) is
 
       below : (i : ℕ) → i ≤ 2 → i < size_of first_memory
       below i small = omega (arith, small, enough)
@@ -152,7 +120,7 @@ module _ (itself : DecimalIsItsNearest) (registers : DecimalHasOneRegister) (lis
           (after_line (with_stack (lifted st r) memory) to returns true))
           (brought i small register is st)
           (recalled_short pages st memory from to false returns (data_address first_memory i) i
-          (data_found (with_stack st memory) i (below i small)) (still st from to _ line))
+          (data_found (with_stack st memory) i (below i small)) (still stack st memory sound from to _ line))
 
       -- The first RCL, with stack lift on or off.
       record Begun : Type 0 where
@@ -239,7 +207,7 @@ module _ (itself : DecimalIsItsNearest) (registers : DecimalHasOneRegister) (lis
           (line_then pages _ _ _ After
           (of_two pages both_stack memory l2.next l3.next false returns true functions.Add (values.Sum places.Y places.X)
           sum_register.0 refl
-          (still both_stack l2.next l3.next _ l3.stands)
+          (still stack both_stack memory sound l2.next l3.next _ l3.stands)
           (added both_stack memory low high begun.in_x bracket.in_2.2 half.0 sum_register.0 sum_register.1 half.1))
           (line_then pages _ _ _ After
           (number_in_x pages sum_stack memory l3.next l4.next false returns 0 (characters.Two ∷ []) two.0 two_register.0
@@ -248,17 +216,17 @@ module _ (itself : DecimalIsItsNearest) (registers : DecimalHasOneRegister) (lis
             biased = refl;
             typed = record { answer = Ok two.0; nearest = two_nearest itself; value = refl };
           }
-          two_register.1 (still sum_stack l3.next l4.next _ l4.stands))
+          two_register.1 (still stack sum_stack memory sound l3.next l4.next _ l4.stands))
           (line_then pages _ _ _ After
           (of_two pages two_stack memory l4.next l5.next false returns true functions.Divide (values.Quotient places.Y places.X)
           middle_register.0 refl
-          (still two_stack l4.next l5.next _ l5.stands)
+          (still stack two_stack memory sound l4.next l5.next _ l5.stands)
           (divided two_stack memory (units half.0) (pos (2 * one)) sum_register.1.holds (two_register.1.holds ∙ ap Number two.1) middle
           middle_register.0 middle_register.1 half.2))
           (line_then pages _ _ _ After
           (of_one pages middle_stack memory l5.next l6.next false returns true functions.Square (values.Product places.X places.X)
           square_register.0 refl
-          (still middle_stack l5.next l6.next _ l6.stands)
+          (still stack middle_stack memory sound l5.next l6.next _ l6.stands)
           (squared middle_stack memory (units middle) middle_register.1.holds square square_register.0 square_register.1 is_square))
           (line_then pages _ _ _ After
           (recalled_as 0 (omega arith) bracket.in_0.0 bracket.in_0.1 square_stack l6.next l7.next l7.stands)
@@ -272,50 +240,58 @@ module _ (itself : DecimalIsItsNearest) (registers : DecimalHasOneRegister) (lis
       numbers_there = comparable test_stack memory (units square) number square_register.1.holds bracket.in_0.2
 
       -- Memory after a bound was stored.
-      module _ (end : ℕ) (is_end : (end ≡ 1) ⊎ (end ≡ 2)) (small : end ≤ 2) where
+      module _ (changed : ℕ) (is_bound : (changed ≡ 1) ⊎ (changed ≡ 2)) (small : changed ≤ 2) where
         abbrev before_store : RegisterMap
         before_store = with_stack last_stack memory
 
         abbrev stored : RegisterMap
-        stored = with_data before_store end middle_register.0
+        stored = with_data before_store changed middle_register.0
 
         sound_there : is_sound before_store ≡ true
-        sound_there = (still last_stack l15.next l16.next _ l16.stands).sound
+        sound_there = (still stack last_stack memory sound l15.next l16.next _ l16.stands).sound
 
-        stays : (i : ℕ) (x : ℤ) → (i ≡ end → ⊥) → Contains first_memory i x → Contains stored i x
+        stays : (i : ℕ) (x : ℤ) → (i ≡ changed → ⊥) → Contains first_memory i x → Contains stored i x
         stays i x other has = (
           has.0,
-          others_data before_store end i middle_register.0 sound_there other ∙ same_data_of stack last_stack memory i sound ∙ has.1,
+          others_data before_store changed i middle_register.0 sound_there other ∙ same_data_of stack last_stack memory i sound ∙ has.1,
           has.2,
         )
 
-        new_one : Contains stored end (units middle)
-        new_one = (middle_register.0, data_read before_store end middle_register.0 sound_there (below end small), middle_register.1.holds)
+        new_one : Contains stored changed (units middle)
+        new_one = (
+          middle_register.0,
+          data_read before_store changed middle_register.0 sound_there (below changed small),
+          middle_register.1.holds,
+        )
 
         lines_stay : (from to : ℕ) (line : Line) → IsLineAt first_memory from line to → IsLineAt stored from line to
         lines_stay from to line is =
-            also before_store stored from line to (same_program_written before_store end middle_register.0 sound_there)
-            (still last_stack from to line is)
+            also before_store stored from line to (same_program_written before_store changed middle_register.0 sound_there)
+            (still stack last_stack memory sound from to line is)
 
       -- The middle is the new upper bound.
       upper : int_lt number (units square) ≡ true → number <ℤ units square → Leaves pages 6 (after_line here l7.next returns true) After
       upper is less =
           let back =
-          ended pages lists (stored 2 (inr refl) (omega arith)) l15.next l16.next false returns true end_link marks
+          ended pages lists (stored 2 (inr refl) (omega arith)) l15.next l16.next false returns true end ends
           (lines_stay 2 (inr refl) (omega arith) l15.next l16.next _ l16.stands) in
           line_then pages _ _ _ After
           (test_true pages here l7.next l8.next false returns true functions.TestXLessThanY
-          (rows.Below (rows.In places.X) (rows.In places.Y)) refl (still test_stack l7.next l8.next _ l8.stands) numbers_there (tells ∙ is))
+          (rows.Below (rows.In places.X) (rows.In places.Y)) refl
+          (still stack test_stack memory sound l7.next l8.next _ l8.stands) numbers_there (tells ∙ is))
           (line_then pages _ _ _ After
-          (go_to pages here l8.next l9.next false returns true 2 distance l12.next (still test_stack l8.next l9.next _ l9.stands)
+          (go_to pages here l8.next l9.next false returns true 2 distance l12.next
+          (still stack test_stack memory sound l8.next l9.next _ l9.stands)
           (depends.local first_memory here l9.next 2 (Some l12.next) (same_program stack test_stack memory sound) leading))
           (line_then pages _ _ _ After
-          (label pages here l12.next l13.next false returns true 2 (still test_stack l12.next l13.next _ l13.stands))
+          (label pages here l12.next l13.next false returns true 2 (still stack test_stack memory sound l12.next l13.next _ l13.stands))
           (line_then pages _ _ _ After
-          (last_recalled pages test_stack memory l13.next l14.next false returns (still test_stack l13.next l14.next _ l14.stands))
+          (last_recalled pages test_stack memory l13.next l14.next false returns
+          (still stack test_stack memory sound l13.next l14.next _ l14.stands))
           (line_then pages _ _ _ After
           (stored_short pages last_stack memory l14.next l15.next false returns (data_address first_memory 2) true 2
-          (data_found (with_stack last_stack memory) 2 (below 2 (omega arith))) (still last_stack l14.next l15.next _ l15.stands))
+          (data_found (with_stack last_stack memory) 2 (below 2 (omega arith)))
+          (still stack last_stack memory sound l14.next l15.next _ l15.stands))
           (by_last pages _ back.left After back.step
           record {
             returned = back.returned;
@@ -350,13 +326,16 @@ module _ (itself : DecimalIsItsNearest) (registers : DecimalHasOneRegister) (lis
           (lines_stay 1 (inl refl) (omega arith) l11.next l12.next _ l12.stands) in
           line_then pages _ _ _ After
           (test_false pages here l7.next l8.next false returns true functions.TestXLessThanY
-          (rows.Below (rows.In places.X) (rows.In places.Y)) refl (still test_stack l7.next l8.next _ l8.stands) numbers_there _ l9.next
-          (still test_stack l8.next l9.next _ l9.stands) (tells ∙ is))
+          (rows.Below (rows.In places.X) (rows.In places.Y)) refl
+          (still stack test_stack memory sound l7.next l8.next _ l8.stands) numbers_there _ l9.next
+          (still stack test_stack memory sound l8.next l9.next _ l9.stands) (tells ∙ is))
           (line_then pages _ _ _ After
-          (last_recalled pages test_stack memory l9.next l10.next false returns (still test_stack l9.next l10.next _ l10.stands))
+          (last_recalled pages test_stack memory l9.next l10.next false returns
+          (still stack test_stack memory sound l9.next l10.next _ l10.stands))
           (line_then pages _ _ _ After
           (stored_short pages last_stack memory l10.next l11.next false returns (data_address first_memory 1) true 1
-          (data_found (with_stack last_stack memory) 1 (below 1 (omega arith))) (still last_stack l10.next l11.next _ l11.stands))
+          (data_found (with_stack last_stack memory) 1 (below 1 (omega arith)))
+          (still stack last_stack memory sound l10.next l11.next _ l11.stands))
           (by_last pages _ back.left After back.step
           record {
             returned = back.returned;
@@ -390,61 +369,26 @@ module _ (itself : DecimalIsItsNearest) (registers : DecimalHasOneRegister) (lis
           (λ is most. more_lines_suffice pages 4 6 _ After (omega arith) (lower is most)))
 
 pub halves_bracket : DecimalIsItsNearest → DecimalHasOneRegister → OneList → ReadIsDetermined → HalvesBracket
-halves_bracket itself registers lists one_reading pages s count at link key distance end_link marks number low high middle square
-    is_memory sound place program enough bracket half is_square =
-    let stack = stack_of s.memory in
-    let own_lines = half_lines link key distance end_link marks in
-    let own : with_stack stack s.memory ≡ s.memory = own_stack s.memory is_memory.status in
-    let own_sound : is_sound (with_stack stack s.memory) ≡ true = ap is_sound own ∙ sound in
-    let own_enough : 2 < size_of (with_stack stack s.memory) =
-    subst (λ (memory : RegisterMap). 2 < size_of memory) (sym own) enough in
-    let own_bracket : IsBracket (with_stack stack s.memory) number low high =
-    subst (λ (memory : RegisterMap). IsBracket memory number low high) (sym own) bracket in
-    let own_program : IsProgram (with_stack stack s.memory) at own_lines =
-    subst (λ (memory : RegisterMap). IsProgram memory at own_lines) (sym own) program in
-    let are : AreListed (with_stack stack s.memory) at own_program.has.listed own_lines =
-    in_turn (with_stack stack s.memory) own_sound at own_lines own_program.has (
-      refl,
-      (
-        refl,
-        (
-          refl,
-          (
-            refl,
-            (
-              refl,
-              (
-                refl,
-                (
-                  refl,
-                  (
-                    refl,
-                    (
-                      refl,
-                      (refl, (refl, (refl, (refl, (refl, (refl, (refl, (refl, tt)))))))),
-                    ),
-                  ),
-                ),
-              ),
-            ),
-          ),
-        ),
-      ),
-    ) in
-    let begins = own_program.begins in
+halves_bracket itself registers lists one_reading pages s count at link key distance end number low high middle square is_memory sound place
+    program ends enough bracket half is_square =
+    by_state at
+    (λ (u : Machine). is_sound u.memory ≡ true → IsProgram u.memory at (half_lines link key distance end) → 2 < size_of u.memory
+    → IsBracket u.memory number low high
+    → Leaves pages 14 u (HasHalved u number low high (units middle)))
+    (λ stack memory zero returns lift own_sound own_program own_enough own_bracket.
+    let own : RegisterMap = with_stack stack memory in
+    let are = all_in_turn own own_sound at (half_body link key distance) end own_program.has refl ends in
     let b = are.1.1.1.1.1.1 in
     let c = b.1.1.1.1.1.1 in
     let leading =
-    leads itself registers lists one_reading pages stack s.memory at s.focal.returns link key distance end_link
-    marks own_sound own_program.has.listed own_enough are.0 are.1.0 are.1.1.0 are.1.1.1.0 are.1.1.1.1.0 are.1.1.1.1.1.0
-    b.0 b.1.0 b.1.1.0 b.1.1.1.0 b.1.1.1.1.0 b.1.1.1.1.1.0 c.0 c.1.0 c.1.1.0 c.1.1.1.0 c.1.1.1.1.0 begins.0
-    (begins.1.sound own_sound) (own_program.has.from.sound own_sound) begins.2 in
-    subst (λ (u : Machine). Leaves pages 14 u (HasHalved u number low high (units middle))) (own_place s at place)
-    (subst
-    (λ (memory : RegisterMap). Leaves pages 14 (before_line memory at s.focal.at_line_00 s.focal.returns s.focal.lift)
-    (HasHalved (before_line memory at s.focal.at_line_00 s.focal.returns s.focal.lift) number low high (units middle)))
-    own
-    (all_lines itself registers lists one_reading pages stack s.memory at s.focal.returns link key distance end_link
-    marks own_sound own_program.has.listed own_enough are.0 are.1.0 are.1.1.0 are.1.1.1.0 are.1.1.1.1.0 are.1.1.1.1.1.0
-    b.0 b.1.0 b.1.1.0 b.1.1.1.0 b.1.1.1.1.0 b.1.1.1.1.1.0 c.0 c.1.0 c.1.1.0 c.1.1.1.0 c.1.1.1.1.0 leading number low high middle square
-    own_bracket half is_square s.focal.at_line_00 s.focal.lift))
+    leads_on own own_sound one_reading at 2 own_program.has.listed (own_program.has.from.sound own_sound) own_program.begins
+    (lines.LocalLabel 2) (lines.ShortGoTo 2 distance) refl refl refl end
+    (lines.GlobalLabel link key (codes "HALF") ∷ lines.Register RecallRegister 1 ∷ lines.Register RecallRegister 2
+    ∷ lines.Plain functions.Add ∷ lines.Number (characters.Two ∷ []) ∷ lines.Plain functions.Divide ∷ lines.Plain functions.Square
+    ∷ lines.Register RecallRegister 0 ∷ lines.Plain functions.TestXLessThanY ∷ [])
+    (lines.Plain functions.LastX) (lines.Register StoreRegister 1 ∷ lines.Plain functions.Return ∷ [])
+    (lines.Plain functions.LastX ∷ lines.Register StoreRegister 2 ∷ []) are refl refl refl in
+    all_lines itself registers lists pages stack memory at returns link key distance end ends own_sound own_program.has.listed own_enough
+    are.0 are.1.0 are.1.1.0 are.1.1.1.0 are.1.1.1.1.0 are.1.1.1.1.1.0 b.0 b.1.0 b.1.1.0 b.1.1.1.0 b.1.1.1.1.0 b.1.1.1.1.1.0
+    c.0 c.1.0 c.1.1.0 c.1.1.1.0 c.1.1.1.1 leading number low high middle square own_bracket half is_square zero lift)
+    s is_memory.status place sound program enough bracket

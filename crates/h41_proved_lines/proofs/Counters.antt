@@ -1,12 +1,13 @@
 -- The counter i.nnn, which counts up to nnn.
-use Rattle.std.proofs.Common.{◌≡◌, ℕ, ◌+◌, ◌*◌, ◌/◌, ◌%◌, ◌^◌, ◌<◌, ◌≤◌, true, false, ap, ◌∙◌, arith}
-use Rattle.std.specs.Prelude.{ℤ, pos, ◌==◌, if◌then◌else◌, int_le, unsigned_abs, ◌+ℤ◌}
+use Rattle.std.proofs.Common.{◌≡◌, ℕ, suc, ◌+◌, ◌*◌, ◌/◌, ◌%◌, ◌^◌, ◌<◌, ◌≤◌, true, false, sym, ap, ◌∙◌, arith}
+use Rattle.std.specs.Prelude.{ℤ, pos, ◌==◌, if◌then◌else◌, int_le, int_lt, unsigned_abs, ◌+ℤ◌, ◌-ℤ◌}
 use Rattle.std.proofs.lemmas.Grind.{common_steps}
+use Rattle.std.proofs.lemmas.Int.{ints}
 use Rattle.h41_decimal.specs.Signs.{sign_of, with_sign}
 use Rattle.h41_decimal.specs.Units.{one, units}
 use Rattle.h41_decimal.specs.declared.ten.Ten.{Ten}
-use Rattle.h41_rows.specs.Counters.{Up, count_of, counter_after, goes_on, number_after}
-use Rattle.h41_reasoning_lines.proofs.Wholes.{ten_at}
+use Rattle.h41_rows.specs.Counters.{Down, Up, count_of, counter_after, goes_on, number_after}
+use Rattle.h41_reasoning_lines.proofs.Wholes.{ten_at, whole}
 
 -- i.nnn, in units.
 abbrev pub counter : (i n : ℕ) → ℕ
@@ -57,6 +58,35 @@ module _ (i n : ℕ) (few : n < 1000) where
     where
       above : (a b : ℕ) → b < a → int_le (pos a) (pos b) ≡ false
       above a b order = grind (arith, common_steps)
+
+-- The counter i.nnn, which counts down to nnn.
+module _ (i n : ℕ) (few : n < 1000) where
+  after_down : counter_after Down (pos (counter (suc i) n)) ≡ pos i
+  after_down =
+      ap (λ (count : ℕ). pos (counter (suc i) n / one) -ℤ pos count) (counts_one (suc i) n few)
+      ∙ ap (λ (whole : ℕ). pos whole -ℤ pos 1) (whole_is (suc i) n few) ∙ omega (arith, ints)
+
+  pub number_down : number_after Down (pos (counter (suc i) n)) ≡ pos (counter i n)
+  number_down =
+      ap (λ (z : ℤ). with_sign (sign_of z) (unsigned_abs z * one + counter (suc i) n % one)) after_down
+      ∙ ap (λ (f : ℕ). pos (i * one + f)) (fraction_is (suc i) n few)
+
+  -- The loop continues while i is above nnn.
+  pub tested_down : goes_on Down (pos (counter (suc i) n)) ≡ int_lt (pos n) (pos i)
+  tested_down =
+      ap (λ (z : ℤ). int_lt (pos (counter (suc i) n % one / 10 ^ 105)) z) after_down
+      ∙ ap (λ (last : ℕ). int_lt (pos last) (pos i)) (last_is (suc i) n few)
+
+-- A counter without decimals counts down to 0.
+counter_whole : (i : ℕ) → counter i 0 ≡ i * one
+counter_whole i = omega arith
+
+pub number_down_whole : (i : ℕ) → number_after Down (whole (suc i)) ≡ whole i
+number_down_whole i =
+    ap (λ (n : ℕ). number_after Down (pos n)) (sym (counter_whole (suc i))) ∙ number_down i 0 (omega arith) ∙ ap pos (counter_whole i)
+
+pub tested_down_whole : (i : ℕ) → goes_on Down (whole (suc i)) ≡ int_lt (pos 0) (pos i)
+tested_down_whole i = ap (λ (n : ℕ). goes_on Down (pos n)) (sym (counter_whole (suc i))) ∙ tested_down i 0 (omega arith)
 
 -- The decimal of the counter.
 pub counter_ten : (i n : ℕ) → i ≤ 1000 → n < 1000 → (ten : Ten) × (units ten ≡ pos (counter i n))

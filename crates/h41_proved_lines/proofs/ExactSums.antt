@@ -54,13 +54,13 @@ module _ (itself : DecimalIsItsNearest) (injective : UnitsAreInjective) (memory 
       )
 
 pub exact_sum_returns : DecimalIsItsNearest → UnitsAreInjective → DecimalHasOneRegister → OneList → ReadIsDetermined → ExactSumReturns
-exact_sum_returns itself injective registers lists one_reading pages s count at n link key distance end_link marks decimals numbers
-    is_memory sound place program inside in_x few has small =
+exact_sum_returns itself injective registers lists one_reading pages s count at n link key distance end decimals numbers
+    is_memory sound place program ends inside in_x few has small =
     let sum = partial itself injective s.memory decimals n few numbers has small (n + 1) (omega arith) in
     let none : units Zero ≡ with_decimals decimals (pos 0) = sym (zero-*ℤ (pos (10 ^ (108 - decimals)))) in
     let from_nought : n + 1 ≡ 0 + (n + 1) = omega arith in
     let all : units sum.0 ≡ with_decimals decimals (sum_of_first numbers (0 + (n + 1))) =
     sum.1 ∙ ap (λ (j : ℕ). with_decimals decimals (sum_of_first numbers j)) from_nought in
     subst (λ (total : ℤ). Leaves pages (5 * n + 8) s (HasSum s n total)) sum.1
-    (sum_returns itself registers lists one_reading pages s count at n link key distance end_link marks sum.0 is_memory sound place program
-    inside in_x (adds itself injective s.memory decimals n few numbers has small (n + 1) 0 (omega arith) Zero sum.0 none all))
+    (sum_returns itself registers lists one_reading pages s count at n link key distance end sum.0 is_memory sound place program
+    ends inside in_x (adds itself injective s.memory decimals n few numbers has small (n + 1) 0 (omega arith) Zero sum.0 none all))

@@ -1,9 +1,10 @@
-use Rattle.std.proofs.Common.{◌≡◌, ℕ, ◌+◌, ◌^◌, ◌<◌, ◌≤◌, Bool, true, false, List, Some}
+use Rattle.std.proofs.Common.{◌≡◌, ℕ, ◌+◌, ◌^◌, ◌<◌, Bool, true, false, List, [], ◌∷◌, Some}
 use Rattle.std.proofs.Common.{inl, inr, refl, sym, ap, ◌∙◌, subst, arith}
 use Rattle.std.specs.Prelude.{codes, ℤ}
 use Rattle.std.proofs.lemmas.Bool.{cases_lt}
 use Rattle.h41_codes.specs.declared.functions.Function.TheVariants as functions
-use Rattle.h41_codes.specs.declared.line.Line.TheVariants.{End, GlobalLabel, LocalLabel, Plain, ShortGoTo}
+use Rattle.h41_codes.specs.declared.line.Line.{Line}
+use Rattle.h41_codes.specs.declared.line.Line.TheVariants.{GlobalLabel, LocalLabel, Plain, ShortGoTo}
 use Rattle.h41_decimal.specs.Holding.{Number, holding_of}
 use Rattle.h41_decimal.specs.Laws.{DecimalIsItsNearest, RegisterIsDetermined, UnitsAreInjective}
 use Rattle.h41_decimal.specs.Units.{units}
@@ -13,10 +14,8 @@ use Rattle.h41_focal.specs.LineStep.{Left}
 use Rattle.h41_pages.specs.PageMap.{PageMap}
 use Rattle.h41_positions.specs.FocalState.{Machine}
 use Rattle.h41_positions.specs.declared.position.Position.{Position}
-use Rattle.h41_program.specs.ProgramBytes.{final_position, program_bytes}
 use Rattle.h41_program.specs.ProgramLaws.{OneList, ReadIsDetermined}
-use Rattle.h41_program.specs.ProgramLines.{Reads}
-use Rattle.h41_program.specs.Searches.{AnswersLocal, start_in}
+use Rattle.h41_program.specs.Searches.{AnswersLocal}
 use Rattle.h41_program.specs.declared.listed_line.ListedLine.{ListedLine}
 use Rattle.h41_program.proofs.Depends as depends
 use Rattle.h41_ram.specs.RegisterMap.{RegisterMap, is_sound}
@@ -26,24 +25,25 @@ use Rattle.h41_rows.specs.Values.{IsRegisterOf}
 use Rattle.h41_rows.specs.Values as values
 use Rattle.h41_reasoning_lines.specs.LineRounds.{AfterRound}
 use Rattle.h41_reasoning_lines.specs.LineRuns.{Continues, Leaves, WithinSteps}
-use Rattle.h41_reasoning_lines.specs.ProgramLines.{IsProgram}
+use Rattle.h41_reasoning_lines.specs.ProgramLines.{IsProgram, ends_program}
 use Rattle.h41_reasoning_lines.specs.Stacks.{Stack, stack_of, with_stack}
 use Rattle.h41_reasoning_lines.proofs.Computing.{reduced}
-use Rattle.h41_reasoning_lines.proofs.Labels.{found_back, label_after, label_here, no_end, no_label_after, none_late, position_next}
-use Rattle.h41_reasoning_lines.proofs.Listed.{AreListed, IsLineAt, IsListed, also, in_turn}
+use Rattle.h41_reasoning_lines.proofs.Listed.{IsLineAt, IsListed}
+use Rattle.h41_reasoning_lines.proofs.Programs.{IsLast, all_in_turn, leads_back}
 use Rattle.h41_reasoning_lines.proofs.Rounds.{at_end, by_last, by_line, leaves_in_turn, line_then, loops_end, more_suffice}
-use Rattle.h41_reasoning_lines.proofs.Stacks.{same_program}
-use Rattle.h41_reasoning_lines.proofs.Stepping.{after_line, before_line, ended, exchanged, global_label, go_to, label, last_recalled}
-use Rattle.h41_reasoning_lines.proofs.Stepping.{of_two, own_place, own_stack, test_false, test_true}
+use Rattle.h41_reasoning_lines.proofs.Stacks.{same_program, still}
+use Rattle.h41_reasoning_lines.proofs.Stepping.{after_line, before_line, by_state, ended, exchanged, global_label, go_to, label}
+use Rattle.h41_reasoning_lines.proofs.Stepping.{last_recalled}
+use Rattle.h41_reasoning_lines.proofs.Stepping.{of_two, test_false, test_true}
 use Rattle.h41_reasoning_lines.proofs.Wholes.{modulo_whole, tells_some, tells_zero, whole, whole_ten}
-use Rattle.h41_proved_lines.specs.GreatestCommonDivisor.{GreatestCommonDivisorReturns, HasGreatestCommonDivisor, gcd_lines}
+use Rattle.h41_proved_lines.specs.GreatestCommonDivisor.{GreatestCommonDivisorReturns, HasGreatestCommonDivisor, gcd_body, gcd_lines}
 use Rattle.h41_proved_lines.proofs.AbsoluteDifference.{register_of}
 use Rattle.h41_proved_lines.proofs.Euclid.{Falls, HasRemainder, SameDivisors, fewer_rounds, greatest, remainder, same_divisors}
 
 module _ (itself : DecimalIsItsNearest) (injective : UnitsAreInjective) (determined : RegisterIsDetermined)
-    (registers : DecimalHasOneRegister) (lists : OneList) (one_reading : ReadIsDetermined) (pages : PageMap) (stack : Stack)
-    (memory : RegisterMap) (at : ℕ) (returns : List Position) (a b link key distance end_link marks : ℕ)
-    (sound : is_sound (with_stack stack memory) ≡ true) (listed : List ListedLine) where
+    (registers : DecimalHasOneRegister) (lists : OneList) (pages : PageMap) (stack : Stack)
+    (memory : RegisterMap) (at : ℕ) (returns : List Position) (a b link key distance : ℕ) (end : Line)
+    (ends : ends_program end ≡ true) (sound : is_sound (with_stack stack memory) ≡ true) (listed : List ListedLine) where
   abbrev first_memory : RegisterMap
   first_memory = with_stack stack memory
 
@@ -55,30 +55,7 @@ module _ (itself : DecimalIsItsNearest) (injective : UnitsAreInjective) (determi
       (l5 : IsListed first_memory l4.next l4.rest (Plain functions.TestXNotZero))
       (l6 : IsListed first_memory l5.next l5.rest (ShortGoTo 1 distance))
       (l7 : IsListed first_memory l6.next l6.rest (Plain functions.ExchangeXY))
-      (l8 : IsListed first_memory l7.next l7.rest (End end_link marks)) where
-    -- GTO 01 leads to LBL 01.
-    leads : (all : List ListedLine) → Reads (program_bytes first_memory) (final_position first_memory) 0 all
-        → Reads (program_bytes first_memory) (final_position first_memory) at listed → at ≡ start_in at all
-        → AnswersLocal first_memory l6.next 1 (Some l0.next)
-    leads all all_read reads begins =
-        let after : at ≤ l6.next =
-        omega (arith, l0.onward, l1.onward, l2.onward, l3.onward, l4.onward, l5.onward, l6.onward) in
-        subst (λ (target : ℕ). AnswersLocal first_memory l6.next 1 (Some target))
-        (sym (position_next first_memory sound at listed _ l0 _ l1))
-        (found_back first_memory sound one_reading at l6.next 1 l1.first.position all listed l6.rest all_read reads l6.reads begins after
-        (no_end first_memory sound l6.next at listed _ l0 refl
-        (no_end first_memory sound l6.next l0.next l0.rest _ l1 refl
-        (no_end first_memory sound l6.next l1.next l1.rest _ l2 refl
-        (no_end first_memory sound l6.next l2.next l2.rest _ l3 refl
-        (no_end first_memory sound l6.next l3.next l3.rest _ l4 refl
-        (no_end first_memory sound l6.next l4.next l4.rest _ l5 refl
-        (no_end first_memory sound l6.next l5.next l5.rest _ l6 refl
-        (none_late first_memory sound l6.next l6.next l6.rest (omega arith) l6.reads))))))))
-        (label_after first_memory sound l6.next 1 l6.rest _ l7 refl refl
-        ∙ no_label_after first_memory sound l7.next 1 l7.rest _ l8 refl)
-        (label_here first_memory sound l0.next 1 l0.rest _ l1 refl
-        ∙ sym (label_after first_memory sound at 1 listed _ l0 refl refl)))
-
+      (l8 : IsLast first_memory end l7.next l7.rest) where
     module _ (leading : AnswersLocal first_memory l6.next 1 (Some l0.next)) where
       -- At LBL 01 and after the last round, the stack has two whole numbers.
       pub record HasNumbers (st : Stack) (y x : ℕ) : Type 0 where
@@ -136,13 +113,13 @@ module _ (itself : DecimalIsItsNearest) (injective : UnitsAreInjective) (determi
             (after_line (with_stack st memory) l1.next returns lift)
         marked =
             label pages (with_stack st memory) l0.next l1.next zero_line returns lift 1
-            (also first_memory (with_stack st memory) l0.next _ l1.next (same_program stack st memory sound) l1.stands)
+            (still stack st memory sound l0.next l1.next _ l1.stands)
 
         divided : Continues pages (after_line (with_stack st memory) l1.next returns lift)
             (after_line (with_stack reduced_stack memory) l2.next returns true)
         divided =
             of_two pages st memory l1.next l2.next false returns lift functions.Modulo (values.Remainder places.Y places.X) result.0 refl
-            (also first_memory (with_stack st memory) l1.next _ l2.next (same_program stack st memory sound) l2.stands)
+            (still stack st memory sound l1.next l2.next _ l2.stands)
             (reduced st memory (whole y) (whole x) numbers.in_y numbers.in_x rest_ten.0 result.0 result.1
             (whole_ten y numbers.small_y).0 (whole_ten x numbers.small_x).0 (whole_ten y numbers.small_y).1 (whole_ten x numbers.small_x).1
             (modulo_whole itself injective y x parts.quotient parts.rest parts.is (whole_ten y numbers.small_y).0
@@ -152,24 +129,22 @@ module _ (itself : DecimalIsItsNearest) (injective : UnitsAreInjective) (determi
             (after_line (with_stack recalled_stack memory) l3.next returns true)
         recalled =
             last_recalled pages reduced_stack memory l2.next l3.next false returns
-            (also first_memory (with_stack reduced_stack memory) l2.next _ l3.next (same_program stack reduced_stack memory sound)
-            l3.stands)
+            (still stack reduced_stack memory sound l2.next l3.next _ l3.stands)
 
         swapped : Continues pages (after_line (with_stack recalled_stack memory) l3.next returns true)
             (after_line (with_stack round_stack memory) l4.next returns true)
         swapped =
             exchanged pages recalled_stack memory l3.next l4.next false returns true
-            (also first_memory (with_stack recalled_stack memory) l3.next _ l4.next (same_program stack recalled_stack memory sound)
-            l4.stands)
+            (still stack recalled_stack memory sound l3.next l4.next _ l4.stands)
 
         abbrev here : RegisterMap
         here = with_stack round_stack memory
 
         there : IsLineAt here l4.next (Plain functions.TestXNotZero) l5.next
-        there = also first_memory here l4.next _ l5.next (same_program stack round_stack memory sound) l5.stands
+        there = still stack round_stack memory sound l4.next l5.next _ l5.stands
 
         jump : IsLineAt here l5.next (ShortGoTo 1 distance) l6.next
-        jump = also first_memory here l5.next _ l6.next (same_program stack round_stack memory sound) l6.stands
+        jump = still stack round_stack memory sound l5.next l6.next _ l6.stands
 
         up_to_test : (After : Machine → Type 0) (most : ℕ) → WithinSteps pages most (after_line here l4.next returns true) After
             → WithinSteps pages (1 + (1 + (1 + (1 + most)))) (before_line (with_stack st memory) l0.next zero_line returns lift) After
@@ -252,11 +227,11 @@ module _ (itself : DecimalIsItsNearest) (injective : UnitsAreInjective) (determi
         ending st divisor numbers =
             let last_stack : Stack = record st { x = st.y; y = st.x } in
             let back =
-            ended pages lists (with_stack last_stack memory) l7.next l8.next false returns true end_link marks
-            (also first_memory (with_stack last_stack memory) l7.next _ l8.next (same_program stack last_stack memory sound) l8.stands) in
+            ended pages lists (with_stack last_stack memory) l7.next l8.next false returns true end ends
+            (still stack last_stack memory sound l7.next l8.next _ l8.stands) in
             line_then pages 1 _ _ After
             (exchanged pages st memory l6.next l7.next false returns true
-            (also first_memory (with_stack st memory) l6.next _ l7.next (same_program stack st memory sound) l7.stands))
+            (still stack st memory sound l6.next l7.next _ l7.stands))
             (by_last pages _ back.left After back.step
             record {
               returned = back.returned;
@@ -303,27 +278,21 @@ module _ (itself : DecimalIsItsNearest) (injective : UnitsAreInjective) (determi
 
 pub greatest_common_divisor : DecimalIsItsNearest → UnitsAreInjective → RegisterIsDetermined → DecimalHasOneRegister → OneList
     → ReadIsDetermined → GreatestCommonDivisorReturns
-greatest_common_divisor itself injective determined registers lists one_reading pages s count at a b link key distance end_link marks
-    is_memory sound place program small_a small_b in_y in_x =
-    let stack = stack_of s.memory in
-    let lines = gcd_lines link key distance end_link marks in
-    let own : with_stack stack s.memory ≡ s.memory = own_stack s.memory is_memory.status in
-    let own_sound : is_sound (with_stack stack s.memory) ≡ true = ap is_sound own ∙ sound in
-    let own_program : IsProgram (with_stack stack s.memory) at lines =
-    subst (λ (memory : RegisterMap). IsProgram memory at lines) (sym own) program in
-    let are : AreListed (with_stack stack s.memory) at own_program.has.listed lines =
-    in_turn (with_stack stack s.memory) own_sound at lines own_program.has
-    (refl, (refl, (refl, (refl, (refl, (refl, (refl, (refl, (refl, tt))))))))) in
-    let begins = own_program.begins in
+greatest_common_divisor itself injective determined registers lists one_reading pages s count at a b link key distance end is_memory sound
+    place program ends small_a small_b in_y in_x =
+    by_state at
+    (λ (u : Machine). is_sound u.memory ≡ true → IsProgram u.memory at (gcd_lines link key distance end)
+    → holding_of (stack_of u.memory).y ≡ Number (whole a) → holding_of (stack_of u.memory).x ≡ Number (whole b)
+    → Leaves pages 423 u (HasGreatestCommonDivisor u a b))
+    (λ stack memory zero returns lift own_sound own_program own_y own_x.
+    let own : RegisterMap = with_stack stack memory in
+    let are = all_in_turn own own_sound at (gcd_body link key distance) end own_program.has refl ends in
     let leading =
-    leads itself injective determined registers lists one_reading pages stack s.memory at s.focal.returns a b link key distance end_link
-    marks own_sound own_program.has.listed are.0 are.1.0 are.1.1.0 are.1.1.1.0 are.1.1.1.1.0 are.1.1.1.1.1.0 are.1.1.1.1.1.1.0
-    are.1.1.1.1.1.1.1.0 are.1.1.1.1.1.1.1.1.0 begins.0 (begins.1.sound own_sound) (own_program.has.from.sound own_sound) begins.2 in
-    subst (λ (u : Machine). Leaves pages 423 u (HasGreatestCommonDivisor u a b)) (own_place s at place)
-    (subst
-    (λ (memory : RegisterMap). Leaves pages 423 (before_line memory at s.focal.at_line_00 s.focal.returns s.focal.lift)
-    (HasGreatestCommonDivisor (before_line memory at s.focal.at_line_00 s.focal.returns s.focal.lift) a b))
-    own
-    (all_lines itself injective determined registers lists one_reading pages stack s.memory at s.focal.returns a b link key distance
-    end_link marks own_sound own_program.has.listed are.0 are.1.0 are.1.1.0 are.1.1.1.0 are.1.1.1.1.0 are.1.1.1.1.1.0 are.1.1.1.1.1.1.0
-    are.1.1.1.1.1.1.1.0 are.1.1.1.1.1.1.1.1.0 leading s.focal.at_line_00 s.focal.lift small_a small_b in_y in_x))
+    leads_back own own_sound one_reading at 1 own_program.has.listed (own_program.has.from.sound own_sound) own_program.begins
+    (LocalLabel 1) (ShortGoTo 1 distance) refl refl refl end (GlobalLabel link key (codes "GCD")) []
+    (Plain functions.Modulo ∷ Plain functions.LastX ∷ Plain functions.ExchangeXY ∷ Plain functions.TestXNotZero ∷ [])
+    (Plain functions.ExchangeXY ∷ []) are refl refl refl refl refl in
+    all_lines itself injective determined registers lists pages stack memory at returns a b link key distance end ends own_sound
+    own_program.has.listed are.0 are.1.0 are.1.1.0 are.1.1.1.0 are.1.1.1.1.0 are.1.1.1.1.1.0 are.1.1.1.1.1.1.0 are.1.1.1.1.1.1.1.0
+    are.1.1.1.1.1.1.1.1 leading zero lift small_a small_b own_y own_x)
+    s is_memory.status place sound program in_y in_x

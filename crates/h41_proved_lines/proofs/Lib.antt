@@ -6,3 +6,7 @@ pub mod SumOfRegisters
 pub mod ExactSums
 pub mod Scales
 pub mod Bisection
+pub mod HalvingRange
+pub mod Bounds
+pub mod BisectionLoop
+pub mod LoadedDivisor

@@ -4,7 +4,8 @@ use Rattle.std.specs.Prelude.{codes, ℤ, pos, ◌+ℤ◌}
 use Rattle.h41_codes.specs.declared.characters.Character.TheVariants as characters
 use Rattle.h41_codes.specs.declared.functions.Function.TheVariants as functions
 use Rattle.h41_codes.specs.declared.functions.ParameterFunction.TheVariants.{IncrementSkip, Recall}
-use Rattle.h41_codes.specs.declared.line.Line.TheVariants.{End, GlobalLabel, LocalLabel, Number, Plain, ShortGoTo, WithOperand}
+use Rattle.h41_codes.specs.declared.line.Line.{Line}
+use Rattle.h41_codes.specs.declared.line.Line.TheVariants.{GlobalLabel, LocalLabel, Number, Plain, ShortGoTo, WithOperand}
 use Rattle.h41_codes.specs.declared.line.Operand.TheVariants.{Direct, Indirect}
 use Rattle.h41_decimal.specs.Holding.{holding_of}
 use Rattle.h41_decimal.specs.Holding as holding
@@ -18,10 +19,8 @@ use Rattle.h41_focal.specs.LineStep.{Left, Works}
 use Rattle.h41_pages.specs.PageMap.{PageMap}
 use Rattle.h41_positions.specs.FocalState.{Machine}
 use Rattle.h41_positions.specs.declared.position.Position.{Position}
-use Rattle.h41_program.specs.ProgramBytes.{final_position, program_bytes}
 use Rattle.h41_program.specs.ProgramLaws.{OneList, ReadIsDetermined}
-use Rattle.h41_program.specs.ProgramLines.{Reads}
-use Rattle.h41_program.specs.Searches.{AnswersLocal, start_in}
+use Rattle.h41_program.specs.Searches.{AnswersLocal}
 use Rattle.h41_program.specs.declared.listed_line.ListedLine.{ListedLine}
 use Rattle.h41_program.proofs.Depends as depends
 use Rattle.h41_program.proofs.Sound.{bounds}
@@ -34,24 +33,24 @@ use Rattle.h41_rows.specs.Places as places
 use Rattle.h41_rows.specs.Values.{IsRegisterOf}
 use Rattle.h41_rows.specs.Values as values
 use Rattle.h41_reasoning_lines.specs.LineRuns.{Continues, Leaves}
-use Rattle.h41_reasoning_lines.specs.ProgramLines.{IsProgram}
+use Rattle.h41_reasoning_lines.specs.ProgramLines.{IsProgram, ends_program}
 use Rattle.h41_reasoning_lines.specs.Stacks.{Stack, stack_of, with_stack}
 use Rattle.h41_reasoning_lines.proofs.Computing.{added}
 use Rattle.h41_reasoning_lines.proofs.DataRegisters.{same_data}
-use Rattle.h41_reasoning_lines.proofs.Labels.{found_back, label_after, label_here, no_end, no_label_after, none_late, position_next}
-use Rattle.h41_reasoning_lines.proofs.Listed.{AreListed, IsLineAt, IsListed, also, in_turn}
+use Rattle.h41_reasoning_lines.proofs.Listed.{IsLineAt, IsListed}
+use Rattle.h41_reasoning_lines.proofs.Programs.{IsLast, all_in_turn, leads_back}
 use Rattle.h41_reasoning_lines.proofs.Registers.{counted, counts_on, counts_out, indirect, number_over, recalled, tells_loop}
 use Rattle.h41_reasoning_lines.proofs.Rounds.{by_last, line_then}
-use Rattle.h41_reasoning_lines.proofs.Stacks.{same_program}
-use Rattle.h41_reasoning_lines.proofs.Stepping.{after_line, before_line, ended, entered, global_label, go_to, label, of_two}
-use Rattle.h41_reasoning_lines.proofs.Stepping.{own_place, own_stack}
-use Rattle.h41_proved_lines.specs.SumOfRegisters.{AddsUp, HasNumber, HasSum, SumReturns, sum_lines, y_parameter}
+use Rattle.h41_reasoning_lines.proofs.Stacks.{same_program, still}
+use Rattle.h41_reasoning_lines.proofs.Stepping.{after_line, before_line, by_state, ended, entered, global_label, go_to, label, of_two}
+use Rattle.h41_proved_lines.specs.SumOfRegisters.{AddsUp, HasNumber, HasSum, SumReturns, sum_body, sum_lines, y_parameter}
 use Rattle.h41_proved_lines.proofs.AbsoluteDifference.{register_of}
 use Rattle.h41_proved_lines.proofs.Counters.{continues, counter, counter_ten, ends, number_is, whole_is}
 
-module _ (itself : DecimalIsItsNearest) (registers : DecimalHasOneRegister) (lists : OneList) (one_reading : ReadIsDetermined)
+module _ (itself : DecimalIsItsNearest) (registers : DecimalHasOneRegister) (lists : OneList)
     (pages : PageMap) (stack : Stack) (memory : RegisterMap) (at : ℕ) (returns : List Position)
-    (n link key distance end_link marks : ℕ) (sound : is_sound (with_stack stack memory) ≡ true) (listed : List ListedLine)
+    (n link key distance : ℕ) (end : Line) (closes : ends_program end ≡ true) (sound : is_sound (with_stack stack memory) ≡ true)
+    (listed : List ListedLine)
     (few : n < 1000) (inside : n < size_of (with_stack stack memory)) where
   abbrev first_memory : RegisterMap
   first_memory = with_stack stack memory
@@ -68,33 +67,7 @@ module _ (itself : DecimalIsItsNearest) (registers : DecimalHasOneRegister) (lis
       (l5 : IsListed first_memory l4.next l4.rest (Plain functions.Add))
       (l6 : IsListed first_memory l5.next l5.rest (WithOperand IncrementSkip (Direct y_parameter)))
       (l7 : IsListed first_memory l6.next l6.rest (ShortGoTo 1 distance))
-      (l8 : IsListed first_memory l7.next l7.rest (End end_link marks)) where
-    -- GTO 01 leads to LBL 01.
-    leads : (all : List ListedLine) → Reads (program_bytes first_memory) (final_position first_memory) 0 all
-        → Reads (program_bytes first_memory) (final_position first_memory) at listed → at ≡ start_in at all
-        → AnswersLocal first_memory l7.next 1 (Some l2.next)
-    leads all all_read reads begins =
-        let after : at ≤ l7.next =
-        omega (arith, l0.onward, l1.onward, l2.onward, l3.onward, l4.onward, l5.onward, l6.onward, l7.onward) in
-        subst (λ (target : ℕ). AnswersLocal first_memory l7.next 1 (Some target))
-        (sym (position_next first_memory sound l1.next l1.rest _ l2 _ l3))
-        (found_back first_memory sound one_reading at l7.next 1 l3.first.position all listed l7.rest all_read reads l7.reads begins after
-        (no_end first_memory sound l7.next at listed _ l0 refl
-        (no_end first_memory sound l7.next l0.next l0.rest _ l1 refl
-        (no_end first_memory sound l7.next l1.next l1.rest _ l2 refl
-        (no_end first_memory sound l7.next l2.next l2.rest _ l3 refl
-        (no_end first_memory sound l7.next l3.next l3.rest _ l4 refl
-        (no_end first_memory sound l7.next l4.next l4.rest _ l5 refl
-        (no_end first_memory sound l7.next l5.next l5.rest _ l6 refl
-        (no_end first_memory sound l7.next l6.next l6.rest _ l7 refl
-        (none_late first_memory sound l7.next l7.next l7.rest (omega arith) l7.reads)))))))))
-        (no_label_after first_memory sound l7.next 1 l7.rest _ l8 refl)
-        (label_here first_memory sound l2.next 1 l2.rest _ l3 refl
-        ∙ sym
-        (label_after first_memory sound at 1 listed _ l0 refl refl
-        ∙ label_after first_memory sound l0.next 1 l0.rest _ l1 refl refl
-        ∙ label_after first_memory sound l1.next 1 l1.rest _ l2 refl refl)))
-
+      (l8 : IsLast first_memory end l7.next l7.rest) where
     module _ (leading : AnswersLocal first_memory l7.next 1 (Some l2.next)) (zero_line lift : Bool) (sum : Ten) where
       abbrev start : Machine
       start = before_line first_memory at zero_line returns lift
@@ -135,7 +108,7 @@ module _ (itself : DecimalIsItsNearest) (registers : DecimalHasOneRegister) (lis
         marked : Continues pages (at_label st) (after_line (with_stack st memory) l3.next returns true)
         marked =
             label pages (with_stack st memory) l2.next l3.next false returns true 1
-            (also first_memory (with_stack st memory) l2.next _ l3.next (same_program stack st memory sound) l3.stands)
+            (still stack st memory sound l2.next l3.next _ l3.stands)
 
         means : address_of (with_stack st memory) (Indirect y_parameter) ≡ Ok (data_address first_memory i)
         means =
@@ -150,25 +123,24 @@ module _ (itself : DecimalIsItsNearest) (registers : DecimalHasOneRegister) (lis
             (after_line (with_stack (record recalled_stack { x = register }) memory) l4.next returns true))
             (same_data stack st memory i sound)
             (recalled pages st memory l3.next l4.next false returns (data_address first_memory i) (Indirect y_parameter) refl means
-            (also first_memory (with_stack st memory) l3.next _ l4.next (same_program stack st memory sound) l4.stands))
+            (still stack st memory sound l3.next l4.next _ l4.stands))
 
         summed : Continues pages (after_line (with_stack recalled_stack memory) l4.next returns true)
             (after_line (with_stack added_stack memory) l5.next returns true)
         summed =
             of_two pages recalled_stack memory l4.next l5.next false returns true functions.Add (values.Sum places.Y places.X) result.0
             refl
-            (also first_memory (with_stack recalled_stack memory) l4.next _ l5.next (same_program stack recalled_stack memory sound)
-            l5.stands)
+            (still stack recalled_stack memory sound l4.next l5.next _ l5.stands)
             (added recalled_stack memory (units before) number numbers.in_x has between result.0 result.1 nearest)
 
         abbrev here : RegisterMap
         here = with_stack added_stack memory
 
         there : IsLineAt here l5.next (WithOperand IncrementSkip (Direct y_parameter)) l6.next
-        there = also first_memory here l5.next _ l6.next (same_program stack added_stack memory sound) l6.stands
+        there = still stack added_stack memory sound l5.next l6.next _ l6.stands
 
         jump : IsLineAt here l6.next (ShortGoTo 1 distance) l7.next
-        jump = also first_memory here l6.next _ l7.next (same_program stack added_stack memory sound) l7.stands
+        jump = still stack added_stack memory sound l6.next l7.next _ l7.stands
 
         counting : Works here 2 (loop Up) (Ok next_counter.0)
         counting =
@@ -197,7 +169,7 @@ module _ (itself : DecimalIsItsNearest) (registers : DecimalHasOneRegister) (lis
             refl there counting (tells_loop here 2 Up (pos (counter i n)) numbers.in_y ∙ continues i n few (omega (arith, more))))
             (line_then pages _ _ _ After
             (go_to pages (with_stack round_stack memory) l6.next l7.next false returns true 1 distance l2.next
-            (also first_memory (with_stack round_stack memory) l6.next _ l7.next (same_program stack round_stack memory sound) l7.stands)
+            (still stack round_stack memory sound l6.next l7.next _ l7.stands)
             (depends.local first_memory (with_stack round_stack memory) l7.next 1 (Some l2.next)
             (same_program stack round_stack memory sound) leading))
             rest))
@@ -206,9 +178,8 @@ module _ (itself : DecimalIsItsNearest) (registers : DecimalHasOneRegister) (lis
         last_round : i ≡ n → sum ≡ between → Leaves pages 5 (at_label st) After
         last_round same total =
             let back =
-            ended pages lists (with_stack round_stack memory) l7.next l8.next false returns true end_link marks
-            (also first_memory (with_stack round_stack memory) l7.next _ l8.next (same_program stack round_stack memory sound)
-            l8.stands) in
+            ended pages lists (with_stack round_stack memory) l7.next l8.next false returns true end closes
+            (still stack round_stack memory sound l7.next l8.next _ l8.stands) in
             up_to_count 2
             (line_then pages 1 _ _ After
             (counts_out pages here l5.next l6.next false returns true 2 next_counter.0 IncrementSkip (Direct y_parameter) Up refl refl refl
@@ -280,7 +251,7 @@ module _ (itself : DecimalIsItsNearest) (registers : DecimalHasOneRegister) (lis
             typed = record { answer = Ok Zero; nearest = refl; value = refl };
           }
           zero_register.1
-          (also first_memory (with_stack entered_stack memory) l1.next _ l2.next (same_program stack entered_stack memory sound) l2.stands))
+          (still stack entered_stack memory sound l1.next l2.next _ l2.stands))
           (from_round n 0 Zero zero_stack (omega arith) (begun in_x) adds))))
 
 few_registers : (count : ℕ) (memory : RegisterMap) (n : ℕ) → IsMemory count memory → is_sound memory ≡ true → n < size_of memory
@@ -290,35 +261,24 @@ few_registers count memory n is sound below =
     omega (arith, is.main, is.most, known.low, known.order, below)
 
 pub sum_returns : DecimalIsItsNearest → DecimalHasOneRegister → OneList → ReadIsDetermined → SumReturns
-sum_returns itself registers lists one_reading pages s count at n link key distance end_link marks sum is_memory sound place program
-    inside in_x adds =
-    let stack = stack_of s.memory in
-    let lines = sum_lines link key distance end_link marks in
-    let own : with_stack stack s.memory ≡ s.memory = own_stack s.memory is_memory.status in
-    let own_sound : is_sound (with_stack stack s.memory) ≡ true = ap is_sound own ∙ sound in
-    let own_inside : n < size_of (with_stack stack s.memory) =
-    subst (λ (memory : RegisterMap). n < size_of memory) (sym own) inside in
+sum_returns itself registers lists one_reading pages s count at n link key distance end sum is_memory sound place program ends inside
+    in_x adds =
     let next : n + 1 ≡ suc n = omega arith in
-    let own_adds : AddsUp (with_stack stack s.memory) 0 (suc n) Zero sum =
-    subst (λ (memory : RegisterMap). AddsUp memory 0 (suc n) Zero sum) (sym own)
-    (subst (λ (count : ℕ). AddsUp s.memory 0 count Zero sum) next adds) in
-    let few : n < 1000 = few_registers count s.memory n is_memory sound inside in
-    let own_program : IsProgram (with_stack stack s.memory) at lines =
-    subst (λ (memory : RegisterMap). IsProgram memory at lines) (sym own) program in
-    let are : AreListed (with_stack stack s.memory) at own_program.has.listed lines =
-    in_turn (with_stack stack s.memory) own_sound at lines own_program.has
-    (refl, (refl, (refl, (refl, (refl, (refl, (refl, (refl, (refl, tt))))))))) in
-    let begins = own_program.begins in
+    by_state at
+    (λ (u : Machine). is_sound u.memory ≡ true → IsProgram u.memory at (sum_lines link key distance end) → n < size_of u.memory
+    → holding_of (stack_of u.memory).x ≡ holding.Number (pos (n * 10 ^ 105)) → AddsUp u.memory 0 (suc n) Zero sum
+    → Leaves pages (5 * n + 8) u (HasSum u n (units sum)))
+    (λ stack memory zero returns lift own_sound own_program own_inside own_x own_adds.
+    let own : RegisterMap = with_stack stack memory in
+    let are = all_in_turn own own_sound at (sum_body link key distance) end own_program.has refl ends in
     let leading =
-    leads itself registers lists one_reading pages stack s.memory at s.focal.returns n link key distance end_link
-    marks own_sound own_program.has.listed few own_inside are.0 are.1.0 are.1.1.0 are.1.1.1.0 are.1.1.1.1.0 are.1.1.1.1.1.0
-    are.1.1.1.1.1.1.0 are.1.1.1.1.1.1.1.0 are.1.1.1.1.1.1.1.1.0 begins.0 (begins.1.sound own_sound)
-    (own_program.has.from.sound own_sound) begins.2 in
-    subst (λ (u : Machine). Leaves pages (5 * n + 8) u (HasSum u n (units sum))) (own_place s at place)
-    (subst
-    (λ (memory : RegisterMap). Leaves pages (5 * n + 8) (before_line memory at s.focal.at_line_00 s.focal.returns s.focal.lift)
-    (HasSum (before_line memory at s.focal.at_line_00 s.focal.returns s.focal.lift) n (units sum)))
-    own
-    (all_lines itself registers lists one_reading pages stack s.memory at s.focal.returns n link key distance
-    end_link marks own_sound own_program.has.listed few own_inside are.0 are.1.0 are.1.1.0 are.1.1.1.0 are.1.1.1.1.0 are.1.1.1.1.1.0
-    are.1.1.1.1.1.1.0 are.1.1.1.1.1.1.1.0 are.1.1.1.1.1.1.1.1.0 leading s.focal.at_line_00 s.focal.lift sum in_x own_adds))
+    leads_back own own_sound one_reading at 1 own_program.has.listed (own_program.has.from.sound own_sound) own_program.begins
+    (LocalLabel 1) (ShortGoTo 1 distance) refl refl refl end (GlobalLabel link key (codes "SUM"))
+    (Plain functions.Enter ∷ Number (characters.Zero ∷ []) ∷ [])
+    (WithOperand Recall (Indirect y_parameter) ∷ Plain functions.Add ∷ WithOperand IncrementSkip (Direct y_parameter) ∷ []) [] are refl
+    refl refl refl refl in
+    all_lines itself registers lists pages stack memory at returns n link key distance end ends own_sound own_program.has.listed
+    (few_registers count s.memory n is_memory sound inside) own_inside are.0 are.1.0 are.1.1.0 are.1.1.1.0 are.1.1.1.1.0 are.1.1.1.1.1.0
+    are.1.1.1.1.1.1.0 are.1.1.1.1.1.1.1.0 are.1.1.1.1.1.1.1.1 leading zero lift sum own_x own_adds)
+    s is_memory.status place sound program inside in_x
+    (subst (λ (count : ℕ). AddsUp s.memory 0 count Zero sum) next adds)

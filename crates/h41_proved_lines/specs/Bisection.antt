@@ -1,7 +1,7 @@
 -- The program LBL "HALF", RCL 01, RCL 02, +, 2, /, X^2, RCL 00, X<Y?, GTO 02, LASTX, STO 01, RTN,
 -- LBL 02, LASTX, STO 02, END: a round of a bisection, which searches for the square root of the
 -- number in R00. R01 and R02 contain the bounds of the bracket.
-use Rattle.std.specs.Prelude.{◌≡◌, ℕ, ◌*◌, ◌<◌, ◌⊎◌, true, List, [], ◌∷◌, Some, Ok, codes}
+use Rattle.std.specs.Prelude.{◌≡◌, ℕ, ◌*◌, ◌<◌, ◌⊎◌, true, List, [], ◌∷◌, ◌++◌, Some, Ok, codes}
 use Rattle.std.specs.Prelude.{ℤ, pos, ◌+ℤ◌, ◌*ℤ◌, ◌<ℤ◌, ◌≤ℤ◌}
 use Rattle.h41_codes.specs.declared.characters.Character.TheVariants as characters
 use Rattle.h41_codes.specs.declared.functions.Function.TheVariants as functions
@@ -21,20 +21,23 @@ use Rattle.h41_positions.specs.declared.position.Position.TheVariants.{Memory}
 use Rattle.h41_ram.specs.NamedRegisters.{data_of, size_of, with_data}
 use Rattle.h41_ram.specs.RegisterMap.{IsMemory, RegisterMap, is_sound}
 use Rattle.h41_reasoning_lines.specs.LineRuns.{HasReturned, Leaves}
-use Rattle.h41_reasoning_lines.specs.ProgramLines.{IsProgram}
+use Rattle.h41_reasoning_lines.specs.ProgramLines.{IsProgram, ends_program}
 use Rattle.h41_reasoning_lines.specs.Stacks.{Stack, with_stack}
 
--- The lines, with any link, key, distance and status bits in their bytes.
-abbrev pub half_lines : (link key distance end_link marks : ℕ) → List Line
-half_lines link key distance end_link marks =
+-- The lines before the END, with any link, key and distance in their bytes.
+abbrev pub half_body : (link key distance : ℕ) → List Line
+half_body link key distance =
     lines.GlobalLabel link key (codes "HALF") ∷ lines.Register RecallRegister 1
     ∷ lines.Register RecallRegister 2 ∷ lines.Plain functions.Add
     ∷ lines.Number (characters.Two ∷ []) ∷ lines.Plain functions.Divide
     ∷ lines.Plain functions.Square ∷ lines.Register RecallRegister 0
     ∷ lines.Plain functions.TestXLessThanY ∷ lines.ShortGoTo 2 distance
     ∷ lines.Plain functions.LastX ∷ lines.Register StoreRegister 1 ∷ lines.Plain functions.Return
-    ∷ lines.LocalLabel 2 ∷ lines.Plain functions.LastX ∷ lines.Register StoreRegister 2
-    ∷ lines.End end_link marks ∷ []
+    ∷ lines.LocalLabel 2 ∷ lines.Plain functions.LastX ∷ lines.Register StoreRegister 2 ∷ []
+
+-- The lines, with their END or .END.
+abbrev pub half_lines : (link key distance : ℕ) → Line → List Line
+half_lines link key distance end = half_body link key distance ++ end ∷ []
 
 -- There is a data register with this number, and it contains this number, in units.
 abbrev pub Contains : RegisterMap → ℕ → ℤ → Type 0
@@ -88,10 +91,11 @@ pub record HasHalved (s : Machine) (number low high middle : ℤ) (left : Left) 
 -- program returns after at most 14 lines, and there is a bracket again.
 abbrev pub HalvesBracket : Type 0
 HalvesBracket =
-    (pages : PageMap) (s : Machine) (registers at link key distance end_link marks : ℕ)
+    (pages : PageMap) (s : Machine) (registers at link key distance : ℕ) (end : Line)
     (number low high : ℤ) (middle square : Ten)
     → IsMemory registers s.memory → is_sound s.memory ≡ true → s.focal.position ≡ Memory at
-    → IsProgram s.memory at (half_lines link key distance end_link marks) → 2 < size_of s.memory
+    → IsProgram s.memory at (half_lines link key distance end) → ends_program end ≡ true
+    → 2 < size_of s.memory
     → IsBracket s.memory number low high → IsMiddle low high middle
     → IsSquare (units middle) square
     → Leaves pages 14 s (HasHalved s number low high (units middle))

@@ -1,9 +1,9 @@
 -- The program LBL "GCD", LBL 01, MOD, LASTX, X<>Y, X#0?, GTO 01, X<>Y, END: Euclid's algorithm.
-use Rattle.std.specs.Prelude.{◌≡◌, ℕ, ◌*◌, ◌^◌, ◌<◌, true, List, [], ◌∷◌, pos, codes}
+use Rattle.std.specs.Prelude.{◌≡◌, ℕ, ◌*◌, ◌^◌, ◌<◌, true, List, [], ◌∷◌, ◌++◌, pos, codes}
 use Rattle.h41_codes.specs.declared.functions.Function.TheVariants.{ExchangeXY, LastX, Modulo}
 use Rattle.h41_codes.specs.declared.functions.Function.TheVariants.{TestXNotZero}
 use Rattle.h41_codes.specs.declared.line.Line.{Line}
-use Rattle.h41_codes.specs.declared.line.Line.TheVariants.{End, GlobalLabel, LocalLabel, Plain}
+use Rattle.h41_codes.specs.declared.line.Line.TheVariants.{GlobalLabel, LocalLabel, Plain}
 use Rattle.h41_codes.specs.declared.line.Line.TheVariants.{ShortGoTo}
 use Rattle.h41_decimal.specs.Holding.{Number, holding_of}
 use Rattle.h41_decimal.specs.Units.{one}
@@ -13,15 +13,18 @@ use Rattle.h41_positions.specs.FocalState.{Machine}
 use Rattle.h41_positions.specs.declared.position.Position.TheVariants.{Memory}
 use Rattle.h41_ram.specs.RegisterMap.{IsMemory, is_sound}
 use Rattle.h41_reasoning_lines.specs.LineRuns.{HasReturned, Leaves}
-use Rattle.h41_reasoning_lines.specs.ProgramLines.{IsProgram}
+use Rattle.h41_reasoning_lines.specs.ProgramLines.{IsProgram, ends_program}
 use Rattle.h41_reasoning_lines.specs.Stacks.{stack_of, with_stack}
 
--- The lines, with any link, key, distance and status bits in their bytes.
-abbrev pub gcd_lines : (link key distance end_link marks : ℕ) → List Line
-gcd_lines link key distance end_link marks =
+-- The lines before the END, with any link, key and distance in their bytes.
+abbrev pub gcd_body : (link key distance : ℕ) → List Line
+gcd_body link key distance =
     GlobalLabel link key (codes "GCD") ∷ LocalLabel 1 ∷ Plain Modulo ∷ Plain LastX
-    ∷ Plain ExchangeXY ∷ Plain TestXNotZero ∷ ShortGoTo 1 distance ∷ Plain ExchangeXY
-    ∷ End end_link marks ∷ []
+    ∷ Plain ExchangeXY ∷ Plain TestXNotZero ∷ ShortGoTo 1 distance ∷ Plain ExchangeXY ∷ []
+
+-- The lines, with their END or .END.
+abbrev pub gcd_lines : (link key distance : ℕ) → Line → List Line
+gcd_lines link key distance end = gcd_body link key distance ++ end ∷ []
 
 -- A number divides another one.
 abbrev pub Divides : ℕ → ℕ → Type 0
@@ -51,9 +54,9 @@ pub record HasGreatestCommonDivisor (s : Machine) (a b : ℕ) (left : Left) : Ty
 -- numbers of at most ten digits, a and b. Then the program returns after at most 423 lines.
 abbrev pub GreatestCommonDivisorReturns : Type 0
 GreatestCommonDivisorReturns =
-    (pages : PageMap) (s : Machine) (registers at a b link key distance end_link marks : ℕ)
+    (pages : PageMap) (s : Machine) (registers at a b link key distance : ℕ) (end : Line)
     → IsMemory registers s.memory → is_sound s.memory ≡ true → s.focal.position ≡ Memory at
-    → IsProgram s.memory at (gcd_lines link key distance end_link marks)
+    → IsProgram s.memory at (gcd_lines link key distance end) → ends_program end ≡ true
     → a < 10 ^ 10 → b < 10 ^ 10 → holding_of (stack_of s.memory).y ≡ Number (pos (a * one))
     → holding_of (stack_of s.memory).x ≡ Number (pos (b * one))
     → Leaves pages 423 s (HasGreatestCommonDivisor s a b)

@@ -1,12 +1,13 @@
 -- The program LBL "SUM", ENTER, 0, LBL 01, RCL IND Y, +, ISG Y, GTO 01, END: the sum of the data
 -- registers R00 to Rn. X contains the counter 0.nnn at the start.
 use Rattle.std.specs.Prelude.{◌≡◌, ℕ, zero, suc, ◌+◌, ◌-◌, ◌*◌, ◌^◌, ◌<◌, ◌≤◌, true, List, [], ◌∷◌}
+use Rattle.std.specs.Prelude.{◌++◌}
 use Rattle.std.specs.Prelude.{Ok, ℤ, pos, ◌+ℤ◌, ◌*ℤ◌, unsigned_abs, codes}
 use Rattle.h41_codes.specs.declared.characters.Character.TheVariants as characters
 use Rattle.h41_codes.specs.declared.functions.Function.TheVariants.{Add, Enter}
 use Rattle.h41_codes.specs.declared.functions.ParameterFunction.TheVariants.{IncrementSkip, Recall}
 use Rattle.h41_codes.specs.declared.line.Line.{Line}
-use Rattle.h41_codes.specs.declared.line.Line.TheVariants.{End, GlobalLabel, LocalLabel, Number}
+use Rattle.h41_codes.specs.declared.line.Line.TheVariants.{GlobalLabel, LocalLabel, Number}
 use Rattle.h41_codes.specs.declared.line.Line.TheVariants.{Plain, ShortGoTo, WithOperand}
 use Rattle.h41_codes.specs.declared.line.Operand.TheVariants.{Direct, Indirect}
 use Rattle.h41_decimal.specs.Holding.{holding_of}
@@ -22,20 +23,23 @@ use Rattle.h41_positions.specs.declared.position.Position.TheVariants.{Memory}
 use Rattle.h41_ram.specs.NamedRegisters.{data_address, size_of}
 use Rattle.h41_ram.specs.RegisterMap.{IsMemory, RegisterMap, is_sound, register_at}
 use Rattle.h41_reasoning_lines.specs.LineRuns.{HasReturned, Leaves}
-use Rattle.h41_reasoning_lines.specs.ProgramLines.{IsProgram}
+use Rattle.h41_reasoning_lines.specs.ProgramLines.{IsProgram, ends_program}
 use Rattle.h41_reasoning_lines.specs.Stacks.{stack_of, with_stack}
 
 -- The parameter of Y.
 abbrev pub y_parameter : ℕ
 y_parameter = 114
 
--- The lines, with any link, key, distance and status bits in their bytes.
-abbrev pub sum_lines : (link key distance end_link marks : ℕ) → List Line
-sum_lines link key distance end_link marks =
+-- The lines before the END, with any link, key and distance in their bytes.
+abbrev pub sum_body : (link key distance : ℕ) → List Line
+sum_body link key distance =
     GlobalLabel link key (codes "SUM") ∷ Plain Enter ∷ Number (characters.Zero ∷ []) ∷ LocalLabel 1
     ∷ WithOperand Recall (Indirect y_parameter) ∷ Plain Add
-    ∷ WithOperand IncrementSkip (Direct y_parameter) ∷ ShortGoTo 1 distance
-    ∷ End end_link marks ∷ []
+    ∷ WithOperand IncrementSkip (Direct y_parameter) ∷ ShortGoTo 1 distance ∷ []
+
+-- The lines, with their END or .END.
+abbrev pub sum_lines : (link key distance : ℕ) → Line → List Line
+sum_lines link key distance end = sum_body link key distance ++ end ∷ []
 
 -- A data register contains this number, in units.
 abbrev pub HasNumber : RegisterMap → ℕ → ℤ → Type 0
@@ -77,10 +81,11 @@ pub record HasSum (s : Machine) (n : ℕ) (sum : ℤ) (left : Left) : Type 0 whe
 -- always in range. Then the program returns after at most 5 n + 8 lines.
 abbrev pub SumReturns : Type 0
 SumReturns =
-    (pages : PageMap) (s : Machine) (registers at n link key distance end_link marks : ℕ)
+    (pages : PageMap) (s : Machine) (registers at n link key distance : ℕ) (end : Line)
     (sum : Ten)
     → IsMemory registers s.memory → is_sound s.memory ≡ true → s.focal.position ≡ Memory at
-    → IsProgram s.memory at (sum_lines link key distance end_link marks) → n < size_of s.memory
+    → IsProgram s.memory at (sum_lines link key distance end) → ends_program end ≡ true
+    → n < size_of s.memory
     → holding_of (stack_of s.memory).x ≡ holding.Number (pos (n * 10 ^ 105))
     → AddsUp s.memory 0 (n + 1) Zero sum
     → Leaves pages (5 * n + 8) s (HasSum s n (units sum))
@@ -98,10 +103,11 @@ with_decimals decimals number = number *ℤ pos (10 ^ (108 - decimals))
 -- has at most ten digits when it is written with these decimals. Then X contains the exact sum.
 abbrev pub ExactSumReturns : Type 0
 ExactSumReturns =
-    (pages : PageMap) (s : Machine) (registers at n link key distance end_link marks : ℕ)
+    (pages : PageMap) (s : Machine) (registers at n link key distance : ℕ) (end : Line)
     (decimals : ℕ) (numbers : ℕ → ℤ)
     → IsMemory registers s.memory → is_sound s.memory ≡ true → s.focal.position ≡ Memory at
-    → IsProgram s.memory at (sum_lines link key distance end_link marks) → n < size_of s.memory
+    → IsProgram s.memory at (sum_lines link key distance end) → ends_program end ≡ true
+    → n < size_of s.memory
     → holding_of (stack_of s.memory).x ≡ holding.Number (pos (n * 10 ^ 105)) → decimals ≤ 99
     → ((i : ℕ) → i ≤ n → HasNumber s.memory i (with_decimals decimals (numbers i)))
     → ((i : ℕ) → i ≤ n + 1 → unsigned_abs (sum_of_first numbers i) < 10 ^ 10)

@@ -1,16 +1,19 @@
 -- The data registers: programs do not depend on them, and they do not depend on the stack.
-use Rattle.std.proofs.Common.{◌≡◌, ℕ, ◌<◌, ◌≤◌, Bool, true, false, List, Some, sym, ap, ◌∙◌, arith}
+use Rattle.std.proofs.Common.{◌≡◌, ℕ, ◌+◌, ◌-◌, ◌<◌, ◌≤◌, Bool, true, false, List, Some, length, sym, ap, ◌∙◌, subst, arith}
 use Rattle.std.specs.Bool.{then_some}
 use Rattle.std.specs.Prelude.{◌||◌, nat_lt}
 use Rattle.std.proofs.lemmas.Bool.Decides.{nat_tests}
 use Rattle.std.proofs.lemmas.Grind.{common_steps}
+use Rattle.h41_program.proofs.Depends as depends
 use Rattle.h41_program.proofs.Sound.{bounds}
 use Rattle.h41_ram.proofs.Writes.{written_keeps}
 use Rattle.h41_ram.specs.NamedRegisters.{data_address, data_of, size_of}
 use Rattle.h41_ram.specs.RamState.{RamState, SameProgram, sets_mark}
-use Rattle.h41_ram.specs.RegisterMap.{RegisterMap, curtain_of, is_sound, main_start, register_at, with_register}
-use Rattle.h41_reasoning_lines.specs.Stacks.{Stack, with_stack}
-use Rattle.h41_reasoning_lines.proofs.Stacks.{main_register}
+use Rattle.h41_ram.specs.RegisterMap.{RegisterMap, curtain_of, end_of, is_sound, main_start, register_at, three_digits, top_of}
+use Rattle.h41_ram.specs.RegisterMap.{with_register}
+use Rattle.h41_reasoning_lines.specs.Stacks.{Stack, stack_of, with_stack}
+use Rattle.h41_reasoning_lines.proofs.Stacks.{main_register, same_program}
+use Rattle.h41_reasoning_lines.proofs.Stepping.{own_stack}
 
 -- Data registers are in main memory.
 pub above_status : (memory : RegisterMap) (n : ℕ) → is_sound memory ≡ true → main_start ≤ data_address memory n
@@ -57,3 +60,43 @@ pub same_data_of : (stack other : Stack) (memory : RegisterMap) (n : ℕ) → is
     → data_of (with_stack other memory) n ≡ data_of (with_stack stack memory) n
 same_data_of stack other memory n sound =
     ap (λ (register : List ℕ). then_some (nat_lt n (size_of (with_stack stack memory))) register) (same_data stack other memory n sound)
+
+-- Memory with another stack: its program and its data registers.
+module _ (stack : Stack) (memory : RegisterMap) (size : length memory.status ≡ 16) (sound : is_sound memory ≡ true) where
+  own : with_stack (stack_of memory) memory ≡ memory
+  own = own_stack memory size
+
+  own_sound : is_sound (with_stack (stack_of memory) memory) ≡ true
+  own_sound = ap is_sound own ∙ sound
+
+  pub with_other_stack : SameProgram memory (with_stack stack memory)
+  with_other_stack =
+      subst (λ (other : RegisterMap). SameProgram other (with_stack stack memory)) own
+      (same_program (stack_of memory) stack memory own_sound)
+
+  pub sound_with_stack : is_sound (with_stack stack memory) ≡ true
+  sound_with_stack = sym (depends.soundness memory (with_stack stack memory) with_other_stack) ∙ sound
+
+  pub data_with_stack : (n : ℕ) → data_of (with_stack stack memory) n ≡ data_of memory n
+  data_with_stack n =
+      same_data_of (stack_of memory) stack memory n own_sound ∙ ap (λ (other : RegisterMap). data_of other n) own
+
+-- Memories with the same program have the same data registers at the same addresses.
+pub same_address : (memory other : RegisterMap) (n : ℕ) → SameProgram memory other → data_address memory n ≡ data_address other n
+same_address memory other n agree = ap (λ (c : List ℕ). three_digits c 3 + n) agree.c
+
+pub same_size : (memory other : RegisterMap) → SameProgram memory other → size_of memory ≡ size_of other
+same_size memory other agree =
+    ap (λ (count : ℕ). main_start + count - curtain_of memory) agree.size
+    ∙ ap (λ (c : List ℕ). top_of other - three_digits c 3) agree.c
+
+pub same_program_on : (first second third : RegisterMap) → SameProgram first second → SameProgram second third → SameProgram first third
+same_program_on first second third one two =
+    let end : end_of first ≡ end_of second = ap (λ (c : List ℕ). three_digits c 0) one.c in
+    let curtain : curtain_of first ≡ curtain_of second = ap (λ (c : List ℕ). three_digits c 3) one.c in
+    record {
+      size = one.size ∙ two.size;
+      c = one.c ∙ two.c;
+      program = λ address from below.
+          one.program address from below ∙ two.program address (omega (arith, end, from)) (omega (arith, curtain, below));
+    }

@@ -13,7 +13,7 @@ use Rattle.h41_program.specs.ProgramLaws.{ReadIsDetermined}
 use Rattle.h41_program.specs.ProgramLines.{LinesFrom, Reads, behind}
 use Rattle.h41_program.specs.Searches.{AnswersLocal, end_before, label_in, position_of, start_in}
 use Rattle.h41_program.specs.declared.listed_line.ListedLine.{ListedLine}
-use Rattle.h41_program.proofs.SearchSteps.{label_in-end, label_in-here, label_in-other, none_or}
+use Rattle.h41_program.proofs.SearchSteps.{label_in-here, label_in-other, none_or, some_or}
 use Rattle.h41_ram.specs.RegisterMap.{RegisterMap, is_sound}
 use Rattle.h41_reasoning_lines.proofs.Listed.{BeginsAt, IsListed, lines_from, rest_read}
 
@@ -33,7 +33,7 @@ neither : {A : Type 0} (first second : Option A) → first ≡ None → second �
 neither None second one two = two
 neither (Some x) second one two = absurd (cc)
 
-find_none : {A : Type 0} (test : A → Bool) (xs : List A) → NoneOf test xs → find test (reverse xs) ≡ None
+pub find_none : {A : Type 0} (test : A → Bool) (xs : List A) → NoneOf test xs → find test (reverse xs) ≡ None
 find_none test [] none = refl
 find_none test (x ∷ xs) none =
     ap (find test) (reverse-append (x ∷ []) xs)
@@ -127,7 +127,7 @@ module _ (memory : RegisterMap) (sound : is_sound memory ≡ true) where
   reads_later_by first rest false some reads = reads
 
   -- The lines after a line of a list are read from the byte after it.
-  reads_later : (at : ℕ) (early : List ListedLine) (last : ListedLine) (later : List ListedLine) → is_final_end last.line ≡ false
+  pub reads_later : (at : ℕ) (early : List ListedLine) (last : ListedLine) (later : List ListedLine) → is_final_end last.line ≡ false
       → ReadsThere at ((early ++ last ∷ []) ++ later) → ReadsThere (behind last) later
   reads_later at [] last later open_end reads = rest_read memory sound last later (is_final_end last.line) open_end reads.1
   reads_later at (first ∷ early) last later open_end reads =
@@ -177,43 +177,30 @@ module _ (memory : RegisterMap) (sound : is_sound memory ≡ true) where
     own_start = by_found (end_before start all) refl
 
   -- GTO searches downwards to the END, and then from the start of the program.
-  pub found_back : ReadIsDetermined → (start at n target : ℕ) (all listed onward : List ListedLine) → ReadsThere 0 all
-      → ReadsThere start listed → ReadsThere at onward → start ≡ start_in start all → start ≤ at
-      → NoneOf (ends_before at) listed → position_of (label_in n onward) ≡ None → Some target ≡ position_of (label_in n listed)
-      → AnswersLocal memory at n (Some target)
-  found_back determined start at n target all listed onward all_read read onward_read begins from none nothing found = record {
-    lines = all;
-    onward = onward;
-    own = listed;
-    all = lines_from memory sound 0 all all_read;
-    from = lines_from memory sound at onward onward_read;
-    program =
-        subst (λ (own : ℕ). LinesFrom memory own listed) (sym (own_start determined start at all listed all_read read begins from none))
-        (lines_from memory sound start listed read);
-    is = none_or (label_in n onward) (label_in n listed) (Some target) nothing found;
-  }
+  module _ (determined : ReadIsDetermined) (start at n target : ℕ) (all listed onward : List ListedLine) (all_read : ReadsThere 0 all)
+      (read : ReadsThere start listed) (onward_read : ReadsThere at onward) (begins : start ≡ start_in start all) (from : start ≤ at)
+      (none : NoneOf (ends_before at) listed) where
+    found_either : Some target ≡ position_of (option_or (label_in n onward) (label_in n listed)) → AnswersLocal memory at n (Some target)
+    found_either is = record {
+      lines = all;
+      onward = onward;
+      own = listed;
+      all = lines_from memory sound 0 all all_read;
+      from = lines_from memory sound at onward onward_read;
+      program =
+          subst (λ (own : ℕ). LinesFrom memory own listed)
+          (sym (own_start determined start at all listed all_read read begins from none)) (lines_from memory sound start listed read);
+      is = is;
+    }
 
-  found_here : (first second : Option ListedLine) (target : ℕ) → Some target ≡ position_of first
-      → Some target ≡ position_of (option_or first second)
-  found_here None second target is = absurd (cc)
-  found_here (Some line) second target is = is
+    -- There is no such label between GTO and the END.
+    pub found_back : position_of (label_in n onward) ≡ None → Some target ≡ position_of (label_in n listed)
+        → AnswersLocal memory at n (Some target)
+    found_back nothing found = found_either (none_or (label_in n onward) (label_in n listed) (Some target) nothing found)
 
-  -- GTO finds a label between itself and the END.
-  pub found_onward : ReadIsDetermined → (start at n target : ℕ) (all listed onward : List ListedLine) → ReadsThere 0 all
-      → ReadsThere start listed → ReadsThere at onward → start ≡ start_in start all → start ≤ at
-      → NoneOf (ends_before at) listed → Some target ≡ position_of (label_in n onward)
-      → AnswersLocal memory at n (Some target)
-  found_onward determined start at n target all listed onward all_read read onward_read begins from none found = record {
-    lines = all;
-    onward = onward;
-    own = listed;
-    all = lines_from memory sound 0 all all_read;
-    from = lines_from memory sound at onward onward_read;
-    program =
-        subst (λ (own : ℕ). LinesFrom memory own listed) (sym (own_start determined start at all listed all_read read begins from none))
-        (lines_from memory sound start listed read);
-    is = found_here (label_in n onward) (label_in n listed) target found;
-  }
+    -- The label is between them.
+    pub found_onward : Some target ≡ position_of (label_in n onward) → AnswersLocal memory at n (Some target)
+    found_onward found = found_either (some_or (label_in n onward) (label_in n listed) target (sym found))
 
   -- Searches in a list of lines.
   pub label_here : (at n : ℕ) (listed : List ListedLine) (line : Line) (here : IsListed memory at listed line) → is_label n line ≡ true
@@ -230,12 +217,6 @@ module _ (memory : RegisterMap) (sound : is_sound memory ≡ true) where
       ap (λ (lines : List ListedLine). position_of (label_in n lines)) here.is_list
       ∙ ap position_of
       (label_in-other n here.first here.rest (ap is_end here.is ∙ other) (ap (is_label n) here.is ∙ no_label))
-
-  pub no_label_after : (at n : ℕ) (listed : List ListedLine) (line : Line) (here : IsListed memory at listed line) → is_end line ≡ true
-      → position_of (label_in n listed) ≡ None
-  no_label_after at n listed line here is =
-      ap (λ (lines : List ListedLine). position_of (label_in n lines)) here.is_list
-      ∙ ap position_of (label_in-end n here.first here.rest (ap is_end here.is ∙ is))
 
   -- The next line after a line begins at the next position.
   pub position_next : (at : ℕ) (listed : List ListedLine) (line : Line) (here : IsListed memory at listed line) (other : Line)

@@ -2,8 +2,12 @@ pub mod Rounds
 pub mod Stacks
 pub mod Listed
 pub mod Stepping
+pub mod Subroutines
 pub mod Computing
+pub mod Ranges
 pub mod Wholes
 pub mod Labels
+pub mod Programs
+pub mod Loads
 pub mod Registers
 pub mod DataRegisters

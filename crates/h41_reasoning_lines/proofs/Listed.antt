@@ -1,20 +1,20 @@
 -- Lines of memory in turn: each is read at its position, and is followed by the next.
 use Rattle.std.proofs.Common.{◌≡◌, ℕ, ◌≤◌, Bool, true, false, List, [], ◌∷◌, ◌++◌, Ok, inl, inr, refl, sym, ap, ◌∙◌, arith}
-use Rattle.std.specs.Prelude.{MatchBool}
+use Rattle.std.specs.Prelude.{MatchBool, not, ◌&&◌, ◌||◌}
 use Rattle.h41_codes.specs.declared.line.Line.{Line}
 use Rattle.h41_focal.specs.LineStep.{StandsAt}
 use Rattle.h41_pages.specs.PageMap.{PageMap}
 use Rattle.h41_positions.specs.Positions.{in_memory}
 use Rattle.h41_positions.specs.declared.position.Position.TheVariants.{Memory}
 use Rattle.h41_program.specs.Edits.{lines_of}
-use Rattle.h41_program.specs.Lines.{is_final_end}
+use Rattle.h41_program.specs.Lines.{is_end, is_final_end}
 use Rattle.h41_program.specs.ProgramBytes.{final_position, program_bytes}
 use Rattle.h41_program.specs.ProgramLines.{AnswersNext, FirstFrom, LinesFrom, PositionFrom, Reads, behind}
 use Rattle.h41_program.specs.declared.listed_line.ListedLine.{ListedLine}
 use Rattle.h41_program.proofs.Depends as depends
 use Rattle.h41_ram.specs.RamState.{SameProgram}
 use Rattle.h41_ram.specs.RegisterMap.{RegisterMap, is_sound}
-use Rattle.h41_reasoning_lines.specs.ProgramLines.{HasProgram}
+use Rattle.h41_reasoning_lines.specs.ProgramLines.{HasProgram, ends_program}
 
 -- A line is the first one from a position on, and the next one is at another position.
 pub record IsLineAt (memory : RegisterMap) (at : ℕ) (line : Line) (next : ℕ) : Type 0 where
@@ -58,16 +58,25 @@ pub record IsListed (memory : RegisterMap) (at : ℕ) (listed : List ListedLine)
   pub begins : BeginsAt rest next
   pub onward : at ≤ next
 
+-- A list of lines that is read from a position on begins with these lines, and something is true of the lines after them.
+abbrev pub AreFollowed : RegisterMap → ℕ → List ListedLine → List Line → (ℕ → List ListedLine → Type 0) → Type 0
+AreFollowed memory at listed [] Then = Then at listed
+AreFollowed memory at listed (line ∷ lines) Then =
+    (here : IsListed memory at listed line) × AreFollowed memory here.next here.rest lines Then
+
 -- A list of lines that is read from a position on begins with these lines.
 abbrev pub AreListed : RegisterMap → ℕ → List ListedLine → List Line → Type 0
-AreListed memory at listed [] = Unit {0}
-AreListed memory at listed (line ∷ lines) =
-    (here : IsListed memory at listed line) × AreListed memory here.next here.rest lines
+AreListed memory at listed lines = AreFollowed memory at listed lines (λ next rest. Unit {0})
 
--- None of these lines is .END.
-abbrev pub NoneIsFinal : List Line → Type 0
-NoneIsFinal [] = Unit {0}
-NoneIsFinal (line ∷ lines) = (is_final_end line ≡ false) × NoneIsFinal lines
+-- Whether none of these lines is END or .END.
+abbrev pub has_no_end : List Line → Bool
+has_no_end [] = true
+has_no_end (line ∷ lines) = not (ends_program line) && has_no_end lines
+
+pub first_inner : (end final rest : Bool) → (not (end || final) && rest) ≡ true → (end ≡ false) × (final ≡ false) × (rest ≡ true)
+first_inner false false rest holds = (refl, refl, holds)
+first_inner false true rest holds = absurd (cc)
+first_inner true final rest holds = absurd (cc)
 
 module _ (memory : RegisterMap) (sound : is_sound memory ≡ true) where
   abbrev ReadsHere : ℕ → List ListedLine → Type 0
@@ -84,14 +93,14 @@ module _ (memory : RegisterMap) (sound : is_sound memory ≡ true) where
   }
 
   -- The position of the next line, from which the rest of a list is read.
-  record HasNext (at : ℕ) (rest : List ListedLine) : Type 0 where
-    next : ℕ
-    from : PositionFrom memory at next
-    reads : ReadsHere next rest
-    begins : BeginsAt rest next
-    onward : at ≤ next
+  pub record HasNext (at : ℕ) (rest : List ListedLine) : Type 0 where
+    pub next : ℕ
+    pub from : PositionFrom memory at next
+    pub reads : ReadsHere next rest
+    pub begins : BeginsAt rest next
+    pub onward : at ≤ next
 
-  next_of : (at : ℕ) (rest : List ListedLine) → ReadsHere at rest → HasNext at rest
+  pub next_of : (at : ℕ) (rest : List ListedLine) → ReadsHere at rest → HasNext at rest
   next_of at [] none = record { next = at; from = inr (none, refl); reads = none; begins = tt; onward = omega arith }
   next_of at (second ∷ more) reads = record {
     next = second.position;
@@ -115,38 +124,49 @@ module _ (memory : RegisterMap) (sound : is_sound memory ≡ true) where
       → lines_of (first ∷ rest) ≡ line ∷ (lines ++ others) → (first.line ≡ line) × (lines_of rest ≡ lines ++ others)
   first_and_rest first rest line lines others are = (cc, cc)
 
-  read_in_turn : (at : ℕ) (listed : List ListedLine) (lines others : List Line) → ReadsHere at listed
-      → lines_of listed ≡ lines ++ others → NoneIsFinal lines → AreListed memory at listed lines
-  read_in_turn at listed [] others reads are inner = tt
-  read_in_turn at [] (line ∷ lines) others reads are inner = absurd (cc)
-  read_in_turn at (first ∷ rest) (line ∷ lines) others reads are inner =
-      let parts = first_and_rest first rest line lines others are in
-      let open_end : is_final_end first.line ≡ false = ap is_final_end parts.0 ∙ inner.0 in
+  -- The first line of a list that is read, unless it is .END.
+  listed_first : (at : ℕ) (first : ListedLine) (rest : List ListedLine) (line : Line) → ReadsHere at (first ∷ rest) → first.line ≡ line
+      → is_final_end line ≡ false
+      → IsListed memory at (first ∷ rest) line
+  listed_first at first rest line reads is other =
+      let open_end : is_final_end first.line ≡ false = ap is_final_end is ∙ other in
       let found = next_of (behind first) rest (rest_read first rest (is_final_end first.line) open_end reads.1) in
-      let from : at ≤ first.position = reads.0.from in (
-        record {
+      let from : at ≤ first.position = reads.0.from in
+      record {
+        first = first;
+        rest = rest;
+        next = found.next;
+        is_list = refl;
+        is = is;
+        stands = record {
+          sound = sound;
           first = first;
-          rest = rest;
-          next = found.next;
-          is_list = refl;
-          is = parts.0;
-          stands = record {
-            sound = sound;
-            first = first;
-            reads = reads.0;
-            is = parts.0;
-            onward = (first, reads.0, position_behind first found.next (is_final_end first.line) open_end found.from);
-          };
-          reads = found.reads;
-          begins = found.begins;
-          onward = omega (arith, from, found.onward);
-        },
-        read_in_turn found.next rest lines others found.reads parts.1 inner.1,
-      )
+          reads = reads.0;
+          is = is;
+          onward = (first, reads.0, position_behind first found.next (is_final_end first.line) open_end found.from);
+        };
+        reads = found.reads;
+        begins = found.begins;
+        onward = omega (arith, from, found.onward);
+      }
 
-  pub in_turn : (at : ℕ) (lines : List Line) (has : HasProgram memory at lines) → NoneIsFinal lines
+  pub followed_in_turn : (Then : ℕ → List ListedLine → Type 0) (at : ℕ) (listed : List ListedLine) (lines others : List Line)
+      → ReadsHere at listed → lines_of listed ≡ lines ++ others → has_no_end lines ≡ true
+      → ((next : ℕ) (rest : List ListedLine) → ReadsHere next rest → lines_of rest ≡ others → Then next rest)
+      → AreFollowed memory at listed lines Then
+  followed_in_turn Then at listed [] others reads are inner follows = follows at listed reads are
+  followed_in_turn Then at [] (line ∷ lines) others reads are inner follows = absurd (cc)
+  followed_in_turn Then at (first ∷ rest) (line ∷ lines) others reads are inner follows =
+      let tests = first_inner (is_end line) (is_final_end line) (has_no_end lines) inner in
+      let here = listed_first at first rest line reads (first_and_rest first rest line lines others are).0 tests.1 in
+      let later = first_and_rest here.first here.rest line lines others (ap lines_of (sym here.is_list) ∙ are) in
+      (here, followed_in_turn Then here.next here.rest lines others here.reads later.1 tests.2 follows)
+
+  pub in_turn : (at : ℕ) (lines : List Line) (has : HasProgram memory at lines) → has_no_end lines ≡ true
       → AreListed memory at has.listed lines
-  in_turn at lines has inner = read_in_turn at has.listed lines has.others (has.from.sound sound) has.are inner
+  in_turn at lines has inner =
+      followed_in_turn (λ next rest. Unit {0}) at has.listed lines has.others (has.from.sound sound) has.are inner
+      (λ next rest reads are. tt)
 
   -- What is read from a position on is the list of lines from there on.
   pub lines_from : (at : ℕ) (listed : List ListedLine) → ReadsHere at listed → LinesFrom memory at listed

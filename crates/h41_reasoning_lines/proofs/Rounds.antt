@@ -73,6 +73,19 @@ module _ (pages : PageMap) where
     property = one.property;
   }
 
+  -- What is true after a program, and what follows from it.
+  pub leaves_as : (most : ℕ) (s : Machine) (After Other : Left → Type 0) → ((left : Left) → After left → Other left)
+      → Leaves pages most s After → Leaves pages most s Other
+  leaves_as most s After Other follows one = record {
+    count = one.count;
+    bound = one.bound;
+    before = one.before;
+    run = one.run;
+    left = one.left;
+    last = one.last;
+    property = follows one.left one.property;
+  }
+
   -- A line, and the lines after it up to the last one.
   pub line_then : (most : ℕ) (s t : Machine) (After : Left → Type 0) → Continues pages s t → Leaves pages most t After
       → Leaves pages (1 + most) s After

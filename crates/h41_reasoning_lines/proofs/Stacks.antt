@@ -2,10 +2,12 @@
 use Rattle.std.proofs.Common.{◌≡◌, ℕ, ◌-◌, ◌≤◌, true, false, refl, sym, ap, ◌∙◌, arith}
 use Rattle.std.specs.Prelude.{nat_lt, if◌then◌else◌, slice_index_or}
 use Rattle.std.proofs.lemmas.Bool.Decides.{nat_tests}
+use Rattle.h41_codes.specs.declared.line.Line.{Line}
 use Rattle.h41_ram.specs.RamState.{SameProgram}
 use Rattle.h41_ram.specs.RegisterMap.{RegisterMap, is_sound, main_start, register_at, status_end, zeros}
 use Rattle.h41_program.proofs.Sound.{bounds}
 use Rattle.h41_reasoning_lines.specs.Stacks.{Stack, with_stack}
+use Rattle.h41_reasoning_lines.proofs.Listed.{IsLineAt, also}
 
 -- A register of main memory does not depend on the stack.
 pub main_register : (stack : Stack) (memory : RegisterMap) (address : ℕ) → main_start ≤ address
@@ -29,3 +31,9 @@ same_program stack other memory sound =
           main_register stack memory address (omega (arith, from, known.low))
           ∙ sym (main_register other memory address (omega (arith, from, known.low)));
     }
+
+-- A line is there whatever the stack contains.
+pub still : (stack other : Stack) (memory : RegisterMap) → is_sound (with_stack stack memory) ≡ true → (at next : ℕ) (line : Line)
+    → IsLineAt (with_stack stack memory) at line next → IsLineAt (with_stack other memory) at line next
+still stack other memory sound at next line is =
+    also (with_stack stack memory) (with_stack other memory) at line next (same_program stack other memory sound) is

@@ -7,7 +7,8 @@ use Rattle.h41_codes.specs.declared.functions.Function.{Function}
 use Rattle.h41_codes.specs.declared.functions.Function.TheVariants as functions
 use Rattle.h41_codes.specs.declared.line.Line.{Line}
 use Rattle.h41_codes.specs.declared.functions.Branch.TheVariants.{Execute, GoTo}
-use Rattle.h41_codes.specs.declared.line.Line.TheVariants.{BranchTo, End, GlobalLabel, LocalLabel, Plain, ShortGoTo}
+use Rattle.h41_codes.specs.declared.functions.NameFunction.TheVariants.{ExecuteName}
+use Rattle.h41_codes.specs.declared.line.Line.TheVariants.{BranchTo, End, FinalEnd, GlobalLabel, LocalLabel, Named, Plain, ShortGoTo}
 use Rattle.h41_focal.specs.Destinations.{Arrives, GoesBack, Halts, Stepped, with_return}
 use Rattle.h41_focal.specs.LineStep.{Applies, Left, StepsLine, TakesLine, Works}
 use Rattle.h41_focal.specs.Outcomes.{Done, Stopped}
@@ -25,6 +26,7 @@ use Rattle.h41_rows.specs.RowEffects.{holds_in}
 use Rattle.h41_rows.specs.Rows as rows
 use Rattle.h41_rows.specs.Values.{Value}
 use Rattle.h41_reasoning_lines.specs.LineRuns.{Continues, HasReturned, ReturnsTo}
+use Rattle.h41_reasoning_lines.specs.ProgramLines.{FindsName, ends_program}
 use Rattle.h41_reasoning_lines.specs.Stacks.{Stack, stack_of, with_stack}
 use Rattle.h41_reasoning_lines.proofs.Listed.{IsLineAt, stands}
 
@@ -57,6 +59,16 @@ pub own_place : (s : Machine) (at : ℕ) → s.focal.position ≡ Memory at
     → before_line s.memory at s.focal.at_line_00 s.focal.returns s.focal.lift ≡ s
 own_place s at place =
     ap (λ (position : Position). let with : Machine = record s { focal = record s.focal { position = position } } in with) (sym place)
+
+-- What is true of each state of this form is true of each state at the position.
+pub by_state : (at : ℕ) (Property : Machine → Type 0)
+    → ((stack : Stack) (memory : RegisterMap) (zero : Bool) (returns : List Position) (lift : Bool)
+    → Property (before_line (with_stack stack memory) at zero returns lift))
+    → (s : Machine) → length s.memory.status ≡ 16 → s.focal.position ≡ Memory at → Property s
+by_state at Property each s size place =
+    subst Property (own_place s at place)
+    (subst (λ (memory : RegisterMap). Property (before_line memory at s.focal.at_line_00 s.focal.returns s.focal.lift))
+    (own_stack s.memory size) (each (stack_of s.memory) s.memory s.focal.at_line_00 s.focal.returns s.focal.lift))
 
 -- A test is true.
 pub holding_true : (holds : Bool) (Then Else : Type 0) → holds ≡ true → Then → MatchBool holds Then Else
@@ -123,6 +135,14 @@ module _ (pages : PageMap) (memory : RegisterMap) (at next : ℕ) (zero : Bool) 
             refl,
           ),
         )
+
+    -- XEQ with a name.
+    pub executes_named : (name : List ℕ) (target : ℕ) → IsLineAt memory at (Named ExecuteName name) next → FindsName memory name target
+        → Continues pages (before_line memory at zero returns lift)
+        (after_line memory target (with_return returns (Memory next)) lift)
+    executes_named name target is found =
+        taken (Named ExecuteName name) _ is
+        (Ok zeros, refl, (Arrives (Memory target) (with_return returns (Memory next)), (Some target, found, refl), refl))
 
     -- A test, given that the registers that it compares contain numbers where it needs them.
     module _ (function : Function) (condition : rows.Condition) (has : function_row function ≡ Some (rows.test condition))
@@ -266,7 +286,10 @@ module _ (pages : PageMap) (lists : OneList) (memory : RegisterMap) (at next : �
       back_by (λ left applies. plain pages memory at next zero returns lift functions.Return returning left refl is applies)
       (reverse returns) refl
 
-  -- An END returns too.
-  pub ended : (link marks : ℕ) → IsLineAt memory at (End link marks) next → Back pages there
-  ended link marks is =
+  -- END and .END. return too.
+  pub ended : (line : Line) → ends_program line ≡ true → IsLineAt memory at line next → Back pages there
+  ended (End link marks) ends is =
       back_by (λ left applies. taken pages memory at next zero returns lift (End link marks) left is applies) (reverse returns) refl
+  ended (FinalEnd link marks) ends is =
+      back_by (λ left applies. taken pages memory at next zero returns lift (FinalEnd link marks) left is applies) (reverse returns) refl
+  ended line ends is = absurd (cc)

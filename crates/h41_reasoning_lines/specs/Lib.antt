@@ -2,3 +2,5 @@ pub mod Stacks
 pub mod LineRuns
 pub mod ProgramLines
 pub mod LineRounds
+pub mod Subroutines
+pub mod Loads

@@ -1,0 +1,10 @@
+use Rattle.h41_reasoning_lines.proofs.Loads.{first_loaded_is_program, loaded_is_program}
+use Rattle.h41_reasoning_lines.proofs.lines.loaded_lines_are_program.Goals as goal
+
+pub returns-clause-loaded : goal.returns-clause-loaded
+returns-clause-loaded c =
+    loaded_is_program c.changes_are_read.ensures.loaded c.changes_are_read.ensures.shut c.lists_are_determined.ensures.read
+
+pub returns-clause-first : goal.returns-clause-first
+returns-clause-first c =
+    first_loaded_is_program c.changes_are_read.ensures.loaded c.lists_are_determined.ensures.read c.lists_are_determined.ensures.lines

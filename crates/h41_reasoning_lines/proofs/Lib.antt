@@ -7,3 +7,7 @@ pub mod Wholes
 pub mod Labels
 pub mod Registers
 pub mod DataRegisters
+pub mod ProgramStates
+pub mod ProgramSteps
+pub mod Errors
+pub mod SignedDecimals

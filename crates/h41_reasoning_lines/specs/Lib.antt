@@ -2,3 +2,4 @@ pub mod Stacks
 pub mod LineRuns
 pub mod ProgramLines
 pub mod LineRounds
+pub mod ProgramStates

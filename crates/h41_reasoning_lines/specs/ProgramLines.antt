@@ -1,5 +1,6 @@
 -- Lines in program memory, as a theorem about a program requires them.
-use Rattle.std.specs.Prelude.{◌≡◌, ℕ, List, ◌++◌}
+use Rattle.std.specs.Prelude.{◌≡◌, ℕ, List, [], ◌∷◌, ◌++◌}
+use Rattle.h41_codes.specs.ByteGrammar.{spelling}
 use Rattle.h41_codes.specs.declared.line.Line.{Line}
 use Rattle.h41_program.specs.Edits.{lines_of}
 use Rattle.h41_program.specs.ProgramLines.{AnswersOf, LinesFrom}
@@ -18,3 +19,8 @@ pub record HasProgram (memory : RegisterMap) (at : ℕ) (lines : List Line) : Ty
 pub record IsProgram (memory : RegisterMap) (at : ℕ) (lines : List Line) : Type 0 where
   pub has : HasProgram memory at lines
   pub begins : AnswersOf (start_in at) memory 0 at
+
+-- The bytes of lines.
+abbrev pub bytes_of_lines : List Line → List ℕ
+bytes_of_lines [] = []
+bytes_of_lines (line ∷ lines) = spelling line ++ bytes_of_lines lines

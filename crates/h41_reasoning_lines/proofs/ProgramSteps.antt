@@ -19,6 +19,8 @@ use Rattle.h41_positions.specs.FocalState.{Machine, at_line}
 use Rattle.h41_positions.specs.declared.position.Position.{Position}
 use Rattle.h41_positions.specs.declared.position.Position.TheVariants.{Memory}
 use Rattle.h41_program.specs.ProgramLaws.{OneList}
+use Rattle.h41_program.specs.Searches.{AnswersLocal}
+use Rattle.h41_program.proofs.Depends as depends
 use Rattle.h41_ram.specs.NamedRegisters.{data_address, size_of}
 use Rattle.h41_ram.specs.RegisterMap.{RegisterMap, flag_of, is_sound, with_register, zeros}
 use Rattle.h41_rows.specs.FunctionRows.{function_row}
@@ -35,8 +37,8 @@ use Rattle.h41_reasoning_lines.specs.Stacks.{Stack, with_stack}
 use Rattle.h41_reasoning_lines.proofs.Listed.{IsLineAt, also}
 use Rattle.h41_reasoning_lines.proofs.ProgramStates.{address_stays, flag_stays, own, program_stays, restacked, rewritten, size_stays}
 use Rattle.h41_reasoning_lines.proofs.Registers.{data_found, number_in_x, number_over, recalled_short, recalled_short_over, stored_short}
-use Rattle.h41_reasoning_lines.proofs.Stepping.{Back, after_line, before_line, ended, entered, exchanged, global_label, label, of_one}
-use Rattle.h41_reasoning_lines.proofs.Stepping.{of_two, own_place, plain, returned, rolled_down, test_false, test_true}
+use Rattle.h41_reasoning_lines.proofs.Stepping.{Back, after_line, before_line, ended, entered, exchanged, global_label, go_to, label}
+use Rattle.h41_reasoning_lines.proofs.Stepping.{of_one, of_two, own_place, plain, returned, rolled_down, test_false, test_true}
 
 -- A line continues at a position, with this stack and these data registers.
 pub record Reaches (pages : PageMap) (old : RegisterMap) (s : Machine) (stack : Stack) (contents : ℕ → List ℕ) (at : ℕ)
@@ -189,6 +191,14 @@ module _ (pages : PageMap) (old : RegisterMap) (sixteen : length old.status ≡ 
     pub passes_label : (n : ℕ) → IsLineAt old at (lines.LocalLabel n) next
         → Reaches pages old (before lift) stack contents next returns lift
     passes_label n line = by_stack lift stack next lift (label pages same at next zero returns lift n (there _ at next line))
+
+    -- GTO 00 to GTO 14.
+    pub goes_to : (n distance target : ℕ) → IsLineAt old at (lines.ShortGoTo n distance) next → AnswersLocal old next n (Some target)
+        → Reaches pages old (before lift) stack contents target returns lift
+    goes_to n distance target line found =
+        by_stack lift stack target lift
+        (go_to pages same at next zero returns lift n distance target (there _ at next line)
+        (depends.local old same next n (Some target) (program_stays old sixteen sound stack contents same same_is) found))
 
     pub passes_global : (link key : ℕ) (name : List ℕ) → IsLineAt old at (lines.GlobalLabel link key name) next
         → Reaches pages old (before lift) stack contents next returns lift

@@ -1,6 +1,7 @@
 """The language of claims: what a comment before a label requires and ensures of registers, and in how many steps a function returns."""
 from __future__ import annotations
 
+import difflib
 import re
 from dataclasses import dataclass, field, replace
 from typing import Iterator, NoReturn, Union
@@ -322,6 +323,14 @@ class Reader:
         before = Sum(tuple((many, replace(atom, old=True)) for many, atom in count.parts), count.constant)
         return Steps(before, is_exact, self.text_from(first), line)
 
+    def unchanged(self) -> None:
+        """Reads `as before`, or `is unchanged` or `are unchanged`."""
+        if self.take("is", "are"):
+            self.want("unchanged")
+        else:
+            self.want("as")
+            self.want("before")
+
     def as_before(self, atom: Atom, first: int, line: int) -> Claim:
         """Returns the claim that a number is as before."""
         return Claim(Sum(((1, atom),)), "=", Sum(((1, replace(atom, old=True)),)), self.text_from(first), line)
@@ -336,12 +345,13 @@ class Reader:
             self.want("=")
             return [Named(name, self.want(*NAMED[name]), self.text_from(first), line)]
         left = self.sum()
-        if self.now().text == "as" and len(left.parts) == 1 and self.keyword != "requires":
-            self.want("as")
-            self.want("before")
-            return [self.as_before(next(left.atoms()), first, line)]
         atom = next(left.atoms(), None)
-        if self.now().text == "is" and atom and atom.lo is not None and left == Sum(((1, atom),)):
+        is_atom = atom is not None and left == Sum(((1, atom),))
+        follows = [token.text for token in self.tokens[self.at:self.at + 2]]
+        if atom and is_atom and self.keyword != "requires" and (follows[:1] == ["as"] or follows == ["is", "unchanged"]):
+            self.unchanged()
+            return [self.as_before(atom, first, line)]
+        if follows[:1] == ["is"] and atom and is_atom and atom.lo is not None:
             self.want("is")
             self.want("BCD")
             return [Decimal(atom, self.text_from(first), line)]
@@ -358,8 +368,7 @@ def others(reader: Reader, found: list[AnyClaim]) -> list[AnyClaim]:
     reader.want("other")
     named = [one for claim in found for one in claim.atoms() if not one.old]
     if reader.want("digits", "registers") == "registers":
-        reader.want("as")
-        reader.want("before")
+        reader.unchanged()
         addresses = {one.address for one in named if one.address is not None}
         return [Others(tuple(sorted(addresses)), reader.text_from(first), line)]
     reader.want("of")
@@ -367,8 +376,7 @@ def others(reader: Reader, found: list[AnyClaim]) -> list[AnyClaim]:
     atom = reader.atom(False)
     if (atom.lo, atom.hi) != (0, LAST_PLACE):
         reader.fail("a register without a field", word)
-    reader.want("as")
-    reader.want("before")
+    reader.unchanged()
     places = {place for one in named if (one.name, one.address) == (atom.name, atom.address) and one.lo is not None
               for place in range(one.lo, (one.hi or 0) + 1)}
     claims: list[AnyClaim] = []
@@ -429,6 +437,14 @@ def tokens_of(text: str, line: int, first: int) -> list[Token]:
     return [Token(found[0], line, found.start() + 1) for found in TOKEN.finditer(text, first)]
 
 
+def check_spelling(word: str, text: str, line: int, column: int) -> None:
+    """Raises an error if a comment begins with a misspelled keyword: one that is nearly a keyword, before something like a claim."""
+    near = difflib.get_close_matches(word.lower(), KEYWORDS, 1, 0.8)
+    claim = r"\b[A-Z]+\b" if near == ["decreases"] else r"[=<>]|\bis\b|\bas before\b|\bunchanged\b|\bsteps?\b|\blines?\b"
+    if near and re.search(claim, text):
+        raise Wrong(line, column, f"found `{word}`, expected `{near[0]}`, or another comment")
+
+
 def contract_before(lines: list[str], label: int) -> Contract | None:
     """Returns the contract in the comments directly before a line, which is counted from 0; None if there is none. A keyword begins a
     group of claims; a comment without a keyword continues it if the line before it ends with a comma."""
@@ -440,6 +456,8 @@ def contract_before(lines: list[str], label: int) -> Contract | None:
         found = COMMENT.match(lines[at])
         tokens = tokens_of(lines[at], at + 1, found.end() if found else 0)
         end = Token(END, at + 1, len(lines[at].rstrip()) + 1)
+        if found and not found[1] and tokens:
+            check_spelling(tokens[0].text, lines[at][found.end():], at + 1, tokens[0].column)
         if found and found[1]:
             groups.append((found[1], tokens, end))
         elif groups and groups[-1][1][-1:] and groups[-1][1][-1].text == "," and tokens:

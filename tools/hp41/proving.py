@@ -5,18 +5,21 @@ import os
 import re
 import shutil
 import subprocess
-from typing import NamedTuple
+from typing import Mapping, NamedTuple, Protocol
 
 from . import TOP
 from .crates import NAME
 from .decks import NO_ANSWER, Failure
 from .statements import CRATE
-from .theorems import Proof
 
 # Where ./bench prove --all keeps the libraries, and the crates that a theorem can name.
 LIBRARIES = f"{TOP}/crates/{NAME}/out/rlib"
 USED = ("h41_digits", "h41_lines", "h41_fields", "h41_arith", "h41_words", "h41_dis", "h41_asm", "h41_decimal", "h41_ram", "h41_pages",
         "h41_nut", "h41_laws_words", "h41_reasoning")
+# The same for theorems about programs, with the crates that these use.
+USED_BY_PROGRAMS = ("h41_digits", "h41_lines", "h41_fields", "h41_arith", "h41_words", "h41_dis", "h41_asm", "h41_ends", "h41_codes",
+                    "h41_text", "h41_keys", "h41_decimal", "h41_ram", "h41_show", "h41_pages", "h41_nut", "h41_program", "h41_labels",
+                    "h41_positions", "h41_numbers", "h41_plain_numbers", "h41_rows", "h41_focal", "h41_laws_words", "h41_reasoning_lines")
 ERROR = re.compile(r"\./(proofs/\S+|specs/\S+):(\d+):\d+: error: (.*)")
 OF_FUNCTION = re.compile(rf"fn {CRATE}::functions::of_(\w+): (.*)")
 PROVED = "logic=proved "
@@ -26,6 +29,11 @@ FOLLOWS = re.compile(r"declarations? that depends? on .* not checked")
 
 # What the prover says of a claim that does not follow.
 NO_DECISION = re.compile(r"`omega`: the goal does not follow from what it read")
+
+
+class Proof(Protocol):
+    """A proof that was written: for each line of its file its text, the source line to which it belongs, and the text of its claim."""
+    rows: list[tuple[str, int, str]]
 
 
 class Verdict(NamedTuple):
@@ -42,14 +50,14 @@ def library(folder: str, name: str) -> str:
     return of_rt if folder == LIBRARIES and not os.path.isdir(path) and os.path.isdir(of_rt) else path
 
 
-def missing(folder: str) -> list[str]:
+def missing(folder: str, used: tuple[str, ...] = USED) -> list[str]:
     """Returns the libraries that a folder lacks."""
-    return [name for name in USED if not os.path.isdir(library(folder, name))]
+    return [name for name in used if not os.path.isdir(library(folder, name))]
 
 
-def check_libraries(folder: str) -> None:
+def check_libraries(folder: str, used: tuple[str, ...] = USED) -> None:
     """Raises Failure if a library is missing."""
-    lacks = missing(folder)
+    lacks = missing(folder, used)
     if lacks:
         raise Failure(f"{folder}: the library {lacks[0]}.rlib is missing: make it with ./bench prove --all, or "
                       "try the claims without a proof with --try", NO_ANSWER)
@@ -64,11 +72,11 @@ def kit() -> str:
     return os.path.dirname(os.path.dirname(os.path.realpath(rt)))
 
 
-def command(folder: str) -> list[str]:
+def command(folder: str, used: tuple[str, ...]) -> list[str]:
     """Returns the command that proves the crate in the current folder."""
     top = kit()
     words = [f"{top}/bin/rattle", "check", "--crate-name", CRATE, "src/lib.rt", "--extern", f"std={top}/rlibs/std.rlib"]
-    paths = {name: library(folder, name) for name in USED}
+    paths = {name: library(folder, name) for name in used}
     for name, path in paths.items():
         words += ["--extern", f"{name}={path}"]
     for within in dict.fromkeys([*(os.path.dirname(path) for path in paths.values()), f"{top}/rlibs"]):
@@ -77,14 +85,14 @@ def command(folder: str) -> list[str]:
     return [*words, "--antt-project", f"{top}/rattle/logic/antt-project.json", "--logic-built", f"{top}/logic_built"]
 
 
-def prove(crate: str, libraries: str, proofs: dict[str, Proof]) -> Verdict:
+def prove(crate: str, libraries: str, proofs: Mapping[str, Proof], used: tuple[str, ...] = USED) -> Verdict:
     """Returns what the prover says of a crate in a folder."""
-    ran = subprocess.run(command(libraries), cwd=crate, stdin=subprocess.DEVNULL, stdout=subprocess.PIPE, stderr=subprocess.STDOUT,
+    ran = subprocess.run(command(libraries, used), cwd=crate, stdin=subprocess.DEVNULL, stdout=subprocess.PIPE, stderr=subprocess.STDOUT,
                          check=False)
     return verdict_of(ran.stdout.decode(errors="replace"), proofs)
 
 
-def verdict_of(text: str, proofs: dict[str, Proof]) -> Verdict:
+def verdict_of(text: str, proofs: Mapping[str, Proof]) -> Verdict:
     """Returns the verdict in the output of the prover."""
     lines = text.splitlines()
     is_judged = any(line.startswith("logic=") for line in lines)

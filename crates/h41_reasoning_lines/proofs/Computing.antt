@@ -1,6 +1,6 @@
 -- What functions of one number and of two compute, from the numbers in registers.
 use Rattle.std.proofs.Common.{◌≡◌, ℕ, Bool, true, false, List, [], ◌∷◌, Option, Some, None, Ok, refl, sym, ap, ◌∙◌, subst}
-use Rattle.std.specs.Prelude.{◌&&◌, int_le, int_lt, is_some, ℤ, pos, ◌+ℤ◌, ◌-ℤ◌, ◌*ℤ◌, unsigned_abs}
+use Rattle.std.specs.Prelude.{◌&&◌, int_le, int_lt, is_some, ℤ, pos, ◌+ℤ◌, ◌-ℤ◌, ◌*ℤ◌, neg_ℤ, unsigned_abs}
 use Rattle.std.specs.Option.{option_map_or}
 use Rattle.h41_decimal.specs.Holding.{Number, holding_of, number_in, worth}
 use Rattle.h41_decimal.specs.NearestDecimal.{Nearest}
@@ -12,7 +12,7 @@ use Rattle.h41_focal.specs.LineStep.{Works}
 use Rattle.h41_ram.specs.RegisterMap.{RegisterMap}
 use Rattle.h41_rows.specs.Places.{X, Y, amount_in, are_numbers}
 use Rattle.h41_rows.specs.RowEffects.{holds_in}
-use Rattle.h41_rows.specs.Rows.{AtMost, Below, In, of_x, of_y_and_x}
+use Rattle.h41_rows.specs.Rows.{AtMost, Below, In, Nought, compute, lifting_row, of_x, of_y_and_x}
 use Rattle.h41_rows.specs.Values.{IsRegisterOf}
 use Rattle.h41_rows.specs.Values as values
 use Rattle.h41_reasoning_lines.specs.Stacks.{Stack, with_stack}
@@ -130,6 +130,34 @@ module _ (stack : Stack) (memory : RegisterMap) (x : ℤ) (in_x : holding_of sta
             subst (λ (a : ℤ). Nearest (pos (unsigned_abs a)) 1 (Ok answer)) (sym (amount_of stack.x x in_x)) nearest;
         kept = is;
       }
+
+  -- CHS.
+  pub made_negative : Nearest (neg_ℤ x) 1 (Ok answer)
+      → Works (with_stack stack memory) 0 (record lifting_row { value = Some (values.Negative X); takes = compute X ∷ [] }) (Ok result)
+  made_negative nearest =
+      holding_true (is_some (number_in stack.x) && true) _ _ only_x
+      record {
+        answer = Ok answer;
+        nearest = subst (λ (a : ℤ). Nearest (neg_ℤ a) 1 (Ok answer)) (sym (amount_of stack.x x in_x)) nearest;
+        kept = is;
+      }
+
+-- Comparisons of X with zero.
+module _ (stack : Stack) (memory : RegisterMap) (x : ℤ) (in_x : holding_of stack.x ≡ Number x) where
+  pub comparable_x : are_numbers (with_stack stack memory) 0 (X ∷ []) ≡ true
+  comparable_x = both true (is_some (number_in stack.x)) refl (there (number_in stack.x) x (number_there stack.x x in_x))
+
+  -- X>0?
+  pub tells_positive : holds_in (with_stack stack memory) 0 (Below Nought (In X)) ≡ int_lt (pos 0) x
+  tells_positive = ap (λ (a : ℤ). int_lt (pos 0) a) (amount_of stack.x x in_x)
+
+  -- X<0?
+  pub tells_negative : holds_in (with_stack stack memory) 0 (Below (In X) Nought) ≡ int_lt x (pos 0)
+  tells_negative = ap (λ (a : ℤ). int_lt a (pos 0)) (amount_of stack.x x in_x)
+
+  -- X<=0?
+  pub tells_not_positive : holds_in (with_stack stack memory) 0 (AtMost (In X) Nought) ≡ int_le x (pos 0)
+  tells_not_positive = ap (λ (a : ℤ). int_le a (pos 0)) (amount_of stack.x x in_x)
 
 -- Comparisons of X and Y.
 module _ (stack : Stack) (memory : RegisterMap) (y x : ℤ) (in_y : holding_of stack.y ≡ Number y)

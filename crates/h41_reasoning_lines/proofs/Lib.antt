@@ -11,3 +11,7 @@ pub mod Programs
 pub mod Loads
 pub mod Registers
 pub mod DataRegisters
+pub mod ProgramStates
+pub mod ProgramSteps
+pub mod Errors
+pub mod SignedDecimals

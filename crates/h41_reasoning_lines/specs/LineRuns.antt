@@ -2,10 +2,11 @@
 use Rattle.std.specs.Prelude.{◌≡◌, ℕ, zero, suc, ◌+◌, ◌≤◌, List, [], ◌∷◌, true, false, reverse}
 use Rattle.std.specs.Prelude.{None, Ok}
 use Rattle.h41_focal.specs.LineStep.{Left, StepsLine, left_done}
-use Rattle.h41_focal.specs.Outcomes.{Done, Stopped}
+use Rattle.h41_focal.specs.Outcomes.{Done, Failed, Stopped}
 use Rattle.h41_pages.specs.PageMap.{PageMap}
 use Rattle.h41_positions.specs.FocalState.{Machine}
 use Rattle.h41_positions.specs.declared.position.Position.{Position}
+use Rattle.h41_rows.specs.declared.fault.LineFault.{LineFault}
 
 -- The line at the position of s is executed. It leaves t, and the program continues there.
 abbrev pub Continues : PageMap → Machine → Machine → Type 0
@@ -62,3 +63,7 @@ ReturnsTo (latest ∷ others) left = ReturnsAt latest others left
 -- stopped if none did.
 abbrev pub HasReturned : Machine → Left → Type 0
 HasReturned s left = ReturnsTo (reverse s.focal.returns) left
+
+-- A line had an error, which the display shows, and the program has stopped at it.
+abbrev pub HasFailed : LineFault → Left → Type 0
+HasFailed fault left = left.answer ≡ Failed fault

@@ -1,5 +1,6 @@
 -- Lines in program memory, as a theorem about a program requires them.
-use Rattle.std.specs.Prelude.{◌≡◌, ℕ, Bool, ◌||◌, List, ◌++◌, Some}
+use Rattle.std.specs.Prelude.{◌≡◌, ℕ, Bool, ◌||◌, List, [], ◌∷◌, ◌++◌, Some}
+use Rattle.h41_codes.specs.ByteGrammar.{spelling}
 use Rattle.h41_codes.specs.declared.line.Line.{Line}
 use Rattle.h41_program.specs.Edits.{lines_of}
 use Rattle.h41_program.specs.Lines.{is_end, is_final_end}
@@ -23,6 +24,11 @@ pub record HasProgram (memory : RegisterMap) (at : ℕ) (lines : List Line) : Ty
 pub record IsProgram (memory : RegisterMap) (at : ℕ) (lines : List Line) : Type 0 where
   pub has : HasProgram memory at lines
   pub begins : AnswersOf (start_in at) memory 0 at
+
+-- The bytes of lines.
+abbrev pub bytes_of_lines : List Line → List ℕ
+bytes_of_lines [] = []
+bytes_of_lines (line ∷ lines) = spelling line ++ bytes_of_lines lines
 
 -- GTO and XEQ with this name lead to this position: that of the last LBL with this name in memory.
 abbrev pub FindsName : RegisterMap → List ℕ → ℕ → Type 0

@@ -1,7 +1,9 @@
-"""Proves what comments before labels of a source claim, for every state of the calculator.
+"""Proves what comments before labels of a source or a program claim, for every state of the calculator.
 
 usage: tools/prove-module [--page P] [--try] [--keep FOLDER] [--libraries FOLDER] FILE.asm     (- is standard input)
        tools/prove-module [--try] [--keep FOLDER] [--libraries FOLDER] PROJECT
+       tools/prove-module [--try] [--keep FOLDER] [--libraries FOLDER] FILE.txt
+       tools/prove-module [--try] [--keep FOLDER] [--libraries FOLDER] FILE.raw CLAIMS.txt
 
 A label is a function that is proved if the comments directly before it claim something:
 
@@ -12,6 +14,14 @@ A label is a function that is proved if the comments directly before it claim so
 
 PROJECT is a project file of tools/module, whose name ends in .toml, or a folder with the file module.toml. The functions of all its pages
 and banks are proved, and they can call each other.
+
+FILE.txt is the listing of a keystroke program, with claims in the comments before its labels:
+    ; requires Y and X are numbers
+    ; ensures  X = old Y - old X, Y = old Z, or OUT OF RANGE
+    LBL "DIFF"
+    -
+    RTN
+FILE.raw has the bytes of a program. Its claims are in CLAIMS.txt: after the comments, a line there names the label.
 
 docs/PROVE-YOUR-MODULE.md explains the language of claims, and what a theorem says. First the bench calls each function from some
 states, to find states from which a claim is false. If there are none, the prover of the Rattle kit proves the claims. For each
@@ -33,6 +43,8 @@ from ..claims import Wrong
 from ..codes import Code, NotProved, Result
 from ..commandlines import Parser
 from ..decks import Failure, end_with_reader
+from ..lineprograms import is_program
+from ..lineproving import run_programs
 from ..linking import Linked
 from ..listing import add_project, add_source, in_order
 from ..misplaced import wrong_page
@@ -46,13 +58,16 @@ from ..trials import counterexamples
 def options_of(words: list[str]) -> argparse.Namespace:
     """Returns the options of a command line."""
     parser = Parser(prog="prove-module", add_help=False, allow_abbrev=False,
-                    usage="tools/prove-module [--page P] [--try] [--keep FOLDER] [--libraries FOLDER] FILE.asm or PROJECT")
+                    usage="tools/prove-module [--page P] [--try] [--keep FOLDER] [--libraries FOLDER] FILE.asm, PROJECT, FILE.txt, or "
+                          "FILE.raw CLAIMS.txt")
     parser.add_argument("--page")
     parser.add_argument("--try", action="store_true", dest="is_trial")
     parser.add_argument("--keep")
     parser.add_argument("--libraries", default=LIBRARIES)
-    parser.add_argument("file", metavar="FILE.asm")
+    parser.add_argument("file", metavar="FILE")
+    parser.add_argument("claims", metavar="CLAIMS.txt", nargs="?")
     options = parser.parse_args(words)
+    check_claims(options, parser)
     options.is_project = options.file.endswith(".toml") or os.path.isdir(options.file)
     if options.is_project and options.page:
         parser.error(f"--page {options.page}: the project file {options.file} has the pages: omit --page")
@@ -60,6 +75,18 @@ def options_of(words: list[str]) -> argparse.Namespace:
     if len(options.page) != 1 or options.page not in PAGES:
         parser.error(wrong_page(options.page))
     return options
+
+
+def check_claims(options: argparse.Namespace, parser: Parser) -> None:
+    """Checks that there is a file of claims for bytes of a program, and for no other file."""
+    is_raw = options.file.lower().endswith(".raw")
+    if is_raw and not options.claims:
+        parser.error(f"{options.file}: bytes have no comments: give a text with claims after it, as in prove-module {options.file} "
+                     "CLAIMS.txt")
+    if options.claims and not is_raw:
+        parser.error(f"found {options.claims} after {options.file}, expected one file: only FILE.raw has its claims in another file")
+    if is_program(options.file) and options.page:
+        parser.error(f"--page {options.page}: a program has no page: omit --page")
 
 
 def place_of(code: Code, line: int) -> str:
@@ -152,6 +179,8 @@ def main(words: list[str]) -> int:
     options = options_of(words)
     if options.keep and os.path.exists(options.keep):
         raise Failure(f"--keep {options.keep}: it exists already: choose another name")
+    if is_program(options.file):
+        return run_programs(options)
     if not options.is_trial:
         kit()
         check_libraries(options.libraries)

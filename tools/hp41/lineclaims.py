@@ -1,0 +1,327 @@
+"""The language of claims about keystroke programs: what comments before a label require and ensure of the stack and the data registers."""
+from __future__ import annotations
+
+import re
+from dataclasses import dataclass, field
+from decimal import Decimal
+from typing import NoReturn
+
+from .claims import CONDITIONS, END, Token, Wrong, check_spelling
+
+# The registers of the stack, and data registers such as R05.
+STACK = ("X", "Y", "Z", "T", "L")
+DATA = re.compile("R([0-9]{2})")
+LAST_DATA = 15
+
+NUMBER = re.compile(r"(?:[0-9]+\.?[0-9]*|\.[0-9]+)(?:E-?[0-9]{1,2})?")
+TOKEN = re.compile(rf"{NUMBER.pattern}|X\^2|[A-Za-z]+[0-9]*|<=|>=|<>|[-+*/=<>(),]|\S")
+LISTED = re.compile(r"[ \t]*(?:[0-9]{1,4}[.:)]?[ \t]+)?(?:#|;|//)[ \t]*")
+WORD = re.compile("[A-Za-z]+")
+
+# Functions of one number, in the form NAME(NUMBER).
+FUNCTIONS = {"ABS": "ABS", "CHS": "CHS", "X^2": "X^2"}
+ERRORS = ("OUT OF RANGE", "DATA ERROR")
+RELATIONS = ("<=", ">=", "<>", "=", "<", ">")
+OPPOSITE = {"<": ">=", ">=": "<", "<=": ">", ">": "<=", "=": "<>", "<>": "="}
+REGISTER = "a register (X Y Z T L, or R00 to R15)"
+NO_LOOP = {"invariant": "invariant", "decreases": "decreases"}
+
+
+@dataclass(frozen=True)
+class Term:
+    """A value: `old` and the name of a register before the program; `number` and the text of a number; `zero`; or an operation with its
+    terms, named as the calculator's function."""
+    op: str
+    args: tuple[Term, ...] = ()
+    name: str = ""
+
+    def text(self) -> str:
+        """Returns the term as a claim has it."""
+        if self.op == "old":
+            return f"old {self.name}"
+        if self.op in ("number", "zero"):
+            return self.name or "0"
+        if len(self.args) == 1:
+            return f"{self.op}({self.args[0].text()})"
+        return f"({self.args[0].text()} {self.op} {self.args[1].text()})"
+
+    def parts(self) -> list[Term]:
+        """Returns the term and the terms in it, each once, those in it first."""
+        found: list[Term] = []
+        for one in self.args:
+            found += [part for part in one.parts() if part not in found]
+        return [*found, self]
+
+
+def old(name: str) -> Term:
+    """Returns the value of a register before the program."""
+    return Term("old", (), name)
+
+
+ZERO = Term("zero")
+
+
+def plain(text: str) -> str:
+    """Returns a text in parentheses without them."""
+    return text[1:-1] if text.startswith("(") else text
+
+
+@dataclass(frozen=True)
+class Condition:
+    """A comparison of two terms: `<`, `<=` or `=`, and whether it is true or false."""
+    relation: str
+    left: Term
+    right: Term
+    is_true: bool = True
+
+
+def condition_of(left: Term, relation: str, right: Term) -> Condition:
+    """Returns the condition of a comparison."""
+    if relation in (">", ">="):
+        left, right = right, left
+        relation = {">": "<", ">=": "<="}[relation]
+    return Condition("=", left, right, False) if relation == "<>" else Condition(relation, left, right)
+
+
+@dataclass(frozen=True)
+class Equation:
+    """A claim that a register contains a value, perhaps under a condition. `text` is its text, `line` its line, counted from 1."""
+    register: str
+    value: Term
+    condition: Condition | None
+    text: str
+    line: int
+
+
+@dataclass
+class LineContract:
+    """The claims before a label. `line` is the line of the first of them."""
+    line: int
+    numbers: dict[str, int] = field(default_factory=dict)
+    in_range: list[tuple[Term, int]] = field(default_factory=list)
+    equations: list[Equation] = field(default_factory=list)
+    errors: list[str] = field(default_factory=list)
+    most: tuple[int, str, int] | None = None
+    is_lift_on: bool = False
+
+
+class LineReader:
+    """Reads the claims after one keyword."""
+
+    def __init__(self, keyword: str, tokens: list[Token], end: Token) -> None:
+        """Begins with the first word."""
+        self.keyword, self.tokens, self.end, self.at = keyword, tokens, end, 0
+
+    def now(self) -> Token:
+        """Returns the next word."""
+        return self.tokens[self.at] if self.at < len(self.tokens) else self.end
+
+    def fail(self, expected: str, at: Token | None = None) -> NoReturn:
+        """Raises the error that something else was expected."""
+        at = at or self.now()
+        found = END if at.text == END else f"`{at.text}`"
+        raise Wrong(at.line, at.column, f"found {found}, expected {expected}")
+
+    def take(self, *texts: str) -> str | None:
+        """Returns the next word and goes on, if it is one of these; otherwise None."""
+        if self.now().text in texts and self.at < len(self.tokens):
+            self.at += 1
+            return self.tokens[self.at - 1].text
+        return None
+
+    def want(self, *texts: str) -> str:
+        """Returns the next word, which must be one of these."""
+        return self.take(*texts) or self.fail(" or ".join(f"`{text}`" for text in texts))
+
+    def text_from(self, first: int) -> str:
+        """Returns the words from one on, with single spaces."""
+        text = " ".join(token.text for token in self.tokens[first:self.at])
+        return re.sub(r"(\w) \(", r"\1(", re.sub(r"\( ", "(", re.sub(r" ([),])", r"\1", text))) if "(" in text else text
+
+    def register(self) -> str:
+        """Returns the register that is next."""
+        word = self.now()
+        data = DATA.fullmatch(word.text)
+        if word.text not in STACK and not data:
+            self.fail(REGISTER)
+        if data and int(data[1]) > LAST_DATA:
+            self.fail("R00 to R15, because claims about other data registers are not supported")
+        self.at += 1
+        return word.text
+
+    def factor(self) -> Term:
+        """Returns a register, a number, a function or a sum in parentheses."""
+        word = self.now()
+        if self.take("-"):
+            found = self.factor()
+            if found.op != "number":
+                return Term("CHS", (found,))
+            return Term("number", (), found.name[1:] if found.name.startswith("-") else f"-{found.name}")
+        if NUMBER.fullmatch(word.text):
+            self.at += 1
+            return ZERO if Decimal(word.text) == 0 else Term("number", (), word.text)
+        if self.take("("):
+            found = self.sum()
+            self.want(")")
+            return found
+        if word.text in FUNCTIONS and self.take(word.text):
+            self.want("(")
+            found = self.sum()
+            self.want(")")
+            return Term(FUNCTIONS[word.text], (found,))
+        if self.keyword == "requires" and word.text == "old":
+            self.fail("no `old`, because `requires` is about the state before the program", word)
+        is_old = bool(self.take("old"))
+        if self.keyword == "ensures" and not is_old:
+            self.fail("`old` and a register, for example `old X`, or a number, ABS(..), CHS(..) or X^2(..)")
+        return old(self.register())
+
+    def product(self) -> Term:
+        """Returns products and quotients."""
+        found = self.factor()
+        while True:
+            sign = self.take("*", "/")
+            if not sign:
+                return found
+            found = Term(sign, (found, self.factor()))
+
+    def sum(self) -> Term:
+        """Returns sums and differences."""
+        found = self.product()
+        while True:
+            sign = self.take("+", "-")
+            if not sign:
+                return found
+            found = Term(sign, (found, self.product()))
+
+    def condition(self) -> Condition:
+        """Returns the condition that is next."""
+        left = self.sum()
+        relation = self.take(*RELATIONS) or self.fail("one of the signs = <> < <= > >=")
+        return condition_of(left, relation, self.sum())
+
+
+def read_requires(reader: LineReader, contract: LineContract) -> None:
+    """Reads a requirement: that registers contain numbers, that a result is in range, or that stack lift is on."""
+    first, line = reader.at, reader.now().line
+    if reader.take("stack"):
+        for word in ("lift", "is", "on"):
+            reader.want(word)
+        contract.is_lift_on = True
+        return
+    values = [reader.sum()]
+    while reader.take("and"):
+        values.append(reader.sum())
+    verb = reader.want("is", "are")
+    if verb == "is" and reader.take("in"):
+        reader.want("range")
+        if len(values) > 1 or not values[0].args:
+            reader.fail("one operation before `is in range`, for example `Y + X is in range`", reader.tokens[first])
+        contract.in_range.append((values[0], line))
+        return
+    if verb == "is" and not (reader.take("a") and reader.take("number")):
+        reader.fail("`a number` or `in range`")
+    if verb == "are":
+        reader.want("numbers")
+    for value in values:
+        if value.op != "old":
+            reader.fail(f"{REGISTER} before `is a number`", reader.tokens[first])
+        contract.numbers[value.name] = line
+
+
+def read_ensures(reader: LineReader, contract: LineContract) -> None:
+    """Reads what is claimed after the program: an equation, an error that is possible, or a number of lines."""
+    first, line = reader.at, reader.now().line
+    if reader.take("or"):
+        error = " ".join(token.text for token in reader.tokens[reader.at:reader.at + 3])
+        found = next((one for one in ERRORS if error.startswith(one)), None) or reader.fail("`OUT OF RANGE` or `DATA ERROR`")
+        reader.at += len(found.split())
+        contract.errors.append(found)
+    elif reader.take("within"):
+        word = reader.now()
+        if not word.text.isdigit():
+            reader.fail("a number of lines")
+        reader.at += 1
+        reader.want("lines", "line")
+        contract.most = int(word.text), reader.text_from(first), line
+    elif reader.take("other"):
+        reader.want("registers")
+        unchanged(reader)
+    elif not reader.take("returns"):
+        read_equation(reader, contract, first, line)
+
+
+def unchanged(reader: LineReader) -> None:
+    """Reads `as before`, or `is unchanged` or `are unchanged`."""
+    if reader.take("as"):
+        reader.want("before")
+    else:
+        reader.want("is", "are")
+        reader.want("unchanged")
+
+
+def read_equation(reader: LineReader, contract: LineContract, first: int, line: int) -> None:
+    """Reads the claim that a register contains a value, or that it is as before."""
+    name = reader.register()
+    if reader.now().text in ("as", "is"):
+        unchanged(reader)
+        value = old(name)
+    else:
+        if reader.now().text != "=":
+            reader.fail("`=`, or `as before`")
+        reader.want("=")
+        value = reader.sum()
+    condition = reader.condition() if reader.take("if") else None
+    contract.equations.append(Equation(name, value, condition, reader.text_from(first), line))
+
+
+def read_group(keyword: str, tokens: list[Token], end: Token, contract: LineContract) -> None:
+    """Reads the claims after one keyword."""
+    reader = LineReader(keyword, tokens, end)
+    while True:
+        {"requires": read_requires, "ensures": read_ensures}[keyword](reader, contract)
+        if reader.at == len(tokens):
+            return
+        if reader.now().text in CONDITIONS and keyword == "ensures" and reader.now().text != "or":
+            reader.fail("`,`: all claims of a list are true")
+        if reader.now().text != "or":
+            reader.want(",")
+
+
+def keyword_of(text: str, line: int, column: int) -> str | None:
+    """Returns the keyword with which a comment begins. A misspelled keyword is an error."""
+    word = WORD.match(text)
+    if not word:
+        return None
+    if word[0] in NO_LOOP:
+        raise Wrong(line, column, f"found `{word[0]}`, but loops of programs are not supported: prove the program up to the loop, or write "
+                    "the proof by hand, see Programs in docs/PROVE-YOUR-MODULE.md")
+    if word[0] in ("requires", "ensures"):
+        return word[0]
+    check_spelling(word[0], text, line, column)
+    return None
+
+
+def contract_before(lines: list[str], label: int) -> LineContract | None:
+    """Returns the contract in the comments directly before a line, which is counted from 0; None if there is none."""
+    first = label
+    while first and LISTED.match(lines[first - 1]):
+        first -= 1
+    groups: list[tuple[str, list[Token], Token]] = []
+    for at in range(first, label):
+        sign = LISTED.match(lines[at])
+        begin = sign.end() if sign else 0
+        keyword = keyword_of(lines[at][begin:], at + 1, begin + 1)
+        tokens = [Token(found[0], at + 1, found.start() + 1)
+                  for found in TOKEN.finditer(lines[at], begin + len(keyword or ""))]
+        end = Token(END, at + 1, len(lines[at].rstrip()) + 1)
+        if keyword:
+            groups.append((keyword, tokens, end))
+        elif groups and groups[-1][1][-1:] and groups[-1][1][-1].text == "," and tokens:
+            groups[-1] = groups[-1][0], groups[-1][1] + tokens, end
+    if not groups:
+        return None
+    contract = LineContract((groups[0][1] or [groups[0][2]])[0].line)
+    for keyword, tokens, end in groups:
+        read_group(keyword, tokens, end, contract)
+    return contract

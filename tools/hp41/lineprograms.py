@@ -1,0 +1,187 @@
+"""Reads a program and the claims about it: a listing with claims in its comments, or bytes with claims in a text beside them."""
+from __future__ import annotations
+
+import os
+from dataclasses import replace
+from typing import NamedTuple
+
+from .claims import Wrong
+from .decks import Failure, block, bytes_of, ended, hexadecimal, refused, run, shown
+from .functions import Functions
+from .lineclaims import LISTED, OPPOSITE, Condition, LineContract, contract_before, keyword_of, plain
+from .linesteps import Point
+from .linetheorems import Program
+from .lineterms import LABEL, LOCAL, ProgramLine
+from .listings import Listing
+from .memory import MAIN_START, Memory
+from .spellings import read_tables
+
+TOP = MAIN_START + 320
+# The lines after the program: RTN and .END.
+ADDED = 2
+# The first bytes of lines of two and of three bytes, whose last byte can be 00.
+TWO_BYTES, THREE_BYTES = (*range(0x90, 0xC0), 0xCE, 0xCF), range(0xC0, 0xF0)
+
+
+class Source(NamedTuple):
+    """A file with a program: its lines, its bytes, the path of the claims, and for each program line the number of its line in the file."""
+    path: str
+    lines: list[ProgramLine]
+    data: bytes
+    claims: str
+    texts: list[str]
+
+    def place(self, number: int) -> str:
+        """Returns the place of a program line."""
+        return f"{self.path}:{number}" if self.path == self.claims else f"{self.path}: line {number}"
+
+
+def is_program(path: str) -> bool:
+    """Returns whether a file is a program, by its name."""
+    return os.path.splitext(path)[1].lower() in (".txt", ".raw")
+
+
+def texts_in(path: str) -> list[str]:
+    """Returns the lines of a text."""
+    try:
+        return bytes_of(path).decode("utf-8-sig").splitlines()
+    except UnicodeDecodeError as error:
+        raise Failure(f"{path}: byte {error.object[error.start]:02X} is not valid UTF-8: save the file as UTF-8") from error
+
+
+def loading(path: str, texts: list[str]) -> tuple[bytes, list[int]]:
+    """Returns the block that loads the program of a file, and the numbers of its lines in the file."""
+    if path.lower().endswith(".raw"):
+        return block(b"load", hexadecimal(bytes_of(path))), []
+    listing = Listing(texts, functions=Functions(read_tables()))
+    if listing.bad:
+        number, line, why = listing.bad[0]
+        raise Failure(f"{path}:{number}: `{shown(line)}`: not a program line{f': {why}' if why else ''}")
+    found = [(number, text) for number, text in enumerate(listing.texts, 1) if text and not text.startswith("#")]
+    if not found:
+        raise Failure(f"{path}: found no program in it, expected a listing with claims before a label")
+    return block(b"program", [text.encode() for _, text in found]), [number for number, _ in found]
+
+
+def source_of(path: str, claims: str | None) -> Source:
+    """Reads a program. The bench lists its lines, and its bytes are those in the memory of the bench."""
+    texts = texts_in(claims or path)
+    deck, numbers = loading(path, texts)
+    deck = b"size 0\n" + deck
+    # Another program follows, because the bench replaces the last END of memory by .END.
+    status, output = run(deck + block(b"program", [b"RTN"]) + b"show lines\n" + Memory.command(TOP) + b"\n")
+    if status:
+        _, found = refused(deck)
+        why = found[0].refusal if found else ended(status, "when it was asked for the lines of the program")
+        raise Failure(f"{path}: the bench refuses the program: {why}")
+    rows = output.decode("latin-1").splitlines()
+    count = next(at for at, row in enumerate(rows) if row.endswith(" .END.")) + 1
+    places, listed = [int(row[:4]) for row in rows[:count]], [row[5:] for row in rows[:count]]
+    data = Memory([row[4:] for row in rows[count:]], TOP).program_bytes()
+    # An END that the bench has added after a listing is no line of it.
+    own = min(count - ADDED, len(numbers) or count)
+    lines = [ProgramLine(listed[at], numbers[at] if numbers else at + 1, without_nulls(data[places[at]:places[at + 1]]))
+             for at in range(own)]
+    return Source(path, lines, data[:places[count - ADDED]], claims or path, texts)
+
+
+def without_nulls(data: bytes) -> bytes:
+    """Returns the bytes of a line without the nulls after them."""
+    least = 2 if data[:1] and data[0] in TWO_BYTES else 3 if data[:1] and data[0] in THREE_BYTES else 1
+    return data[:least] + data[least:].rstrip(b"\0")
+
+
+def named(source: Source) -> list[tuple[int, str]]:
+    """Returns the lines of the claims that name labels, counted from 0, with the text of the line as the bench prints it."""
+    if source.path == source.claims:
+        return [(line.number - 1, line.text) for line in source.lines if LABEL.fullmatch(line.text) or LOCAL.fullmatch(line.text)]
+    return [(at, text.strip()) for at, text in enumerate(source.texts) if text.strip() and not LISTED.match(text)]
+
+
+def contracts_in(source: Source) -> list[tuple[int, str, LineContract]]:
+    """Returns the labels with claims: the place of the label in the lines of the claims, its text, and its claims."""
+    labels = named(source)
+    if source.path != source.claims:
+        known = [line.text for line in source.lines]
+        for at, text in labels:
+            if text not in known:
+                raise Wrong(at + 1, 1, f"found `{text}`, expected a comment, or a label of {source.path} as the bench lists it, for "
+                            f"example `{next((one for one in known if LABEL.fullmatch(one)), 'LBL')}`")
+    check_places(source, {at for at, _ in labels})
+    found = []
+    for at, text in labels:
+        contract = contract_before(source.texts, at)
+        if contract:
+            found.append((at, text, contract))
+    return found
+
+
+def check_places(source: Source, labels: set[int]) -> None:
+    """Checks that all claims are directly before a label."""
+    texts = source.texts
+    for at, text in enumerate(texts):
+        sign = LISTED.match(text)
+        keyword = keyword_of(text[sign.end():], at + 1, sign.end() + 1) if sign else None
+        after = next((more for more in range(at, len(texts)) if not LISTED.match(texts[more])), len(texts))
+        if keyword and sign and after not in labels:
+            raise Wrong(at + 1, sign.end() + 1, "these claims belong to no label, expected a line with a label directly after the comments")
+
+
+def programs_in(source: Source) -> list[tuple[int, Program]]:
+    """Returns the programs with claims, with the number of the line of each label."""
+    found = []
+    for at, text, contract in contracts_in(source):
+        name = LABEL.fullmatch(text)
+        if not name:
+            raise Wrong(at + 1, 1, f"found claims before `{text}`, expected them before a label with a name, for example LBL \"SUB\": "
+                        "claims about local labels are not supported")
+        first = next(place for place, line in enumerate(source.lines) if line.text == text)
+        is_start = not first or source.lines[first - 1].text == "END"
+        found.append((at + 1, Program(text[5:-1], source.lines[first:], contract, is_start)))
+    if not found:
+        raise Failure(f"{source.claims}: found no claims, expected a comment before a label, for example `; ensures X = old Y`")
+    return found
+
+
+class Mismatch(NamedTuple):
+    """A claim that does not follow from what the lines compute: its line, its text, and why."""
+    line: int
+    claim: str
+    why: str
+
+
+def mismatches(program: Program) -> list[Mismatch]:
+    """Returns the claims that do not follow from the values that the lines compute, with the state that is reached."""
+    found: dict[str, Mismatch] = {}
+    points = [program.walk.start]
+    while points:
+        point = points.pop()
+        points += reversed(point.after)
+        if point.kind != "end":
+            continue
+        for one, value, condition in program.equations:
+            reached = point.state.register(one.register)
+            if reached != value and not excluded(point, condition):
+                found.setdefault(one.text, Mismatch(one.line, one.text, f"at {program.lines[point.at].text}, line {point.at + 1} from the "
+                                                    f"label on, {one.register} contains {plain(reached.text())}{path_of(point)}"))
+    if program.contract.most and program.contract.most[0] < program.most:
+        _, text, line = program.contract.most
+        found[text] = Mismatch(line, text, f"the program takes up to {program.most} lines")
+    return list(found.values())
+
+
+def excluded(point: Point, condition: Condition | None) -> bool:
+    """Returns whether the condition of a claim is false on the path to a point."""
+    return condition is not None and any(fact.condition == replace(condition, is_true=not condition.is_true) for fact in point.facts)
+
+
+def path_of(point: Point) -> str:
+    """Returns the tests on the path to a point, for a message."""
+    tests = [compared(fact.condition) for fact in point.facts if fact.condition]
+    return f", if {' and '.join(tests)}" if tests else ""
+
+
+def compared(condition: Condition) -> str:
+    """Returns a condition as a claim has it."""
+    relation = condition.relation if condition.is_true else OPPOSITE[condition.relation]
+    return f"{plain(condition.left.text())} {relation} {plain(condition.right.text())}"

@@ -1,0 +1,198 @@
+"""Tries claims about programs on the bench: runs a program from states that meet its requirements, and compares what it leaves."""
+from __future__ import annotations
+
+import random
+import re
+from decimal import ROUND_HALF_UP, Context, Decimal
+from typing import NamedTuple
+
+from .decks import Failure, block, ended, hexadecimal, run
+from .lineclaims import Condition, Equation, Term
+from .linesteps import value_of
+from .linetheorems import Program
+from .settings import STACK, digits_of
+from .stubs import Sizes, stub_of
+from .values import text_of
+
+TRIALS, LIMIT, SEED, PAGE, SIZE, MEMORY = 60, 100_000, 41, "F", 16, 320
+DRAWS = 4_000
+EXACT = Context(prec=10, rounding=ROUND_HALF_UP, Emax=999_999, Emin=-999_999, traps=[])
+MOST, LEAST = 99, -99
+FEW = ("0", "1", "-1", "2", "3", "10", "0.5", "-2.5", "9999999999", "1E-99", "9.999999999E99", "-9.999999999E99", "123456.789", "7")
+TEXT = "10000000004142"
+# The name under which a state says that stack lift is off. Then X is 0, because CLX has turned it off.
+OFF = "off"
+SIZES = Sizes(MEMORY, SIZE)
+
+
+class Outcome(NamedTuple):
+    """How a program ended: the registers, the message of an error or an empty text, and whether it has ended."""
+    registers: dict[str, str]
+    error: str
+    has_ended: bool
+
+
+class FalseClaim(NamedTuple):
+    """A claim that is false: its line, its text, and a state from which it is false."""
+    line: int
+    claim: str
+    why: str
+
+
+class NoValue(Exception):
+    """An operation has no result: the message of the error."""
+
+
+def number_in(digits: str) -> Decimal | None:
+    """Returns the number in a register; None if it contains none."""
+    text = text_of(digits)
+    return None if text.startswith(("=", '"')) else Decimal(text)
+
+
+def rounded(value: Decimal) -> Decimal:
+    """Returns a result within the bounds of exponents, or raises NoValue."""
+    if value == 0 or value.adjusted() < LEAST:
+        return Decimal(0)
+    if value.adjusted() > MOST:
+        raise NoValue("OUT OF RANGE")
+    return value
+
+
+def value_in(term: Term, before: dict[str, str]) -> str:
+    """Returns the digits of the value of a term. Raises NoValue if it has none."""
+    if term.op == "old":
+        return before[term.name]
+    return digits_of(f"{amount_in(term, before):E}".replace("E+", "E")) or "?"
+
+
+def amount_in(term: Term, before: dict[str, str]) -> Decimal:
+    """Returns the number of a term. Raises NoValue if it has none."""
+    if term.op == "old":
+        found = number_in(before[term.name])
+        if found is None:
+            raise NoValue("ALPHA DATA")
+        return found
+    if term.op in ("number", "zero"):
+        return value_of(term.name or "0") or Decimal(0)
+    values = [amount_in(one, before) for one in term.args]
+    if term.op in ("CHS", "ABS"):
+        return -values[0] if term.op == "CHS" else abs(values[0])
+    if term.op == "/" and values[1] == 0:
+        raise NoValue("DATA ERROR")
+    operation = {"+": EXACT.add, "-": EXACT.subtract, "*": EXACT.multiply, "/": EXACT.divide, "X^2": EXACT.multiply}[term.op]
+    return rounded(operation(values[0], values[-1]))
+
+
+def is_true(condition: Condition, before: dict[str, str]) -> bool:
+    """Returns whether a condition is true before the program."""
+    if condition.relation == "=":
+        return (value_in(condition.left, before) == value_in(condition.right, before)) == condition.is_true
+    left, right = amount_in(condition.left, before), amount_in(condition.right, before)
+    return (left < right if condition.relation == "<" else left <= right) == condition.is_true
+
+
+class LineTrials:
+    """Trials of a program: states that meet the requirements, and what the bench does from them."""
+
+    def __init__(self, program: Program, data: bytes) -> None:
+        """Takes a program and the bytes of its file."""
+        self.program, self.data, self.random = program, data, random.Random(SEED)
+        names = {part.name for _, value, _ in program.equations for part in value.parts() if part.op == "old"}
+        self.names = sorted({*STACK, *names, *(f"R{number:02}" for number in program.used), *program.contract.numbers})
+
+    def draw(self) -> dict[str, str]:
+        """Returns a state that may not meet the requirements."""
+        found = {}
+        for name in self.names:
+            other = f"{self.random.randint(-10**6, 10**6)}E{self.random.randint(-9, 3)}"
+            text = self.random.choice(FEW) if self.random.random() < 0.6 else other
+            is_text = name not in self.program.contract.numbers and self.random.random() < 0.2
+            found[name] = TEXT if is_text else digits_of(text) or "0" * 14
+        if self.random.random() < 0.2:
+            found["Y"] = found["X"]
+        if not self.program.contract.is_lift_on and self.random.random() < 0.25:
+            found.update({"X": "0" * 14, OFF: ""})
+        return found
+
+    def meets(self, state: dict[str, str]) -> bool:
+        """Returns whether a state meets the requirements."""
+        try:
+            for term in self.program.walk.required:
+                amount_in(term, state)
+        except NoValue:
+            return False
+        return True
+
+    def states(self) -> list[dict[str, str]]:
+        """Returns states that meet the requirements."""
+        drawn = (self.draw() for _ in range(DRAWS))
+        found: list[dict[str, str]] = []
+        for state in drawn:
+            if len(found) < TRIALS and self.meets(state):
+                found.append(state)
+        return found
+
+    def address(self, name: str) -> int:
+        """Returns the address of a register."""
+        return STACK[name] if name in STACK else SIZES.address(int(name[1:]))
+
+    def outcomes(self, states: list[dict[str, str]]) -> list[Outcome]:
+        """Returns what the program leaves from some states."""
+        views = "".join(f"show ram {self.address(name):03x}\n" for name in self.names)
+        called = [f'XEQ "{self.program.label}"'.encode(), b"STOP"]
+        deck = b""
+        for state in states:
+            driver = [b"CLX", *called] if OFF in state else called
+            stub = stub_of({self.address(name): digits for name, digits in state.items() if name != OFF}, {}, None)
+            deck += (f"reset\nsize {SIZE}\n".encode() + block(b"load", hexadecimal(self.data)) + block(b"program", driver)
+                     + f"words {PAGE}\n{stub.text}end\ncall {PAGE}000\nstep {stub.steps}\nunplug {PAGE}\n".encode()
+                     + f"key R/S\nrun {LIMIT}\nshow display\n{views}".encode())
+        status, output = run(deck, str(MEMORY))
+        if status not in (0, 1):
+            raise Failure(ended(status, "when it was asked to try the claims"), 3)
+        return list(self.read(output.decode("latin-1").splitlines()))
+
+    def read(self, lines: list[str]) -> list[Outcome]:
+        """Returns the outcomes in the lines of the bench."""
+        found = []
+        starts = [at for at, line in enumerate(lines) if re.match(r"ran \d+ ", line)]
+        for at, end in zip(starts, [*starts[1:], len(lines)]):
+            own = [line for line in lines[at + 1:end] if not line.startswith("! ")]
+            error = next((one for one in ("ALPHA DATA", "DATA ERROR", "OUT OF RANGE", "NONEXISTENT") if own[:1] == [one]), "")
+            registers = dict(zip(self.names, (line[4:] for line in own[1:])))
+            refused = any(line.startswith("! ") for line in lines[at + 1:end])
+            found.append(Outcome(registers, error, lines[at].endswith("Idle") and not refused))
+        return found
+
+    def false_claims(self) -> tuple[int, list[FalseClaim]]:
+        """Returns how many states were tried, and for each claim that is false a state from which it is."""
+        states = self.states()
+        found: dict[str, FalseClaim] = {}
+        for state, outcome in zip(states, self.outcomes(states)):
+            for one in self.wrong(state, outcome):
+                found.setdefault(one.claim, one)
+        return len(states), list(found.values())
+
+    def wrong(self, state: dict[str, str], outcome: Outcome) -> list[FalseClaim]:
+        """Returns the claims that are false after a run."""
+        contract = self.program.contract
+        before = ", ".join(f"{name}={text_of(state[name])}" for name in self.names) + (" with stack lift off" if OFF in state else "")
+        if outcome.error and outcome.error not in contract.errors or not outcome.has_ended and not outcome.error:
+            why = f"it stops with {outcome.error}" if outcome.error else f"it has not returned after {LIMIT:,} lines"
+            return [FalseClaim(contract.line, "returns", f"from {before} {why}")]
+        if outcome.error:
+            return []
+        return [FalseClaim(one.line, one.text, f"from {before} {why}") for one, value, condition in self.program.equations
+                for why in self.difference(one, value, condition, state, outcome)]
+
+    @staticmethod
+    def difference(one: Equation, value: Term, condition: Condition | None, state: dict[str, str], outcome: Outcome) -> list[str]:
+        """Returns why an equation is false after a run; nothing if it is true."""
+        try:
+            if condition and not is_true(condition, state):
+                return []
+            wanted = value_in(value, state)
+        except NoValue as why:
+            return [f"the right side is {why}"]
+        left = outcome.registers[one.register]
+        return [] if left == wanted else [f"it leaves {one.register}={text_of(left)}: the right side is {text_of(wanted)}"]

@@ -21,7 +21,7 @@ use Rattle.h41_program.specs.declared.listed_line.ListedLine.{ListedLine}
 use Rattle.h41_program.specs.declared.refusal.ProgramRefusal.{ProgramRefusal}
 use Rattle.h41_program.proofs.SearchSteps.{start_in-behind, start_in-more}
 use Rattle.h41_ram.specs.RegisterMap.{RegisterMap, is_sound}
-use Rattle.h41_reasoning_lines.specs.Loads.{AreBytesOf, FirstLoadedIsProgram, LoadedIsProgram}
+use Rattle.h41_reasoning_lines.specs.Loads.{AreBytesOf, FirstLoadedIsProgram, LoadedIsProgram, PartsArePrograms}
 use Rattle.h41_reasoning_lines.specs.ProgramLines.{IsProgram}
 use Rattle.h41_reasoning_lines.proofs.Labels.{ends_before, find_none, none_late, reads_later}
 use Rattle.h41_reasoning_lines.proofs.Listed.{lines_from}
@@ -161,6 +161,27 @@ module _ (memory : RegisterMap) (sound : is_sound memory ≡ true) where
       let found =
       parts_of last.0 all (line ∷ lines) (are ∙ ap (λ (l : List Line). l ++ lines) last.1 ∙ append_assoc last.0 (line ∷ []) lines) in
       from_end all found.early found.late line lines reads (is_not_open (is_end line) closed) found.parts found.rest_is
+
+-- The first lines of a program.
+first_part : (memory : RegisterMap) (at : ℕ) (lines more : List Line) → IsProgram memory at (lines ++ more) → IsProgram memory at lines
+first_part memory at lines more program = record {
+  has = record {
+    listed = program.has.listed;
+    others = more ++ program.has.others;
+    from = program.has.from;
+    are = program.has.are ∙ append_assoc lines more program.has.others;
+  };
+  begins = program.begins;
+}
+
+pub parts_are_programs : PartsArePrograms
+parts_are_programs memory front lines others sound has shut =
+    let more : List Line = others ++ FinalEnd 0 0 ∷ [] in
+    let whole : lines_of has.0 ≡ front ++ (lines ++ more) =
+    has.2 ∙ append_assoc front (lines ++ others) (FinalEnd 0 0 ∷ [])
+    ∙ ap (λ (l : List Line). front ++ l) (append_assoc lines others (FinalEnd 0 0 ∷ [])) in
+    let found = program_after memory sound has.0 front (lines ++ more) (last_line front) (has.1.sound sound) whole refl shut in
+    (found.0, first_part memory found.0 lines more found.1)
 
 -- The memory after a load.
 done_gives : (memory new : RegisterMap) (bytes : List ℕ) (start : ℕ) (outcome : Result (RegisterMap × ℕ) ProgramRefusal)

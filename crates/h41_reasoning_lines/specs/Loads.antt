@@ -1,11 +1,12 @@
 -- Programs that the bench has loaded into memory.
-use Rattle.std.specs.Prelude.{◌≡◌, ℕ, List, [], ◌∷◌, ◌++◌, length, Some, Ok}
+use Rattle.std.specs.Prelude.{◌≡◌, ℕ, true, false, List, [], ◌∷◌, ◌++◌, length, Some, Ok}
 use Rattle.h41_codes.specs.declared.line.Line.{Line}
 use Rattle.h41_codes.specs.declared.line.Line.TheVariants.{FinalEnd}
-use Rattle.h41_program.specs.Edits.{Loads, before_end, loaded_of}
+use Rattle.h41_program.specs.Edits.{Loads, before_end, is_open, loaded_of}
+use Rattle.h41_program.specs.ProgramLaws.{HasLines}
 use Rattle.h41_program.specs.ProgramLines.{LinesFrom, Reads}
 use Rattle.h41_program.specs.declared.listed_line.ListedLine.{ListedLine}
-use Rattle.h41_ram.specs.RegisterMap.{RegisterMap}
+use Rattle.h41_ram.specs.RegisterMap.{RegisterMap, is_sound}
 use Rattle.h41_reasoning_lines.specs.ProgramLines.{IsProgram}
 
 -- Bytes are read as these lines. An END or .END. at the end of the bytes does not count.
@@ -34,3 +35,11 @@ FirstLoadedIsProgram =
     (memory new : RegisterMap) (bytes : List ℕ) (start : ℕ) (lines : List Line)
     → HasNoProgram memory → Loads memory new bytes (Ok start) → AreBytesOf lines bytes
     → (start ≡ 0) × IsProgram new start (lines ++ FinalEnd 0 0 ∷ [])
+
+-- Lines of memory are a program if an END is before them, or nothing. So each program stays one
+-- after others were loaded behind it.
+abbrev pub PartsArePrograms : Type 0
+PartsArePrograms =
+    (memory : RegisterMap) (front lines others : List Line) → is_sound memory ≡ true
+    → HasLines memory 0 (front ++ (lines ++ others)) → is_open front ≡ false
+    → (at : ℕ) × IsProgram memory at lines

@@ -3,6 +3,7 @@
 
 ghost use Rattle.h41_reasoning_lines.specs.LineRounds.{LineRunsJoin};
 ghost use Rattle.h41_reasoning_lines.specs.Loads.{FirstLoadedIsProgram, LoadedIsProgram};
+ghost use Rattle.h41_reasoning_lines.specs.Loads.{PartsArePrograms};
 
 use h41_program::laws::{changes_are_read, lists_are_determined};
 
@@ -13,9 +14,11 @@ pub fn line_runs_join()
 
 /// States that memory has the lines of bytes as a program, followed by `.END.`, after the bytes were loaded (`loaded`),
 /// and that the program begins at position 0, which the load returns, if memory had no program lines before (`first`).
+/// Lines of memory are a program if an END is before them, or nothing (`parts`).
 pub fn loaded_lines_are_program()
     ensures loaded { LoadedIsProgram }
     ensures first { FirstLoadedIsProgram }
+    ensures parts { PartsArePrograms }
 {
     changes_are_read();
     lists_are_determined();

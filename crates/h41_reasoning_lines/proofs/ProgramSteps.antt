@@ -286,4 +286,5 @@ module _ (pages : PageMap) (old : RegisterMap) (sixteen : length old.status ≡ 
       returns_back line = goes_back (returned pages lists same at next zero returns lift (there _ at next line))
 
       pub ends_back : (link marks : ℕ) → IsLineAt old at (lines.End link marks) next → Back pages (before lift)
-      ends_back link marks line = goes_back (ended pages lists same at next zero returns lift (lines.End link marks) refl (there _ at next line))
+      ends_back link marks line =
+          goes_back (ended pages lists same at next zero returns lift (lines.End link marks) refl (there _ at next line))

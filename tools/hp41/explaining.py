@@ -75,6 +75,10 @@ class Explained:
         name = operand.removeprefix("IND ")
         return not name or name in STACK_NUMBERS or re.fullmatch("[0-9]{1,2}", name) is not None
 
+    def is_refused(self) -> bool:
+        """Returns whether the bench refuses the step of a line or an instruction, whatever the state is."""
+        return not self.is_supported() or self.row is not None and "REFUSED" in self.row.changes
+
     def error(self) -> Optional[Error]:
         """Returns the error of a line, or the refusal of an instruction, that can be foreseen. Afterwards `unsure` is the line for which
         the bench must be asked, as Foreseen has it."""
@@ -108,7 +112,7 @@ class Explained:
         if error is None:
             return self.filled(self.row.sentence) + (" The result may be OUT OF RANGE." if self.unsure else "")
         done = self.filled(CUT.split(self.row.sentence)[0])
-        if self.is_word:
+        if self.is_word or error.message.endswith(")"):
             return f"{done}, but the step is refused as {error.message}: {error.cause}."
         ignored = "; flag 25 is set, so the error is ignored, and the flag is cleared"
         is_ignored = "25" in self.values.get("flags", "").split()

@@ -199,6 +199,8 @@ class Foreseen:
         inner = self.one.function(name[1:-1])
         if inner is None:
             return Error("NONEXISTENT", f"there is no label or function {name}")
+        if inner.is_refused():
+            return Error("NotInProfile (13)", f"{inner.text} is not supported")
         error = inner.error()
         self.unsure = inner.unsure
         return error

@@ -176,10 +176,11 @@ class Token:
 END = "the end of the claims"
 
 
-class Reader:
-    """Reads the claims after one keyword."""
+class WordReader:
+    """Reads the words after one keyword."""
 
     def __init__(self, keyword: str, tokens: list[Token], end: Token) -> None:
+        """Begins with the first word."""
         self.keyword, self.tokens, self.end, self.at = keyword, tokens, end, 0
         self.is_counting = False
 
@@ -206,6 +207,10 @@ class Reader:
         if found is None:
             self.fail(" or ".join(f"`{text}`" for text in texts))
         return found
+
+
+class Reader(WordReader):
+    """Reads the claims after one keyword."""
 
     def number(self) -> int | None:
         """Returns the number that is next: decimal in a number of steps, otherwise hexadecimal."""

@@ -4,9 +4,8 @@ from __future__ import annotations
 import re
 from dataclasses import dataclass, field
 from decimal import Decimal
-from typing import NoReturn
 
-from .claims import CONDITIONS, END, Token, Wrong, check_spelling
+from .claims import CONDITIONS, END, Token, WordReader, Wrong, check_spelling
 
 # The registers of the stack, and data registers such as R05.
 STACK = ("X", "Y", "Z", "T", "L")
@@ -105,33 +104,8 @@ class LineContract:
     is_lift_on: bool = False
 
 
-class LineReader:
-    """Reads the claims after one keyword."""
-
-    def __init__(self, keyword: str, tokens: list[Token], end: Token) -> None:
-        """Begins with the first word."""
-        self.keyword, self.tokens, self.end, self.at = keyword, tokens, end, 0
-
-    def now(self) -> Token:
-        """Returns the next word."""
-        return self.tokens[self.at] if self.at < len(self.tokens) else self.end
-
-    def fail(self, expected: str, at: Token | None = None) -> NoReturn:
-        """Raises the error that something else was expected."""
-        at = at or self.now()
-        found = END if at.text == END else f"`{at.text}`"
-        raise Wrong(at.line, at.column, f"found {found}, expected {expected}")
-
-    def take(self, *texts: str) -> str | None:
-        """Returns the next word and goes on, if it is one of these; otherwise None."""
-        if self.now().text in texts and self.at < len(self.tokens):
-            self.at += 1
-            return self.tokens[self.at - 1].text
-        return None
-
-    def want(self, *texts: str) -> str:
-        """Returns the next word, which must be one of these."""
-        return self.take(*texts) or self.fail(" or ".join(f"`{text}`" for text in texts))
+class LineReader(WordReader):
+    """Reads the claims about a program after one keyword."""
 
     def text_from(self, first: int) -> str:
         """Returns the words from one on, with single spaces."""

@@ -36,8 +36,8 @@ FirstLoadedIsProgram =
     → HasNoProgram memory → Loads memory new bytes (Ok start) → AreBytesOf lines bytes
     → (start ≡ 0) × IsProgram new start (lines ++ FinalEnd 0 0 ∷ [])
 
--- Lines of memory are a program if an END is before them, or nothing. So each program stays one
--- after others were loaded behind it.
+-- Lines of memory are a program if an END is before them, or nothing. So a program is still one if
+-- others are loaded after it.
 abbrev pub PartsArePrograms : Type 0
 PartsArePrograms =
     (memory : RegisterMap) (front lines others : List Line) → is_sound memory ≡ true

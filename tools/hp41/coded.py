@@ -2,19 +2,34 @@
 import re
 from functools import lru_cache
 
+from .explaining import is_function
 from .records import length_at
-from .typed import NoKeys, line_keys
+from .typed import NoKeys, is_number, line_keys
 
 # Bytes of which each is a digit, a sign, a point or an exponent of a number.
 NUMBER = re.compile(rb"[\x10-\x1c]+")
 
 ENDS = ("END", ".END.")
 
+# The texts of number lines and of XROM lines, and of XEQ with a name.
+NUMBER_LINE, MODULE, NAMED = re.compile(r"[0-9.E+-]{2,}|[0-9.E]|NEG.*"), re.compile("XROM .*"), re.compile('XEQ "(.*)"')
+# The most digits of a number that keys type.
+MOST_DIGITS = 10
+
 
 def bytes_at(data: bytes, at: int, end: int) -> bytes:
     """Returns the bytes of the line that begins at `at`, without the nulls after it. The next line begins at `end`."""
     number = NUMBER.match(data, at, end)
     return data[at:min(number.end() if number else at + length_at(data, at), end)] if at < len(data) else b""
+
+
+def has_keys(text: str) -> bool:
+    """Returns whether keys may type a line: not if they would type another number, or the function itself in place of XEQ and its name, or
+    if the line calls a function of a module by its number."""
+    if NUMBER_LINE.fullmatch(text):
+        return is_number(text) and len(re.findall("[0-9]", text.partition("E")[0])) <= MOST_DIGITS
+    named = NAMED.fullmatch(text)
+    return not MODULE.fullmatch(text) and not (named and is_function(named[1]))
 
 
 @lru_cache(maxsize=4096)
@@ -24,7 +39,7 @@ def keys_of(text: str) -> str:
         # GTO . . adds an END to the last program.
         return "SHIFT RCL . ." if text == "END" else ""
     try:
-        return " ".join(line_keys(text))
+        return " ".join(line_keys(text)) if has_keys(text) else ""
     except NoKeys:
         return ""
 

@@ -56,6 +56,12 @@ def row_of(text: str, kind: str) -> tuple[Optional[Row], Optional[re.Match[str]]
     return None, None
 
 
+def is_function(name: str) -> bool:
+    """Returns whether the calculator itself has a function of a name, without an operand."""
+    _, found = row_of(name, "lines")
+    return found is not None and not found.re.groups and not NO_FUNCTION.fullmatch(name)
+
+
 class Explained:
     """A text with the values before its step, and the sentence about it. The carry after the step is named if it is known. `is_over` is
     whether the bench finds the result out of range; None if it was not asked."""
@@ -89,8 +95,7 @@ class Explained:
 
     def function(self, name: str) -> Optional["Explained"]:
         """Returns the calculator's own function of a name, as its line; None if it has none."""
-        one = Explained(name, self.values, False, self.after, self.around, self.is_over)
-        return one if one.found and not one.found.re.groups and not NO_FUNCTION.fullmatch(name) else None
+        return Explained(name, self.values, False, self.after, self.around, self.is_over) if is_function(name) else None
 
     def called(self) -> Optional["Explained"]:
         """Returns the calculator's own function that a line calls by its name; None if it calls none, or if this is not known."""
@@ -218,7 +223,7 @@ class Explained:
             known = self.after.get("CY")
         elif known is None:
             known = "0"
-        return f"the carry will be {known}" if known else ("the carry will be the answer" if self.text[0] == "?" else
+        return f"the carry will be {self.filled(known)}" if known else ("the carry will be the answer" if self.text[0] == "?" else
                                                               "the carry will be what the last digit carries")
 
     def part_wanted(self) -> str:

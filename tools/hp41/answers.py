@@ -294,7 +294,10 @@ class Answers:
 
     def returning(self, asked: Request) -> Reply:
         """Returns whether the return addresses of the program in a state are found, and these; None if they cannot be found."""
-        number = self.state_in(asked)
+        number = int(asked["state"])
+        if not 0 <= number <= self.desk.history.end:
+            # The session was begun anew after the page had shown the state.
+            return {"done": True, "returns": None}
         try:
             if self.returns is None or self.returns.key != (self.desk.number, number):
                 if self.returns:

@@ -157,13 +157,13 @@ function showReturns(state) {
     fill("returns", "RTN returns to ", ...found.flatMap((place, at) => [at ? ", then to " : "", make("code", {}, name(place))]));
   }
   clearTimeout(searching);
-  if (isFound || isGone || waits || state.pos[0].startsWith("Micro") || linesOf(state)[0].length < 2) return;
+  if (isFound || isGone || (driver && waits) || state.pos[0].startsWith("Micro") || linesOf(state)[0].length < 2) return;
   searching = setTimeout(() => findReturns(number).catch(() => {}), 150);
 }
 
 async function findReturns(number) {
   const of = session;
-  const isShown = () => of === session && number === (shown ?? lastNumber()) && !waits && !isGone;
+  const isShown = () => of === session && number === (shown ?? lastNumber()) && !(driver && waits) && !isGone;
   while (isShown()) {
     const answer = await ask({ do: "returns", state: number });
     if (answer.done === false) continue;

@@ -149,11 +149,13 @@ class Answers:
         return answer
 
     def lesson_told(self, is_known: bool) -> Optional[Reply]:
-        """Returns the lesson: its name and position, and its parts if the page does not have them; None without a lesson."""
+        """Returns the lesson: its name and position, for each part the number of its entry in the session, None if it was not begun and -1
+        if its entry was replaced, and the parts if the page does not have them; None without a lesson."""
         lesson = self.desk.lesson
         if lesson is None:
             return None
-        told: Reply = {"name": lesson.name, "title": lesson.title, "at": lesson.at()}
+        told: Reply = {"name": lesson.name, "title": lesson.title, "at": lesson.at(),
+                       "numbers": [part.entry.number if part.entry else None for part in lesson.parts]}
         if not is_known or lesson.is_split:
             told["parts"] = [[part.shown(), part.is_command, part.paragraphs()] for part in lesson.parts]
         return told

@@ -11,8 +11,9 @@ NUMBER = re.compile(rb"[\x10-\x1c]+")
 
 ENDS = ("END", ".END.")
 
-# The texts of number lines and of XROM lines, and of XEQ with a name.
-NUMBER_LINE, MODULE, NAMED = re.compile(r"[0-9.E+-]{2,}|[0-9.E]|NEG.*"), re.compile("XROM .*"), re.compile('XEQ "(.*)"')
+# The texts of number lines, of XEQ with a name, and of lines for which keys type another line: a label of one letter becomes a local one.
+NUMBER_LINE, NAMED = re.compile(r"[0-9.E+-]{2,}|[0-9.E]|NEG.*"), re.compile('XEQ "(.*)"')
+WITHOUT_KEYS = re.compile('XROM .*|(?:LBL|GTO|XEQ) "[A-J]"|LBL IND .*')
 # The most digits of a number that keys type.
 MOST_DIGITS = 10
 
@@ -24,12 +25,11 @@ def bytes_at(data: bytes, at: int, end: int) -> bytes:
 
 
 def has_keys(text: str) -> bool:
-    """Returns whether keys may type a line: not if they would type another number, or the function itself in place of XEQ and its name, or
-    if the line calls a function of a module by its number."""
+    """Returns whether keys may type a line: not if they would type another number, or the function itself in place of XEQ and its name."""
     if NUMBER_LINE.fullmatch(text):
         return is_number(text) and len(re.findall("[0-9]", text.partition("E")[0])) <= MOST_DIGITS
     named = NAMED.fullmatch(text)
-    return not MODULE.fullmatch(text) and not (named and is_function(named[1]))
+    return not WITHOUT_KEYS.fullmatch(text) and not (named and is_function(named[1]))
 
 
 @lru_cache(maxsize=4096)
@@ -39,9 +39,12 @@ def keys_of(text: str) -> str:
         # GTO . . adds an END to the last program.
         return "SHIFT RCL . ." if text == "END" else ""
     try:
-        return " ".join(line_keys(text)) if has_keys(text) else ""
+        keys = line_keys(text) if has_keys(text) else []
     except NoKeys:
         return ""
+    # Only the name of a function without an operand is typed in letters.
+    is_other = keys[:2] == ["XEQ", "ALPHA"] and not text.startswith("XEQ ") and not is_function(text)
+    return "" if is_other else " ".join(keys)
 
 
 def coded(lines: list[tuple[int, str]], data: bytes) -> list[list[str]]:

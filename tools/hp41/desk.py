@@ -215,8 +215,9 @@ class Desk:
         if entry is None:
             if self.log and self.log[-1].reply == [NO_END]:
                 self.history.withdraw(len(self.log))
-                self.log.pop()
+                self.log.pop().number = -1
             entry = part.entry = Entry(part.text, part.is_repeated)
+            entry.number = len(self.log)
             self.log.append(entry)
         if part.is_open:
             # The bench would wait for the `end`. At the end of its input it would print this refusal.
@@ -364,7 +365,7 @@ class Desk:
                 "breaks": sorted([kind, place] for kind, place in self.breaks), "spells": spells,
                 "label": self.labels.of(self.views["pos"][0].split()[1]) if self.views["listing"] else "",
                 "last": self.log[-1].told() if self.log else ["", []], "entries": len(self.log),
-                "doing": (self.doing() or b"").decode(), **self.explained()}
+                "doing": (self.doing() or b"").decode() if self.queue and self.queue[0].left else "", **self.explained()}
 
     def explained(self) -> dict[str, str]:
         """Returns what the next instruction or line is, what it does, in a sentence, and the name of a register that it changes; empty

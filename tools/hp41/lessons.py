@@ -114,10 +114,9 @@ class OpenLesson:
 
     def kept(self, entries: list[Entry], steps: int) -> KeptLesson:
         """Returns the lesson as it was after some first entries of the session. Of the last one only some steps were made; 0 means all."""
-        numbers = {id(entry): number for number, entry in enumerate(entries)}
         parts: list[tuple[bytes, bool, Optional[int]]] = []
         for part in self.parts:
-            number = None if part.entry is None else numbers.get(id(part.entry))
+            number = part.entry.number if part.entry and 0 <= part.entry.number < len(entries) else None
             done, rest = part.parted(steps) if steps and number == len(entries) - 1 else (part.text, None)
             parts.append((done, part.is_command, number))
             parts += [] if rest is None else [(rest, True, None)]

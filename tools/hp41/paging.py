@@ -5,16 +5,16 @@ from typing import Callable, Iterable
 
 from .coded import coded
 from .decks import Failure, answered, block, hexadecimal
-from .programs import whole_lines
-from .records import ends_of
+from .programs import loadable, pieces_of, whole_lines
+from .records import ends_of, lines_in
 
 PAGE_SIZE = 4096
 
-# How many bytes of programs the memory of the bench beside gets at a time.
-MOST_BYTES = 2000
-
 # The first word of a table entry for a keystroke program, without the digit of its page.
 KEYSTROKES = 0x200
+
+# The bit of the third byte of an END that makes it an .END.
+LAST = 0x20
 
 # The bytes of a program with one label.
 NEXT = bytes.fromhex("02C0000D")
@@ -43,31 +43,41 @@ def programs_of(words: list[int]) -> list[tuple[int, bytes]]:
         if start < end:
             continue
         data = bytes(word & 0xFF for word in words[start:])
-        ends = ends_of(data)
-        data = data[:ends[0]] if ends else data.rstrip(b"\0")
+        ends = ends_of(data) or [end for _, end in lines_in(data)[-1:]]
+        data = data[:ends[0] if ends else 0]
         found.append((start, data))
         end = start + len(data)
     return found
 
 
-def answers_to(programs: list[bytes]) -> list[tuple[list[bytes], list[bytes]]]:
-    """Returns what the bench replies to `load` and `show lines` for each of some programs."""
-    deck = b"".join(b"reset\nsize 0\n" + block(b"load", hexadecimal(data)) + b"show lines\n" for data in programs)
-    replies = [answer for _, _, answer in answered(deck)[1]]
-    return list(zip(replies[2::4], replies[3::4]))
+def with_end(data: bytes) -> bytes:
+    """Returns the bytes of a program with an END in place of an .END. at their end, because `load` refuses an .END. before other lines."""
+    return data[:-1] + bytes([data[-1] & ~LAST]) if ends_of(data) else data
+
+
+def texts_of(programs: list[bytes]) -> list[list[str]]:
+    """Returns the texts of the lines of programs, as the bench lists them."""
+    pieces = [(number, piece) for number, data in enumerate(programs) for piece in pieces_of(data)]
+    # The bench replaces the last END by `.END.`, and so another program follows.
+    deck = b"".join(b"reset\nsize 0\n" + block(b"load", hexadecimal(piece + NEXT)) + b"show lines\n" for _, piece in pieces)
+    found: list[list[str]] = [[] for _ in programs]
+    for (number, _), (_, _, answer) in zip(pieces, answered(deck)[1][3::4]):
+        found[number] += [line[5:].decode("latin-1") for line in answer[:-2]]
+    return found
 
 
 def listed(page: str, programs: list[tuple[int, bytes]]) -> list[list[str]]:
-    """Returns the lines of programs: the address, the text, the number and the bytes of each. The texts are those that the bench lists."""
-    starts, parts = [start for start, _ in programs], [data[:MOST_BYTES] for _, data in programs]
-    # The bench replaces the last END by `.END.`, and so another program follows.
+    """Returns the lines of programs: the address, the text, the number and the bytes of each. The texts are those that the bench lists. The
+    addresses are not, because memory has other nulls between lines than the page."""
+    wholes = [with_end(data) for _, data in programs]
     # Bytes that are no line end a program.
-    parts = [data[:whole_lines(data)] if refusal else data for data, (refusal, _) in zip(parts, answers_to(parts))]
+    parts = [data if is_good else data[:whole_lines(data)] for data, is_good in zip(wholes, loadable(wholes))]
     lines: list[list[str]] = []
-    for start, data, (_, answer) in zip(starts, parts, answers_to([data + NEXT for data in parts])):
-        texts = [(place, text) for place, text in ((int(line[:4]), line[5:].decode("latin-1")) for line in answer) if place < len(data)]
-        lines += [[f"{page}{start + place:03X}", text, number, code]
-                  for (place, text), (number, code, _) in zip(texts, coded(texts, data))]
+    for (start, data), part, texts in zip(programs, parts, texts_of(parts)):
+        texts = [f".{text}." if text == "END" and data[end - 1] & LAST else text for (_, end), text in zip(lines_in(part), texts)]
+        placed = [(at, text) for (at, _), text in zip(lines_in(part), texts)]
+        lines += [[f"{page}{start + at:03X}", text, number, code]
+                  for (at, text), (number, code, _) in zip(placed, coded(placed, data))]
     return lines
 
 

@@ -105,6 +105,8 @@ class Entry:
     def __init__(self, text: bytes, is_repeated: bool = False) -> None:
         """Begins with an empty reply."""
         self.text, self.is_repeated = text, is_repeated
+        # The number of the entry in the session; -1 if it is not in the session, for example because it was replaced.
+        self.number = -1
         self.reply: list[str] = []
         self.key: Optional[str] = None
         # How many lines were dropped. They were between the first FIRST_LINES lines and the others.

@@ -176,17 +176,23 @@ def piece_of(data: bytes) -> int:
     return length
 
 
+def pieces_of(data: bytes) -> list[bytes]:
+    """Splits whole lines, which may be too long for memory, into pieces that fit."""
+    pieces, at = [], 0
+    while at < len(data):
+        pieces.append(data[at:at + (piece_of(data[at:]) or PIECE)])
+        at += len(pieces[-1])
+    return pieces
+
+
 def listed_in_pieces(data: bytes) -> Optional[list[str]]:
     """Returns the texts of whole lines, which may be too long for memory; None if an .END. is among them."""
     texts: list[str] = []
-    at = 0
-    while at < len(data):
-        piece = data[at:at + (piece_of(data[at:]) or PIECE)]
+    for piece in pieces_of(data):
         found = listed(piece + RTN)
         if found is None:
             return None
         texts += found[:-2]
-        at += len(piece)
     return texts
 
 

@@ -8,6 +8,8 @@ PROGRAM, LISTING, DATA, OTHER, IMAGE = "raw", "listing", "data", "other", "image
 
 END = bytes.fromhex("C0000D")
 LETTERS = re.compile(rb"[\x20-\x7e]*")
+# The bytes of a number: digits, signs, points and exponents.
+NUMBER = re.compile(rb"[\x10-\x1c]{1,16}")
 
 
 class Damaged(Exception):
@@ -58,6 +60,18 @@ def length_at(data: bytes, at: int) -> int:
         third = data[at + 2] if at + 2 < len(data) else 0
         return 3 + (third & 0xF if third >= 0xF0 else 0)
     return 3 if first < 0xF0 else 1 + (first & 0xF)
+
+
+def lines_in(data: bytes) -> List[Tuple[int, int]]:
+    """Returns where each line of some bytes begins and ends. Nulls between lines belong to none. A number has up to 16 bytes."""
+    found, at = [], 0
+    while at < len(data):
+        number = NUMBER.match(data, at)
+        end = number.end() if number else at + length_at(data, at)
+        if data[at]:
+            found.append((at, end))
+        at = end
+    return found
 
 
 def is_end(data: bytes, at: int) -> bool:

@@ -69,7 +69,7 @@ async function pressNow(names) {
   if (names.length) forget();
   for (const name of names) {
     if (isGone) return;
-    if (name === "R/S" && driver && waits) await ask({ do: "stop" });
+    if (name === "R/S" && isChanging()) await ask({ do: "stop" });
     const before = present();
     reasons[entries.length] = unsupported[before.shift ? `SHIFT ${name}` : name];
     await ask({ do: "give", deck: `key ${name}\n`, first: true });

@@ -43,25 +43,30 @@ async function makeNext(how) {
   if (how !== "step") await drive();
 }
 
-/** Returns the place of the next command of the lesson, and of its first part that was not executed. */
-function placeInLesson() {
-  const begun = Math.max(0, lesson.at - waits);
-  return [begun, lesson.parts.findIndex(([, isCommand], at) => at >= begun && isCommand)];
+/** Returns whether a part of the lesson had been executed as a whole in a state. */
+function isExecuted(number, state) {
+  const entry = lesson.numbers[number];
+  return entry !== null && entry < state.entries - (state.doing ? 1 : 0);
 }
+
+/** Returns the number of the part that is the next command of the lesson in a state; -1 at the end of the lesson. */
+const nextIn = (state) => lesson.parts.findIndex(([, isCommand], number) => isCommand && !isExecuted(number, state));
 
 /** Returns the text of the next command of the lesson; an empty text at its end. */
 function currentCommand() {
-  const [, current] = placeInLesson();
+  const current = nextIn(present());
   return current < 0 ? "" : lesson.parts[current][0].trim();
 }
 
-/** Returns a paragraph with the number of steps that were made of a command, if it is executed in pieces. */
-function stepsMade(text) {
-  const [all, made] = [text, doing ?? ""].map((one) => /^(?:step|trace) (\d+)$/.exec(one.trim())?.[1]);
+/** Returns a paragraph with the number of steps that had been made of the next command in a state, if it is executed in pieces. */
+function stepsMade(number, state) {
+  if (lesson.numbers[number] !== state.entries - 1) return [];
+  const [all, made] = [lesson.parts[number][0], state.doing].map((one) => /^(?:step|trace) (\d+)$/.exec(one.trim())?.[1]);
   return all && made ? [make("p", { class: "none" }, `${made} of ${all} steps were made`)] : [];
 }
 
-function showLesson() {
+/** Shows the lesson with its next command in a state. The buttons execute the next command in the last state. */
+function showLesson(state) {
   // The large page with its lesson would have an empty half without one.
   if (!lesson && by("large").checked && by("panel").value === "lesson") return choosePanel("trace-panel");
   by("lesson").hidden = !lesson;
@@ -70,23 +75,19 @@ function showLesson() {
   if (!lesson) return;
   const number = lessonNames.indexOf(lesson.name);
   by("lesson").querySelector("h2").textContent = `${number + 1} of ${lessonNames.length}: ${lesson.title}`;
-  const [begun, current] = placeInLesson();
-  // The entries of the session that belong to parts of the lesson, in their order.
-  let at = 0;
+  const current = nextIn(state);
   fill("parts", ...lesson.parts.map(([text, isCommand, paragraphs], number) => {
-    const isIts = (entry, place) => place >= at && entry.text === text.replace(/\n$/, "");
-    const found = number < lesson.at ? entries.findIndex(isIts) : -1;
-    const reply = entries[found]?.reply ?? [];
-    if (found >= 0) at = found + 1;
-    const kinds = [!isCommand && "comment", number < begun && "done", number === current && "next"];
+    const entry = lesson.numbers[number] ?? -1;
+    const reply = entry >= 0 && entry < sessionEnd(state) ? commandIn(state, entry).reply : [];
+    const kinds = [!isCommand && "comment", isExecuted(number, state) && "done", number === current && "next"];
     return make("li", { class: kinds.filter(Boolean).join(" "), "aria-current": number === current ? "step" : null },
       ...(isCommand ? [make("pre", {}, text.replace(/\n+$/, ""))] : []),
       ...paragraphs.map((words) => make("p", { class: /^\s/.test(words) ? "set-in" : "" }, words)),
-      ...(number === current && waits ? stepsMade(text) : []),
+      ...(number === current ? stepsMade(number, state) : []),
       ...(reply.length ? [make("pre", { class: "reply" }, reply.join("\n"))] : []));
-  }), ...(current < 0 && !waits ? [make("li", { class: "comment" }, make("p", {}, "This is the end of the lesson."))] : []));
+  }), ...(current < 0 ? [make("li", { class: "comment" }, make("p", {}, "This is the end of the lesson."))] : []));
   reveal(by("parts"), by("parts").querySelector(".next") || by("parts").lastElementChild);
-  for (const id of ["next-step", "next-command", "next-all", "lesson-step"]) by(id).disabled = current < 0 || isGone;
+  for (const id of ["next-step", "next-command", "next-all", "lesson-step"]) by(id).disabled = nextIn(present()) < 0 || isGone;
   by("lesson-before").disabled = number <= 0 || isGone;
   by("lesson-after").disabled = number < 0 || number === lessonNames.length - 1 || isGone;
 }

@@ -15,16 +15,19 @@ const looked = () => [stateAt(shown ?? lastNumber()), stateAt((shown ?? lastNumb
 
 const isOpen = (id) => by(id).open;
 
+/** Returns whether this page has commands executed, one piece after the other. Between the steps of a lesson, commands may wait too. */
+const isChanging = () => driver !== null && waits > 0;
+
 function show() {
   if (!past.length) return;
   const [state, before] = looked();
-  if (!(driver && waits) || mayChange()) showDisplay(state.display[0]);
+  if (!isChanging() || mayChange()) showDisplay(state.display[0]);
   showLights(state);
   showPast();
   by("stop").disabled = !(waits || present().program || goal !== null) || isGone;
   by("run").textContent = waits && !driver ? "Continue" : "Run";
   by("pos").textContent = state.pos[0];
-  document.body.classList.toggle("busy", driver !== null && waits > 0);
+  document.body.classList.toggle("busy", isChanging());
   document.body.classList.toggle("micro", state.pos[0].startsWith("Micro"));
   showNext(state);
   showBreakpoints();
@@ -41,7 +44,7 @@ function show() {
   by("alpha").textContent = state.alpha[0];
   by("alpha").classList.toggle("changed", state.alpha[0] !== before.alpha[0]);
   showSession(state);
-  showLesson();
+  showLesson(state);
 }
 
 /** Shows what is executed next, and whether this is only when a program runs. */
@@ -60,7 +63,7 @@ function showLights(state) {
   const lit = lights.filter(([, isLit]) => isLit).map(([name]) => name);
   const said = `${state.display[0].trim() || "empty display"}${lit.length ? ` (${lit.join(" ")})` : ""}`;
   clearTimeout(saying);
-  if (!(driver && waits) && by("live").textContent !== said) saying = setTimeout(() => by("live").textContent = said, 200);
+  if (!isChanging() && by("live").textContent !== said) saying = setTimeout(() => by("live").textContent = said, 200);
 }
 
 /** Returns the digits of a register; digits that have changed, and those of a field, are highlighted. */
@@ -157,13 +160,13 @@ function showReturns(state) {
     fill("returns", "RTN returns to ", ...found.flatMap((place, at) => [at ? ", then to " : "", make("code", {}, name(place))]));
   }
   clearTimeout(searching);
-  if (isFound || isGone || (driver && waits) || state.pos[0].startsWith("Micro") || linesOf(state)[0].length < 2) return;
+  if (isFound || isGone || isChanging() || state.pos[0].startsWith("Micro") || linesOf(state)[0].length < 2) return;
   searching = setTimeout(() => findReturns(number).catch(() => {}), 150);
 }
 
 async function findReturns(number) {
   const of = session;
-  const isShown = () => of === session && number === (shown ?? lastNumber()) && !(driver && waits) && !isGone;
+  const isShown = () => of === session && number === (shown ?? lastNumber()) && !isChanging() && !isGone;
   while (isShown()) {
     const answer = await ask({ do: "returns", state: number });
     if (answer.done === false) continue;
@@ -307,13 +310,22 @@ function goingOn(entry) {
   return button;
 }
 
+/** Returns the number of commands that the session had in the state that is shown. */
+const sessionEnd = (state) => shown === null ? entries.length : state.entries;
+
+/** Returns a command of the session with its reply, as they were in the state that is shown. */
+function commandIn(state, number) {
+  const isLast = shown !== null && number === state.entries - 1;
+  return isLast ? { text: runMade(state) ?? textOf(state.last[0]), reply: state.last[1] } : entries[number];
+}
+
 /** Shows the commands up to the state that is shown. */
 function showSession(state) {
-  const end = shown === null ? entries.length : state.entries;
+  const end = sessionEnd(state);
   const first = Math.max(0, end - MOST_ENTRIES);
   if (!isNew("session", first, end, entries.slice(first, end).at(-1), session, shown === null ? 0 : [state.last, state.doing])) return;
-  const rows = entries.slice(first, end).map((entry, at) => {
-    const { text, reply } = shown !== null && first + at === end - 1 ? { text: runMade(state) ?? textOf(state.last[0]), reply: state.last[1] } : entry;
+  const rows = entries.slice(first, end).map((_, at) => {
+    const { text, reply } = commandIn(state, first + at);
     const kind = `reply${reply.at(-1)?.startsWith("! ") ? " refusal" : ""}`;
     const isComment = text.startsWith("#") || !text.trim();
     return make("li", { class: isComment ? "comment" : "" }, ...(isComment ? [] : [goingOn(first + at)]),

@@ -204,7 +204,7 @@ async function runTo(kind, place) {
   if (!isSet) await ask({ do: "give", deck: `break ${words}`, first: true });
   try {
     await runOn();
-    while (driver && waits) await moment(50);
+    while (isChanging()) await moment(50);
   } finally {
     if (!isSet) await ask({ do: "give", deck: `unbreak ${words}`, first: true });
   }

@@ -208,6 +208,9 @@ async function runTo(kind, place) {
   } finally {
     if (!isSet) await ask({ do: "give", deck: `unbreak ${words}`, first: true });
   }
-  const at = present().pos[0].split(" ")[1].replace("P", "");
-  tell(at === place ? `At ${kind === "l" ? "line" : ""} ${place}` : `Stopped before ${place}`, true);
+  // The refusal of the run is shown already.
+  if (refusedNow().length) return;
+  const at = present().pos[0].split(" ")[1];
+  const wanted = `${kind === "p" ? "P" : ""}${place}`;
+  tell(at === wanted ? `At ${kind === "l" ? "line " : ""}${place}` : `Stopped at ${at}, before ${wanted} was reached`, true);
 }

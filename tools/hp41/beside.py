@@ -47,14 +47,16 @@ class Beside:
         """Asks the bench; None if it does not answer, refuses a command, or does not have the registers before the instruction."""
         registers = {name: values[name.removeprefix("cpu.")] for name in CPU if name not in ("CY",)}
         stub = stub_of({}, registers, int(f"{INSTRUCTION}000", 16))
-        replies = self.answers(stub, [f"words {INSTRUCTION}\n{words}\nend", f"call {SETTING}000", f"step {stub.steps}", "show cpu", "step",
-                                      "show cpu"])
+        # No word sets the key flag, but a key does.
+        key = ["key 1"] if values["KF"] == "1" else []
+        replies = self.answers(stub, [f"words {INSTRUCTION}\n{words}\nend", *key, f"call {SETTING}000", f"step {stub.steps}", "show cpu",
+                                      "step", "show cpu"])
         if replies is None:
             return None
         *done, before, step, after = replies
         is_set = not any((*done, step)) and len(before) == len(after) == CPU_LINES
         found = values_of(before) if is_set else {}
-        is_same = is_set and all(found[name.removeprefix("cpu.")] == value for name, value in registers.items())
+        is_same = is_set and all(found[name.removeprefix("cpu.")] == value for name, value in {**registers, "KF": values["KF"]}.items())
         return after if is_same else None
 
     def is_over(self, line: str, memory: dict[int, str]) -> Optional[bool]:

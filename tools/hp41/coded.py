@@ -1,21 +1,15 @@
 """Program lines with what belongs to them: the number that program mode shows, the bytes in memory, and the keys that type the line."""
 import re
-from functools import lru_cache
+from typing import Iterable, Iterator, Union
 
-from .explaining import is_function
+from .decks import answered
 from .records import length_at
-from .typed import NoKeys, is_number, line_keys
+from .typed import NoKeys, line_keys
 
 # Bytes of which each is a digit, a sign, a point or an exponent of a number.
 NUMBER = re.compile(rb"[\x10-\x1c]+")
 
 ENDS = ("END", ".END.")
-
-# The texts of number lines, of XEQ with a name, and of lines for which keys type another line: a label of one letter becomes a local one.
-NUMBER_LINE, NAMED = re.compile(r"[0-9.E+-]{2,}|[0-9.E]|NEG.*"), re.compile('XEQ "(.*)"')
-WITHOUT_KEYS = re.compile('XROM .*|(?:LBL|GTO|XEQ) "[A-J]"|LBL IND .*')
-# The most digits of a number that keys type.
-MOST_DIGITS = 10
 
 
 def bytes_at(data: bytes, at: int, end: int) -> bytes:
@@ -24,37 +18,47 @@ def bytes_at(data: bytes, at: int, end: int) -> bytes:
     return data[at:min(number.end() if number else at + length_at(data, at), end)] if at < len(data) else b""
 
 
-def has_keys(text: str) -> bool:
-    """Returns whether keys may type a line: not if they would type another number, or the function itself in place of XEQ and its name."""
-    if NUMBER_LINE.fullmatch(text):
-        return is_number(text) and len(re.findall("[0-9]", text.partition("E")[0])) <= MOST_DIGITS
-    named = NAMED.fullmatch(text)
-    return not WITHOUT_KEYS.fullmatch(text) and not (named and is_function(named[1]))
+def inserted(found: Iterable[list[str]]) -> Iterator[Union[list[str], str]]:
+    """Yields the lines that keys insert in program mode, for each row of keys in empty memory; or the refusal of a key."""
+    deck = "".join(f"reset\nkey PRGM\nkey {' '.join(keys)}\nshow lines\n" for keys in found).encode()
+    for _, _, refusal, answer in zip(*[iter(answer for _, _, answer in answered(deck)[1])] * 4):
+        yield refusal[-1].decode() if refusal else [line[5:].decode() for line in answer][:-1]
 
 
-@lru_cache(maxsize=4096)
-def keys_of(text: str) -> str:
-    """Returns the keys that type a line in program mode; an empty text if no keys do."""
-    if text in ENDS:
-        # GTO . . adds an END to the last program.
-        return "SHIFT RCL . ." if text == "END" else ""
-    try:
-        keys = line_keys(text) if has_keys(text) else []
-    except NoKeys:
-        return ""
-    # Only the name of a function without an operand is typed in letters.
-    is_other = keys[:2] == ["XEQ", "ALPHA"] and not text.startswith("XEQ ") and not is_function(text)
-    return "" if is_other else " ".join(keys)
+# The keys of the lines that were asked about last. GTO . . adds an END to the last program, and no keys type .END.
+KNOWN_AT_FIRST = {"END": "SHIFT RCL . .", ".END.": ""}
+MOST_KNOWN = 4096
+known = dict(KNOWN_AT_FIRST)
 
 
-def coded(lines: list[tuple[int, str]], data: bytes) -> list[list[str]]:
-    """Returns for each line its number, its bytes and its keys. `lines` are pairs of a place in `data` and a text."""
+def keys_of(texts: Iterable[str]) -> dict[str, str]:
+    """Returns the keys that type each of some lines in program mode; an empty text if no keys do. The bench tries the keys, because those
+    of a line such as `12345678912` insert another line."""
+    wanted = set(texts)
+    if len(known) > MOST_KNOWN:
+        known.clear()
+        known.update(KNOWN_AT_FIRST)
+    tried: dict[str, list[str]] = {}
+    for text in sorted(wanted - known.keys()):
+        known[text] = ""
+        try:
+            tried[text] = line_keys(text)
+        except NoKeys:
+            continue
+    known.update((text, " ".join(keys)) for (text, keys), lines in zip(tried.items(), inserted(tried.values())) if lines == [text])
+    return {text: known[text] for text in wanted}
+
+
+def coded(lines: list[tuple[int, str]], data: bytes, has_keys: bool = False) -> list[list[str]]:
+    """Returns for each line its number, its bytes and its keys, which are empty texts without `has_keys`. `lines` are pairs of a place in
+    `data` and a text."""
     found: list[list[str]] = []
+    keys = keys_of(text for _, text in lines) if has_keys else {}
     number = 0
     ends = [place for place, _ in lines[1:]] + [len(data)]
     for (place, text), end in zip(lines, ends):
         number += 1
-        found.append([f"{number:02}", bytes_at(data, place, end).hex(" ").upper(), keys_of(text)])
+        found.append([f"{number:02}", bytes_at(data, place, end).hex(" ").upper(), keys.get(text, "")])
         if text in ENDS:
             number = 0
     return found

@@ -85,7 +85,7 @@ class Desk:
         self.lesson: Optional[OpenLesson] = None
         self.breaks: set[tuple[str, str]] = set()
         self.lights, self.labels, self.names = Lights(), Labels(), Names()
-        self.coded: tuple[list[str], bytes, list[list[str]]] = ([], b"", [])
+        self.coded: tuple[list[str], bytes, bool, list[list[str]]] = ([], b"", False, [])
         # The last states, and how often pages were plugged or unplugged.
         self.history, self.plugs = History(), 0
         # The number of steps in a piece, the number of steps that were made, and how many of them were made before the last look.
@@ -328,10 +328,12 @@ class Desk:
         self.seen = self.made
 
     def coded_lines(self, lines: list[str], data: bytes) -> list[list[str]]:
-        """Returns the number, the bytes and the keys of each line in memory. They are kept until lines or bytes change."""
-        if self.coded[:2] != (lines, data):
-            self.coded = lines, data, coded([(int(line[:4]), line[5:]) for line in lines], data)
-        return self.coded[2]
+        """Returns the number and the bytes of each line in memory, and in program mode the keys that type it. They are kept until lines,
+        bytes or the mode change."""
+        asked = lines, data, self.lights.program
+        if self.coded[:3] != asked:
+            self.coded = *asked, coded([(int(line[:4]), line[5:]) for line in lines], data, self.lights.program)
+        return self.coded[3]
 
     def paged(self, page: str) -> list[list[str]]:
         """Returns the lines of the programs in a page."""

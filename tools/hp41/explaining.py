@@ -20,6 +20,8 @@ NO_FUNCTION = re.compile(r"[0-9.E+-]{2,}|[0-9.E]|NEG.*|[\">].*|LBL .*|\.?END\.?"
 CUT = re.compile(r"; |, after lifting |\.$")
 # The names of registers of the processor, and of those of programs, for whose next value a learner can be asked.
 ASKED = re.compile("[ABCMNGXYZT]|ST|RTN|ALPHA|LAST X|R[0-9]+")
+# How many flags there are.
+FLAGS = 56
 FIELDS = {"S&X": (2, 0), "ALL": (13, 0), "XS": (2, 2), "M": (12, 3), "MS": (13, 13)}
 
 
@@ -267,6 +269,8 @@ class Explained:
         operand = self.group("R")
         if operand.startswith("IND "):
             return f"the flag that {self.going_on('indirect')} names"
+        if not operand.isdigit() or int(operand) >= FLAGS:
+            return f"flag {operand}"
         is_set = operand in self.values.get("flags", "").split()
         return f"flag {operand}, which is {'set' if is_set else 'clear'}"
 

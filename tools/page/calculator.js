@@ -224,10 +224,13 @@ function refusedOf({ text, reply }, at) {
   return line && reply.at(-1).startsWith("! 13 ") ? `line ${line[2]}, ${state.word}, is not supported (${words})` : words;
 }
 
-/** Shows the refusals of the commands that the last action executed, with the usual causes of the last one. Those of commands that are
-    repeated were shown before. */
+/** Returns the refused commands that the last action executed, each with its number. The refusals of those that are repeated were shown
+    before. */
+const refusedNow = () => entries.map((entry, at) => [entry, at]).slice(since).filter(([entry]) => !entry.isRepeated && isRefused(entry));
+
+/** Shows the refusals of the commands that the last action executed, with the usual causes of the last one. */
 function tellRefusals() {
-  const refused = entries.map((entry, at) => [entry, at]).slice(since).filter(([entry]) => !entry.isRepeated && isRefused(entry));
+  const refused = refusedNow();
   if (!refused.length) return tellStop();
   const [entry, at] = refused.length > 1 ? refused[0] : refused.at(-1);
   const words = refusedOf(entry, at);

@@ -201,7 +201,6 @@ async function runTo(kind, place) {
   if (isGone || isProgramming("run to a line")) return;
   const words = `${kind} ${kind === "l" ? Number(place) : place}\n`;
   const isSet = present().breaks.some(([of, at]) => of === kind && at === place);
-  const before = entries.length;
   if (!isSet) await ask({ do: "give", deck: `break ${words}`, first: true });
   try {
     await runOn();
@@ -209,10 +208,9 @@ async function runTo(kind, place) {
   } finally {
     if (!isSet) await ask({ do: "give", deck: `unbreak ${words}`, first: true });
   }
-  if (entries.slice(before).some(isRefused)) {
-    since = before;
-    return tellRefusals();
-  }
-  const at = present().pos[0].split(" ")[1].replace("P", "");
-  tell(at === place ? `At ${kind === "l" ? "line" : ""} ${place}` : `Stopped at ${at}: ${place} was not reached`, true);
+  // The refusal of the run is shown already.
+  if (refusedNow().length) return;
+  const at = present().pos[0].split(" ")[1];
+  const wanted = `${kind === "p" ? "P" : ""}${place}`;
+  tell(at === wanted ? `At ${kind === "l" ? "line " : ""}${place}` : `Stopped at ${at}, before ${wanted} was reached`, true);
 }

@@ -14,9 +14,10 @@ The `key` lines of decks for the other tools may contain such texts and numbers.
 Status 0: all keys are printed. 1: a LINE has no keys, and standard error says why. 2: the command line is wrong. 3: the keys
 cannot be written. 70: the bench gave no answer."""
 import sys
-from typing import Iterator, Union
+from typing import Union
 
 from ..alpha import Row, resolve
+from ..coded import inserted
 from ..decks import Failure, answered, end_with_reader, shown
 from ..functions import Functions
 from ..keyboard import KEYS
@@ -27,15 +28,6 @@ from ..typed import LABELLED, NoKeys, Text, line_keys, pieces_of
 
 # A line of the bench, and its keys.
 Typed = tuple[str, list[str]]
-
-
-def inserted(found: list[list[str]]) -> Iterator[Union[list[str], str]]:
-    """Yields the lines that keys insert in program mode, for each row of keys in empty memory; or the refusal of a key."""
-    deck = "".join(f"reset\nkey PRGM\nkey {' '.join(keys)}\nshow lines\n" for keys in found).encode()
-    answers = [answer for _, _, answer in answered(deck)[1]]
-    for at in range(len(found)):
-        refusal = answers[4 * at + 2]
-        yield refusal[-1].decode() if refusal else [line[5:].decode() for line in answers[4 * at + 3]][:-1]
 
 
 def is_same(text: str, line: str) -> bool:

@@ -13,7 +13,8 @@ docs/CALCULATOR.md describes the page.
   --lessons FOLDER   adds the decks of FOLDER to the lessons; their names are own/NAME
   --no-browser       only prints the address
 
-The calculator ends when the page is closed, when Ctrl-C is pressed, or after ten minutes without a page.
+The calculator ends two minutes after its last page was closed, ten minutes after it started if no page was opened, or when Ctrl-C
+is pressed.
 
 Status 0: it ended in one of these ways. 2: the command line is wrong. 70: the bench is not built or does not start, or the port
 is in use."""

@@ -1,2 +1,2 @@
-pub mod Programs
+pub mod Answering
 pub mod Walks

@@ -1,6 +1,6 @@
 use Rattle.std.proofs.Common.{None, sym, ap, ◌∙◌}
 use Rattle.h41_program.specs.Numbering.{before_in, before_number}
-use Rattle.h41_walk.proofs.Programs.{of_program}
+use Rattle.h41_walk.proofs.Answering.{of_program}
 use Rattle.h41_walk.proofs.programs.line_before.Goals as goal
 
 pub returns-in-Some : goal.returns-in-Some

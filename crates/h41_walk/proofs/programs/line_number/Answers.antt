@@ -1,5 +1,5 @@
 use Rattle.h41_program.specs.Numbering.{number_in}
-use Rattle.h41_walk.proofs.Programs.{of_program}
+use Rattle.h41_walk.proofs.Answering.{of_program}
 use Rattle.h41_walk.proofs.programs.line_number.Goals as goal
 
 pub returns : goal.returns

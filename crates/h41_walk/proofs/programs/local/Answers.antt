@@ -1,6 +1,6 @@
 use Rattle.std.proofs.Common.{ℕ, Option, subst}
 use Rattle.h41_walk.specs.Sources.{AnswersAll, label_position}
-use Rattle.h41_walk.proofs.Programs.{label_onward, label_own}
+use Rattle.h41_walk.proofs.Answering.{label_onward, label_own}
 use Rattle.h41_walk.proofs.programs.local.Goals as goal
 
 pub returns-in-Some : goal.returns-in-Some

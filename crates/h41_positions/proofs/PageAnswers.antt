@@ -1,14 +1,16 @@
 -- What is found in the code of a page is what an address of the page has.
 use Rattle.std.proofs.Common.{◌≡◌, ℕ, List, Option, Ok, Err, ap, refl, sym, subst, ◌∙◌}
+use Rattle.std.specs.Option.{option_map}
 use Rattle.h41_codes.specs.declared.line.Line.{Line}
 use Rattle.h41_pages.specs.Addresses.{offset_of, page_of}
 use Rattle.h41_pages.specs.FunctionTables.{code_of, keystroke_offsets}
 use Rattle.h41_pages.specs.PageMap.{PageMap}
-use Rattle.h41_positions.specs.PageLines.{AnswersOffset, AnswersOwn, StartsAt}
-use Rattle.h41_positions.specs.Positions.{LineAndNext, NextAt, NumberAt, StartOf, in_memory, in_page, placed_in}
+use Rattle.h41_positions.specs.PageLines.{AnswersLabel, AnswersOffset, AnswersOwn, StartsAt}
+use Rattle.h41_positions.specs.Positions.{FindsInProgram, LineAndNext, LocalFrom, NextAt, NumberAt, StartOf, in_memory, in_page, placed_in}
 use Rattle.h41_positions.specs.declared.position.Position.TheVariants.{Memory, Page}
 use Rattle.h41_program.specs.Numbering.{number_in}
 use Rattle.h41_program.specs.ProgramLines as memories
+use Rattle.h41_program.specs.declared.listed_line.ListedLine.{ListedLine}
 use Rattle.h41_program.specs.declared.refusal.ProgramRefusal.{ProgramRefusal}
 use Rattle.h41_program.specs.declared.refusal.ProgramRefusal.TheVariants.{BrokenProgram}
 use Rattle.h41_ram.specs.RegisterMap.{RegisterMap}
@@ -67,3 +69,17 @@ module _ (pages : PageMap) (memory : RegisterMap) (address page offset : ℕ) (c
     number_there number answers =
         subst (λ (l : List ℕ). AnswersOwn (number_in (offset_of address)) (code_of pages (page_of address)) l (offset_of address) number)
         begins_there (moved (λ l o. AnswersOwn (number_in o) l begins o number) answers)
+
+    pub finds_there : (found_in : ℕ → List ListedLine → Option ℕ) (found : Option ℕ) → AnswersOwn (found_in offset) code begins offset found
+        → FindsInProgram found_in pages memory (Page address) (option_map (in_page page) found)
+    finds_there found_in found answers =
+        let is = subst (λ (l : List ℕ). AnswersOwn (found_in (offset_of address)) (code_of pages (page_of address)) l (offset_of address) found)
+        begins_there (moved (λ l o. AnswersOwn (found_in o) l begins o found) answers) in
+        subst (λ (p : ℕ). FindsInProgram found_in pages memory (Page address) (option_map (in_page p) found)) (sym here) (found, is, refl)
+
+    pub local_there : (n : ℕ) (found : Option ℕ) → AnswersLabel code begins offset n found
+        → LocalFrom n pages memory (Page address) (option_map (in_page page) found)
+    local_there n found answers =
+        let is = subst (λ (l : List ℕ). AnswersLabel (code_of pages (page_of address)) l (offset_of address) n found) begins_there
+        (moved (λ l o. AnswersLabel l begins o n found) answers) in
+        subst (λ (p : ℕ). LocalFrom n pages memory (Page address) (option_map (in_page p) found)) (sym here) (found, is, refl)

@@ -33,7 +33,8 @@ impl<'a> PageCode<'a> {
         ensures pages { result.pages.now ≡ pages.now }
         ensures page { result.page ≡ page }
         ensures code { result.code.now ≡ code_of pages.now page }
-        ensures size { length result.code.now ≤ page_size }
+        ensures readable { (result.code.now ≡ code_of result.pages.now result.page)
+            × (result.page < 16) × (length result.code.now ≤ page_size) }
     {
         PageCode {
             pages,

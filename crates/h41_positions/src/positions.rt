@@ -15,6 +15,7 @@ use crate::position::{PlacedLine, Position};
 use h41_codes::{Line, Parameter, ShortLine};
 use h41_pages::{PAGE_WORDS, Pages};
 use h41_program::ProgramRefusal;
+use h41_program::laws::{each_is_listed, lists_are_determined};
 use h41_ram::Ram;
 use h41_walk::Programs;
 
@@ -214,6 +215,8 @@ pub fn local<const REGS: usize>(
     requires { IsTrue (is_sound ram.now.registers) }
     ensures { LocalFrom label pages.now ram.now.registers at result }
 {
+    each_is_listed();
+    lists_are_determined();
     match at {
         Position::Memory(at) => byte_found(h41_program::local(ram, at, label)),
         Position::Page(address) => {

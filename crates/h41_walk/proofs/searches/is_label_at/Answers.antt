@@ -7,8 +7,8 @@ use Rattle.h41_program.proofs.Labels.{no_label}
 use Rattle.h41_walk.proofs.LabelBytes.{byte_first, byte_inside}
 use Rattle.h41_walk.proofs.searches.is_label_at.Goals as goal
 
-pub byte_at-requires-first-clause-inside : goal.byte_at-requires-first-clause-inside
-byte_at-requires-first-clause-inside g c =
+pub byte_at-first-requires-clause-inside : goal.byte_at-first-requires-clause-inside
+byte_at-first-requires-clause-inside g c =
     let place = c.args.place.now in
     let has = c.requires.place in
     let found : Found = record { listed = record { position = place.position; line = has.0 }; behind = place.behind } in

@@ -12,7 +12,7 @@ use Rattle.h41_program.specs.Searches.{end_in, label_in, position_of}
 use Rattle.h41_program.specs.declared.listed_line.ListedLine.{ListedLine}
 use Rattle.h41_program.specs.declared.reading.Found.{Found}
 use Rattle.h41_program.proofs.SearchSteps.{label_in-end, label_in-here, label_in-other}
-use Rattle.h41_walk.specs.Sources.{AnswersNext, HasFirst, HasNoLine, PositionFrom, ProgramFrom, Source, is_program_end, label_position, last_next}
+use Rattle.h41_walk.specs.Sources.{AnswersNext, HasFirst, HasNoLine, PositionFrom, ProgramFrom, Source, is_program_end, label_position}
 use Rattle.h41_walk.specs.private.Walks.{FoundBehind}
 use Rattle.std.proofs.lemmas.Bool.{cases_Bool}
 

@@ -14,7 +14,8 @@ returns-in-Ok c memory =
     let page = c.place_of-page.result.0 in
     let offset = c.place_of-page.result.1 in
     let code = c.of.result.code.now in
-    let is = subst (λ (r : Result (Line × ℕ) ProgramRefusal). AnswersBoth (bytes_source code) offset r) c.in-Ok.is c.line_and_next.ensures in
+    let is =
+    subst (λ (r : Result (Line × ℕ) ProgramRefusal). AnswersBoth (bytes_source code) offset r) c.in-Ok.is c.line_and_next.ensures in
     subst (λ (p : Position). LineAndNext pages memory (Page c.args.address) (Ok (c.in-Ok.line, p))) (sym c.in_page.ensures)
     (both_there pages memory c.args.address page offset code c.place_of-page.ensures.page c.place_of-page.ensures.offset
     c.of.ensures.code c.in-Ok.line c.in-Ok.behind is)
@@ -25,6 +26,7 @@ returns-in-Err c memory =
     let page = c.place_of-page.result.0 in
     let offset = c.place_of-page.result.1 in
     let code = c.of.result.code.now in
-    let is = subst (λ (r : Result (Line × ℕ) ProgramRefusal). AnswersBoth (bytes_source code) offset r) c.in-Err.is c.line_and_next.ensures in
+    let is =
+    subst (λ (r : Result (Line × ℕ) ProgramRefusal). AnswersBoth (bytes_source code) offset r) c.in-Err.is c.line_and_next.ensures in
     none_there pages memory c.args.address page offset code c.place_of-page.ensures.page c.place_of-page.ensures.offset
     c.of.ensures.code c.in-Err.refusal is

@@ -23,4 +23,5 @@ returns-in-Page g c =
     rw (c.in-Page.is, c.offset_found.ensures)
     (local_there pages c.args.ram.now.registers c.in-Page.address page offset own.code.now c.place_of-page.ensures.page
     c.place_of-page.ensures.offset c.of.ensures.code begins (λ i. keystroke_offsets (c.of.ensures.pages i) (c.of.ensures.page i))
-    c.args.label c.local-found.result (labelled own.code.now begins offset c.args.label lists.lines some c.local-found.result c.local-found.ensures))
+    c.args.label c.local-found.result
+    (labelled own.code.now begins offset c.args.label lists.lines some c.local-found.result c.local-found.ensures))

@@ -12,8 +12,8 @@ returns-then-place g c lines reads =
     let place = c.in-Some.place in
     let has = c.in-Some.ensures.place in
     let found : Found = record { listed = record { position = place.position; line = has.0 }; behind = place.behind } in
-    let on =
-    asked_first (g.C.Code.source c.args.code.now) c.args.from c.loop-place.at end_in end_in c.loop-place.invariant found lines has.1 reads in
+    let source = g.C.Code.source c.args.code.now in
+    let on = asked_first source c.args.from c.loop-place.at end_in end_in c.loop-place.invariant found lines has.1 reads in
     sym (on.1 ∙ end_here found.listed on.0 (ends_program has.0 (sym has.2 ∙ c.if-place.true)))
 
 pub returns-then-place-2 : goal.returns-then-place-2
@@ -21,8 +21,8 @@ returns-then-place-2 g c lines reads =
     let place = c.in-Some.place in
     let has = c.in-Some.ensures.place in
     let found : Found = record { listed = record { position = place.position; line = has.0 }; behind = place.behind } in
-    let on =
-    asked_first (g.C.Code.source c.args.code.now) c.args.from c.loop-place.at end_in end_in c.loop-place.invariant found lines has.1 reads in
+    let source = g.C.Code.source c.args.code.now in
+    let on = asked_first source c.args.from c.loop-place.at end_in end_in c.loop-place.invariant found lines has.1 reads in
     sym (on.1 ∙ end_here found.listed on.0 (ends_memory has.0 (sym has.3 ∙ c.if-place-2.true)))
 
 pub loop-place-preserved : goal.loop-place-preserved

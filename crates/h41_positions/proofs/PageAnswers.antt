@@ -73,7 +73,8 @@ module _ (pages : PageMap) (memory : RegisterMap) (address page offset : ℕ) (c
     pub finds_there : (found_in : ℕ → List ListedLine → Option ℕ) (found : Option ℕ) → AnswersOwn (found_in offset) code begins offset found
         → FindsInProgram found_in pages memory (Page address) (option_map (in_page page) found)
     finds_there found_in found answers =
-        let is = subst (λ (l : List ℕ). AnswersOwn (found_in (offset_of address)) (code_of pages (page_of address)) l (offset_of address) found)
+        let is =
+        subst (λ (l : List ℕ). AnswersOwn (found_in (offset_of address)) (code_of pages (page_of address)) l (offset_of address) found)
         begins_there (moved (λ l o. AnswersOwn (found_in o) l begins o found) answers) in
         subst (λ (p : ℕ). FindsInProgram found_in pages memory (Page address) (option_map (in_page p) found)) (sym here) (found, is, refl)
 

@@ -27,7 +27,8 @@ pub use loading::{close_last, is_last_open, load};
 pub use numbering::line_before;
 pub use positions::{line_and_next, line_number, next};
 pub use reading::{
-    ByteReader, Found, final_position, first_from, line_at, position_by, short_line,
+    ByteReader, Found, LinePlace, byte_at, final_position, first_from, line_at, place_from,
+    position_by, position_from, short_line,
 };
 pub use refusal::ProgramRefusal;
 pub use searches::{end_of, global, local, start_of};

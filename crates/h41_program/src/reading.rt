@@ -499,9 +499,9 @@ pub fn position_behind<const REGS: usize>(ram: &Ram<REGS>, first: Found) -> u16
     position_from(ram, behind)
 }
 
-/// Returns the position of the first line from the position `at` on, or `at` if no line follows.
+/// Returns the position of the first line from the position `at` on, or `at` if no line follows. Memory must be sound.
 #[inline(always)]
-fn position_from<const REGS: usize>(ram: &Ram<REGS>, at: u16) -> u16
+pub fn position_from<const REGS: usize>(ram: &Ram<REGS>, at: u16) -> u16
     requires { IsTrue (is_sound ram.now.registers) }
     ensures { PositionFrom ram.now.registers at result }
 {

@@ -1,5 +1,5 @@
 -- The step of a line, by how the line was executed.
-use Rattle.std.proofs.Common.{◌≡◌, Some, None, Option, Result, Ok, Err, refl, sym, subst, ap, ◌∙◌}
+use Rattle.std.proofs.Common.{◌≡◌, Some, None, Option, Result, Ok, Err, refl, subst, ap, ◌∙◌}
 use Rattle.std.specs.Option.{option_map}
 use Rattle.std.specs.Prelude.{IsTrue, OnErr, OnOk}
 use Rattle.std.specs.Result.{result_err}
@@ -81,7 +81,11 @@ StepsTo from new brief =
 carried : (from : CalculatorState) (new : Machine) (brief : BriefOutcome) (ended : Result Ended FocalRefusal)
     → StepsTo from new brief → CallsOut Program from.nut.pages new (brief_answer new.memory brief) ended → CarriesHere Program from ended
 carried from new brief ended steps calls =
-    (Ok (briefly new brief), steps.0, called_before Program from.nut.pages (machine_of from) new _ ended steps.1 calls)
+    (
+      Ok (briefly new brief),
+      steps.0,
+      called_before Program from.nut.pages (machine_of from) new (brief_answer new.memory brief) ended steps.1 calls,
+    )
 
 why_ended : (ended : Result Ended FocalRefusal) (s t : CalculatorState) (why : Option CalculatorRefusal) → EndsAs ended s t why
     → why ≡ option_map of_line (result_err ended)
@@ -99,23 +103,31 @@ left_as : (ended : Ended) (s : CalculatorState) (new : Machine)
 left_as (Answers left) s new = refl
 left_as (Begins machine address) s new = refl
 
+steps_by : (from s t : CalculatorState) (new : Machine) (brief : BriefOutcome) (why : Option CalculatorRefusal) → from ≡ s
+    → StepsTo from new brief → EndsBriefly brief (with_machine new from) t why → why ≡ None → StepsByLine s t
+steps_by from s t new brief why is steps (Ok ended, calls, ends) none =
+    subst (λ (of : CalculatorState). StepsByLine of t) is
+    (ended, carried from new brief (Ok ended) steps calls, ends.0 ∙ left_as ended from new)
+steps_by from s t new brief why is steps (Err refusal, calls, ends) none = cc (ends.1, none)
+
 pub step_change : (from s t : CalculatorState) (new : Machine) (brief : BriefOutcome) (result : Result (Unit {0}) CalculatorRefusal)
     → from ≡ s → StepsTo from new brief → EndsBriefly brief (with_machine new from) t (result_err result)
     → OnOk result (StepsByLine s t)
-step_change from s t new brief (Ok done) is steps (Ok ended, calls, ends) =
-    subst (λ (of : CalculatorState). StepsByLine of t) is
-    (ended, carried from new brief (Ok ended) steps calls, ends.0 ∙ left_as ended from new)
-step_change from s t new brief (Ok done) is steps (Err why, calls, ends) = absurd (cc ends.1)
+step_change from s t new brief (Ok done) is steps ends = steps_by from s t new brief None is steps ends refl
 step_change from s t new brief (Err why) is steps ends = tt
+
+pub done_steps : (from s t : CalculatorState) (new : Machine) → from ≡ s → StepsTo from new briefs.Done
+    → t ≡ not_typing (with_machine new from) → StepsByLine s t
+done_steps from s t new is steps shown = steps_by from s t new briefs.Done None is steps (done_ends (with_machine new from) t shown) refl
 
 pub step_unchanged : (from s t : CalculatorState) (new : Machine) (brief : BriefOutcome) (result : Result (Unit {0}) CalculatorRefusal)
     → from ≡ s → StepsTo from new brief → EndsBriefly brief (with_machine new from) t (result_err result) → OnErr result (t ≡ s)
 step_unchanged from s t new brief (Ok done) is steps ends = tt
-step_unchanged from s t new brief (Err why) is steps (Ok ended, calls, ends) = absurd (cc ends.1)
+step_unchanged from s t new brief (Err why) is steps (Ok ended, calls, ends) = cc ends.1
 step_unchanged from s t new brief (Err why) is steps (Err refusal, calls, ends) =
     ends.0
     ∙ ap (λ (machine : Machine). with_machine machine from)
-    (refused_before Program from.nut.pages (machine_of from) new _ refusal steps.1 calls)
+    (refused_before Program from.nut.pages (machine_of from) new (brief_answer new.memory brief) refusal steps.1 calls)
     ∙ is
 
 -- A refused line.

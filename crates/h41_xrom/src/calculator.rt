@@ -1,6 +1,6 @@
 //! The calculator: processor, memory, pages and keys, and whether a program or a function runs.
 
-ghost use Rattle.std.specs.Prelude.{◌≡◌, ◌≤◌, false, None, IfOk, IfErr, OnOk, OnErr, length};
+ghost use Rattle.std.specs.Prelude.{◌≡◌, ◌≤◌, None, IfOk, IfErr, OnOk, OnErr, length};
 ghost use Rattle.std.specs.Prelude.{is_ok, option_map};
 ghost use Rattle.std.specs.Result.{result_err};
 ghost use Rattle.h41_positions.specs.LabelledMachine as labelled;
@@ -21,7 +21,7 @@ ghost use Rattle.h41_xrom.specs.KeyActions as keys;
 ghost use Rattle.h41_xrom.specs.LabelledCalculator.{cache_of, no_searches};
 ghost use Rattle.h41_xrom.specs.declared.lines.LineSource.TheVariants.{Program};
 ghost use Rattle.h41_xrom.specs.private.PrivateCalls.{Accepts, EndsBriefly, IsAccepted};
-ghost use Rattle.h41_xrom.specs.private.PrivateCalls.{after_effect, after_end};
+ghost use Rattle.h41_xrom.specs.private.PrivateCalls.{StaysClear, after_effect, after_end};
 ghost use Rattle.h41_keys.specs.declared.input.TypedEntry.TheVariants as entries;
 ghost use Rattle.h41_focal.specs.Outcomes.{answer_of};
 ghost use Rattle.h41_xrom.specs.declared.calculator.Mode.TheVariants.{Micro};
@@ -322,7 +322,7 @@ impl<const REGS: usize> Calculator<REGS> {
     #[inline(never)]
     fn end_briefly(&mut self, brief: BriefOutcome) -> Result<(), CalculatorRefusal>
         ensures line { EndsBriefly brief self.old.state self.new.state (result_err result) }
-        ensures kept { self.old.cache.touched ≡ false → self.new.cache ≡ self.old.cache }
+        ensures kept { StaysClear self.old.cache self.new.cache }
     {
         let outcome = brief.outcome(&self.machine.ram);
         match call_out(

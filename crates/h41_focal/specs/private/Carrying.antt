@@ -260,7 +260,8 @@ abbrev pub GoesToTarget : PageMap → Origin → Branch → BranchTarget → (ol
     → BriefOutcome
     → Type 0
 GoesToTarget pages origin branch target old new brief =
-    (named : ℕ) → CarriesRow pages origin (to_meant branch (meant_by target)) named old new (Ok brief)
+    (named : ℕ)
+    → CarriesRow pages origin (to_meant branch (meant_by target)) named old new (Ok brief)
 
 -- A text line changed ALPHA.
 abbrev pub PutsText : List ℕ → RegisterMap → RegisterMap → Type 0

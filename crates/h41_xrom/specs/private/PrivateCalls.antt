@@ -31,7 +31,7 @@ use Rattle.h41_ram.specs.RegisterMap.{RegisterMap, alpha_of, is_sound}
 use Rattle.h41_xrom.specs.Calculator.{CalculatorState, after_answer, after_line, machine_of}
 use Rattle.h41_xrom.specs.Calculator.{not_typing, with_function}
 use Rattle.h41_xrom.specs.KeyActions as spec
-use Rattle.h41_xrom.specs.LabelledCalculator.{cache_of}
+use Rattle.h41_xrom.specs.LabelledCalculator.{CacheState, cache_of}
 use Rattle.h41_xrom.specs.Lines.{Answers, Begins, CarriesFrom, Ended, GoesOn, of_line}
 use Rattle.h41_xrom.specs.Programs.{Becomes}
 use Rattle.h41_xrom.specs.declared.acting.KeyEffect.{KeyEffect}
@@ -63,8 +63,12 @@ CarriesFunction source pages function machine left =
 
 -- A line that calls something outside program memory makes no search: if the dirty flag is clear,
 -- the label cache stays.
+abbrev pub StaysClear : (before after : CacheState) → Type 0
+StaysClear before after = before.touched ≡ false → after ≡ before
+
+-- The same for a machine.
 abbrev pub KeepsClear : (old new : LabelledMachine) → Type 0
-KeepsClear old new = old.ram.touched ≡ false → cache_of new ≡ cache_of old
+KeepsClear old new = StaysClear (cache_of old) (cache_of new)
 
 -- The function of a line without an operand.
 abbrev pub IsFunction : Line → Option Function → Type 0

@@ -1,4 +1,4 @@
-use Rattle.std.proofs.Common.{ap, ◌∙◌}
+use Rattle.std.proofs.Common.{Some, ap, ◌∙◌}
 use Rattle.h41_positions.specs.LabelledMachine.{machine_of}
 use Rattle.h41_xrom.proofs.LabelsKept.{state_is}
 use Rattle.h41_xrom.proofs.Stepping.{line_ends, line_refused}
@@ -11,7 +11,9 @@ returns-in-Ok-clause-line g c =
     c.outcome.ensures (c.in-Ok.ensures).line (c.end_line.ensures.state ∙ ap (after_end c.in-Ok.end) c.end_entry.ensures.state)
 
 pub returns-in-Err-clause-line : goal.returns-in-Err-clause-line
-returns-in-Err-clause-line g c = ?
+returns-in-Err-clause-line g c =
+    line_refused _ c.args.self.now.state (machine_of c.call_out.new.machine) c.args.brief _ c.in-Err.refusal _ (state_is c.self.view_is)
+    c.outcome.ensures (c.in-Err.ensures).line (c.in-Err.ensures).unchanged (ap Some c.into.ensures)
 
 pub end_entry-requires : goal.end_entry-requires
 end_entry-requires g c = assumption

@@ -5,6 +5,7 @@ mod Elsewhere
 mod LabelsMet
 mod LabelsRight
 mod LinesTaken
+mod OneList
 mod OneOutcome
 mod RowApplied
 mod RowAsked

@@ -5,4 +5,5 @@ pub mod BriefSteps
 pub mod Carrying
 pub mod Searching
 pub mod StackMoves
+pub mod WorkRows
 pub mod Works

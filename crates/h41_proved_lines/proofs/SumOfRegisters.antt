@@ -31,8 +31,8 @@ use Rattle.h41_rows.specs.Counters.{Up}
 use Rattle.h41_rows.specs.LineRows.{loop}
 use Rattle.h41_rows.specs.Operands.{address_of}
 use Rattle.h41_rows.specs.Places as places
-use Rattle.h41_rows.specs.Values.{IsRegisterOf}
-use Rattle.h41_rows.specs.Values as values
+use Rattle.h41_rows.specs.Values.{IsRegisterOf, OfTwo}
+use Rattle.h41_rows.specs.declared.values.ValueOfTwo.TheVariants as twos
 use Rattle.h41_reasoning_lines.specs.LineRuns.{Continues, Leaves}
 use Rattle.h41_reasoning_lines.specs.ProgramLines.{IsProgram}
 use Rattle.h41_reasoning_lines.specs.Stacks.{Stack, stack_of, with_stack}
@@ -155,7 +155,7 @@ module _ (itself : DecimalIsItsNearest) (registers : DecimalHasOneRegister) (lis
         summed : Continues pages (after_line (with_stack recalled_stack memory) l4.next returns true)
             (after_line (with_stack added_stack memory) l5.next returns true)
         summed =
-            of_two pages recalled_stack memory l4.next l5.next false returns true functions.Add (values.Sum places.Y places.X) result.0
+            of_two pages recalled_stack memory l4.next l5.next false returns true functions.Add (OfTwo twos.Sum places.Y places.X) result.0
             refl
             (also first_memory (with_stack recalled_stack memory) l4.next _ l5.next (same_program stack recalled_stack memory sound)
             l5.stands)

@@ -5,7 +5,6 @@ mod Elsewhere
 mod LabelsMet
 mod LabelsRight
 mod LinesTaken
-mod OneList
 mod OneOutcome
 mod RowApplied
 mod RowAsked

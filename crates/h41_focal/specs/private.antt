@@ -5,5 +5,4 @@ pub mod BriefSteps
 pub mod Carrying
 pub mod Searching
 pub mod StackMoves
-pub mod WorkRows
 pub mod Works

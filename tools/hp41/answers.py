@@ -295,11 +295,11 @@ class Answers:
         self.repeat = self.returns = None
 
     def returning(self, asked: Request) -> Reply:
-        """Returns whether the return addresses of the program in a state are found, and these; None if they cannot be found."""
-        number = int(asked["state"])
-        if not 0 <= number <= self.desk.history.end:
-            # The session was begun anew after the page had shown the state.
+        """Returns whether the return addresses of the program in a state are found, and these; None if they cannot be found, for example
+        because another session has begun since the page asked about a state of the session with the number `of`."""
+        if asked.get("of", self.desk.number) != self.desk.number:
             return {"done": True, "returns": None}
+        number = self.state_in(asked)
         try:
             if self.returns is None or self.returns.key != (self.desk.number, number):
                 if self.returns:

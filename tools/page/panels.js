@@ -168,7 +168,7 @@ async function findReturns(number) {
   const of = session;
   const isShown = () => of === session && number === (shown ?? lastNumber()) && !isChanging() && !isGone;
   while (isShown()) {
-    const answer = await ask({ do: "returns", state: number });
+    const answer = await ask({ do: "returns", state: number, of });
     if (answer.done === false) continue;
     returns = { session: of, number, found: answer.returns };
     if (isShown()) showReturns(looked()[0]);

@@ -153,7 +153,7 @@ class Walk:
         if self.count > MOST_POINTS:
             raise self.fail(at, f"there are more than {MOST_POINTS} points on the paths through the tests: prove a shorter program")
         if at >= len(self.lines):
-            raise self.fail(at, "the program does not end here, expected RTN or END")
+            raise self.fail(at, "the lines end here without RTN or END: add one of them")
         self.last = max(self.last, at)
         self.check(at)
         made = Point(f"p{self.count}", at, state, facts, "line", [])
@@ -174,7 +174,7 @@ class Walk:
         if LOOP.match(text):
             raise self.fail(at, NO_LOOP)
         if term_of(text, at) is None:
-            raise self.fail(at, "no lemma for this line is known to this tool: see the supported lines in docs/PROVE-YOUR-MODULE.md")
+            raise self.fail(at, "this line is not supported: see the supported lines in docs/PROVE-YOUR-MODULE.md")
 
     def follow(self, made: Point, text: str) -> None:
         """Adds the points after a point."""
@@ -224,7 +224,7 @@ class Walk:
                 self.need_number(made.at, side)
         after = replace(made.state, lift=True)
         if made.at + 1 >= len(self.lines):
-            raise self.fail(made.at, "no line follows that it could skip")
+            raise self.fail(made.at, "this test is the last line: there is no line that it could skip")
         if term_of(self.lines[made.at + 1].text, 0) is None:
             self.check(made.at + 1)
         self.last = max(self.last, made.at + 1)

@@ -26,10 +26,12 @@ SIZES = Sizes(MEMORY, SIZE)
 
 
 class Outcome(NamedTuple):
-    """How a program ended: the registers, the message of an error or an empty text, and whether it has ended."""
+    """How a program ended: the registers, the message of an error or an empty text, whether it has ended, and its refusal or an empty
+    text."""
     registers: dict[str, str]
     error: str
     has_ended: bool
+    refusal: str
 
 
 class FalseClaim(NamedTuple):
@@ -160,8 +162,8 @@ class LineTrials:
             own = [line for line in lines[at + 1:end] if not line.startswith("! ")]
             error = next((one for one in ("ALPHA DATA", "DATA ERROR", "OUT OF RANGE", "NONEXISTENT") if own[:1] == [one]), "")
             registers = dict(zip(self.names, (line[4:] for line in own[1:])))
-            refused = any(line.startswith("! ") for line in lines[at + 1:end])
-            found.append(Outcome(registers, error, lines[at].endswith("Idle") and not refused))
+            refusal = next((line for line in lines[at + 1:end] if line.startswith("! ")), "")
+            found.append(Outcome(registers, error, lines[at].endswith("Idle") and not refusal, refusal))
         return found
 
     def false_claims(self) -> tuple[int, list[FalseClaim]]:
@@ -178,7 +180,8 @@ class LineTrials:
         contract = self.program.contract
         before = ", ".join(f"{name}={text_of(state[name])}" for name in self.names) + (" with stack lift off" if OFF in state else "")
         if outcome.error and outcome.error not in contract.errors or not outcome.has_ended and not outcome.error:
-            why = f"it stops with {outcome.error}" if outcome.error else f"it has not returned after {LIMIT:,} lines"
+            late = f"it is refused: {outcome.refusal}" if outcome.refusal else f"it has not returned after {LIMIT:,} lines"
+            why = f"it stops with {outcome.error}" if outcome.error else late
             return [FalseClaim(contract.line, "returns", f"from {before} {why}")]
         if outcome.error:
             return []
@@ -193,6 +196,6 @@ class LineTrials:
                 return []
             wanted = value_in(value, state)
         except NoValue as why:
-            return [f"the right side is {why}"]
+            return [f"the right side has no value: {why}"]
         left = outcome.registers[one.register]
         return [] if left == wanted else [f"it leaves {one.register}={text_of(left)}: the right side is {text_of(wanted)}"]

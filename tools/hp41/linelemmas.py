@@ -48,7 +48,7 @@ use Rattle.h41_reasoning_lines.proofs.Computing.{tells_negative, tells_not_posit
 use Rattle.h41_reasoning_lines.proofs.Errors.{difference_is_out, never_data, no_quotient, product_is_out, quotient_is_out}
 use Rattle.h41_reasoning_lines.proofs.Errors.{square_is_out, sum_is_out}
 use Rattle.h41_reasoning_lines.proofs.Labels.{found_onward, label_after, label_here, no_end, none_late, position_next}
-use Rattle.h41_reasoning_lines.proofs.Listed.{IsListed, in_turn}
+use Rattle.h41_reasoning_lines.proofs.Listed.{IsListed, in_turn_to_end}
 use Rattle.h41_reasoning_lines.proofs.ProgramStates.{begins, other_content}
 use Rattle.h41_reasoning_lines.proofs.ProgramSteps.{changes_sign, clear_there, clears_x, ends_back, enters, enters_number, exchanges, fails}
 use Rattle.h41_reasoning_lines.proofs.ProgramSteps.{own_lifted}

@@ -416,7 +416,7 @@ class ProgramProof:
                 "      let has = program.has in"] if jumps else [
             f"  run : HasProgram old at {program.listed()} → Leaves pages {program.most} start After", "  run has ="]
         return "\n".join([
-            *head, f"      let are = in_turn old sound at {program.listed()} has {none_final} in",
+            *head, f"      let are = in_turn_to_end old sound at {program.listed()} has {none_final} in",
             f"      {program.walk.start.name} has.listed {lines}{leads} old (begins old sixteen sound)", "",
             f"pub proved : {LAW_TYPES} → {program.name}_Returns",
             " ".join(["proved", LAW_NAMES, "pages s count at", *unknowns, *names, "is_memory sound place has", *on, *given]) + " =",

@@ -73,6 +73,11 @@ abbrev pub has_no_end : List Line → Bool
 has_no_end [] = true
 has_no_end (line ∷ lines) = not (ends_program line) && has_no_end lines
 
+-- None of these lines is .END.
+abbrev pub NoneIsFinal : List Line → Type 0
+NoneIsFinal [] = Unit {0}
+NoneIsFinal (line ∷ lines) = (is_final_end line ≡ false) × NoneIsFinal lines
+
 pub first_inner : (end final rest : Bool) → (not (end || final) && rest) ≡ true → (end ≡ false) × (final ≡ false) × (rest ≡ true)
 first_inner false false rest holds = (refl, refl, holds)
 first_inner false true rest holds = absurd (cc)
@@ -167,6 +172,20 @@ module _ (memory : RegisterMap) (sound : is_sound memory ≡ true) where
   in_turn at lines has inner =
       followed_in_turn (λ next rest. Unit {0}) at has.listed lines has.others (has.from.sound sound) has.are inner
       (λ next rest reads are. tt)
+
+  -- The same of lines of which the last may be END.
+  listed_in_turn : (at : ℕ) (listed : List ListedLine) (lines others : List Line) → ReadsHere at listed
+      → lines_of listed ≡ lines ++ others → NoneIsFinal lines → AreListed memory at listed lines
+  listed_in_turn at listed [] others reads are inner = tt
+  listed_in_turn at [] (line ∷ lines) others reads are inner = absurd (cc)
+  listed_in_turn at (first ∷ rest) (line ∷ lines) others reads are inner =
+      let here = listed_first at first rest line reads (first_and_rest first rest line lines others are).0 inner.0 in
+      let later = first_and_rest here.first here.rest line lines others (ap lines_of (sym here.is_list) ∙ are) in
+      (here, listed_in_turn here.next here.rest lines others here.reads later.1 inner.1)
+
+  pub in_turn_to_end : (at : ℕ) (lines : List Line) (has : HasProgram memory at lines) → NoneIsFinal lines
+      → AreListed memory at has.listed lines
+  in_turn_to_end at lines has inner = listed_in_turn at has.listed lines has.others (has.from.sound sound) has.are inner
 
   -- What is read from a position on is the list of lines from there on.
   pub lines_from : (at : ℕ) (listed : List ListedLine) → ReadsHere at listed → LinesFrom memory at listed

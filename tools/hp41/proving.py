@@ -104,7 +104,7 @@ def verdict_of(text: str, proofs: Mapping[str, Proof]) -> Verdict:
         found = ERROR.match(line)
         if found and FOLLOWS.search(found[3]):
             continue
-        if found and found[1] in proofs:
+        if found and found[1] in proofs and int(found[2]) <= len(proofs[found[1]].rows):
             _, source, claim = proofs[found[1]].rows[int(found[2]) - 1]
             faults.append((source, claim, reason_of(found[3])))
         elif found:

@@ -2,8 +2,8 @@
 use Rattle.std.proofs.Common.{arith, ◌≡◌, ◌≢◌, ℕ, ◌≤◌, false, nat_eq, List, [], ◌∷◌, length, drop, slice_index, Some, Result, Ok, refl}
 use Rattle.std.proofs.lemmas.Bool.Decides.{nat_tests}
 use Rattle.h41_focal.proofs.RowApplied.{opened_row, row_applied}
-use Rattle.h41_focal.specs.private.Carrying.{Leaves, on_to_next, ending_of, nowhere}
-use Rattle.h41_focal.specs.BriefOutcomes.{brief_answer}
+use Rattle.h41_focal.specs.private.Carrying.{Leaves, on_to_next}
+use Rattle.h41_focal.specs.BriefOutcomes.{brief_answer, briefly}
 use Rattle.h41_rows.specs.Computing.{WorksOn, value_of_two}
 use Rattle.h41_rows.specs.LineRows.{text_row}
 use Rattle.h41_focal.specs.LineStep.{Works, answer_of_showing}
@@ -29,12 +29,12 @@ pub row_done :
     → machine_with memory focal ≡ machine
     → row.goes ≡ rows.Next
     → Works memory named row (Ok register)
-    → brief_answer nowhere new brief ≡ answer_of_showing memory named row.shows row.ends
+    → brief_answer new brief ≡ answer_of_showing memory named row.shows row.ends
     → new ≡ memory_after row named register focal.lift memory
     → after ≡ on_to_next origin row.lift focal
     → Leaves origin row named machine (machine_with new after) brief
 row_done origin row named machine memory focal register brief new after opened goes works answers makes ends = λ pages.
-    opened_row pages origin row named machine memory focal (Ok (ending_of (machine_with new after) brief)) opened
+    opened_row pages origin row named machine memory focal (Ok (briefly (machine_with new after) brief)) opened
     (rw (makes, ends) (row_applied origin row named (machine_with memory focal) register brief goes works (rw makes at answers) pages))
 
 -- Arithmetic in a register only needs the numbers of its value.

@@ -11,8 +11,8 @@ use Rattle.h41_focal.specs.private.Works.{row_of_work}
 use Rattle.h41_rows.specs.declared.fault.LineFault.TheVariants.{Nonexistent}
 use Rattle.h41_focal.specs.declared.origin.Origin.{Origin}
 use Rattle.h41_focal.specs.declared.origin.Origin.TheVariants.{Program, Typed}
-use Rattle.h41_focal.specs.declared.outcome.BriefOutcome.{BriefOutcome}
-use Rattle.h41_focal.specs.declared.outcome.BriefOutcome.TheVariants as briefs
+use Rattle.h41_focal.specs.declared.outcome.LineOutcome.{LineOutcome}
+use Rattle.h41_focal.specs.declared.outcome.LineOutcome.TheVariants as outcomes
 use Rattle.h41_focal.specs.declared.works.FunctionWork.TheVariants as works
 use Rattle.h41_pages.specs.PageMap.{PageMap}
 use Rattle.h41_program.specs.ProgramLines.{AnswersOf}
@@ -28,13 +28,13 @@ at_label origin branch position machine = record machine { focal = focal_at orig
 
 -- The label was found.
 pub label_found :
-    (pages : PageMap) (origin : Origin) (branch : Branch) (label named : ℕ) (machine : Machine) (position : Position) (brief : BriefOutcome)
+    (pages : PageMap) (origin : Origin) (branch : Branch) (label named : ℕ) (machine : Machine) (position : Position) (outcome : LineOutcome)
     → LocalFrom label pages machine.memory (from_of origin machine.focal.position) (Some position)
-    → brief ≡ answer_at origin branch
-    → CarriesRow pages origin (lines.to_label branch label) named machine (at_label origin branch position machine) (Ok brief)
-label_found pages (Program next) GoTo label named machine position brief found answer =
+    → outcome ≡ answer_at origin branch
+    → CarriesRow pages origin (lines.to_label branch label) named machine (at_label origin branch position machine) (Ok outcome)
+label_found pages (Program next) GoTo label named machine position outcome found answer =
     (Ok zeros, refl, (destinations.Arrives position machine.focal.returns, (Some position, found, refl), rw answer refl))
-label_found pages (Program next) Execute label named machine position brief found answer = (
+label_found pages (Program next) Execute label named machine position outcome found answer = (
   Ok zeros,
   refl,
   (
@@ -43,31 +43,31 @@ label_found pages (Program next) Execute label named machine position brief foun
     rw answer refl,
   ),
 )
-label_found pages Typed GoTo label named machine position brief found answer =
+label_found pages Typed GoTo label named machine position outcome found answer =
     (Ok zeros, refl, (destinations.Arrives position machine.focal.returns, (Some position, found, refl), rw answer refl))
-label_found pages Typed Execute label named machine position brief found answer =
+label_found pages Typed Execute label named machine position outcome found answer =
     (Ok zeros, refl, (destinations.Runs position, (Some position, found, refl), rw answer refl))
 
 -- The label was not found.
 pub label_lost :
-    (pages : PageMap) (origin : Origin) (branch : Branch) (label named : ℕ) (old new : Machine) (brief : BriefOutcome)
+    (pages : PageMap) (origin : Origin) (branch : Branch) (label named : ℕ) (old new : Machine) (outcome : LineOutcome)
     → LocalFrom label pages old.memory (from_of origin old.focal.position) None
-    → FailsAs origin Nonexistent old new brief
-    → CarriesRow pages origin (lines.to_label branch label) named old new (Ok brief)
-label_lost pages (Program next) branch label named old new brief lost fails =
+    → FailsAs origin Nonexistent old new outcome
+    → CarriesRow pages origin (lines.to_label branch label) named old new (Ok outcome)
+label_lost pages (Program next) branch label named old new outcome lost fails =
     (Ok zeros, refl, (destinations.HasNoLabel, (None, lost, refl), fails))
-label_lost pages Typed branch label named old new brief lost fails =
+label_lost pages Typed branch label named old new outcome lost fails =
     (Ok zeros, refl, (destinations.HasNoLabel, (None, lost, refl), fails))
 
 -- A name was found.
 pub name_found :
-    (pages : PageMap) (origin : Origin) (branch : Branch) (name : List ℕ) (named : ℕ) (machine : Machine) (byte : ℕ) (brief : BriefOutcome)
+    (pages : PageMap) (origin : Origin) (branch : Branch) (name : List ℕ) (named : ℕ) (machine : Machine) (byte : ℕ) (outcome : LineOutcome)
     → AnswersOf (λ lines. position_of (named_in name lines)) machine.memory 0 (Some byte)
-    → brief ≡ answer_at origin branch
-    → CarriesRow pages origin (lines.to_name branch name) named machine (at_label origin branch (Memory byte) machine) (Ok brief)
-name_found pages (Program next) GoTo name named machine byte brief found answer =
+    → outcome ≡ answer_at origin branch
+    → CarriesRow pages origin (lines.to_name branch name) named machine (at_label origin branch (Memory byte) machine) (Ok outcome)
+name_found pages (Program next) GoTo name named machine byte outcome found answer =
     (Ok zeros, refl, (destinations.Arrives (Memory byte) machine.focal.returns, (Some byte, found, refl), rw answer refl))
-name_found pages (Program next) Execute name named machine byte brief found answer = (
+name_found pages (Program next) Execute name named machine byte outcome found answer = (
   Ok zeros,
   refl,
   (
@@ -76,47 +76,47 @@ name_found pages (Program next) Execute name named machine byte brief found answ
     rw answer refl,
   ),
 )
-name_found pages Typed GoTo name named machine byte brief found answer =
+name_found pages Typed GoTo name named machine byte outcome found answer =
     (Ok zeros, refl, (destinations.Arrives (Memory byte) machine.focal.returns, (Some byte, found, refl), rw answer refl))
-name_found pages Typed Execute name named machine byte brief found answer =
+name_found pages Typed Execute name named machine byte outcome found answer =
     (Ok zeros, refl, (destinations.Runs (Memory byte), (Some byte, found, refl), rw answer refl))
 
 -- A name was not found: GTO is an error.
 pub name_lost :
-    (pages : PageMap) (origin : Origin) (name : List ℕ) (named : ℕ) (old new : Machine) (brief : BriefOutcome)
+    (pages : PageMap) (origin : Origin) (name : List ℕ) (named : ℕ) (old new : Machine) (outcome : LineOutcome)
     → AnswersOf (λ lines. position_of (named_in name lines)) old.memory 0 None
-    → FailsAs origin Nonexistent old new brief
-    → CarriesRow pages origin (lines.to_name GoTo name) named old new (Ok brief)
-name_lost pages (Program next) name named old new brief lost fails =
+    → FailsAs origin Nonexistent old new outcome
+    → CarriesRow pages origin (lines.to_name GoTo name) named old new (Ok outcome)
+name_lost pages (Program next) name named old new outcome lost fails =
     (Ok zeros, refl, (destinations.HasNoLabel, (None, lost, refl), fails))
-name_lost pages Typed name named old new brief lost fails =
+name_lost pages Typed name named old new outcome lost fails =
     (Ok zeros, refl, (destinations.HasNoLabel, (None, lost, refl), fails))
 
 -- A name was not found: for XEQ the calculator searches elsewhere.
 pub name_sought :
     (pages : PageMap) (origin : Origin) (name : List ℕ) (named : ℕ) (machine : Machine)
     → AnswersOf (λ lines. position_of (named_in name lines)) machine.memory 0 None
-    → CarriesRow pages origin (lines.to_name Execute name) named machine machine (Ok (briefs.Seeks name))
+    → CarriesRow pages origin (lines.to_name Execute name) named machine machine (Ok (outcomes.Seeks name))
 name_sought pages (Program next) name named machine lost =
     (Ok zeros, refl, (destinations.Seeks name, (None, lost, refl), refl))
 name_sought pages Typed name named machine lost = (Ok zeros, refl, (destinations.Seeks name, (None, lost, refl), refl))
 
 -- A line returns.
-back_from : (pages : PageMap) (returns : List Position) (old new : Machine) (brief : BriefOutcome) (next : Position) (named : ℕ)
-    → GoesBackFrom pages returns old new brief
+back_from : (pages : PageMap) (returns : List Position) (old new : Machine) (outcome : LineOutcome) (next : Position) (named : ℕ)
+    → GoesBackFrom pages returns old new outcome
     → returns ≡ reverse old.focal.returns
-    → CarriesRow pages (Program next) (row_of_work works.Return) named old new (Ok brief)
-back_from pages [] old new brief next named (start, found, is, answer) none =
+    → CarriesRow pages (Program next) (row_of_work works.Return) named old new (Ok outcome)
+back_from pages [] old new outcome next named (start, found, is, answer) none =
     (Ok zeros, refl, (destinations.Halts start, rw (← none) (start, found, refl), rw (is, answer) refl))
-back_from pages (latest ∷ others) old new brief next named (is, answer) some =
+back_from pages (latest ∷ others) old new outcome next named (is, answer) some =
     (Ok zeros, refl, (destinations.Arrives latest (reverse others), rw (← some) refl, rw (is, answer) refl))
 
-pub goes_back : (pages : PageMap) (old new : Machine) (brief : BriefOutcome) (next : Position) (named : ℕ)
-    → ReturnsFrom pages old new brief
-    → CarriesRow pages (Program next) (row_of_work works.Return) named old new (Ok brief)
-goes_back pages old new brief next named back = back_from pages (reverse old.focal.returns) old new brief next named back refl
+pub goes_back : (pages : PageMap) (old new : Machine) (outcome : LineOutcome) (next : Position) (named : ℕ)
+    → ReturnsFrom pages old new outcome
+    → CarriesRow pages (Program next) (row_of_work works.Return) named old new (Ok outcome)
+goes_back pages old new outcome next named back = back_from pages (reverse old.focal.returns) old new outcome next named back refl
 
 pub goes_to_line_00 : (pages : PageMap) (machine : Machine) (start : Position) (named : ℕ)
     → StartOf pages machine.memory machine.focal.position start
-    → CarriesRow pages Typed (row_of_work works.Return) named machine (at_halt start machine) (Ok briefs.Done)
+    → CarriesRow pages Typed (row_of_work works.Return) named machine (at_halt start machine) (Ok outcomes.Done)
 goes_to_line_00 pages machine start named found = (Ok zeros, refl, (destinations.Halts start, (start, found, refl), refl))

@@ -1,6 +1,6 @@
 mod Apart
 mod Begun
-mod Briefly
+mod Targets
 mod Elsewhere
 mod LabelsMet
 mod LabelsRight

@@ -9,13 +9,13 @@ use Rattle.h41_codes.specs.declared.line.Line.TheVariants as lines
 use Rattle.h41_codes.specs.declared.line.Operand.{Operand}
 use Rattle.h41_codes.specs.declared.short_lines.ShortLine.{ShortLine}
 use Rattle.h41_codes.specs.ShortLines.{line_of}
-use Rattle.h41_focal.specs.private.Carrying.{CarriesFound, CarriesRow, StandsNoShort, StandsNumber, TakesBriefly}
+use Rattle.h41_focal.specs.private.Carrying.{CarriesFound, CarriesRow, StandsNoShort, StandsNumber, TakesAs}
 use Rattle.h41_focal.specs.private.Carrying.{UsesAddress, UsesDigits, UsesFlag}
 use Rattle.h41_focal.specs.LineStep.{StandsAt, lift_behind}
 use Rattle.h41_positions.specs.FocalState.{Machine}
 use Rattle.h41_focal.specs.private.Works.{digits_use_row, flag_use_row, highest_of, register_use_row, row_of_work}
 use Rattle.h41_focal.specs.declared.origin.Origin.{Origin}
-use Rattle.h41_focal.specs.declared.outcome.BriefOutcome.{BriefOutcome}
+use Rattle.h41_focal.specs.declared.outcome.LineOutcome.{LineOutcome}
 use Rattle.h41_focal.specs.declared.refusal.FocalRefusal.{FocalRefusal}
 use Rattle.h41_focal.specs.declared.refusal.FocalRefusal.TheVariants.{NotInProfile}
 use Rattle.h41_focal.specs.declared.uses.DigitsUse.{DigitsUse}
@@ -45,31 +45,31 @@ use Rattle.h41_rows.specs.declared.fault.LineFault.{LineFault}
 -- A function without an operand, by its effect.
 pub plain_taken :
     (pages : PageMap) (origin : Origin) (function : Function) (work : FunctionWork) (old new : Machine)
-    (result : Result BriefOutcome FocalRefusal)
+    (result : Result LineOutcome FocalRefusal)
     → Some (row_of_work work) ≡ function_row function
     → CarriesRow pages origin (row_of_work work) 0 old new result
-    → TakesBriefly pages origin (lines.Plain function) old new result
+    → TakesAs pages origin (lines.Plain function) old new result
 plain_taken pages origin function work old new result row carries = rw (← row) carries
 
 -- A function without an effect is not supported.
 pub plain_left_out :
     (pages : PageMap) (origin : Origin) (function : Function) (machine : Machine)
     → None ≡ function_row function
-    → TakesBriefly pages origin (lines.Plain function) machine machine (Err NotInProfile)
+    → TakesAs pages origin (lines.Plain function) machine machine (Err NotInProfile)
 plain_left_out pages origin function machine none = rw (← none) refl
 
 -- A function with an operand that is not supported.
 pub operand_left_out :
     (pages : PageMap) (origin : Origin) (function : ParameterFunction) (operand : Operand) (machine : Machine)
     → is_use_left_out function operand ≡ true
-    → TakesBriefly pages origin (lines.WithOperand function operand) machine machine (Err NotInProfile)
+    → TakesAs pages origin (lines.WithOperand function operand) machine machine (Err NotInProfile)
 operand_left_out pages origin function operand machine out = rw out refl
 
 -- A function with a register.
 pub register_taken : (pages : PageMap) (origin : Origin) (function : ParameterFunction) (operand : Operand)
-    (taken : RegisterUse) (old new : Machine) (result : Result BriefOutcome FocalRefusal)
+    (taken : RegisterUse) (old new : Machine) (result : Result LineOutcome FocalRefusal)
     → is_use_left_out function operand ≡ false → kind_of function ≡ RegisterKind → register_row function ≡ register_use_row taken
-    → UsesAddress pages origin taken operand old new result → TakesBriefly pages origin (lines.WithOperand function operand) old new result
+    → UsesAddress pages origin taken operand old new result → TakesAs pages origin (lines.WithOperand function operand) old new result
 register_taken pages origin function operand taken old new result held kind row (Ok address, meant, carries) =
     rw (held, kind, ← meant, row) carries
 register_taken pages origin function operand taken old new result held kind row (Err fault, meant, fails) =
@@ -77,9 +77,9 @@ register_taken pages origin function operand taken old new result held kind row 
 
 -- A function with a number of digits.
 pub digits_taken : (pages : PageMap) (origin : Origin) (function : ParameterFunction) (operand : Operand)
-    (taken : DigitsUse) (old new : Machine) (result : Result BriefOutcome FocalRefusal)
+    (taken : DigitsUse) (old new : Machine) (result : Result LineOutcome FocalRefusal)
     → is_use_left_out function operand ≡ false → kind_of function ≡ DigitKind → ((n : ℕ) → count_row function n ≡ digits_use_row taken n)
-    → UsesDigits pages origin taken operand old new result → TakesBriefly pages origin (lines.WithOperand function operand) old new result
+    → UsesDigits pages origin taken operand old new result → TakesAs pages origin (lines.WithOperand function operand) old new result
 digits_taken pages origin function operand taken old new result held kind row (Ok digits, meant, carries) =
     rw (held, kind, ← meant, row digits) carries
 digits_taken pages origin function operand taken old new result held kind row (Err fault, meant, fails) =
@@ -87,10 +87,10 @@ digits_taken pages origin function operand taken old new result held kind row (E
 
 -- A function with a flag.
 pub flag_taken : (pages : PageMap) (origin : Origin) (function : ParameterFunction) (operand : Operand)
-    (taken : FlagUse) (old new : Machine) (result : Result BriefOutcome FocalRefusal)
+    (taken : FlagUse) (old new : Machine) (result : Result LineOutcome FocalRefusal)
     → is_use_left_out function operand ≡ false → kind_of function ≡ FlagKind (highest_of taken)
     → ((n : ℕ) → count_row function n ≡ flag_use_row taken n) → UsesFlag pages origin taken operand old new result
-    → TakesBriefly pages origin (lines.WithOperand function operand) old new result
+    → TakesAs pages origin (lines.WithOperand function operand) old new result
 flag_taken pages origin function operand taken old new result held kind row (Ok flag, meant, carries) =
     rw (held, kind, ← meant, row flag) carries
 flag_taken pages origin function operand taken old new result held kind row (Err fault, meant, fails) =
@@ -99,20 +99,20 @@ flag_taken pages origin function operand taken old new result held kind row (Err
 -- A label.
 pub label_taken :
     (pages : PageMap) (origin : Origin) (function : ParameterFunction) (operand : Operand) (old new : Machine)
-    (result : Result BriefOutcome FocalRefusal)
+    (result : Result LineOutcome FocalRefusal)
     → is_use_left_out function operand ≡ false
     → kind_of function ≡ LabelKind
     → register_row function ≡ silent_row
     → CarriesRow pages origin silent_row 0 old new result
-    → TakesBriefly pages origin (lines.WithOperand function operand) old new result
+    → TakesAs pages origin (lines.WithOperand function operand) old new result
 label_taken pages origin function operand old new result held kind row carries = rw (held, kind, row) carries
 
 -- RCL and STO of the registers 00 to 15.
 pub short_taken : (pages : PageMap) (origin : Origin) (function : RegisterFunction) (register : ℕ)
-    (found : Result ℕ LineFault) (old new : Machine) (result : Result BriefOutcome FocalRefusal)
+    (found : Result ℕ LineFault) (old new : Machine) (result : Result LineOutcome FocalRefusal)
     → found ≡ data_register old.memory register
     → CarriesFound pages origin (λ address. short_row function) (λ address. address) found old new result
-    → TakesBriefly pages origin (lines.Register function register) old new result
+    → TakesAs pages origin (lines.Register function register) old new result
 short_taken pages origin function register (Ok address) old new result found carries = rw (← found) carries
 short_taken pages origin function register (Err fault) old new result found fails = rw (← found) fails
 

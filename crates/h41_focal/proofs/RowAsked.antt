@@ -21,8 +21,8 @@ use Rattle.h41_rows.specs.declared.fault.LineFault.{LineFault}
 use Rattle.h41_rows.specs.declared.fault.LineFault.TheVariants.{AlphaData}
 use Rattle.h41_focal.specs.declared.origin.Origin.{Origin}
 use Rattle.h41_focal.specs.declared.origin.Origin.TheVariants.{Program, Typed}
-use Rattle.h41_focal.specs.declared.outcome.BriefOutcome.{BriefOutcome}
-use Rattle.h41_focal.specs.declared.outcome.BriefOutcome.TheVariants as briefs
+use Rattle.h41_focal.specs.declared.outcome.LineOutcome.{LineOutcome}
+use Rattle.h41_focal.specs.declared.outcome.LineOutcome.TheVariants as outcomes
 use Rattle.h41_focal.specs.declared.refusal.FocalRefusal.{FocalRefusal}
 use Rattle.h41_pages.specs.PageMap.{PageMap}
 use Rattle.h41_positions.specs.Positions.{NextAt}
@@ -47,51 +47,51 @@ has_no_line pages holds memory next returns fails broken = rw fails (inr (broken
 
 -- A program continues after a line whose row has a condition.
 program_leads : (pages : PageMap) (next : Position) (lead : Origin) (row : LineRow) (condition : Condition) (holds : Bool)
-    (named : ℕ) (machine : Machine) (register : List ℕ) (brief : BriefOutcome)
+    (named : ℕ) (machine : Machine) (register : List ℕ) (outcome : LineOutcome)
     → ((to : Destination) → Asks pages (holds_in machine.memory named condition) machine.memory next machine.focal.returns to
     → StepsFrom pages row.goes machine.memory named machine.focal.position next machine.focal.returns to)
     → row.shows ≡ rows.AsBefore → row.ends ≡ rows.GoesOn → Works machine.memory named row (Ok register)
     → holds ≡ holds_in machine.memory named condition → Leads pages (Program next) machine.memory holds (Ok lead)
-    → brief ≡ briefs.Done
-    → CarriesRow pages (Program next) row named machine (applied_to lead row named register machine) (Ok brief)
-program_leads pages next (Program position) row condition holds named machine register brief goes shows ends works is leads answers =
+    → outcome ≡ outcomes.Done
+    → CarriesRow pages (Program next) row named machine (applied_to lead row named register machine) (Ok outcome)
+program_leads pages next (Program position) row condition holds named machine register outcome goes shows ends works is leads answers =
     let asks : Asks pages (holds_in machine.memory named condition) machine.memory
     next machine.focal.returns (Arrives leads.0 machine.focal.returns) =
     subst (λ (b : Bool). Asks pages b machine.memory next machine.focal.returns (Arrives leads.0 machine.focal.returns))
     is (arrives pages holds machine.memory next leads.0 machine.focal.returns leads.2) in
     let same : position ≡ leads.0 = cc leads.1 in
     (Ok register, works, (Arrives leads.0 machine.focal.returns, goes _ asks, rw (answers, shows, ends, same) refl))
-program_leads pages next Typed row condition holds named machine register brief goes shows ends works is leads answers =
+program_leads pages next Typed row condition holds named machine register outcome goes shows ends works is leads answers =
     absurd (cc leads.1)
 
 -- A test is executed.
 pub test_leads : (pages : PageMap) (origin lead : Origin) (row : LineRow) (condition : Condition) (holds : Bool)
-    (named : ℕ) (machine : Machine) (register : List ℕ) (brief : BriefOutcome)
+    (named : ℕ) (machine : Machine) (register : List ℕ) (outcome : LineOutcome)
     → row.goes ≡ rows.Tests condition → row.shows ≡ rows.AsBefore → row.ends ≡ rows.GoesOn
     → Works machine.memory named row (Ok register) → holds ≡ holds_in machine.memory named condition
-    → Leads pages origin machine.memory holds (Ok lead) → brief ≡ test_answer origin holds
-    → CarriesRow pages origin row named machine (applied_to lead row named register machine) (Ok brief)
-test_leads pages (Program next) lead row condition holds named machine register brief goes shows ends works is leads answers =
-    program_leads pages next lead row condition holds named machine register brief
+    → Leads pages origin machine.memory holds (Ok lead) → outcome ≡ test_answer origin holds
+    → CarriesRow pages origin row named machine (applied_to lead row named register machine) (Ok outcome)
+test_leads pages (Program next) lead row condition holds named machine register outcome goes shows ends works is leads answers =
+    program_leads pages next lead row condition holds named machine register outcome
     (λ to asks. rw goes asks) shows ends works is leads answers
-test_leads pages Typed (Program position) row condition holds named machine register brief goes shows ends works is leads answers =
+test_leads pages Typed (Program position) row condition holds named machine register outcome goes shows ends works is leads answers =
     absurd (cc leads)
-test_leads pages Typed Typed row condition holds named machine register brief goes shows ends works is leads answers =
+test_leads pages Typed Typed row condition holds named machine register outcome goes shows ends works is leads answers =
     (Ok register, works, (Tells holds, rw goes (ap (λ (b : Bool). Tells b) is), rw answers refl))
 
 -- A loop is counted.
 pub loop_leads : (pages : PageMap) (origin lead : Origin) (row : LineRow) (condition : Condition) (holds : Bool)
-    (named : ℕ) (machine : Machine) (register : List ℕ) (brief : BriefOutcome)
+    (named : ℕ) (machine : Machine) (register : List ℕ) (outcome : LineOutcome)
     → row.goes ≡ rows.Counts condition → row.shows ≡ rows.AsBefore → row.ends ≡ rows.GoesOn
     → Works machine.memory named row (Ok register) → holds ≡ holds_in machine.memory named condition
-    → Leads pages origin machine.memory holds (Ok lead) → brief ≡ briefs.Done
-    → CarriesRow pages origin row named machine (applied_to lead row named register machine) (Ok brief)
-loop_leads pages (Program next) lead row condition holds named machine register brief goes shows ends works is leads answers =
-    program_leads pages next lead row condition holds named machine register brief
+    → Leads pages origin machine.memory holds (Ok lead) → outcome ≡ outcomes.Done
+    → CarriesRow pages origin row named machine (applied_to lead row named register machine) (Ok outcome)
+loop_leads pages (Program next) lead row condition holds named machine register outcome goes shows ends works is leads answers =
+    program_leads pages next lead row condition holds named machine register outcome
     (λ to asks. rw goes asks) shows ends works is leads answers
-loop_leads pages Typed (Program position) row condition holds named machine register brief goes shows ends works is leads answers =
+loop_leads pages Typed (Program position) row condition holds named machine register outcome goes shows ends works is leads answers =
     absurd (cc leads)
-loop_leads pages Typed Typed row condition holds named machine register brief goes shows ends works is leads answers =
+loop_leads pages Typed Typed row condition holds named machine register outcome goes shows ends works is leads answers =
     (Ok register, works, (Stays, rw goes refl, rw (answers, shows, ends) refl))
 
 -- The line to be skipped cannot be read.

@@ -1,4 +1,3 @@
-pub mod BriefOutcomes
 pub mod Destinations
 pub mod LabelLaws
 pub mod LabelSearches

@@ -1,6 +1,6 @@
 -- The contracts of a machine's functions, with the machine after the call and an answer in which
 -- texts are their bytes.
-use Rattle.std.specs.Prelude.{◌≡◌, ℕ, IfOk, IsTrue, Option, Result, Ok, Err}
+use Rattle.std.specs.Prelude.{◌≡◌, ℕ, Bool, true, false, IfOk, IsTrue, Option, Result, Ok, Err}
 use Rattle.h41_codes.specs.declared.functions.Function.{Function}
 use Rattle.h41_codes.specs.declared.line.Line.{Line}
 use Rattle.h41_focal.specs.LineStep.{EntersLine, FailsLine, Left, PassesLine, StepsLine}
@@ -9,18 +9,29 @@ use Rattle.h41_focal.specs.LineStep.{TypesLine}
 use Rattle.h41_focal.specs.LineStep as steps
 use Rattle.h41_focal.specs.Outcomes.{answer_of, is_elsewhere}
 use Rattle.h41_focal.specs.declared.outcome.LineOutcome.{LineOutcome}
+use Rattle.h41_focal.specs.declared.outcome.LineOutcome.TheVariants as outcomes
 use Rattle.h41_focal.specs.declared.refusal.FocalRefusal.{FocalRefusal}
 use Rattle.h41_pages.specs.PageMap.{PageMap}
 use Rattle.h41_rows.specs.declared.fault.LineFault.{LineFault}
 
 -- The machine after a call, and its answer.
 abbrev pub left_of : Machine → LineOutcome → Left
-left_of machine outcome = record { machine = machine; answer = answer_of outcome }
+left_of machine outcome = record {
+  machine = machine;
+  answer = answer_of machine.memory outcome;
+}
 
 -- The machine after a call and its answer, or its refusal.
 abbrev pub carried_as : Machine → Result LineOutcome FocalRefusal → Result Left FocalRefusal
 carried_as machine (Ok outcome) = Ok (left_of machine outcome)
 carried_as machine (Err refusal) = Err refusal
+
+-- The result of a line whose call reports only whether the outcome is Done: if it is not, the call
+-- writes the result.
+abbrev pub outcome_by : (done : Bool) → Result LineOutcome FocalRefusal
+    → Result LineOutcome FocalRefusal
+outcome_by true written = Ok outcomes.Done
+outcome_by false written = written
 
 -- The contract of a call: the machine before and after, and the result.
 abbrev pub Call : Type 1
@@ -58,4 +69,4 @@ Types pages line old new result = TypesLine pages line old (carried_as new resul
 -- A line that calls something outside memory changes nothing.
 abbrev pub KeepsElsewhere : Call
 KeepsElsewhere old new result =
-    IfOk result (λ outcome. IsTrue (is_elsewhere (answer_of outcome)) → new ≡ old)
+    IfOk result (λ outcome. IsTrue (is_elsewhere (answer_of new.memory outcome)) → new ≡ old)

@@ -1,8 +1,12 @@
--- The outcome of a line as contracts describe it: texts are their bytes.
+-- The outcome of a line as contracts describe it: texts are their bytes, which are made from memory
+-- as the line left it.
 use Rattle.std.specs.Prelude.{ℕ, Bool, true, false, List}
 use Rattle.h41_focal.specs.declared.outcome.LineOutcome.{LineOutcome}
 use Rattle.h41_focal.specs.declared.outcome.LineOutcome.TheVariants as outcomes
+use Rattle.h41_ram.specs.RegisterMap.{RegisterMap, register_at}
 use Rattle.h41_rows.specs.declared.fault.LineFault.{LineFault}
+use Rattle.h41_show.specs.DisplayFormat.{format_of}
+use Rattle.h41_show.specs.RegisterText.{alpha_text, register_text}
 
 -- The answer of a line, on which the calculator acts.
 pub data Answer : Type 0 where
@@ -35,16 +39,18 @@ is_elsewhere (Calls number entry) = true
 is_elsewhere (Seeks name) = true
 is_elsewhere answer = false
 
--- The answer of an outcome.
-abbrev pub answer_of : LineOutcome → Answer
-answer_of outcomes.Done = Done
-answer_of outcomes.Stopped = Stopped
-answer_of outcomes.TurnedOff = TurnedOff
-answer_of (outcomes.Viewed text) = Viewed text.bytes
-answer_of (outcomes.Prompted text) = Prompted text.bytes
-answer_of outcomes.Cleared = Cleared
-answer_of (outcomes.Answered holds) = Answered holds
-answer_of outcomes.Runs = Runs
-answer_of (outcomes.Calls number entry) = Calls number entry
-answer_of (outcomes.Seeks name) = Seeks name
-answer_of (outcomes.Failed fault) = Failed fault
+-- The answer of an outcome. Texts are made from memory as the line left it.
+abbrev pub answer_of : RegisterMap → LineOutcome → Answer
+answer_of memory outcomes.Done = Done
+answer_of memory outcomes.Stopped = Stopped
+answer_of memory outcomes.TurnedOff = TurnedOff
+answer_of memory outcomes.ViewedAlpha = Viewed (alpha_text memory)
+answer_of memory (outcomes.ViewedRegister address) =
+    Viewed (register_text (format_of memory) (register_at memory address))
+answer_of memory outcomes.Prompted = Prompted (alpha_text memory)
+answer_of memory outcomes.Cleared = Cleared
+answer_of memory (outcomes.Answered holds) = Answered holds
+answer_of memory outcomes.Runs = Runs
+answer_of memory (outcomes.Calls number entry) = Calls number entry
+answer_of memory (outcomes.Seeks name) = Seeks name
+answer_of memory (outcomes.Failed fault) = Failed fault

@@ -12,7 +12,7 @@ ghost use Rattle.h41_rows.specs.RowMarks.{LeavesMark};
 use crate::course::go_on_lifting;
 use crate::machine::Machine;
 use crate::origin::Origin;
-use crate::outcome::BriefOutcome;
+use crate::outcome::LineOutcome;
 use crate::works::AlphaWork;
 use h41_codes::Text;
 use h41_ram::Ram;
@@ -28,7 +28,7 @@ pub fn change_alpha<const REGS: usize>(
     machine: &mut Machine<REGS>,
     origin: Origin,
     work: AlphaWork,
-) -> BriefOutcome
+) -> LineOutcome
     ensures done { DoesWork origin (Alpha work) (machine_of machine.old)
         (machine_of machine.new) result }
     ensures keeps { Keeps machine.old machine.new }
@@ -38,17 +38,17 @@ pub fn change_alpha<const REGS: usize>(
         AlphaWork::Clear => {
             replace_text(&mut machine.ram, &[]);
             go_on_lifting(&mut machine.focal, origin);
-            BriefOutcome::Done
+            LineOutcome::Done
         }
         AlphaWork::Shift => {
             shift_six(&mut machine.ram);
             go_on_lifting(&mut machine.focal, origin);
-            BriefOutcome::Done
+            LineOutcome::Done
         }
         AlphaWork::Mode(on) => {
             machine.ram.set_flag(ALPHA_MODE, on);
             go_on_lifting(&mut machine.focal, origin);
-            BriefOutcome::Done
+            LineOutcome::Done
         }
     }
 }
@@ -59,7 +59,7 @@ pub fn text_line<const REGS: usize>(
     machine: &mut Machine<REGS>,
     origin: Origin,
     text: &Text<15>,
-) -> BriefOutcome
+) -> LineOutcome
     ensures done { DoesLine origin (lines.Text text.now) (machine_of machine.old)
         (machine_of machine.new) result }
     ensures keeps { Keeps machine.old machine.new }
@@ -67,7 +67,7 @@ pub fn text_line<const REGS: usize>(
 {
     put_text(&mut machine.ram, text.characters());
     go_on_lifting(&mut machine.focal, origin);
-    BriefOutcome::Done
+    LineOutcome::Done
 }
 
 /// Writes the text of a text line to ALPHA. It replaces ALPHA, or the rest is appended to ALPHA if the text begins with

@@ -11,7 +11,7 @@ use crate::addresses::{X, Y};
 use crate::course::{fail, go_on_lifting};
 use crate::machine::Machine;
 use crate::origin::Origin;
-use crate::outcome::BriefOutcome;
+use crate::outcome::LineOutcome;
 use h41_ram::StatusRegister;
 use h41_rows::{ValueOfOne, ValueOfTwo, compute_of_one, compute_of_two, drop_into, keep_last};
 
@@ -23,7 +23,7 @@ pub fn of_y_and_x<const REGS: usize>(
     machine: &mut Machine<REGS>,
     origin: Origin,
     value: ValueOfTwo,
-) -> BriefOutcome
+) -> LineOutcome
     ensures done { DoesWork origin (OfYAndX value) (machine_of machine.old)
         (machine_of machine.new) result }
     ensures keeps { Keeps machine.old machine.new }
@@ -33,7 +33,7 @@ pub fn of_y_and_x<const REGS: usize>(
         Ok(register) => {
             drop_into(&mut machine.ram, register);
             go_on_lifting(&mut machine.focal, origin);
-            BriefOutcome::Done
+            LineOutcome::Done
         }
         Err(fault) => fail(machine, origin, fault),
     }
@@ -47,7 +47,7 @@ pub fn of_x<const REGS: usize>(
     machine: &mut Machine<REGS>,
     origin: Origin,
     value: ValueOfOne,
-) -> BriefOutcome
+) -> LineOutcome
     ensures done { DoesWork origin (OfX value) (machine_of machine.old)
         (machine_of machine.new) result }
     ensures keeps { Keeps machine.old machine.new }
@@ -57,7 +57,7 @@ pub fn of_x<const REGS: usize>(
         Ok(register) => {
             keep_last(&mut machine.ram, register);
             go_on_lifting(&mut machine.focal, origin);
-            BriefOutcome::Done
+            LineOutcome::Done
         }
         Err(fault) => fail(machine, origin, fault),
     }
@@ -65,7 +65,7 @@ pub fn of_x<const REGS: usize>(
 
 /// Executes `X^2`: X receives X times X, and LAST X receives the old X. The errors are ALPHA DATA and OUT OF RANGE;
 /// then the outcome is `Failed`, or `Done` if flag 25 was set.
-pub fn square<const REGS: usize>(machine: &mut Machine<REGS>, origin: Origin) -> BriefOutcome
+pub fn square<const REGS: usize>(machine: &mut Machine<REGS>, origin: Origin) -> LineOutcome
     ensures done { DoesWork origin Square (machine_of machine.old) (machine_of machine.new) result }
     ensures keeps { Keeps machine.old machine.new }
     ensures left { LeavesMark machine.old.ram machine.new.ram }
@@ -74,7 +74,7 @@ pub fn square<const REGS: usize>(machine: &mut Machine<REGS>, origin: Origin) ->
         Ok(register) => {
             keep_last(&mut machine.ram, register);
             go_on_lifting(&mut machine.focal, origin);
-            BriefOutcome::Done
+            LineOutcome::Done
         }
         Err(fault) => fail(machine, origin, fault),
     }
@@ -82,7 +82,7 @@ pub fn square<const REGS: usize>(machine: &mut Machine<REGS>, origin: Origin) ->
 
 /// Executes `%`: X receives X percent of Y, and LAST X receives the old X. Y is unchanged. The errors are ALPHA DATA
 /// and OUT OF RANGE; then the outcome is `Failed`, or `Done` if flag 25 was set.
-pub fn percent<const REGS: usize>(machine: &mut Machine<REGS>, origin: Origin) -> BriefOutcome
+pub fn percent<const REGS: usize>(machine: &mut Machine<REGS>, origin: Origin) -> LineOutcome
     ensures done { DoesWork origin Percent (machine_of machine.old)
         (machine_of machine.new) result }
     ensures keeps { Keeps machine.old machine.new }
@@ -92,7 +92,7 @@ pub fn percent<const REGS: usize>(machine: &mut Machine<REGS>, origin: Origin) -
         Ok(register) => {
             keep_last(&mut machine.ram, register);
             go_on_lifting(&mut machine.focal, origin);
-            BriefOutcome::Done
+            LineOutcome::Done
         }
         Err(fault) => fail(machine, origin, fault),
     }
@@ -100,7 +100,7 @@ pub fn percent<const REGS: usize>(machine: &mut Machine<REGS>, origin: Origin) -
 
 /// Executes `CHS`: the sign of the number in X changes. LAST X is unchanged. The error is ALPHA DATA if X contains no
 /// number; then the outcome is `Failed`, or `Done` if flag 25 was set.
-pub fn change_sign<const REGS: usize>(machine: &mut Machine<REGS>, origin: Origin) -> BriefOutcome
+pub fn change_sign<const REGS: usize>(machine: &mut Machine<REGS>, origin: Origin) -> LineOutcome
     ensures done { DoesWork origin ChangeSign (machine_of machine.old)
         (machine_of machine.new) result }
     ensures keeps { Keeps machine.old machine.new }
@@ -110,7 +110,7 @@ pub fn change_sign<const REGS: usize>(machine: &mut Machine<REGS>, origin: Origi
         Ok(register) => {
             machine.ram.set_status_register(StatusRegister::X, register);
             go_on_lifting(&mut machine.focal, origin);
-            BriefOutcome::Done
+            LineOutcome::Done
         }
         Err(fault) => fail(machine, origin, fault),
     }

@@ -10,7 +10,7 @@ ghost use Rattle.h41_rows.specs.RowMarks.{LeavesMark};
 
 use crate::machine::Machine;
 use crate::origin::Origin;
-use crate::outcome::BriefOutcome;
+use crate::outcome::LineOutcome;
 use h41_codes::Line;
 use h41_positions::{Focal, Position};
 use h41_ram::flags::ERROR_IGNORE;
@@ -59,15 +59,15 @@ pub fn fail<const REGS: usize>(
     machine: &mut Machine<REGS>,
     origin: Origin,
     fault: LineFault,
-) -> BriefOutcome
+) -> LineOutcome
     ensures done { FailsAs origin fault (machine_of machine.old) (machine_of machine.new) result }
     ensures keeps { Keeps machine.old machine.new }
     ensures left { LeavesMark machine.old.ram machine.new.ram }
 {
     if passes_fault(machine, origin) {
-        BriefOutcome::Done
+        LineOutcome::Done
     } else {
-        BriefOutcome::Failed(fault)
+        LineOutcome::Failed(fault)
     }
 }
 

@@ -9,7 +9,7 @@ ghost use Rattle.h41_rows.specs.RowMarks.{LeavesMark};
 use crate::course::{go_on, go_on_lifting};
 use crate::machine::Machine;
 use crate::origin::Origin;
-use crate::outcome::BriefOutcome;
+use crate::outcome::LineOutcome;
 use crate::works::DisplayWork;
 
 /// Executes `AVIEW`, `CLD`, `PROMPT`, `STOP` or `OFF`, and returns its outcome. All of them turn stack lift on, except
@@ -18,7 +18,7 @@ pub fn show<const REGS: usize>(
     machine: &mut Machine<REGS>,
     origin: Origin,
     work: DisplayWork,
-) -> BriefOutcome
+) -> LineOutcome
     ensures done { DoesWork origin (Display work) (machine_of machine.old)
         (machine_of machine.new) result }
     ensures keeps { Keeps machine.old machine.new }
@@ -27,23 +27,23 @@ pub fn show<const REGS: usize>(
     match work {
         DisplayWork::ViewAlpha => {
             go_on_lifting(&mut machine.focal, origin);
-            BriefOutcome::ViewedAlpha
+            LineOutcome::ViewedAlpha
         }
         DisplayWork::Clear => {
             go_on_lifting(&mut machine.focal, origin);
-            BriefOutcome::Cleared
+            LineOutcome::Cleared
         }
         DisplayWork::Prompt => {
             go_on_lifting(&mut machine.focal, origin);
-            BriefOutcome::Prompted
+            LineOutcome::Prompted
         }
         DisplayWork::Stop => {
             go_on(&mut machine.focal, origin);
-            BriefOutcome::Stopped
+            LineOutcome::Stopped
         }
         DisplayWork::TurnOff => {
             go_on_lifting(&mut machine.focal, origin);
-            BriefOutcome::TurnedOff
+            LineOutcome::TurnedOff
         }
     }
 }

@@ -12,7 +12,7 @@ ghost use Rattle.h41_rows.specs.RowMarks.{LeavesMark};
 use crate::course::go_on_lifting;
 use crate::machine::Machine;
 use crate::origin::Origin;
-use crate::outcome::BriefOutcome;
+use crate::outcome::LineOutcome;
 use crate::questions::{answer, lead};
 use crate::refusal::FocalRefusal;
 use crate::uses::FlagUse;
@@ -37,7 +37,7 @@ fn ask_flag<const REGS: usize>(
     origin: Origin,
     flag: u8,
     on: bool,
-) -> Result<BriefOutcome, FocalRefusal>
+) -> Result<LineOutcome, FocalRefusal>
     requires flag { flag < 56 }
     requires sound { IsTrue (is_sound machine.old.ram.registers) }
     ensures carried { CarriesFlag pages.now origin (Ask on) flag (machine_of machine.old)
@@ -62,7 +62,7 @@ fn ask_and_clear_flag<const REGS: usize>(
     origin: Origin,
     flag: u8,
     on: bool,
-) -> Result<BriefOutcome, FocalRefusal>
+) -> Result<LineOutcome, FocalRefusal>
     requires flag { flag < 56 }
     requires sound { IsTrue (is_sound machine.old.ram.registers) }
     ensures carried { ClearsFlag pages.now origin on flag (machine_of machine.old)
@@ -86,7 +86,7 @@ pub fn use_flag<const REGS: usize>(
     origin: Origin,
     taken: FlagUse,
     flag: u8,
-) -> Result<BriefOutcome, FocalRefusal>
+) -> Result<LineOutcome, FocalRefusal>
     requires flag { flag < 56 }
     requires sound { IsTrue (is_sound machine.old.ram.registers) }
     ensures carried { CarriesFlag pages.now origin taken flag (machine_of machine.old)
@@ -99,7 +99,7 @@ pub fn use_flag<const REGS: usize>(
         FlagUse::Change(on) => {
             machine.ram.set_flag(usize::from(flag), on);
             go_on_lifting(&mut machine.focal, origin);
-            Ok(BriefOutcome::Done)
+            Ok(LineOutcome::Done)
         }
         FlagUse::Ask(on) => ask_flag(machine, pages, origin, flag, on),
         FlagUse::AskAndClear(on) => ask_and_clear_flag(machine, pages, origin, flag, on),

@@ -1,9 +1,9 @@
 //! Executing functions without an operand, for example `+` or `CLX`.
 
 ghost use Rattle.std.specs.Prelude.{◌≡◌, OnErr, IsTrue};
-ghost use Rattle.h41_focal.specs.BriefOutcomes.{end_told};
+ghost use Rattle.h41_focal.specs.MachineCalls.{outcome_by};
 ghost use Rattle.h41_positions.specs.LabelledMachine.{Keeps, machine_of};
-ghost use Rattle.h41_focal.specs.private.Carrying.{TakesBriefly};
+ghost use Rattle.h41_focal.specs.private.Carrying.{TakesAs};
 ghost use Rattle.h41_codes.specs.declared.line.Line.TheVariants.{Plain};
 ghost use Rattle.h41_ram.specs.RegisterMap.{is_sound};
 ghost use Rattle.h41_rows.specs.RowMarks.{LeavesMark};
@@ -15,7 +15,7 @@ use crate::labels::go_back;
 use crate::machine::Machine;
 use crate::mode_lines::set_angle_unit;
 use crate::origin::Origin;
-use crate::outcome::{BriefOutcome, is_done};
+use crate::outcome::{LineOutcome, is_done};
 use crate::questions::ask;
 use crate::refusal::FocalRefusal;
 use crate::stack_lines::{clear_registers, do_nothing, move_stack};
@@ -23,7 +23,7 @@ use crate::works::{FunctionWork, work_of};
 use h41_codes::Function;
 use h41_pages::Pages;
 
-/// Executes a function without an operand and returns its outcome without texts. NotInProfile (13) if the bench does
+/// Executes a function without an operand and returns its outcome. NotInProfile (13) if the bench does
 /// not support the function; BrokenProgram (14) if the line that a test skips cannot be read. After these errors
 /// nothing has changed.
 #[inline(never)]
@@ -32,9 +32,9 @@ pub fn plain<const REGS: usize>(
     pages: &Pages,
     origin: Origin,
     function: Function,
-) -> Result<BriefOutcome, FocalRefusal>
+) -> Result<LineOutcome, FocalRefusal>
     requires { IsTrue (is_sound machine.old.ram.registers) }
-    ensures taken { TakesBriefly pages.now origin (Plain function) (machine_of machine.old)
+    ensures taken { TakesAs pages.now origin (Plain function) (machine_of machine.old)
         (machine_of machine.new) result }
     ensures unchanged { OnErr result (machine.new ≡ machine.old) }
     ensures keeps { Keeps machine.old machine.new }
@@ -62,8 +62,8 @@ pub fn plain<const REGS: usize>(
     }
 }
 
-/// Executes a function without an operand, as `plain` does, and returns whether its outcome is `Done`. If not, `told`
-/// receives the outcome without texts, or the error: NotInProfile (13) or BrokenProgram (14). The functions that are
+/// Executes a function without an operand, as `plain` does, and returns whether its outcome is `Done`. If not, `outcome`
+/// receives the outcome, or the error: NotInProfile (13) or BrokenProgram (14). The functions that are
 /// most frequent in programs are executed here, all others by `plain`.
 #[inline(always)]
 pub fn plain_at_once<const REGS: usize>(
@@ -71,22 +71,25 @@ pub fn plain_at_once<const REGS: usize>(
     pages: &Pages,
     origin: Origin,
     function: Function,
-    told: &mut Result<BriefOutcome, FocalRefusal>,
+    outcome: &mut Result<LineOutcome, FocalRefusal>,
 ) -> bool
     requires { IsTrue (is_sound machine.old.ram.registers) }
-    ensures taken { TakesBriefly pages.now origin (Plain function)
-        (machine_of machine.old) (machine_of machine.new) (end_told result told.new) }
-    ensures unchanged { OnErr (end_told result told.new) (machine.new ≡ machine.old) }
+    ensures taken { TakesAs pages.now origin (Plain function)
+        (machine_of machine.old) (machine_of machine.new) (outcome_by result outcome.new) }
+    ensures unchanged { OnErr (outcome_by result outcome.new) (machine.new ≡ machine.old) }
     ensures keeps { Keeps machine.old machine.new }
     ensures left { LeavesMark machine.old.ram machine.new.ram }
 {
     match work_of(function) {
-        Some(FunctionWork::OfYAndX(value)) => is_done(Ok(of_y_and_x(machine, origin, value)), told),
-        Some(FunctionWork::OfX(value)) => is_done(Ok(of_x(machine, origin, value)), told),
+        Some(FunctionWork::OfYAndX(value)) => is_done(
+            Ok(of_y_and_x(machine, origin, value)),
+            outcome,
+        ),
+        Some(FunctionWork::OfX(value)) => is_done(Ok(of_x(machine, origin, value)), outcome),
         Some(FunctionWork::Move(movement)) => is_done(
             Ok(move_stack(machine, origin, movement)),
-            told,
+            outcome,
         ),
-        _ => is_done(plain(machine, pages, origin, function), told),
+        _ => is_done(plain(machine, pages, origin, function), outcome),
     }
 }

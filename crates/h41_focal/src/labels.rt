@@ -16,7 +16,7 @@ ghost use Rattle.h41_rows.specs.RowMarks.{LeavesMark};
 use crate::course::fail;
 use crate::machine::Machine;
 use crate::origin::Origin;
-use crate::outcome::BriefOutcome;
+use crate::outcome::LineOutcome;
 use arrayvec::ArrayVec;
 use h41_codes::{Branch, Parameter, Text};
 use h41_pages::Pages;
@@ -33,7 +33,7 @@ pub fn to_label<const REGS: usize>(
     origin: Origin,
     branch: Branch,
     label: Parameter,
-) -> BriefOutcome
+) -> LineOutcome
     requires sound { IsTrue (is_sound machine.old.ram.registers) }
     requires right { IsRight machine.old.focal.labels machine.old.ram.registers }
     ensures done { GoesToLabel pages.now origin branch label (machine_of machine.old)
@@ -61,7 +61,7 @@ pub fn to_name<const REGS: usize>(
     origin: Origin,
     branch: Branch,
     name: Text<15>,
-) -> BriefOutcome
+) -> LineOutcome
     requires sound { IsTrue (is_sound machine.old.ram.registers) }
     requires right { IsRight machine.old.focal.labels machine.old.ram.registers }
     ensures done { (pages : PageMap) → GoesToName pages origin branch name (machine_of machine.old)
@@ -76,7 +76,7 @@ pub fn to_name<const REGS: usize>(
             arrive(&mut machine.focal, origin, branch, label)
         }
         (None, Branch::GoTo) => fail(machine, origin, LineFault::Nonexistent),
-        (None, Branch::Execute) => BriefOutcome::Seeks(name),
+        (None, Branch::Execute) => LineOutcome::Seeks(name),
     }
 }
 
@@ -84,14 +84,14 @@ pub fn to_name<const REGS: usize>(
 /// line becomes the newest return address, and a seventh one replaces the oldest. A typed `XEQ` clears all return
 /// addresses, and its outcome is `Runs`.
 #[inline(always)]
-pub fn arrive(focal: &mut Focal, origin: Origin, branch: Branch, position: Position) -> BriefOutcome
+pub fn arrive(focal: &mut Focal, origin: Origin, branch: Branch, position: Position) -> LineOutcome
     ensures state { focal.new.state ≡ focal_at origin branch position focal.old.state }
     ensures labels { focal.new.labels ≡ focal.old.labels }
     ensures answer { result ≡ answer_at origin branch }
 {
     focal.go_to(position);
     match (branch, origin) {
-        (Branch::GoTo, _) => BriefOutcome::Done,
+        (Branch::GoTo, _) => LineOutcome::Done,
         (Branch::Execute, Origin::Program(next)) => {
             match focal.returns.as_slice() {
                 [_, second, third, fourth, fifth, sixth] => {
@@ -101,11 +101,11 @@ pub fn arrive(focal: &mut Focal, origin: Origin, branch: Branch, position: Posit
                 }
                 _ => focal.returns.push(next),
             }
-            BriefOutcome::Done
+            LineOutcome::Done
         }
         (Branch::Execute, Origin::Typed) => {
             focal.returns.clear();
-            BriefOutcome::Runs
+            LineOutcome::Runs
         }
     }
 }
@@ -117,7 +117,7 @@ pub fn go_back<const REGS: usize>(
     machine: &mut Machine<REGS>,
     pages: &Pages,
     origin: Origin,
-) -> BriefOutcome
+) -> LineOutcome
     requires { IsTrue (is_sound machine.old.ram.registers) }
     ensures done { GoesBack pages.now origin
         (machine_of machine.old) (machine_of machine.new) result }
@@ -129,14 +129,14 @@ pub fn go_back<const REGS: usize>(
         Origin::Typed => {
             let start = start_of(&machine.ram, pages, machine.focal.position);
             machine.focal.halt_at(start);
-            BriefOutcome::Done
+            LineOutcome::Done
         }
     }
 }
 
 /// Moves the position to the newest return address and removes it. If there is none, moves to line 00 of the program,
 /// and the outcome is `Stopped`.
-fn return_from<const REGS: usize>(machine: &mut Machine<REGS>, pages: &Pages) -> BriefOutcome
+fn return_from<const REGS: usize>(machine: &mut Machine<REGS>, pages: &Pages) -> LineOutcome
     requires { IsTrue (is_sound machine.old.ram.registers) }
     ensures done { ReturnsFrom pages.now (machine_of machine.old) (machine_of machine.new) result }
     ensures keeps { Keeps machine.old machine.new }
@@ -145,12 +145,12 @@ fn return_from<const REGS: usize>(machine: &mut Machine<REGS>, pages: &Pages) ->
     match machine.focal.returns.pop() {
         Some(position) => {
             machine.focal.go_to(position);
-            BriefOutcome::Done
+            LineOutcome::Done
         }
         None => {
             let start = start_of(&machine.ram, pages, machine.focal.position);
             machine.focal.halt_at(start);
-            BriefOutcome::Stopped
+            LineOutcome::Stopped
         }
     }
 }

@@ -4,7 +4,6 @@
 mod addresses;
 mod alpha_lines;
 mod arithmetic;
-mod calls;
 mod course;
 mod display_lines;
 mod flag_lines;
@@ -27,9 +26,8 @@ mod stack_lines;
 mod uses;
 mod works;
 
-pub use calls::{key_line, step_as, step_line};
 pub use h41_positions::{Focal, RETURNS};
 pub use h41_rows::LineFault;
 pub use machine::Machine;
-pub use outcome::{BriefOutcome, DisplayText, LineOutcome};
+pub use outcome::LineOutcome;
 pub use refusal::FocalRefusal;

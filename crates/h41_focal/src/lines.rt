@@ -6,7 +6,7 @@ ghost use Rattle.h41_focal.specs.LabelSearches.{search_for};
 ghost use Rattle.h41_positions.specs.LabelledMachine.{Keeps, machine_of};
 ghost use Rattle.h41_focal.specs.LineStep.{Stands};
 ghost use Rattle.h41_focal.specs.private.Carrying.{GoesToTarget};
-ghost use Rattle.h41_focal.specs.private.Carrying.{TakesAs, TakesBriefly};
+ghost use Rattle.h41_focal.specs.private.Carrying.{TakesAs};
 ghost use Rattle.h41_focal.specs.private.Carrying.{TakesBranch, TakesNamed, TakesShort};
 ghost use Rattle.h41_focal.specs.private.Searching.{AsksFrom, AsksOf};
 ghost use Rattle.h41_labels.specs.KeptAnswers.{IsRight};
@@ -23,7 +23,7 @@ use crate::labels::{go_back, to_label, to_name};
 use crate::machine::Machine;
 use crate::operand_lines::{is_parameter_out, with_operand};
 use crate::origin::Origin;
-use crate::outcome::{BriefOutcome, LineOutcome};
+use crate::outcome::LineOutcome;
 use crate::refusal::FocalRefusal;
 use crate::register_lines::{recall, store};
 use crate::stack_lines::{be_silent, do_nothing, number_line};
@@ -55,6 +55,7 @@ pub fn standing<const REGS: usize>(
 /// Executes a program line or a typed line, and returns its outcome. NotInProfile (13) if the bench does not support
 /// the line; BrokenProgram (14) if the line that a test or loop skips cannot be read. After these errors nothing has
 /// changed.
+#[inline(never)]
 pub fn carry_out<const REGS: usize>(
     machine: &mut Machine<REGS>,
     pages: &Pages,
@@ -64,29 +65,6 @@ pub fn carry_out<const REGS: usize>(
     requires sound { IsTrue (is_sound machine.old.ram.registers) }
     requires right { IsRight machine.old.focal.labels machine.old.ram.registers }
     ensures taken { TakesAs pages.now origin line.now (machine_of machine.old)
-        (machine_of machine.new) result }
-    ensures unchanged { OnErr result (machine.new ≡ machine.old) }
-    ensures kept { AsksOf origin line.now machine.old machine.new }
-    ensures mark { KeepsMark machine.old.ram machine.new.ram }
-    ensures left { LeavesMark machine.old.ram machine.new.ram }
-{
-    let brief = carry_briefly(machine, pages, origin, line)?;
-    Ok(brief.outcome(&machine.ram))
-}
-
-/// Executes a program line or a typed line, and returns its outcome without texts. NotInProfile (13) if the bench does
-/// not support the line; BrokenProgram (14) if the line that a test or loop skips cannot be read. After these errors
-/// nothing has changed.
-#[inline(never)]
-pub fn carry_briefly<const REGS: usize>(
-    machine: &mut Machine<REGS>,
-    pages: &Pages,
-    origin: Origin,
-    line: &Line,
-) -> Result<BriefOutcome, FocalRefusal>
-    requires sound { IsTrue (is_sound machine.old.ram.registers) }
-    requires right { IsRight machine.old.focal.labels machine.old.ram.registers }
-    ensures taken { TakesBriefly pages.now origin line.now (machine_of machine.old)
         (machine_of machine.new) result }
     ensures unchanged { OnErr result (machine.new ≡ machine.old) }
     ensures kept { AsksOf origin line.now machine.old machine.new }
@@ -104,7 +82,7 @@ pub fn carry_briefly<const REGS: usize>(
         Line::WithOperand(function, operand) => with_operand(
             machine, pages, origin, *function, operand,
         ),
-        Line::Module(number, entry) => Ok(BriefOutcome::Calls(*number, *entry)),
+        Line::Module(number, entry) => Ok(LineOutcome::Calls(*number, *entry)),
         Line::BranchIndirect(branch, register) => indirect(
             machine, pages, origin, *branch, *register,
         ),
@@ -133,7 +111,7 @@ fn named<const REGS: usize>(
     origin: Origin,
     function: NameFunction,
     name: Text<15>,
-) -> Result<BriefOutcome, FocalRefusal>
+) -> Result<LineOutcome, FocalRefusal>
     requires sound { IsTrue (is_sound machine.old.ram.registers) }
     requires right { IsRight machine.old.focal.labels machine.old.ram.registers }
     ensures taken { (pages : PageMap) → TakesNamed pages origin function name
@@ -158,7 +136,7 @@ pub fn short<const REGS: usize>(
     origin: Origin,
     function: RegisterFunction,
     register: ShortRegister,
-) -> Result<BriefOutcome, FocalRefusal>
+) -> Result<LineOutcome, FocalRefusal>
     ensures taken { (pages : PageMap) → TakesShort pages origin function register
         (machine_of machine.old) (machine_of machine.new) result }
     ensures unchanged { OnErr result (machine.new ≡ machine.old) }
@@ -184,7 +162,7 @@ pub fn indirect<const REGS: usize>(
     origin: Origin,
     branch: Branch,
     register: Parameter,
-) -> Result<BriefOutcome, FocalRefusal>
+) -> Result<LineOutcome, FocalRefusal>
     requires sound { IsTrue (is_sound machine.old.ram.registers) }
     requires right { IsRight machine.old.focal.labels machine.old.ram.registers }
     ensures taken { TakesBranch pages.now origin branch register (machine_of machine.old)
@@ -211,7 +189,7 @@ fn to_target<const REGS: usize>(
     origin: Origin,
     branch: Branch,
     target: BranchTarget,
-) -> BriefOutcome
+) -> LineOutcome
     requires sound { IsTrue (is_sound machine.old.ram.registers) }
     requires right { IsRight machine.old.focal.labels machine.old.ram.registers }
     ensures done { GoesToTarget pages.now origin branch target (machine_of machine.old)

@@ -10,7 +10,7 @@ ghost use Rattle.h41_rows.specs.RowMarks.{IsApart, LeavesMark};
 use crate::course::{fail, go_on_lifting};
 use crate::machine::Machine;
 use crate::origin::Origin;
-use crate::outcome::BriefOutcome;
+use crate::outcome::LineOutcome;
 use crate::questions::lead;
 use crate::refusal::FocalRefusal;
 use h41_pages::Pages;
@@ -24,7 +24,7 @@ pub fn count_up<const REGS: usize>(
     pages: &Pages,
     origin: Origin,
     address: u16,
-) -> Result<BriefOutcome, FocalRefusal>
+) -> Result<LineOutcome, FocalRefusal>
     requires { IsTrue (is_sound machine.old.ram.registers) }
     ensures carried { DoesUse pages.now origin CountUp address (machine_of machine.old)
         (machine_of machine.new) result }
@@ -38,7 +38,7 @@ pub fn count_up<const REGS: usize>(
             let lead = lead(&machine.ram, pages, origin, counted.goes_on)?;
             machine.ram.write(address, counted.register);
             go_on_lifting(&mut machine.focal, lead);
-            Ok(BriefOutcome::Done)
+            Ok(LineOutcome::Done)
         }
         Err(fault) => Ok(fail(machine, origin, fault)),
     }
@@ -52,7 +52,7 @@ pub fn count_down<const REGS: usize>(
     pages: &Pages,
     origin: Origin,
     address: u16,
-) -> Result<BriefOutcome, FocalRefusal>
+) -> Result<LineOutcome, FocalRefusal>
     requires { IsTrue (is_sound machine.old.ram.registers) }
     ensures carried { DoesUse pages.now origin CountDown address (machine_of machine.old)
         (machine_of machine.new) result }
@@ -66,7 +66,7 @@ pub fn count_down<const REGS: usize>(
             let lead = lead(&machine.ram, pages, origin, counted.goes_on)?;
             machine.ram.write(address, counted.register);
             go_on_lifting(&mut machine.focal, lead);
-            Ok(BriefOutcome::Done)
+            Ok(LineOutcome::Done)
         }
         Err(fault) => Ok(fail(machine, origin, fault)),
     }

@@ -1,15 +1,14 @@
 //! The machine: memory and the other state of keystroke programs as one value.
 
 ghost use Rattle.std.specs.Prelude.{◌≡◌, ◌≤◌, ℕ, false, true, [], None, Some, OnErr};
-ghost use Rattle.h41_focal.specs.BriefOutcomes.{CallingKeeps, StepsBriefly, end_told};
 ghost use Rattle.h41_focal.specs.MachineCalls.{Enters, Fails, FailsTyped, KeepsElsewhere, Passes};
-ghost use Rattle.h41_focal.specs.MachineCalls.{Steps, Types};
+ghost use Rattle.h41_focal.specs.MachineCalls.{Steps, Types, outcome_by};
 ghost use Rattle.h41_focal.specs.LabelSearches.{StepKeeps, TypingKeeps};
-ghost use Rattle.h41_positions.specs.LabelledMachine.{AreRight, Keeps, begun_ram, labelled_with};
+ghost use Rattle.h41_positions.specs.LabelledMachine.{AreRight, Keeps, begun_ram};
 ghost use Rattle.h41_positions.specs.LabelledMachine.{machine_of, with_line_begun};
 ghost use Rattle.h41_focal.specs.LineStep.{with_program_run};
 ghost use Rattle.h41_positions.specs.FocalState.{machine_with, start};
-ghost use Rattle.h41_focal.specs.private.BriefSteps.{StepsMachine};
+ghost use Rattle.h41_focal.specs.private.MachineSteps.{StepsMachine};
 ghost use Rattle.h41_labels.specs.KeptAnswers.{IsRight};
 ghost use Rattle.h41_positions.specs.declared.position.Position.TheVariants.{Page};
 ghost use Rattle.h41_ram.specs.RamState.{KeepsMark};
@@ -18,9 +17,9 @@ ghost use Rattle.h41_ram.specs.RegisterMap as registers;
 use crate::course::{fail, go_behind};
 use crate::labels::arrive;
 use crate::laws::kept_answers_stay_right;
-use crate::lines::{carry_briefly, carry_out, standing};
+use crate::lines::{carry_out, standing};
 use crate::origin::Origin;
-use crate::outcome::{BriefOutcome, LineOutcome, is_done};
+use crate::outcome::{LineOutcome, is_done};
 use crate::refusal::FocalRefusal;
 use crate::short_lines::{carry_short, number_standing, short_standing};
 use crate::stack_lines::number_line;
@@ -83,7 +82,7 @@ impl<const REGS: usize> Machine<REGS> {
     /// memory is not sound; BrokenProgram (14) if no line can be read at the position; NotInProfile (13) if the bench
     /// does not support the line; BrokenProgram (14) if a line that a test or loop skips cannot be read. After an error
     /// nothing has changed. The rules are in docs/LINES.md.
-    #[inline(always)]
+    #[inline(never)]
     pub fn step(&mut self, pages: &Pages) -> Result<LineOutcome, FocalRefusal>
         requires { AreRight self.old }
         ensures line { Steps pages.now None (machine_of self.old) (machine_of self.new) result }
@@ -100,22 +99,21 @@ impl<const REGS: usize> Machine<REGS> {
         carry_out(self, pages, Origin::Program(next), &line)
     }
 
-    /// Executes the program line at the position as `step` does, and returns whether its outcome is `Done`. If not,
-    /// `told` receives the outcome without texts, or the error, which is the same as in `step`. A line that calls
-    /// something outside program memory changes nothing.
+    /// Executes the program line at the position as `step` does, and returns whether its outcome is `Done`. If not, it
+    /// writes the outcome, or the error, to `outcome`. Short lines are executed at once.
     #[inline(always)]
-    pub fn step_briefly(
+    pub fn step_into(
         &mut self,
         pages: &Pages,
-        told: &mut Result<BriefOutcome, FocalRefusal>,
+        outcome: &mut Result<LineOutcome, FocalRefusal>,
     ) -> bool
         requires { AreRight self.old }
-        ensures line { StepsBriefly pages.now (machine_of self.old) (machine_of self.new)
-            (end_told result told.new) }
-        ensures unchanged { OnErr (end_told result told.new)
+        ensures line { Steps pages.now None (machine_of self.old) (machine_of self.new)
+            (outcome_by result outcome.new) }
+        ensures unchanged { OnErr (outcome_by result outcome.new)
             (machine_of self.new ≡ machine_of self.old) }
-        ensures elsewhere { CallingKeeps (machine_of self.old) (machine_of self.new)
-            (end_told result told.new) }
+        ensures elsewhere { KeepsElsewhere (machine_of self.old) (machine_of self.new)
+            (outcome_by result outcome.new) }
         ensures kept { StepKeeps pages.now None self.old self.new }
         ensures mark { KeepsMark (begun_ram self.old.ram) self.new.ram }
         ensures clear { self.new.ram.touched ≡ false }
@@ -123,16 +121,16 @@ impl<const REGS: usize> Machine<REGS> {
     {
         kept_answers_stay_right();
         match short_standing(self, pages) {
-            Some((line, next)) => carry_short(self, pages, Origin::Program(next), line, told),
-            None => is_done(self.step_long(pages), told),
+            Some((line, next)) => carry_short(self, pages, Origin::Program(next), line, outcome),
+            None => is_done(self.step_long(pages), outcome),
         }
     }
 
     /// Executes the program line at the position if it is no short line (one of at most three bytes, without a text),
-    /// and returns its outcome without texts. The errors are those of `step`. This is a function of its own so that the
-    /// machine code for short lines remains small.
+    /// and returns its outcome. The errors are those of `step`. This is a function of its own so that the machine code
+    /// for short lines remains small.
     #[inline(never)]
-    fn step_long(&mut self, pages: &Pages) -> Result<BriefOutcome, FocalRefusal>
+    fn step_long(&mut self, pages: &Pages) -> Result<LineOutcome, FocalRefusal>
         requires { AreRight self.old }
         ensures { StepsMachine pages.now self.old self.new result }
     {
@@ -143,21 +141,8 @@ impl<const REGS: usize> Machine<REGS> {
                 let register = number_register(number);
                 Ok(number_line(self, Origin::Program(next), register))
             }
-            None => self.step_whole(pages),
+            None => self.step(pages),
         }
-    }
-
-    /// Executes any program line at the position, and returns its outcome without texts. The errors are those of
-    /// `step`.
-    #[inline(never)]
-    fn step_whole(&mut self, pages: &Pages) -> Result<BriefOutcome, FocalRefusal>
-        requires { AreRight self.old }
-        ensures { StepsMachine pages.now self.old self.new result }
-    {
-        kept_answers_stay_right();
-        self.begin();
-        let (line, next) = standing(self, pages)?;
-        carry_briefly(self, pages, Origin::Program(next), &line)
     }
 
     /// Executes a function without an operand instead of the line at the position, whatever that line is. This is used
@@ -193,7 +178,7 @@ impl<const REGS: usize> Machine<REGS> {
         ensures mark { self.new.ram.touched ≡ self.old.ram.touched }
     {
         let (_, next) = standing(self, pages)?;
-        Ok(fail(self, Origin::Program(next), fault).outcome(&self.ram))
+        Ok(fail(self, Origin::Program(next), fault))
     }
 
     /// Makes a typed line fail with an error, for example NONEXISTENT because nothing has the name that it calls. If
@@ -208,7 +193,7 @@ impl<const REGS: usize> Machine<REGS> {
         if !self.ram.is_sound() {
             return Err(FocalRefusal::MemoryLost);
         }
-        Ok(fail(self, Origin::Typed, fault).outcome(&self.ram))
+        Ok(fail(self, Origin::Typed, fault))
     }
 
     /// Moves to the line after the line at the position, whose function is executed outside program memory. An XROM
@@ -272,13 +257,5 @@ impl<const REGS: usize> Machine<REGS> {
             return Err(FocalRefusal::MemoryLost);
         }
         carry_out(self, pages, Origin::Typed, line)
-    }
-
-    /// Separates the machine: writes its memory to `ram`, and the other state of programs to `focal`.
-    pub fn part(self, ram: &mut Ram<REGS>, focal: &mut Focal)
-        ensures { labelled_with ram.new focal.new ≡ self.entry }
-    {
-        *ram = self.ram;
-        *focal = self.focal;
     }
 }

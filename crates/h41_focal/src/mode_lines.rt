@@ -9,7 +9,7 @@ ghost use Rattle.h41_rows.specs.RowMarks.{LeavesMark};
 use crate::course::go_on_lifting;
 use crate::machine::Machine;
 use crate::origin::Origin;
-use crate::outcome::BriefOutcome;
+use crate::outcome::LineOutcome;
 use crate::uses::DigitsUse;
 use h41_rows::{set_angles, set_format};
 
@@ -20,7 +20,7 @@ pub fn set_angle_unit<const REGS: usize>(
     origin: Origin,
     grads: bool,
     radians: bool,
-) -> BriefOutcome
+) -> LineOutcome
     ensures done { DoesWork origin (Angles grads radians) (machine_of machine.old)
         (machine_of machine.new) result }
     ensures keeps { Keeps machine.old machine.new }
@@ -28,7 +28,7 @@ pub fn set_angle_unit<const REGS: usize>(
 {
     set_angles(&mut machine.ram, grads, radians);
     go_on_lifting(&mut machine.focal, origin);
-    BriefOutcome::Done
+    LineOutcome::Done
 }
 
 /// Executes `FIX`, `SCI`, `ENG` or `TONE` with a digit, 0 to 9. The first three set the display format; `TONE` has no
@@ -38,7 +38,7 @@ pub fn use_digits<const REGS: usize>(
     origin: Origin,
     taken: DigitsUse,
     digits: u8,
-) -> BriefOutcome
+) -> LineOutcome
     requires { digits < 10 }
     ensures done { LeavesDigits origin taken digits (machine_of machine.old)
         (machine_of machine.new) result }
@@ -49,11 +49,11 @@ pub fn use_digits<const REGS: usize>(
         DigitsUse::Format(fixed, engineering) => {
             set_format(&mut machine.ram, digits, fixed, engineering);
             go_on_lifting(&mut machine.focal, origin);
-            BriefOutcome::Done
+            LineOutcome::Done
         }
         DigitsUse::Tone => {
             go_on_lifting(&mut machine.focal, origin);
-            BriefOutcome::Done
+            LineOutcome::Done
         }
     }
 }

@@ -15,7 +15,7 @@ use crate::flag_lines::use_flag;
 use crate::machine::Machine;
 use crate::mode_lines::use_digits;
 use crate::origin::Origin;
-use crate::outcome::BriefOutcome;
+use crate::outcome::LineOutcome;
 use crate::refusal::FocalRefusal;
 use crate::register_uses::use_register;
 use crate::stack_lines::be_silent;
@@ -24,7 +24,7 @@ use h41_codes::{Operand, Parameter, ParameterFunction};
 use h41_pages::Pages;
 use h41_rows::{digit_of, flag_of, register_of};
 
-/// Executes a function with an operand, and returns its outcome without texts. NotInProfile (13) if the bench does not
+/// Executes a function with an operand, and returns its outcome. NotInProfile (13) if the bench does not
 /// support the function or the register of the operand; BrokenProgram (14) if the line that a test or loop skips cannot
 /// be read. After these errors nothing has changed.
 #[inline(always)]
@@ -34,7 +34,7 @@ pub fn with_operand<const REGS: usize>(
     origin: Origin,
     function: ParameterFunction,
     operand: &Operand,
-) -> Result<BriefOutcome, FocalRefusal>
+) -> Result<LineOutcome, FocalRefusal>
     requires { IsTrue (is_sound machine.old.ram.registers) }
     ensures taken { TakenBy pages.now origin function operand.now (machine_of machine.old)
         (machine_of machine.new) result }
@@ -88,7 +88,7 @@ fn with_register<const REGS: usize>(
     origin: Origin,
     taken: RegisterUse,
     operand: &Operand,
-) -> Result<BriefOutcome, FocalRefusal>
+) -> Result<LineOutcome, FocalRefusal>
     requires sound { IsTrue (is_sound machine.old.ram.registers) }
     requires held { is_operand_left_out operand.now ≡ false }
     ensures used { UsesAddress pages.now origin taken operand.now (machine_of machine.old)
@@ -110,7 +110,7 @@ fn with_digits<const REGS: usize>(
     origin: Origin,
     taken: DigitsUse,
     operand: &Operand,
-) -> Result<BriefOutcome, FocalRefusal>
+) -> Result<LineOutcome, FocalRefusal>
     requires { is_operand_left_out operand.now ≡ false }
     ensures used { (pages : PageMap) → UsesDigits pages origin taken operand.now
         (machine_of machine.old) (machine_of machine.new) result }
@@ -133,7 +133,7 @@ fn with_flag<const REGS: usize>(
     origin: Origin,
     taken: FlagUse,
     operand: &Operand,
-) -> Result<BriefOutcome, FocalRefusal>
+) -> Result<LineOutcome, FocalRefusal>
     requires sound { IsTrue (is_sound machine.old.ram.registers) }
     requires held { is_operand_left_out operand.now ≡ false }
     ensures used { UsesFlag pages.now origin taken operand.now (machine_of machine.old)

@@ -10,7 +10,7 @@ ghost use Rattle.h41_rows.specs.RowMarks.{LeavesMark};
 use crate::course::{fail, go_on_lifting};
 use crate::machine::Machine;
 use crate::origin::Origin;
-use crate::outcome::BriefOutcome;
+use crate::outcome::LineOutcome;
 use crate::refusal::FocalRefusal;
 use h41_pages::Pages;
 use h41_positions::next;
@@ -40,12 +40,12 @@ pub fn lead<const REGS: usize>(
 }
 
 /// Returns the outcome of a test: `Answered` with its result if the line was typed, otherwise `Done`.
-pub fn answer(origin: Origin, holds: bool) -> BriefOutcome
+pub fn answer(origin: Origin, holds: bool) -> LineOutcome
     ensures { result ≡ test_answer origin holds }
 {
     match origin {
-        Origin::Program(_) => BriefOutcome::Done,
-        Origin::Typed => BriefOutcome::Answered(holds),
+        Origin::Program(_) => LineOutcome::Done,
+        Origin::Typed => LineOutcome::Answered(holds),
     }
 }
 
@@ -58,7 +58,7 @@ pub fn ask<const REGS: usize>(
     pages: &Pages,
     origin: Origin,
     test: Test,
-) -> Result<BriefOutcome, FocalRefusal>
+) -> Result<LineOutcome, FocalRefusal>
     requires { IsTrue (is_sound machine.old.ram.registers) }
     ensures carried { CarriesWork pages.now origin (Ask test) (machine_of machine.old)
         (machine_of machine.new) result }

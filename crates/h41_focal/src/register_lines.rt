@@ -11,7 +11,7 @@ use crate::addresses::X;
 use crate::course::{fail, go_on_lifting};
 use crate::machine::Machine;
 use crate::origin::Origin;
-use crate::outcome::BriefOutcome;
+use crate::outcome::LineOutcome;
 use h41_rows::{
     ValueOfTwo, append_register, bring_in_from, compute_of_two, exchange, first_six, store_x,
 };
@@ -23,7 +23,7 @@ pub fn recall<const REGS: usize>(
     machine: &mut Machine<REGS>,
     origin: Origin,
     address: u16,
-) -> BriefOutcome
+) -> LineOutcome
     ensures done { UsesAt origin Recall address (machine_of machine.old)
         (machine_of machine.new) result }
     ensures keeps { Keeps machine.old machine.new }
@@ -31,7 +31,7 @@ pub fn recall<const REGS: usize>(
 {
     bring_in_from(&mut machine.ram, address, machine.focal.lift);
     go_on_lifting(&mut machine.focal, origin);
-    BriefOutcome::Done
+    LineOutcome::Done
 }
 
 /// Executes `STO`: writes X to the register at an address, and turns stack lift on.
@@ -40,7 +40,7 @@ pub fn store<const REGS: usize>(
     machine: &mut Machine<REGS>,
     origin: Origin,
     address: u16,
-) -> BriefOutcome
+) -> LineOutcome
     ensures done { UsesAt origin Store address (machine_of machine.old)
         (machine_of machine.new) result }
     ensures keeps { Keeps machine.old machine.new }
@@ -49,7 +49,7 @@ pub fn store<const REGS: usize>(
 {
     store_x(&mut machine.ram, address);
     go_on_lifting(&mut machine.focal, origin);
-    BriefOutcome::Done
+    LineOutcome::Done
 }
 
 /// Executes `ST+`, `ST-`, `ST*` or `ST/`: the register at an address receives the register plus, minus, times or
@@ -61,7 +61,7 @@ pub fn combine<const REGS: usize>(
     origin: Origin,
     value: ValueOfTwo,
     address: u16,
-) -> BriefOutcome
+) -> LineOutcome
     ensures done { UsesAt origin (Combine value) address (machine_of machine.old)
         (machine_of machine.new) result }
     ensures keeps { Keeps machine.old machine.new }
@@ -72,7 +72,7 @@ pub fn combine<const REGS: usize>(
         Ok(register) => {
             machine.ram.write(address, register);
             go_on_lifting(&mut machine.focal, origin);
-            BriefOutcome::Done
+            LineOutcome::Done
         }
         Err(fault) => fail(machine, origin, fault),
     }
@@ -83,14 +83,14 @@ pub fn view<const REGS: usize>(
     machine: &mut Machine<REGS>,
     origin: Origin,
     address: u16,
-) -> BriefOutcome
+) -> LineOutcome
     ensures done { UsesAt origin View address (machine_of machine.old)
         (machine_of machine.new) result }
     ensures keeps { Keeps machine.old machine.new }
     ensures left { LeavesMark machine.old.ram machine.new.ram }
 {
     go_on_lifting(&mut machine.focal, origin);
-    BriefOutcome::ViewedRegister(address)
+    LineOutcome::ViewedRegister(address)
 }
 
 /// Executes `ASTO`: writes the first six characters of ALPHA to the register at an address. ALPHA is unchanged.
@@ -99,7 +99,7 @@ pub fn store_alpha<const REGS: usize>(
     machine: &mut Machine<REGS>,
     origin: Origin,
     address: u16,
-) -> BriefOutcome
+) -> LineOutcome
     ensures done { UsesAt origin StoreAlpha address (machine_of machine.old)
         (machine_of machine.new) result }
     ensures keeps { Keeps machine.old machine.new }
@@ -109,7 +109,7 @@ pub fn store_alpha<const REGS: usize>(
     let characters = first_six(&machine.ram);
     machine.ram.write(address, characters);
     go_on_lifting(&mut machine.focal, origin);
-    BriefOutcome::Done
+    LineOutcome::Done
 }
 
 /// Executes `ARCL`: appends the text of the register at an address to ALPHA, and turns stack lift on.
@@ -117,7 +117,7 @@ pub fn recall_alpha<const REGS: usize>(
     machine: &mut Machine<REGS>,
     origin: Origin,
     address: u16,
-) -> BriefOutcome
+) -> LineOutcome
     ensures done { UsesAt origin RecallAlpha address (machine_of machine.old)
         (machine_of machine.new) result }
     ensures keeps { Keeps machine.old machine.new }
@@ -125,7 +125,7 @@ pub fn recall_alpha<const REGS: usize>(
 {
     append_register(&mut machine.ram, address);
     go_on_lifting(&mut machine.focal, origin);
-    BriefOutcome::Done
+    LineOutcome::Done
 }
 
 /// Executes `X<>`: exchanges X and the register at an address, and turns stack lift on.
@@ -133,7 +133,7 @@ pub fn exchange_x<const REGS: usize>(
     machine: &mut Machine<REGS>,
     origin: Origin,
     address: u16,
-) -> BriefOutcome
+) -> LineOutcome
     ensures done { UsesAt origin Exchange address (machine_of machine.old)
         (machine_of machine.new) result }
     ensures keeps { Keeps machine.old machine.new }
@@ -142,5 +142,5 @@ pub fn exchange_x<const REGS: usize>(
 {
     exchange(&mut machine.ram, address);
     go_on_lifting(&mut machine.focal, origin);
-    BriefOutcome::Done
+    LineOutcome::Done
 }

@@ -9,7 +9,7 @@ ghost use Rattle.h41_rows.specs.RowMarks.{IsApart, LeavesMark};
 use crate::loop_lines::{count_down, count_up};
 use crate::machine::Machine;
 use crate::origin::Origin;
-use crate::outcome::BriefOutcome;
+use crate::outcome::LineOutcome;
 use crate::refusal::FocalRefusal;
 use crate::register_lines::{combine, exchange_x, recall, recall_alpha, store, store_alpha, view};
 use crate::uses::RegisterUse;
@@ -24,7 +24,7 @@ pub fn use_register<const REGS: usize>(
     origin: Origin,
     taken: RegisterUse,
     address: u16,
-) -> Result<BriefOutcome, FocalRefusal>
+) -> Result<LineOutcome, FocalRefusal>
     requires { IsTrue (is_sound machine.old.ram.registers) }
     ensures carried { DoesUse pages.now origin taken address (machine_of machine.old)
         (machine_of machine.new) result }

@@ -2,11 +2,11 @@
 
 ghost use Rattle.std.specs.Prelude.{◌≡◌, false, IfNone, IfSome, Ok, OnErr, IsTrue};
 ghost use Rattle.h41_codes.specs.ShortLines.{line_of};
-ghost use Rattle.h41_focal.specs.BriefOutcomes.{end_told};
+ghost use Rattle.h41_focal.specs.MachineCalls.{outcome_by};
 ghost use Rattle.h41_positions.specs.LabelledMachine.{machine_of};
 ghost use Rattle.h41_focal.specs.LineStep.{Stands};
 ghost use Rattle.h41_focal.specs.private.Carrying.{StandsNoNumber, StandsNoShort, StandsNumber};
-ghost use Rattle.h41_focal.specs.private.Carrying.{TakesBriefly};
+ghost use Rattle.h41_focal.specs.private.Carrying.{TakesAs};
 ghost use Rattle.h41_focal.specs.private.Searching.{AsksOf};
 ghost use Rattle.h41_labels.specs.KeptAnswers.{IsRight};
 ghost use Rattle.h41_pages.specs.PageMap.{PageMap};
@@ -20,7 +20,7 @@ use crate::lines::{indirect, short};
 use crate::machine::Machine;
 use crate::operand_lines::with_operand;
 use crate::origin::Origin;
-use crate::outcome::{BriefOutcome, is_done};
+use crate::outcome::{LineOutcome, is_done};
 use crate::refusal::FocalRefusal;
 use crate::stack_lines::be_silent;
 use h41_codes::{Branch, Parameter, ShortLine};
@@ -73,7 +73,7 @@ pub fn number_standing<const REGS: usize>(machine: &Machine<REGS>) -> Option<(Te
 }
 
 /// Executes a short line (at most three bytes, without a text), and returns whether its outcome is `Done`. If not,
-/// `told` receives the outcome without texts, or the error: NotInProfile (13) if the bench does not support the line,
+/// `outcome` receives the outcome, or the error: NotInProfile (13) if the bench does not support the line,
 /// or BrokenProgram (14) if a line to be skipped cannot be read.
 #[inline(always)]
 pub fn carry_short<const REGS: usize>(
@@ -81,43 +81,43 @@ pub fn carry_short<const REGS: usize>(
     pages: &Pages,
     origin: Origin,
     line: ShortLine,
-    told: &mut Result<BriefOutcome, FocalRefusal>,
+    outcome: &mut Result<LineOutcome, FocalRefusal>,
 ) -> bool
     requires sound { IsTrue (is_sound machine.old.ram.registers) }
     requires right { IsRight machine.old.focal.labels machine.old.ram.registers }
-    ensures taken { TakesBriefly pages.now origin (line_of line)
-        (machine_of machine.old) (machine_of machine.new) (end_told result told.new) }
-    ensures unchanged { OnErr (end_told result told.new) (machine.new ≡ machine.old) }
+    ensures taken { TakesAs pages.now origin (line_of line)
+        (machine_of machine.old) (machine_of machine.new) (outcome_by result outcome.new) }
+    ensures unchanged { OnErr (outcome_by result outcome.new) (machine.new ≡ machine.old) }
     ensures kept { AsksOf origin (line_of line) machine.old machine.new }
     ensures mark { KeepsMark machine.old.ram machine.new.ram }
     ensures left { LeavesMark machine.old.ram machine.new.ram }
 {
     match line {
-        ShortLine::LocalLabel(_) => is_done(Ok(be_silent(machine, origin)), told),
+        ShortLine::LocalLabel(_) => is_done(Ok(be_silent(machine, origin)), outcome),
         ShortLine::Register(function, register) => is_done(
             short(machine, origin, function, register),
-            told,
+            outcome,
         ),
-        ShortLine::Plain(function) => plain_at_once(machine, pages, origin, function, told),
+        ShortLine::Plain(function) => plain_at_once(machine, pages, origin, function, outcome),
         ShortLine::WithOperand(function, operand) => is_done(
             with_operand(machine, pages, origin, function, &operand),
-            told,
+            outcome,
         ),
-        ShortLine::Module(number, entry) => is_done(Ok(BriefOutcome::Calls(number, entry)), told),
+        ShortLine::Module(number, entry) => is_done(Ok(LineOutcome::Calls(number, entry)), outcome),
         ShortLine::BranchIndirect(branch, register) => is_done(
             indirect(machine, pages, origin, branch, register),
-            told,
+            outcome,
         ),
         ShortLine::ShortGoTo(label, _) => {
             let label = Parameter::new(label.number());
             is_done(
                 Ok(to_label(machine, pages, origin, Branch::GoTo, label)),
-                told,
+                outcome,
             )
         }
         ShortLine::BranchTo(branch, _, _, label) => is_done(
             Ok(to_label(machine, pages, origin, branch, label)),
-            told,
+            outcome,
         ),
     }
 }

@@ -19,7 +19,7 @@ use crate::addresses::{LAST_X, Y};
 use crate::course::{go_on, go_on_lifting};
 use crate::machine::Machine;
 use crate::origin::Origin;
-use crate::outcome::BriefOutcome;
+use crate::outcome::LineOutcome;
 use crate::works::Movement;
 use h41_digits::Reg;
 use h41_positions::Focal;
@@ -35,7 +35,7 @@ pub fn move_stack<const REGS: usize>(
     machine: &mut Machine<REGS>,
     origin: Origin,
     movement: Movement,
-) -> BriefOutcome
+) -> LineOutcome
     ensures done { DoesWork origin (Move movement) (machine_of machine.old)
         (machine_of machine.new) result }
     ensures keeps { Keeps machine.old machine.new }
@@ -43,7 +43,7 @@ pub fn move_stack<const REGS: usize>(
 {
     move_registers(&mut machine.ram, movement, machine.focal.lift);
     go_on_behind(&mut machine.focal, origin, movement);
-    BriefOutcome::Done
+    LineOutcome::Done
 }
 
 /// Changes the stack as `X<>Y`, `R^`, `RDN`, `LASTX`, `ENTER^`, `PI`, `CLST` or `CLX` does. If `lift` is true, the
@@ -94,7 +94,7 @@ pub fn number_line<const REGS: usize>(
     machine: &mut Machine<REGS>,
     origin: Origin,
     number: Reg,
-) -> BriefOutcome
+) -> LineOutcome
     ensures done { (text : List Character) → IsAlways (Written text) number
         → DoesLine origin (lines.Number text) (machine_of machine.old)
         (machine_of machine.new) result }
@@ -103,14 +103,14 @@ pub fn number_line<const REGS: usize>(
 {
     bring_in(&mut machine.ram, number, machine.focal.lift);
     go_on_lifting(&mut machine.focal, origin);
-    BriefOutcome::Done
+    LineOutcome::Done
 }
 
 /// Executes `CLRG`: all data registers become zero. Stack lift is turned on.
 pub fn clear_registers<const REGS: usize>(
     machine: &mut Machine<REGS>,
     origin: Origin,
-) -> BriefOutcome
+) -> LineOutcome
     ensures done { DoesWork origin ClearRegisters (machine_of machine.old)
         (machine_of machine.new) result }
     ensures keeps { Keeps machine.old machine.new }
@@ -118,30 +118,30 @@ pub fn clear_registers<const REGS: usize>(
 {
     clear_data(&mut machine.ram);
     go_on_lifting(&mut machine.focal, origin);
-    BriefOutcome::Done
+    LineOutcome::Done
 }
 
 /// Executes a line that has no effect except that it turns stack lift on. The program continues at the next line; a
 /// typed line leaves the position unchanged.
-pub fn do_nothing<const REGS: usize>(machine: &mut Machine<REGS>, origin: Origin) -> BriefOutcome
+pub fn do_nothing<const REGS: usize>(machine: &mut Machine<REGS>, origin: Origin) -> LineOutcome
     ensures done { LeavesRow origin lifting_row (machine_of machine.old)
         (machine_of machine.new) result }
     ensures keeps { Keeps machine.old machine.new }
     ensures left { LeavesMark machine.old.ram machine.new.ram }
 {
     go_on_lifting(&mut machine.focal, origin);
-    BriefOutcome::Done
+    LineOutcome::Done
 }
 
 /// Executes a line that has no effect, not even on stack lift, for example `LBL`. The program continues at the next
 /// line; a typed line leaves the position unchanged.
 #[inline(always)]
-pub fn be_silent<const REGS: usize>(machine: &mut Machine<REGS>, origin: Origin) -> BriefOutcome
+pub fn be_silent<const REGS: usize>(machine: &mut Machine<REGS>, origin: Origin) -> LineOutcome
     ensures done { LeavesRow origin silent_row (machine_of machine.old)
         (machine_of machine.new) result }
     ensures keeps { Keeps machine.old machine.new }
     ensures left { LeavesMark machine.old.ram machine.new.ram }
 {
     go_on(&mut machine.focal, origin);
-    BriefOutcome::Done
+    LineOutcome::Done
 }

@@ -7,6 +7,7 @@ ghost use Rattle.h41_positions.specs.LabelledMachine as labelled;
 ghost use Rattle.h41_positions.specs.FocalState as focal;
 ghost use Rattle.h41_positions.specs.FocalState.{machine_with};
 ghost use Rattle.h41_ram.specs.RegisterMap as registers;
+ghost use Rattle.h41_ram.specs.RegisterMap.{RegisterMap};
 ghost use Rattle.h41_pages.specs.PageMap.{unplug_refusal};
 ghost use Rattle.h41_xrom.specs.Calculator.{RefusesLine, RefusesPage, RefusesStep, RefusesStepIn};
 ghost use Rattle.h41_xrom.specs.Calculator.{Step, StepIn, StepsByLine, TakesPage, after_answer};
@@ -20,7 +21,7 @@ ghost use Rattle.h41_xrom.specs.KeptLabels.{KeepsAfterProgram, KeepsAfterStep, K
 ghost use Rattle.h41_xrom.specs.KeyActions as keys;
 ghost use Rattle.h41_xrom.specs.LabelledCalculator.{cache_of, no_searches};
 ghost use Rattle.h41_xrom.specs.declared.lines.LineSource.TheVariants.{Program};
-ghost use Rattle.h41_xrom.specs.private.PrivateCalls.{Accepts, EndsBriefly, IsAccepted};
+ghost use Rattle.h41_xrom.specs.private.PrivateCalls.{Accepts, EndsOutcome, IsAccepted};
 ghost use Rattle.h41_xrom.specs.private.PrivateCalls.{StaysClear, after_effect, after_end};
 ghost use Rattle.h41_keys.specs.declared.input.TypedEntry.TheVariants as entries;
 ghost use Rattle.h41_focal.specs.Outcomes.{answer_of};
@@ -29,11 +30,11 @@ ghost use Rattle.h41_xrom.specs.Programs.{Becomes, Loads, change_refusal, size_m
 
 use crate::acting::{KeyEffect, act};
 use crate::lines::{LineEnd, LineSource, call_out};
-use crate::messages::{fault_text, test_text};
+use crate::messages::{DisplayText, fault_text, test_text};
 use crate::places::shown_place;
 use crate::refusal::CalculatorRefusal;
 use h41_focal::laws::kept_answers_stay_right;
-use h41_focal::{BriefOutcome, DisplayText, Focal, LineOutcome, Machine};
+use h41_focal::{Focal, LineOutcome, Machine};
 use h41_keys::{Action, Flags, Input, Key, TypedEntry, press};
 use h41_nut::{Cpu, Keys, WordRefusal, step_to_end};
 use h41_pages::{FIRST_ADDRESS, Pages, PlugRefusal, UnplugRefusal};
@@ -41,6 +42,7 @@ use h41_positions::Position;
 use h41_program::{load, set_size};
 use h41_ram::Ram;
 use h41_ram::flags::ALPHA_MODE;
+use h41_show::{Format, alpha_text, register_text};
 use std::alloc::{AllocError, Global};
 use std::marker::Model;
 
@@ -304,27 +306,25 @@ impl<const REGS: usize> Calculator<REGS> {
         ensures kept { KeepsAfterLine Program self.old.state.nut.pages (machine_of self.old.state)
             self.old.cache self.new.cache }
     {
-        let mut told = Ok(BriefOutcome::Done);
-        if self.machine.step_briefly(&self.pages, &mut told) {
+        let mut outcome = Ok(LineOutcome::Done);
+        if self.machine.step_into(&self.pages, &mut outcome) {
             self.end_entry();
             return Ok(());
         }
-        match told {
-            Ok(brief) => self.end_briefly(brief),
+        match outcome {
+            Ok(outcome) => self.end_outcome(outcome),
             Err(refusal) => Err(refusal.into()),
         }
     }
 
-    /// Ends the line at the position, after it was executed: executes what it calls outside memory, and shows its result
-    /// or starts a module's function. `brief` is the line's outcome without the texts that the display shows; they are
-    /// made from memory. The errors are MemoryLost (15), BrokenProgram (14) and NotInProfile (13). Nothing is changed
+    /// Ends the line at the position, after it was executed with this outcome: executes what it calls outside memory, and
+    /// shows its result or starts a module's function. The errors are MemoryLost (15), BrokenProgram (14) and NotInProfile (13). Nothing is changed
     /// then.
     #[inline(never)]
-    fn end_briefly(&mut self, brief: BriefOutcome) -> Result<(), CalculatorRefusal>
-        ensures line { EndsBriefly brief self.old.state self.new.state (result_err result) }
+    fn end_outcome(&mut self, outcome: LineOutcome) -> Result<(), CalculatorRefusal>
+        ensures line { EndsOutcome outcome self.old.state self.new.state (result_err result) }
         ensures kept { StaysClear self.old.cache self.new.cache }
     {
-        let outcome = brief.outcome(&self.machine.ram);
         match call_out(
             &mut self.machine,
             &self.pages,
@@ -355,7 +355,8 @@ impl<const REGS: usize> Calculator<REGS> {
     /// Shows the result of an executed line, and changes the mode if the line stops or starts a program.
     #[inline(always)]
     fn answer(&mut self, outcome: LineOutcome)
-        ensures state { self.new.state ≡ after_answer (answer_of outcome) self.old.state }
+        ensures state { self.new.state
+            ≡ after_answer (answer_of self.old.state.nut.ram outcome) self.old.state }
         ensures cache { self.new.cache ≡ self.old.cache }
     {
         self.mode = mode_behind(self.mode, &outcome);
@@ -366,11 +367,19 @@ impl<const REGS: usize> Calculator<REGS> {
     /// `OFF` turns the display off.
     #[inline(always)]
     fn show(&mut self, outcome: LineOutcome)
-        ensures state { self.new.state ≡ with_shown (answer_of outcome) self.old.state }
+        ensures state { self.new.state
+            ≡ with_shown (answer_of self.old.state.nut.ram outcome) self.old.state }
         ensures cache { self.new.cache ≡ self.old.cache }
     {
         match outcome {
-            LineOutcome::Viewed(text) | LineOutcome::Prompted(text) => self.message = Some(text),
+            LineOutcome::ViewedAlpha | LineOutcome::Prompted => {
+                self.message = Some(alpha_text(&self.machine.ram));
+            }
+            LineOutcome::ViewedRegister(address) => {
+                let register = self.machine.ram.read(address);
+                let format = Format::from_flags(&self.machine.ram);
+                self.message = Some(register_text(register, format));
+            }
             LineOutcome::Cleared => self.message = None,
             LineOutcome::Failed(fault) => self.message = Some(fault_text(fault)),
             LineOutcome::Answered(holds) => self.message = Some(test_text(holds)),
@@ -645,12 +654,12 @@ fn begun_anew<const REGS: usize>(machine: &Machine<REGS>) -> Machine<REGS>
 /// starts one, otherwise `mode` unchanged.
 #[inline(always)]
 fn mode_behind(mode: Mode, outcome: &LineOutcome) -> Mode
-    ensures { result ≡ mode_after (answer_of outcome.now) mode }
+    ensures { (memory : RegisterMap) → result ≡ mode_after (answer_of memory outcome.now) mode }
 {
     match outcome {
         LineOutcome::Stopped
         | LineOutcome::TurnedOff
-        | LineOutcome::Prompted(_)
+        | LineOutcome::Prompted
         | LineOutcome::Failed(_) => Mode::Idle,
         LineOutcome::Runs => Mode::Run,
         _ => mode,

@@ -73,7 +73,8 @@ pub fn call_out<const REGS: usize>(
     outcome: LineOutcome,
 ) -> Result<LineEnd, FocalRefusal>
     requires { AreRight machine.old }
-    ensures line { CallsOut source.now pages.now (machine_of machine.old) (answer_of outcome)
+    ensures line { CallsOut source.now pages.now (machine_of machine.old)
+        (answer_of (machine_of machine.old).memory outcome)
         (ended_as (machine_of machine.new) result) }
     ensures unchanged { OnErr result (machine_of machine.new ≡ machine_of machine.old) }
     ensures kept { KeepsClear machine.old machine.new }

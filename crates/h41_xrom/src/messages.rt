@@ -3,7 +3,12 @@
 ghost use Rattle.std.specs.Prelude.{◌≡◌};
 ghost use Rattle.h41_xrom.specs.Messages as spec;
 
-use h41_focal::{DisplayText, LineFault};
+use arrayvec::ArrayString;
+use h41_focal::LineFault;
+use h41_show::TEXT_CAPACITY;
+
+/// A text that the display shows.
+pub type DisplayText = ArrayString<TEXT_CAPACITY>;
 
 /// Returns the message that the display shows for an error of a line, for example `DATA ERROR`, as in the Owner's
 /// Handbook.

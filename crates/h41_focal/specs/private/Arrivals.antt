@@ -7,8 +7,8 @@ use Rattle.h41_positions.specs.FocalState.{FocalState, Machine, at_position, at_
 use Rattle.h41_positions.specs.FocalState.{with_returns}
 use Rattle.h41_focal.specs.declared.origin.Origin.{Origin}
 use Rattle.h41_focal.specs.declared.origin.Origin.TheVariants.{Program, Typed}
-use Rattle.h41_focal.specs.declared.outcome.BriefOutcome.{BriefOutcome}
-use Rattle.h41_focal.specs.declared.outcome.BriefOutcome.TheVariants as briefs
+use Rattle.h41_focal.specs.declared.outcome.LineOutcome.{LineOutcome}
+use Rattle.h41_focal.specs.declared.outcome.LineOutcome.TheVariants as outcomes
 use Rattle.h41_pages.specs.PageMap.{PageMap}
 use Rattle.h41_positions.specs.Positions.{StartOf}
 use Rattle.h41_positions.specs.declared.position.Position.{Position}
@@ -26,20 +26,20 @@ focal_at (Program next) Execute position focal =
 focal_at Typed Execute position focal = record (at_position position focal) { returns = [] }
 
 -- The outcome of a branch to a label that was found.
-abbrev pub answer_at : Origin → Branch → BriefOutcome
-answer_at origin GoTo = briefs.Done
-answer_at (Program next) Execute = briefs.Done
-answer_at Typed Execute = briefs.Runs
+abbrev pub answer_at : Origin → Branch → LineOutcome
+answer_at origin GoTo = outcomes.Done
+answer_at (Program next) Execute = outcomes.Done
+answer_at Typed Execute = outcomes.Runs
 
 -- The machine at the newest return address, or at line 00 if there is none. The return addresses
 -- are given with the newest first.
-abbrev pub GoesBackFrom : PageMap → List Position → (old new : Machine) → BriefOutcome → Type 0
-GoesBackFrom pages [] old new brief =
+abbrev pub GoesBackFrom : PageMap → List Position → (old new : Machine) → LineOutcome → Type 0
+GoesBackFrom pages [] old new outcome =
     (start : Position) × StartOf pages old.memory old.focal.position start
-    × (new ≡ at_halt start old) × (brief ≡ briefs.Stopped)
-GoesBackFrom pages (latest ∷ others) old new brief =
-    (new ≡ at_line latest (with_returns (reverse others) old)) × (brief ≡ briefs.Done)
+    × (new ≡ at_halt start old) × (outcome ≡ outcomes.Stopped)
+GoesBackFrom pages (latest ∷ others) old new outcome =
+    (new ≡ at_line latest (with_returns (reverse others) old)) × (outcome ≡ outcomes.Done)
 
 -- The machine at the newest return address, or at line 00 if there is none.
-abbrev pub ReturnsFrom : PageMap → (old new : Machine) → BriefOutcome → Type 0
-ReturnsFrom pages old new brief = GoesBackFrom pages (reverse old.focal.returns) old new brief
+abbrev pub ReturnsFrom : PageMap → (old new : Machine) → LineOutcome → Type 0
+ReturnsFrom pages old new outcome = GoesBackFrom pages (reverse old.focal.returns) old new outcome

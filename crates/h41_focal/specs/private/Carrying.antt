@@ -14,8 +14,7 @@ use Rattle.h41_numbers.specs.NumberLines.{IsNumberOf}
 use Rattle.h41_rows.specs.Results.{result_map}
 use Rattle.h41_focal.specs.Destinations.{Manner}
 use Rattle.h41_focal.specs.Destinations as destinations
-use Rattle.h41_focal.specs.BriefOutcomes.{briefly, briefly_as}
-use Rattle.h41_focal.specs.MachineCalls.{carried_as}
+use Rattle.h41_focal.specs.MachineCalls.{Call, carried_as, left_of}
 use Rattle.h41_focal.specs.LineStep.{Applies, FailsIn, Stands}
 use Rattle.h41_positions.specs.FocalState.{FocalState, Machine}
 use Rattle.h41_focal.specs.LineStep.{TakesLine, lift_behind}
@@ -35,9 +34,8 @@ use Rattle.h41_rows.specs.declared.operands.BranchTarget.{BranchTarget}
 use Rattle.h41_rows.specs.declared.fault.LineFault.{LineFault}
 use Rattle.h41_focal.specs.declared.origin.Origin.{Origin}
 use Rattle.h41_focal.specs.declared.origin.Origin.TheVariants.{Program, Typed}
-use Rattle.h41_focal.specs.declared.outcome.BriefOutcome.{BriefOutcome}
-use Rattle.h41_focal.specs.declared.outcome.BriefOutcome.TheVariants as briefs
 use Rattle.h41_focal.specs.declared.outcome.LineOutcome.{LineOutcome}
+use Rattle.h41_focal.specs.declared.outcome.LineOutcome.TheVariants as outcomes
 use Rattle.h41_focal.specs.declared.refusal.FocalRefusal.{FocalRefusal}
 use Rattle.h41_focal.specs.declared.refusal.FocalRefusal.TheVariants.{BrokenProgram}
 use Rattle.h41_focal.specs.declared.uses.DigitsUse.{DigitsUse}
@@ -69,16 +67,16 @@ behind_line line next focal =
     record (at_position next focal) { lift = lift_behind line focal.lift }
 
 -- A row was applied to a machine by a line that searches no position, whatever the pages contain.
-abbrev pub Leaves : Origin → LineRow → ℕ → (old new : Machine) → BriefOutcome → Type 0
-Leaves origin row named old new brief =
-    (pages : PageMap) → Applies pages (manner_of origin) row named old (Ok (briefly new brief))
+abbrev pub Leaves : Origin → LineRow → ℕ → (old new : Machine) → LineOutcome → Type 0
+Leaves origin row named old new outcome =
+    (pages : PageMap) → Applies pages (manner_of origin) row named old (Ok (left_of new outcome))
 
 -- A row was applied to a machine, or the line was refused.
 abbrev pub CarriesRow : PageMap → Origin → LineRow → ℕ → (old new : Machine)
-    → Result BriefOutcome FocalRefusal
+    → Result LineOutcome FocalRefusal
     → Type 0
 CarriesRow pages origin row named old new result =
-    Applies pages (manner_of origin) row named old (briefly_as new result)
+    Applies pages (manner_of origin) row named old (carried_as new result)
 
 -- The place at which execution continues after a test: at the next line if it is true, otherwise
 -- after it. A typed line does not move.
@@ -94,37 +92,27 @@ Leads pages (Program next) memory holds (Err refusal) =
 Leads pages Typed memory holds lead = lead ≡ Ok Typed
 
 -- The outcome of a test: its result if it was typed.
-abbrev pub test_answer : Origin → Bool → BriefOutcome
-test_answer (Program next) holds = briefs.Done
-test_answer Typed holds = briefs.Answered holds
+abbrev pub test_answer : Origin → Bool → LineOutcome
+test_answer (Program next) holds = outcomes.Done
+test_answer Typed holds = outcomes.Answered holds
 
 -- A line was executed, or refused.
-abbrev pub TakesAs : PageMap → Origin → Line → (old new : Machine) → Result LineOutcome FocalRefusal
-    → Type 0
+abbrev pub TakesAs : PageMap → Origin → Line → Call
 TakesAs pages origin line old new result =
     TakesLine pages (manner_of origin) line old (carried_as new result)
-
--- The contract of a call with a brief outcome: the machine before and after, and the result.
-abbrev pub BriefCall : Type 1
-BriefCall = (old new : Machine) → Result BriefOutcome FocalRefusal → Type 0
-
--- A line was executed, or refused, with a brief outcome.
-abbrev pub TakesBriefly : PageMap → Origin → Line → BriefCall
-TakesBriefly pages origin line old new result =
-    TakesLine pages (manner_of origin) line old (briefly_as new result)
 
 -- A row was applied for the value of an operand that was found, or the line had its error.
 abbrev pub CarriesFound : {A : Type 0} → PageMap → Origin → (A → LineRow) → (A → ℕ)
     → Result A LineFault
-    → (old new : Machine) → Result BriefOutcome FocalRefusal → Type 0
+    → (old new : Machine) → Result LineOutcome FocalRefusal → Type 0
 CarriesFound pages origin row named (Ok found) old new result =
     CarriesRow pages origin (row found) (named found) old new result
 CarriesFound pages origin row named (Err fault) old new result =
-    FailsIn (manner_of origin) old fault (briefly_as new result)
+    FailsIn (manner_of origin) old fault (carried_as new result)
 
 -- A function with the register of an operand was executed.
 abbrev pub UsesAddress : PageMap → Origin → RegisterUse → Operand → (old new : Machine)
-    → Result BriefOutcome FocalRefusal → Type 0
+    → Result LineOutcome FocalRefusal → Type 0
 UsesAddress pages origin taken operand old new result =
     (found : Result ℕ LineFault)
     × (result_map Address found ≡ meant_as RegisterKind old.memory operand)
@@ -133,14 +121,14 @@ UsesAddress pages origin taken operand old new result =
 
 -- A function with the number of digits of an operand was executed.
 abbrev pub UsesDigits : PageMap → Origin → DigitsUse → Operand → (old new : Machine)
-    → Result BriefOutcome FocalRefusal → Type 0
+    → Result LineOutcome FocalRefusal → Type 0
 UsesDigits pages origin taken operand old new result =
     (found : Result ℕ LineFault) × (result_map Count found ≡ meant_as DigitKind old.memory operand)
     × CarriesFound pages origin (digits_use_row taken) (λ digits. 0) found old new result
 
 -- A function with the flag of an operand was executed.
 abbrev pub UsesFlag : PageMap → Origin → FlagUse → Operand → (old new : Machine)
-    → Result BriefOutcome FocalRefusal → Type 0
+    → Result LineOutcome FocalRefusal → Type 0
 UsesFlag pages origin taken operand old new result =
     (found : Result ℕ LineFault)
     × (result_map Count found ≡ meant_as (FlagKind (highest_of taken)) old.memory operand)
@@ -166,102 +154,102 @@ StandsNoNumber machine =
     → (at : ℕ) → machine.focal.position ≡ Memory at → HasNoNumber machine.memory at
 
 -- A row that names no register was applied.
-abbrev pub LeavesRow : Origin → LineRow → (old new : Machine) → BriefOutcome → Type 0
-LeavesRow origin row old new brief = (named : ℕ) → Leaves origin row named old new brief
+abbrev pub LeavesRow : Origin → LineRow → (old new : Machine) → LineOutcome → Type 0
+LeavesRow origin row old new outcome = (named : ℕ) → Leaves origin row named old new outcome
 
 -- A line without an operand was executed.
-abbrev pub DoesLine : Origin → Line → (old new : Machine) → BriefOutcome → Type 0
-DoesLine origin line old new brief = LeavesRow origin (row_of line NoOperand) old new brief
+abbrev pub DoesLine : Origin → Line → (old new : Machine) → LineOutcome → Type 0
+DoesLine origin line old new outcome = LeavesRow origin (row_of line NoOperand) old new outcome
 
 -- A function without an operand had its effect.
-abbrev pub DoesWork : Origin → FunctionWork → (old new : Machine) → BriefOutcome → Type 0
-DoesWork origin work old new brief = LeavesRow origin (row_of_work work) old new brief
+abbrev pub DoesWork : Origin → FunctionWork → (old new : Machine) → LineOutcome → Type 0
+DoesWork origin work old new outcome = LeavesRow origin (row_of_work work) old new outcome
 
 -- A function without an operand had its effect, or was refused.
 abbrev pub CarriesWork : PageMap → Origin → FunctionWork → (old new : Machine)
-    → Result BriefOutcome FocalRefusal → Type 0
+    → Result LineOutcome FocalRefusal → Type 0
 CarriesWork pages origin work old new result =
     (named : ℕ) → CarriesRow pages origin (row_of_work work) named old new result
 
 -- A function with a register had its effect.
-abbrev pub UsesAt : Origin → RegisterUse → ℕ → (old new : Machine) → BriefOutcome → Type 0
-UsesAt origin taken address old new brief =
-    Leaves origin (register_use_row taken) address old new brief
+abbrev pub UsesAt : Origin → RegisterUse → ℕ → (old new : Machine) → LineOutcome → Type 0
+UsesAt origin taken address old new outcome =
+    Leaves origin (register_use_row taken) address old new outcome
 
 -- A function with a register had its effect, or was refused.
 abbrev pub DoesUse : PageMap → Origin → RegisterUse → ℕ → (old new : Machine)
-    → Result BriefOutcome FocalRefusal → Type 0
+    → Result LineOutcome FocalRefusal → Type 0
 DoesUse pages origin taken address old new result =
     CarriesRow pages origin (register_use_row taken) address old new result
 
 -- A function with a flag had its effect, or was refused.
 abbrev pub CarriesFlag : PageMap → Origin → FlagUse → ℕ → (old new : Machine)
-    → Result BriefOutcome FocalRefusal → Type 0
+    → Result LineOutcome FocalRefusal → Type 0
 CarriesFlag pages origin taken flag old new result =
     (named : ℕ) → CarriesRow pages origin (flag_use_row taken flag) named old new result
 
 -- A function with a number of digits had its effect.
-abbrev pub LeavesDigits : Origin → DigitsUse → ℕ → (old new : Machine) → BriefOutcome → Type 0
-LeavesDigits origin taken digits old new brief =
-    LeavesRow origin (digits_use_row taken digits) old new brief
+abbrev pub LeavesDigits : Origin → DigitsUse → ℕ → (old new : Machine) → LineOutcome → Type 0
+LeavesDigits origin taken digits old new outcome =
+    LeavesRow origin (digits_use_row taken digits) old new outcome
 
 -- A branch to a local label was executed.
-abbrev pub GoesToLabel : PageMap → Origin → Branch → ℕ → (old new : Machine) → BriefOutcome → Type 0
-GoesToLabel pages origin branch label old new brief =
-    (named : ℕ) → CarriesRow pages origin (to_label branch label) named old new (Ok brief)
+abbrev pub GoesToLabel : PageMap → Origin → Branch → ℕ → (old new : Machine) → LineOutcome → Type 0
+GoesToLabel pages origin branch label old new outcome =
+    (named : ℕ) → CarriesRow pages origin (to_label branch label) named old new (Ok outcome)
 
 -- A branch to a name was executed.
-abbrev pub GoesToName : PageMap → Origin → Branch → List ℕ → (old new : Machine) → BriefOutcome
+abbrev pub GoesToName : PageMap → Origin → Branch → List ℕ → (old new : Machine) → LineOutcome
     → Type 0
-GoesToName pages origin branch name old new brief =
-    (named : ℕ) → CarriesRow pages origin (to_name branch name) named old new (Ok brief)
+GoesToName pages origin branch name old new outcome =
+    (named : ℕ) → CarriesRow pages origin (to_name branch name) named old new (Ok outcome)
 
 -- A return was executed.
-abbrev pub GoesBack : PageMap → Origin → (old new : Machine) → BriefOutcome → Type 0
-GoesBack pages origin old new brief = CarriesWork pages origin Return old new (Ok brief)
+abbrev pub GoesBack : PageMap → Origin → (old new : Machine) → LineOutcome → Type 0
+GoesBack pages origin old new outcome = CarriesWork pages origin Return old new (Ok outcome)
 
 -- The outcome of an error, which depends on whether flag 25 makes the program ignore it.
-abbrev pub fault_outcome : (passed : Bool) → LineFault → BriefOutcome
-fault_outcome true fault = briefs.Done
-fault_outcome false fault = briefs.Failed fault
+abbrev pub fault_outcome : (passed : Bool) → LineFault → LineOutcome
+fault_outcome true fault = outcomes.Done
+fault_outcome false fault = outcomes.Failed fault
 
 -- A line had an error.
-abbrev pub FailsAs : Origin → LineFault → (old new : Machine) → BriefOutcome → Type 0
-FailsAs origin fault old new brief =
-    FailsIn (manner_of origin) old fault (Ok (briefly new brief))
+abbrev pub FailsAs : Origin → LineFault → (old new : Machine) → LineOutcome → Type 0
+FailsAs origin fault old new outcome =
+    FailsIn (manner_of origin) old fault (Ok (left_of new outcome))
 
 -- A line with a name was executed, or refused.
-abbrev pub TakesNamed : PageMap → Origin → NameFunction → List ℕ → BriefCall
+abbrev pub TakesNamed : PageMap → Origin → NameFunction → List ℕ → Call
 TakesNamed pages origin function name old new result =
-    TakesBriefly pages origin (lines.Named function name) old new result
+    TakesAs pages origin (lines.Named function name) old new result
 
 -- RCL or STO in one byte was executed, or refused.
-abbrev pub TakesShort : PageMap → Origin → RegisterFunction → ℕ → BriefCall
+abbrev pub TakesShort : PageMap → Origin → RegisterFunction → ℕ → Call
 TakesShort pages origin function register old new result =
-    TakesBriefly pages origin (lines.Register function register) old new result
+    TakesAs pages origin (lines.Register function register) old new result
 
 -- A function with an operand was executed, or refused.
-abbrev pub TakenBy : PageMap → Origin → ParameterFunction → Operand → BriefCall
+abbrev pub TakenBy : PageMap → Origin → ParameterFunction → Operand → Call
 TakenBy pages origin function operand old new result =
-    TakesBriefly pages origin (lines.WithOperand function operand) old new result
+    TakesAs pages origin (lines.WithOperand function operand) old new result
 
 -- GTO IND or XEQ IND was executed, or refused.
-abbrev pub TakesBranch : PageMap → Origin → Branch → ℕ → BriefCall
+abbrev pub TakesBranch : PageMap → Origin → Branch → ℕ → Call
 TakesBranch pages origin branch register old new result =
-    TakesBriefly pages origin (lines.BranchIndirect branch register) old new result
+    TakesAs pages origin (lines.BranchIndirect branch register) old new result
 
 -- A flag was tested and cleared, or the line was refused.
-abbrev pub ClearsFlag : PageMap → Origin → Bool → ℕ → BriefCall
+abbrev pub ClearsFlag : PageMap → Origin → Bool → ℕ → Call
 ClearsFlag pages origin on flag old new result =
     CarriesFlag pages origin (AskAndClear on) flag old new result
 
 -- A branch to the content of a register was executed.
 abbrev pub GoesToTarget : PageMap → Origin → Branch → BranchTarget → (old new : Machine)
-    → BriefOutcome
+    → LineOutcome
     → Type 0
-GoesToTarget pages origin branch target old new brief =
+GoesToTarget pages origin branch target old new outcome =
     (named : ℕ)
-    → CarriesRow pages origin (to_meant branch (meant_by target)) named old new (Ok brief)
+    → CarriesRow pages origin (to_meant branch (meant_by target)) named old new (Ok outcome)
 
 -- A text line changed ALPHA.
 abbrev pub PutsText : List ℕ → RegisterMap → RegisterMap → Type 0

@@ -9,9 +9,8 @@ use Rattle.h41_codes.specs.declared.line.Line.TheVariants.{Plain}
 use Rattle.h41_focal.specs.LineStep.{Left}
 use Rattle.h41_positions.specs.FocalState.{Machine}
 use Rattle.h41_focal.specs.MachineCalls.{left_of}
-use Rattle.h41_focal.specs.BriefOutcomes.{brief_answer}
-use Rattle.h41_focal.specs.Outcomes.{Answer, answer_of}
-use Rattle.h41_focal.specs.declared.outcome.BriefOutcome.{BriefOutcome}
+use Rattle.h41_focal.specs.Outcomes.{answer_of, Answer}
+use Rattle.h41_focal.specs.declared.outcome.LineOutcome.{LineOutcome}
 use Rattle.h41_focal.specs.declared.refusal.FocalRefusal.{FocalRefusal}
 use Rattle.h41_keys.specs.StoredLines.{StoresLine}
 use Rattle.h41_keys.specs.declared.action.Action.{Action}
@@ -122,7 +121,7 @@ IsActed action memory = IsTrue (is_sound memory)
 -- The calculator after the end of a line. Memory and the rest of the state that lines work on are
 -- changed already.
 abbrev pub after_end : LineEnd → CalculatorState → CalculatorState
-after_end (ends.Answers outcome) s = after_answer (answer_of outcome) s
+after_end (ends.Answers outcome) s = after_answer (answer_of s.nut.ram outcome) s
 after_end (ends.Begins address) s = with_function address s
 
 -- The calculator after an effect, likewise.
@@ -143,12 +142,11 @@ abbrev pub EndsAs : Result Ended FocalRefusal → (s t : CalculatorState) → Op
 EndsAs (Ok ended) s t refusal = (t ≡ after_line (not_typing s) ended) × (refusal ≡ None)
 EndsAs (Err why) s t refusal = (t ≡ s) × (refusal ≡ Some (of_line why))
 
--- The line at the position ends, after it was executed with a brief outcome: what it calls is
--- executed.
-abbrev pub EndsBriefly : BriefOutcome → (s t : CalculatorState) → Option CalculatorRefusal → Type 0
-EndsBriefly brief s t refusal =
+-- The line at the position ends, after it was executed with an outcome: what it calls is executed.
+abbrev pub EndsOutcome : LineOutcome → (s t : CalculatorState) → Option CalculatorRefusal → Type 0
+EndsOutcome outcome s t refusal =
     (ended : Result Ended FocalRefusal)
-    × CallsOut sources.Program s.nut.pages (machine_of s) (brief_answer s.nut.ram brief) ended
+    × CallsOut sources.Program s.nut.pages (machine_of s) (answer_of s.nut.ram outcome) ended
     × EndsAs ended s t refusal
 
 -- A key that has a meaning is performed, or refused.

@@ -7,12 +7,12 @@ use Rattle.h41_rows.specs.Computing.{value_of_one}
 use Rattle.h41_rows.specs.Places.{X}
 use Rattle.h41_focal.specs.private.Works.{row_of_work}
 use Rattle.h41_focal.specs.declared.works.FunctionWork.TheVariants as works
-use Rattle.h41_focal.specs.declared.outcome.BriefOutcome.TheVariants as briefs
+use Rattle.h41_focal.specs.declared.outcome.LineOutcome.TheVariants as outcomes
 use Rattle.h41_focal.proofs.arithmetic.of_x.Goals as goal
 
 pub returns-in-Ok-clause-done : goal.returns-in-Ok-clause-done
 returns-in-Ok-clause-done g c = λ named.
-    row_done _ (row_of_work (works.OfX c.args.value)) named _ _ _ c.in-Ok.register briefs.Done _ _
+    row_done _ (row_of_work (works.OfX c.args.value)) named _ _ _ c.in-Ok.register outcomes.Done _ _
     (ap machine_of c.machine.view_is) refl
     (value_computed _ named (row_of_work (works.OfX c.args.value)) (value_of_one c.args.value X) _ refl refl (c.in-Ok.ensures named X refl))
     refl

@@ -7,13 +7,13 @@ use Rattle.h41_rows.specs.Computing.{value_of_two}
 use Rattle.h41_rows.specs.Places.{X, Y}
 use Rattle.h41_focal.specs.private.Works.{row_of_work}
 use Rattle.h41_focal.specs.declared.works.FunctionWork.TheVariants as works
-use Rattle.h41_focal.specs.declared.outcome.BriefOutcome.TheVariants as briefs
+use Rattle.h41_focal.specs.declared.outcome.LineOutcome.TheVariants as outcomes
 use Rattle.h41_focal.proofs.arithmetic.of_y_and_x.Goals as goal
 
 pub returns-in-Ok-clause-done : goal.returns-in-Ok-clause-done
 returns-in-Ok-clause-done g c = λ named.
     row_done _ (row_of_work (works.OfYAndX c.args.value)) named _ _ _
-    c.in-Ok.register briefs.Done _ _ (ap machine_of c.machine.view_is) refl
+    c.in-Ok.register outcomes.Done _ _ (ap machine_of c.machine.view_is) refl
     (value_computed _ named (row_of_work (works.OfYAndX c.args.value)) (value_of_two c.args.value Y X) _
     refl refl (c.in-Ok.ensures c.machine.inside.ram.registers named Y X refl refl refl))
     refl

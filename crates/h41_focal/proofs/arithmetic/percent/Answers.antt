@@ -5,12 +5,12 @@ use Rattle.h41_focal.proofs.RowDone.{row_done}
 use Rattle.h41_rows.specs.Places.{X, Y}
 use Rattle.h41_focal.specs.private.Works.{row_of_work}
 use Rattle.h41_focal.specs.declared.works.FunctionWork.TheVariants as works
-use Rattle.h41_focal.specs.declared.outcome.BriefOutcome.TheVariants as briefs
+use Rattle.h41_focal.specs.declared.outcome.LineOutcome.TheVariants as outcomes
 use Rattle.h41_focal.proofs.arithmetic.percent.Goals as goal
 
 pub returns-in-Ok-clause-done : goal.returns-in-Ok-clause-done
 returns-in-Ok-clause-done g c = λ named.
-    row_done _ (row_of_work works.Percent) named _ _ _ c.in-Ok.register briefs.Done _ _
+    row_done _ (row_of_work works.Percent) named _ _ _ c.in-Ok.register outcomes.Done _ _
     (ap machine_of c.machine.view_is) refl
     (c.in-Ok.ensures c.machine.inside.ram.registers named Y X refl refl refl) refl
     (c.keep_last.ensures.change named) c.go_on_lifting.ensures.state

@@ -1,6 +1,6 @@
 use Rattle.std.proofs.Common.{◌≡◌, ap, None, Ok, Some, subst, sym, ◌∙◌}
 use Rattle.h41_codes.specs.declared.functions.Branch.TheVariants.{Execute}
-use Rattle.h41_focal.specs.declared.outcome.BriefOutcome.TheVariants as briefs
+use Rattle.h41_focal.specs.declared.outcome.LineOutcome.TheVariants as outcomes
 use Rattle.h41_positions.specs.LabelledMachine.{LabelledMachine, machine_of}
 use Rattle.h41_focal.proofs.RowApplied.{opened_row}
 use Rattle.h41_focal.specs.private.Carrying.{CarriesRow, FailsAs}
@@ -56,7 +56,7 @@ returns-in-None-Execute-clause-done g c = λ pages named.
     rw (c.in-None-Execute.is-1, c.global.ensures.state)
     (subst
     (λ (machine : Machine). CarriesRow pages c.args.origin (to_name Execute c.args.name) named
-    (machine_of c.args.machine.now) machine (Ok (briefs.Seeks c.args.name)))
+    (machine_of c.args.machine.now) machine (Ok (outcomes.Seeks c.args.name)))
     (sym (ap machine_of c.machine.view_is))
     (name_sought pages c.args.origin c.args.name named (machine_of c.args.machine.now)
     (subst (λ (machine : Machine). AnswersOf (λ lines. position_of (named_in c.args.name lines)) machine.memory 0 None)

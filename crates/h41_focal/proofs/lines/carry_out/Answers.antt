@@ -1,20 +1,201 @@
-use Rattle.std.proofs.Common.{ap, ◌∙◌}
-use Rattle.std.proofs.lemmas.Result.{err_from_is_err_and}
-use Rattle.h41_positions.specs.LabelledMachine.{machine_of}
-use Rattle.h41_focal.proofs.Briefly.{outcome_taken}
-use Rattle.h41_focal.specs.BriefOutcomes.{brief_answer}
-use Rattle.h41_positions.specs.FocalState.{Machine}
+use Rattle.h41_codes.specs.declared.line.Line.TheVariants as lines
+use Rattle.h41_rows.specs.Profile.{is_left_out}
+use Rattle.h41_focal.proofs.LinesTaken.{unsearched}
 use Rattle.h41_focal.proofs.lines.carry_out.Goals as goal
 
-pub returns-in_err-brief-clause-taken : goal.returns-in_err-brief-clause-taken
-returns-in_err-brief-clause-taken g c =
-    let refused = err_from_is_err_and c.from_residual.result c.from_residual.ensures.1 in
-    rw (refused.1, refused.2) c.in_err-brief.ensures.taken
+pub returns-in-Null : goal.returns-in-Null
+returns-in-Null g c =
+    rw c.in-Null.is
+    (record {
+      taken = c.do_nothing.ensures.done 0 c.args.pages.now;
+      unchanged = tt;
+      kept = c.do_nothing.ensures.keeps.labels;
+      mark = c.do_nothing.ensures.keeps.mark;
+      left = c.do_nothing.ensures.left;
+    })
 
-pub returns-clause-taken : goal.returns-clause-taken
-returns-clause-taken g c =
-    outcome_taken c.args.pages.now c.args.origin c.args.line.now (machine_of c.args.machine.now)
-    (machine_of c.carry_briefly.new.machine) c.in_ok-brief.brief c.outcome.result
-    c.in_ok-brief.ensures.taken
-    (c.outcome.ensures
-    ∙ ap (λ (of : Machine). brief_answer of.memory c.in_ok-brief.brief) (ap machine_of c.machine.view_is))
+pub returns-in-LocalLabel : goal.returns-in-LocalLabel
+returns-in-LocalLabel g c =
+    rw c.in-LocalLabel.is
+    (record {
+      taken = c.be_silent.ensures.done 0 c.args.pages.now;
+      unchanged = tt;
+      kept = c.be_silent.ensures.keeps.labels;
+      mark = c.be_silent.ensures.keeps.mark;
+      left = c.be_silent.ensures.left;
+    })
+
+pub returns-in-GlobalLabel : goal.returns-in-GlobalLabel
+returns-in-GlobalLabel g c =
+    rw c.in-GlobalLabel.is
+    (record {
+      taken = c.be_silent-in-GlobalLabel.ensures.done 0 c.args.pages.now;
+      unchanged = tt;
+      kept = c.be_silent-in-GlobalLabel.ensures.keeps.labels;
+      mark = c.be_silent-in-GlobalLabel.ensures.keeps.mark;
+      left = c.be_silent-in-GlobalLabel.ensures.left;
+    })
+
+pub returns-in-Number : goal.returns-in-Number
+returns-in-Number g c =
+    rw c.in-Number.is
+    (record {
+      taken = c.number_line.ensures.done _ c.written.ensures 0 c.args.pages.now;
+      unchanged = tt;
+      kept = c.number_line.ensures.keeps.labels;
+      mark = c.number_line.ensures.keeps.mark;
+      left = c.number_line.ensures.left;
+    })
+
+pub returns-in-Named : goal.returns-in-Named
+returns-in-Named g c =
+    rw c.in-Named.is
+    (record {
+      taken = c.named.ensures.taken c.args.pages.now;
+      unchanged = c.named.ensures.unchanged;
+      kept = c.named.ensures.kept;
+      mark = c.named.ensures.mark;
+      left = c.named.ensures.left;
+    })
+
+pub returns-in-Register : goal.returns-in-Register
+returns-in-Register g c =
+    rw c.in-Register.is
+    (record {
+      taken = c.short.ensures.taken c.args.pages.now;
+      unchanged = c.short.ensures.unchanged;
+      kept = c.short.ensures.keeps.labels;
+      mark = c.short.ensures.keeps.mark;
+      left = c.short.ensures.left;
+    })
+
+pub returns-in-Plain : goal.returns-in-Plain
+returns-in-Plain g c =
+    rw c.in-Plain.is
+    (record {
+      taken = c.plain.ensures.taken;
+      unchanged = c.plain.ensures.unchanged;
+      kept = unsearched _ (is_left_out (lines.Plain c.in-Plain.function)) _ _ c.plain.ensures.keeps.labels;
+      mark = c.plain.ensures.keeps.mark;
+      left = c.plain.ensures.left;
+    })
+
+pub returns-in-WithOperand : goal.returns-in-WithOperand
+returns-in-WithOperand g c =
+    rw c.in-WithOperand.is
+    (record {
+      taken = c.with_operand.ensures.taken;
+      unchanged = c.with_operand.ensures.unchanged;
+      kept =
+          unsearched _ (is_left_out (lines.WithOperand c.in-WithOperand.function c.in-WithOperand.operand))
+          _ _ c.with_operand.ensures.keeps.labels;
+      mark = c.with_operand.ensures.keeps.mark;
+      left = c.with_operand.ensures.left;
+    })
+
+pub returns-in-BranchIndirect : goal.returns-in-BranchIndirect
+returns-in-BranchIndirect g c =
+    rw c.in-BranchIndirect.is
+    (record {
+      taken = c.indirect.ensures.taken;
+      unchanged = c.indirect.ensures.unchanged;
+      kept = c.indirect.ensures.kept;
+      mark = c.indirect.ensures.mark;
+      left = c.indirect.ensures.left;
+    })
+
+pub returns-in-ShortGoTo : goal.returns-in-ShortGoTo
+returns-in-ShortGoTo g c =
+    let taken = c.to_label.ensures.done 0 in
+    let kept = c.to_label.ensures.kept in
+    rw c.in-ShortGoTo.is
+    (record {
+      taken = rw (c.new.ensures, c.number.ensures.value) at taken;
+      unchanged = tt;
+      kept = rw (c.new.ensures, c.number.ensures.value) at kept;
+      mark = c.to_label.ensures.mark;
+      left = c.to_label.ensures.left;
+    })
+
+pub returns-in-End : goal.returns-in-End
+returns-in-End g c =
+    rw c.in-End.is
+    (record {
+      taken = c.go_back.ensures.done 0;
+      unchanged = tt;
+      kept = c.go_back.ensures.keeps.labels;
+      mark = c.go_back.ensures.keeps.mark;
+      left = c.go_back.ensures.left;
+    })
+
+pub returns-in-FinalEnd : goal.returns-in-FinalEnd
+returns-in-FinalEnd g c =
+    rw c.in-FinalEnd.is
+    (record {
+      taken = c.go_back-in-FinalEnd.ensures.done 0;
+      unchanged = tt;
+      kept = c.go_back-in-FinalEnd.ensures.keeps.labels;
+      mark = c.go_back-in-FinalEnd.ensures.keeps.mark;
+      left = c.go_back-in-FinalEnd.ensures.left;
+    })
+
+pub returns-in-BranchTo : goal.returns-in-BranchTo
+returns-in-BranchTo g c =
+    rw c.in-BranchTo.is
+    (record {
+      taken = c.to_label-in-BranchTo.ensures.done 0;
+      unchanged = tt;
+      kept = c.to_label-in-BranchTo.ensures.kept;
+      mark = c.to_label-in-BranchTo.ensures.mark;
+      left = c.to_label-in-BranchTo.ensures.left;
+    })
+
+pub returns-in-Text : goal.returns-in-Text
+returns-in-Text g c =
+    rw c.in-Text.is
+    (record {
+      taken = c.text_line.ensures.done 0 c.args.pages.now;
+      unchanged = tt;
+      kept = c.text_line.ensures.keeps.labels;
+      mark = c.text_line.ensures.keeps.mark;
+      left = c.text_line.ensures.left;
+    })
+
+pub be_silent-requires : goal.be_silent-requires
+be_silent-requires g c = assumption
+
+pub do_nothing-requires : goal.do_nothing-requires
+do_nothing-requires g c = assumption
+
+pub go_back-requires : goal.go_back-requires
+go_back-requires g c = assumption
+
+pub indirect-requires : goal.indirect-requires
+indirect-requires g c = assumption
+
+pub named-requires : goal.named-requires
+named-requires g c = assumption
+
+pub number-requires : goal.number-requires
+number-requires g c = assumption
+
+pub number_line-requires : goal.number_line-requires
+number_line-requires g c = assumption
+
+pub plain-requires : goal.plain-requires
+plain-requires g c = assumption
+
+pub short-requires : goal.short-requires
+short-requires g c = assumption
+
+pub text_line-requires : goal.text_line-requires
+text_line-requires g c = assumption
+
+pub to_label-requires : goal.to_label-requires
+to_label-requires g c = assumption
+
+pub with_operand-requires : goal.with_operand-requires
+with_operand-requires g c = assumption
+
+pub written-requires : goal.written-requires
+written-requires g c = assumption

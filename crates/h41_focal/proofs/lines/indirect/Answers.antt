@@ -1,7 +1,7 @@
 use Rattle.std.proofs.Common.{ap, ◌≡◌, false, Ok, Result, rules, subst}
 use Rattle.h41_codes.specs.declared.line.Line.TheVariants.{BranchIndirect}
 use Rattle.h41_positions.specs.LabelledMachine.{machine_of}
-use Rattle.h41_focal.proofs.Briefly.{target_taken}
+use Rattle.h41_focal.proofs.Targets.{target_taken}
 use Rattle.h41_positions.specs.FocalState.{Machine}
 use Rattle.h41_rows.specs.Computing.{meant_by}
 use Rattle.h41_rows.specs.Operands.{Meant, meant_of}

@@ -7,7 +7,7 @@ use Rattle.h41_rows.specs.Counters.{Up}
 use Rattle.h41_rows.specs.LineRows.{loop}
 use Rattle.h41_rows.specs.Places.{Named}
 use Rattle.h41_rows.specs.Rows.{Loops}
-use Rattle.h41_focal.specs.declared.outcome.BriefOutcome.TheVariants as briefs
+use Rattle.h41_focal.specs.declared.outcome.LineOutcome.TheVariants as outcomes
 use Rattle.h41_ram.specs.RamState.{RamState}
 use Rattle.h41_focal.proofs.loop_lines.count_up.Goals as goal
 
@@ -27,7 +27,7 @@ returns-in_ok-lead-in-Ok-clause-carried g c =
     rw (c.go_on_lifting.ensures.state, (ap (λ (ram : RamState). ram.registers) c.write.ensures.written))
     (opened_row c.args.pages.now _ (loop Up) c.args.address _ _ _ _ (ap machine_of c.machine.view_is)
     (loop_leads c.args.pages.now _ c.in_ok-lead-in-Ok.lead (loop Up) (Loops Up Named) c.in-Ok.counted.goes_on c.args.address _
-    c.in-Ok.counted.register briefs.Done
+    c.in-Ok.counted.register outcomes.Done
     refl refl refl (rw c.in-Ok.is at works) c.in-Ok.ensures.course c.in_ok-lead-in-Ok.ensures refl))
 
 pub returns-in-Err-clause-carried : goal.returns-in-Err-clause-carried

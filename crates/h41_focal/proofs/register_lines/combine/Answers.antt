@@ -7,14 +7,14 @@ use Rattle.h41_rows.specs.Computing.{value_of_two}
 use Rattle.h41_rows.specs.Places.{Named, X}
 use Rattle.h41_focal.specs.private.Works.{register_use_row}
 use Rattle.h41_focal.specs.declared.uses.RegisterUse.TheVariants as registers
-use Rattle.h41_focal.specs.declared.outcome.BriefOutcome.TheVariants as briefs
+use Rattle.h41_focal.specs.declared.outcome.LineOutcome.TheVariants as outcomes
 use Rattle.h41_ram.specs.RamState.{RamState}
 use Rattle.h41_focal.proofs.register_lines.combine.Goals as goal
 
 pub returns-in-Ok-clause-done : goal.returns-in-Ok-clause-done
 returns-in-Ok-clause-done g c =
     row_done _ (register_use_row (registers.Combine c.args.value)) c.args.address _
-    _ _ c.in-Ok.register briefs.Done _ _ (ap machine_of c.machine.view_is) refl
+    _ _ c.in-Ok.register outcomes.Done _ _ (ap machine_of c.machine.view_is) refl
     (let worked = c.compute_of_two.ensures c.machine.inside.ram.registers c.args.address Named X refl refl refl in
     value_computed _ c.args.address (register_use_row (registers.Combine c.args.value)) (value_of_two c.args.value Named X) _ refl refl
     (rw c.in-Ok.is at worked))

@@ -4,12 +4,12 @@ use Rattle.h41_focal.proofs.RowDone.{row_done}
 use Rattle.h41_rows.specs.Places.{Named}
 use Rattle.h41_focal.specs.private.Works.{register_use_row}
 use Rattle.h41_focal.specs.declared.uses.RegisterUse.TheVariants as registers
-use Rattle.h41_focal.specs.declared.outcome.BriefOutcome.TheVariants as briefs
+use Rattle.h41_focal.specs.declared.outcome.LineOutcome.TheVariants as outcomes
 use Rattle.h41_ram.specs.RegisterMap.{zeros}
 use Rattle.h41_focal.proofs.register_lines.store.Goals as goal
 
 pub returns-clause-done : goal.returns-clause-done
 returns-clause-done g c =
     row_done _ (register_use_row registers.Store) c.args.address _ _ _ zeros
-    briefs.Done _ _ (ap machine_of c.machine.view_is) refl refl refl
+    outcomes.Done _ _ (ap machine_of c.machine.view_is) refl refl refl
     (c.store_x.ensures.change c.args.address Named zeros refl) c.go_on_lifting.ensures.state

@@ -1,12 +1,12 @@
 use Rattle.std.proofs.Common.{ap, refl}
 use Rattle.h41_positions.specs.LabelledMachine.{machine_of}
 use Rattle.h41_focal.proofs.RowDone.{row_done}
-use Rattle.h41_focal.specs.declared.outcome.BriefOutcome.TheVariants as briefs
+use Rattle.h41_focal.specs.declared.outcome.LineOutcome.TheVariants as outcomes
 use Rattle.h41_focal.proofs.stack_lines.do_nothing.Goals as goal
 use Rattle.h41_rows.specs.Rows.{lifting_row}
 use Rattle.h41_ram.specs.RegisterMap.{zeros}
 
 pub returns-clause-done : goal.returns-clause-done
 returns-clause-done g c = λ named.
-    row_done _ lifting_row named _ _ _ zeros briefs.Done _ _
+    row_done _ lifting_row named _ _ _ zeros outcomes.Done _ _
     (ap machine_of c.machine.view_is) refl refl refl refl c.go_on_lifting.ensures.state

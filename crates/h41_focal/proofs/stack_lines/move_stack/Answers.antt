@@ -8,7 +8,7 @@ use Rattle.h41_positions.specs.FocalState.{machine_with}
 use Rattle.h41_focal.specs.Outcomes as answers
 use Rattle.h41_rows.specs.Rows as rows
 use Rattle.h41_focal.specs.private.Works.{move_row}
-use Rattle.h41_focal.specs.declared.outcome.BriefOutcome.TheVariants as briefs
+use Rattle.h41_focal.specs.declared.outcome.LineOutcome.TheVariants as outcomes
 use Rattle.h41_focal.specs.declared.works.Movement.{Movement}
 use Rattle.h41_focal.specs.declared.works.Movement.TheVariants as moves
 use Rattle.h41_ram.specs.RegisterMap.{RegisterMap}
@@ -41,5 +41,5 @@ returns-clause-done g c = λ named.
     let moved = c.move_registers.ensures.change named in
     let opened = ap (λ (inside : Inside g.row.REGS). machine_with inside.ram.registers inside.focal.state) c.machine-inside.view_is
     ∙ (ap machine_of c.machine.view_is) in
-    row_done _ (move_row c.args.movement) named _ _ _ moved.0 briefs.Done _ _ opened
+    row_done _ (move_row c.args.movement) named _ _ _ moved.0 outcomes.Done _ _ opened
     (goes_on c.args.movement) moved.1 (answers_done _ c.args.movement named) moved.2 c.go_on_behind.ensures.state

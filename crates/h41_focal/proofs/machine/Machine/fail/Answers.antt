@@ -1,10 +1,6 @@
-use Rattle.std.proofs.Common.{Ok, Err, ap, refl, ◌∙◌}
+use Rattle.std.proofs.Common.{Ok, Err, refl}
 use Rattle.std.proofs.lemmas.Result.{err_from_is_err_and}
-use Rattle.h41_positions.specs.LabelledMachine.{machine_of}
-use Rattle.h41_focal.proofs.Briefly.{same_left}
 use Rattle.h41_focal.proofs.machine.Machine.fail.Goals as goal
-use Rattle.h41_focal.specs.BriefOutcomes.{brief_answer}
-use Rattle.h41_positions.specs.FocalState.{Machine}
 
 pub returns-in_err-next-clause-line : goal.returns-in_err-next-clause-line
 returns-in_err-next-clause-line g c =
@@ -13,8 +9,6 @@ returns-in_err-next-clause-line g c =
 
 pub returns-clause-line : goal.returns-clause-line
 returns-clause-line g c =
-    rw (same_left (machine_of c.fail.new.machine) c.fail.result c.outcome.result
-    (c.outcome.ensures ∙ ap (λ (of : Machine). brief_answer of.memory c.fail.result) (ap machine_of c.self.view_is)))
     (Ok (c.in_ok-next.field-0-0, c.in_ok-next.next), c.in_ok-next.ensures, c.fail.ensures.done)
 
 pub fail-requires : goal.fail-requires

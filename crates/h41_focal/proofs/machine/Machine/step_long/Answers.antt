@@ -1,10 +1,10 @@
 use Rattle.std.proofs.Common.{ap, subst, sym, Ok, None, rules, ◌∙◌}
 use Rattle.h41_codes.specs.declared.line.Line.TheVariants.{Number}
-use Rattle.h41_focal.specs.BriefOutcomes.{CallingKeeps, StepsBriefly}
+use Rattle.h41_focal.specs.MachineCalls.{KeepsElsewhere, StepsBriefly}
 use Rattle.h41_positions.specs.LabelledMachine.{LabelledMachine, machine_of}
 use Rattle.h41_focal.specs.LineStep.{Stands}
 use Rattle.h41_positions.specs.FocalState.{Machine}
-use Rattle.h41_focal.proofs.Elsewhere.{calling_keeps}
+use Rattle.h41_focal.proofs.Elsewhere.{kept_elsewhere}
 use Rattle.h41_focal.proofs.machine.Machine.step_long.Goals as goal
 use Rattle.h41_focal.specs.declared.origin.Origin.TheVariants.{Program}
 
@@ -16,7 +16,7 @@ returns-in-Some g c =
     let done = c.number_line.ensures.done found.0 (c.number_register-register.ensures found.0 found.2) 0 c.args.pages.now in
     record {
       line =
-          subst (λ (machine : Machine). StepsBriefly c.args.pages.now machine (machine_of c.number_line.new.machine)
+          subst (λ (machine : Machine). Steps c.args.pages.now None machine (machine_of c.number_line.new.machine)
           (Ok c.number_line.result))
           (ap machine_of begun.ensures.begun) (
             Ok (Number found.0, c.in-Some.next),
@@ -26,9 +26,9 @@ returns-in-Some g c =
           );
       unchanged = tt;
       elsewhere =
-          subst (λ (machine : Machine). CallingKeeps machine (machine_of c.number_line.new.machine) (Ok c.number_line.result))
+          subst (λ (machine : Machine). KeepsElsewhere machine (machine_of c.number_line.new.machine) (Ok c.number_line.result))
           (ap machine_of begun.ensures.begun)
-          (calling_keeps c.args.pages.now (Program c.in-Some.next) (Number found.0) (machine_of begun.new.self)
+          (kept_elsewhere c.args.pages.now (Program c.in-Some.next) (Number found.0) (machine_of begun.new.self)
           (machine_of c.number_line.new.machine) (Ok c.number_line.result) done);
       kept = (
         Ok (Number found.0, c.in-Some.next),
@@ -40,4 +40,17 @@ returns-in-Some g c =
       right =
           c.kept_answers_stay_right.ensures.searching begun.new.self c.number_line.new.machine None begun.ensures.right
           keeps.labels keeps.mark;
+    }
+
+pub returns-in-None : goal.returns-in-None
+returns-in-None g c =
+    let stepped = c.step.ensures in
+    record {
+      line = stepped.line;
+      unchanged = stepped.unchanged;
+      elsewhere = stepped.elsewhere;
+      kept = stepped.kept;
+      mark = stepped.mark;
+      clear = stepped.clear;
+      right = stepped.right;
     }

@@ -1,8 +1,8 @@
 use Rattle.std.proofs.Common.{Ok}
 use Rattle.h41_codes.specs.ShortLines.{line_of}
-use Rattle.h41_focal.proofs.Elsewhere.{calling_keeps}
-use Rattle.h41_focal.proofs.machine.Machine.step_briefly.Goals as goal
-use Rattle.h41_focal.specs.BriefOutcomes.{end_told}
+use Rattle.h41_focal.proofs.Elsewhere.{kept_elsewhere}
+use Rattle.h41_focal.proofs.machine.Machine.step_into.Goals as goal
+use Rattle.h41_focal.specs.MachineCalls.{outcome_by}
 use Rattle.h41_positions.specs.LabelledMachine.{machine_of}
 use Rattle.h41_focal.specs.declared.origin.Origin.TheVariants.{Program}
 
@@ -12,8 +12,8 @@ returns-in-Some-clause-line g c =
 
 pub returns-in-Some-clause-elsewhere : goal.returns-in-Some-clause-elsewhere
 returns-in-Some-clause-elsewhere g c =
-    calling_keeps c.args.pages.now (Program c.in-Some.next) (line_of c.in-Some.line) (machine_of c.args.self.now)
-    (machine_of c.carry_short.new.machine) (end_told c.carry_short.result c.carry_short.new.told) c.carry_short.ensures.taken
+    kept_elsewhere c.args.pages.now (Program c.in-Some.next) (line_of c.in-Some.line) (machine_of c.args.self.now)
+    (machine_of c.carry_short.new.machine) (outcome_by c.carry_short.result c.carry_short.new.outcome) c.carry_short.ensures.taken
 
 pub returns-in-Some-clause-right : goal.returns-in-Some-clause-right
 returns-in-Some-clause-right g c =

@@ -1,10 +1,13 @@
 -- Any characters name one function of the calculator, or none.
-use Rattle.std.proofs.Common.{◌≡◌, ◌⊎◌, ℕ, Bool, true, false, List, [], ◌∷◌, Some, None, inl, inr, refl, sym, ◌∙◌, bytes_eq}
+use Rattle.std.proofs.Common.{◌≡◌, ◌⊎◌, ◌-◌, ℕ, zero, suc, Bool, true, false, List, [], ◌∷◌, Some, None, inl, inr, get_or, refl, subst, sym, ◌∙◌}
+use Rattle.std.proofs.Common.{bytes_eq}
 use Rattle.std.specs.List.{AllByRecursion}
 use Rattle.std.proofs.lemmas.Bool.{true≢false}
 use Rattle.std.proofs.lemmas.Slice.Eq.{bytes_eq-Decides}
 use Rattle.h41_codes.specs.declared.functions.Function.{Function}
-use Rattle.h41_codes.specs.declared.functions.Function.TheVariants as functions
+use Rattle.h41_codes.specs.declared.functions.Function.TheVariants.{Add}
+use Rattle.h41_codes.specs.Codes.{function_code}
+use Rattle.h41_codes.specs.Functions.{functions}
 use Rattle.h41_text.specs.Names.{function_name}
 use Rattle.h41_text.specs.TextLaws.{OneLineOfText}
 use Rattle.h41_xrom.specs.Lines.{IsNamed}
@@ -14,112 +17,21 @@ use Rattle.h41_xrom.proofs.StepLaws.{same_function}
 use Rattle.h41_laws_words.proofs.Answering.{Has}
 use Rattle.h41_laws_calculator.specs.LineEnds.{NameHasOneFunction}
 
--- All functions, ten in a row.
-abbrev rows : List (List Function)
-rows =
-    (functions.Add ∷ functions.Subtract ∷ functions.Multiply ∷ functions.Divide ∷ functions.TestXLessThanY
-    ∷ functions.TestXGreaterThanY ∷ functions.TestXAtMostY ∷ functions.AddStatistics ∷ functions.SubtractStatistics
-    ∷ functions.AddHours ∷ [])
-    ∷ (functions.SubtractHours ∷ functions.Modulo ∷ functions.Percent ∷ functions.PercentChange ∷ functions.PolarToRectangular
-    ∷ functions.RectangularToPolar ∷ functions.NaturalLogarithm ∷ functions.Square ∷ functions.SquareRoot ∷ functions.Power ∷ [])
-    ∷ (functions.ChangeSign ∷ functions.Exponential ∷ functions.CommonLogarithm ∷ functions.PowerOfTen ∷ functions.ExponentialLessOne
-    ∷ functions.Sine ∷ functions.Cosine ∷ functions.Tangent ∷ functions.ArcSine ∷ functions.ArcCosine ∷ [])
-    ∷ (functions.ArcTangent ∷ functions.OctalToDecimal ∷ functions.Reciprocal ∷ functions.AbsoluteValue ∷ functions.Factorial
-    ∷ functions.TestXNotZero ∷ functions.TestXPositive ∷ functions.LogarithmOfOneMore ∷ functions.TestXNegative ∷ functions.TestXZero ∷ [])
-    ∷ (functions.IntegerPart ∷ functions.FractionPart ∷ functions.DegreesToRadians ∷ functions.RadiansToDegrees ∷ functions.DecimalToHours
-    ∷ functions.HoursToDecimal ∷ functions.Round ∷ functions.DecimalToOctal ∷ functions.ClearStatistics ∷ functions.ExchangeXY ∷ [])
-    ∷ (functions.Pi ∷ functions.ClearStack ∷ functions.RollUp ∷ functions.RollDown ∷ functions.LastX
-    ∷ functions.ClearX ∷ functions.TestXEqualsY ∷ functions.TestXDiffersFromY ∷ functions.Signum ∷ functions.TestXAtMostZero ∷ [])
-    ∷ (functions.Mean ∷ functions.StandardDeviation ∷ functions.ViewAlpha ∷ functions.ClearDisplay ∷ functions.Degrees
-    ∷ functions.Radians ∷ functions.Grads ∷ functions.Enter ∷ functions.Stop ∷ functions.Return ∷ [])
-    ∷ (functions.Beep ∷ functions.ClearAlpha ∷ functions.ShiftAlpha ∷ functions.Pause ∷ functions.ClearRegisters
-    ∷ functions.AlphaOff ∷ functions.AlphaOn ∷ functions.TurnOff ∷ functions.Prompt ∷ functions.Advance ∷ [])
-    ∷ []
+-- Each function stands in the list of functions, at the place that its code gives.
+in_list : (function : Function) → get_or functions (function_code function - 0x40) Add ≡ function
+in_list Add = refl
+in_list function = refl
 
-abbrev HoldsOfAll : (Function → Type 0) → Type 0
-HoldsOfAll Claim = AllByRecursion (λ row. AllByRecursion Claim row) rows
+-- What holds of all functions of a list, and of another, holds at each place.
+at_place : (Claim : Function → Type 0) (list : List Function) (place : ℕ) (other : Function)
+    → AllByRecursion Claim list → Claim other → Claim (get_or list place other)
+at_place Claim [] place other all holds = holds
+at_place Claim (first ∷ rest) zero other all holds = all.0
+at_place Claim (first ∷ rest) (suc place) other all holds = at_place Claim rest place other all.1 holds
 
-of_all : (Claim : Function → Type 0) (function : Function) → HoldsOfAll Claim → Claim function
-of_all Claim functions.Add all = all.0.0
-of_all Claim functions.Subtract all = all.0.1.0
-of_all Claim functions.Multiply all = all.0.1.1.0
-of_all Claim functions.Divide all = all.0.1.1.1.0
-of_all Claim functions.TestXLessThanY all = all.0.1.1.1.1.0
-of_all Claim functions.TestXGreaterThanY all = all.0.1.1.1.1.1.0
-of_all Claim functions.TestXAtMostY all = all.0.1.1.1.1.1.1.0
-of_all Claim functions.AddStatistics all = all.0.1.1.1.1.1.1.1.0
-of_all Claim functions.SubtractStatistics all = all.0.1.1.1.1.1.1.1.1.0
-of_all Claim functions.AddHours all = all.0.1.1.1.1.1.1.1.1.1.0
-of_all Claim functions.SubtractHours all = all.1.0.0
-of_all Claim functions.Modulo all = all.1.0.1.0
-of_all Claim functions.Percent all = all.1.0.1.1.0
-of_all Claim functions.PercentChange all = all.1.0.1.1.1.0
-of_all Claim functions.PolarToRectangular all = all.1.0.1.1.1.1.0
-of_all Claim functions.RectangularToPolar all = all.1.0.1.1.1.1.1.0
-of_all Claim functions.NaturalLogarithm all = all.1.0.1.1.1.1.1.1.0
-of_all Claim functions.Square all = all.1.0.1.1.1.1.1.1.1.0
-of_all Claim functions.SquareRoot all = all.1.0.1.1.1.1.1.1.1.1.0
-of_all Claim functions.Power all = all.1.0.1.1.1.1.1.1.1.1.1.0
-of_all Claim functions.ChangeSign all = all.1.1.0.0
-of_all Claim functions.Exponential all = all.1.1.0.1.0
-of_all Claim functions.CommonLogarithm all = all.1.1.0.1.1.0
-of_all Claim functions.PowerOfTen all = all.1.1.0.1.1.1.0
-of_all Claim functions.ExponentialLessOne all = all.1.1.0.1.1.1.1.0
-of_all Claim functions.Sine all = all.1.1.0.1.1.1.1.1.0
-of_all Claim functions.Cosine all = all.1.1.0.1.1.1.1.1.1.0
-of_all Claim functions.Tangent all = all.1.1.0.1.1.1.1.1.1.1.0
-of_all Claim functions.ArcSine all = all.1.1.0.1.1.1.1.1.1.1.1.0
-of_all Claim functions.ArcCosine all = all.1.1.0.1.1.1.1.1.1.1.1.1.0
-of_all Claim functions.ArcTangent all = all.1.1.1.0.0
-of_all Claim functions.OctalToDecimal all = all.1.1.1.0.1.0
-of_all Claim functions.Reciprocal all = all.1.1.1.0.1.1.0
-of_all Claim functions.AbsoluteValue all = all.1.1.1.0.1.1.1.0
-of_all Claim functions.Factorial all = all.1.1.1.0.1.1.1.1.0
-of_all Claim functions.TestXNotZero all = all.1.1.1.0.1.1.1.1.1.0
-of_all Claim functions.TestXPositive all = all.1.1.1.0.1.1.1.1.1.1.0
-of_all Claim functions.LogarithmOfOneMore all = all.1.1.1.0.1.1.1.1.1.1.1.0
-of_all Claim functions.TestXNegative all = all.1.1.1.0.1.1.1.1.1.1.1.1.0
-of_all Claim functions.TestXZero all = all.1.1.1.0.1.1.1.1.1.1.1.1.1.0
-of_all Claim functions.IntegerPart all = all.1.1.1.1.0.0
-of_all Claim functions.FractionPart all = all.1.1.1.1.0.1.0
-of_all Claim functions.DegreesToRadians all = all.1.1.1.1.0.1.1.0
-of_all Claim functions.RadiansToDegrees all = all.1.1.1.1.0.1.1.1.0
-of_all Claim functions.DecimalToHours all = all.1.1.1.1.0.1.1.1.1.0
-of_all Claim functions.HoursToDecimal all = all.1.1.1.1.0.1.1.1.1.1.0
-of_all Claim functions.Round all = all.1.1.1.1.0.1.1.1.1.1.1.0
-of_all Claim functions.DecimalToOctal all = all.1.1.1.1.0.1.1.1.1.1.1.1.0
-of_all Claim functions.ClearStatistics all = all.1.1.1.1.0.1.1.1.1.1.1.1.1.0
-of_all Claim functions.ExchangeXY all = all.1.1.1.1.0.1.1.1.1.1.1.1.1.1.0
-of_all Claim functions.Pi all = all.1.1.1.1.1.0.0
-of_all Claim functions.ClearStack all = all.1.1.1.1.1.0.1.0
-of_all Claim functions.RollUp all = all.1.1.1.1.1.0.1.1.0
-of_all Claim functions.RollDown all = all.1.1.1.1.1.0.1.1.1.0
-of_all Claim functions.LastX all = all.1.1.1.1.1.0.1.1.1.1.0
-of_all Claim functions.ClearX all = all.1.1.1.1.1.0.1.1.1.1.1.0
-of_all Claim functions.TestXEqualsY all = all.1.1.1.1.1.0.1.1.1.1.1.1.0
-of_all Claim functions.TestXDiffersFromY all = all.1.1.1.1.1.0.1.1.1.1.1.1.1.0
-of_all Claim functions.Signum all = all.1.1.1.1.1.0.1.1.1.1.1.1.1.1.0
-of_all Claim functions.TestXAtMostZero all = all.1.1.1.1.1.0.1.1.1.1.1.1.1.1.1.0
-of_all Claim functions.Mean all = all.1.1.1.1.1.1.0.0
-of_all Claim functions.StandardDeviation all = all.1.1.1.1.1.1.0.1.0
-of_all Claim functions.ViewAlpha all = all.1.1.1.1.1.1.0.1.1.0
-of_all Claim functions.ClearDisplay all = all.1.1.1.1.1.1.0.1.1.1.0
-of_all Claim functions.Degrees all = all.1.1.1.1.1.1.0.1.1.1.1.0
-of_all Claim functions.Radians all = all.1.1.1.1.1.1.0.1.1.1.1.1.0
-of_all Claim functions.Grads all = all.1.1.1.1.1.1.0.1.1.1.1.1.1.0
-of_all Claim functions.Enter all = all.1.1.1.1.1.1.0.1.1.1.1.1.1.1.0
-of_all Claim functions.Stop all = all.1.1.1.1.1.1.0.1.1.1.1.1.1.1.1.0
-of_all Claim functions.Return all = all.1.1.1.1.1.1.0.1.1.1.1.1.1.1.1.1.0
-of_all Claim functions.Beep all = all.1.1.1.1.1.1.1.0.0
-of_all Claim functions.ClearAlpha all = all.1.1.1.1.1.1.1.0.1.0
-of_all Claim functions.ShiftAlpha all = all.1.1.1.1.1.1.1.0.1.1.0
-of_all Claim functions.Pause all = all.1.1.1.1.1.1.1.0.1.1.1.0
-of_all Claim functions.ClearRegisters all = all.1.1.1.1.1.1.1.0.1.1.1.1.0
-of_all Claim functions.AlphaOff all = all.1.1.1.1.1.1.1.0.1.1.1.1.1.0
-of_all Claim functions.AlphaOn all = all.1.1.1.1.1.1.1.0.1.1.1.1.1.1.0
-of_all Claim functions.TurnOff all = all.1.1.1.1.1.1.1.0.1.1.1.1.1.1.1.0
-of_all Claim functions.Prompt all = all.1.1.1.1.1.1.1.0.1.1.1.1.1.1.1.1.0
-of_all Claim functions.Advance all = all.1.1.1.1.1.1.1.0.1.1.1.1.1.1.1.1.1.0
+of_all : (Claim : Function → Type 0) (function : Function) → AllByRecursion Claim functions → Claim function
+of_all Claim function all =
+    subst Claim (in_list function) (at_place Claim functions (function_code function - 0x40) Add all all.0)
 
 module _ (name : List ℕ) where
   abbrev IsNot : Function → Type 0
@@ -133,22 +45,15 @@ module _ (name : List ℕ) where
   one_more function false same =
       inr (λ is. true≢false (sym ((bytes_eq-Decides (function_name function) name).1 is) ∙ same))
 
-  in_row : (row : List Function) → One ⊎ AllByRecursion IsNot row
-  in_row [] = inr tt
-  in_row (first ∷ rest) = elim (one_more first (bytes_eq (function_name first) name) refl) [
+  in_list_or_none : (list : List Function) → One ⊎ AllByRecursion IsNot list
+  in_list_or_none [] = inr tt
+  in_list_or_none (first ∷ rest) = elim (one_more first (bytes_eq (function_name first) name) refl) [
     | inl found ↦ inl found
-    | inr not ↦ elim (in_row rest) [ inl found ↦ inl found | inr none ↦ inr (not, none) ]
-  ]
-
-  in_rows : (rows : List (List Function)) → One ⊎ AllByRecursion (λ row. AllByRecursion IsNot row) rows
-  in_rows [] = inr tt
-  in_rows (first ∷ rest) = elim (in_row first) [
-    | inl found ↦ inl found
-    | inr not ↦ elim (in_rows rest) [ inl found ↦ inl found | inr none ↦ inr (not, none) ]
+    | inr not ↦ elim (in_list_or_none rest) [ inl found ↦ inl found | inr none ↦ inr (not, none) ]
   ]
 
   named : Has (IsNamed name)
-  named = elim (in_rows rows) [
+  named = elim (in_list_or_none functions) [
     | inl found ↦ record { answer = Some found.0; right = found.1 }
     | inr none ↦ record { answer = None; right = λ function. of_all IsNot function none }
   ]

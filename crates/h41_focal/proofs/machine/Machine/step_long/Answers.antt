@@ -1,6 +1,6 @@
 use Rattle.std.proofs.Common.{ap, subst, sym, Ok, None, rules, ◌∙◌}
 use Rattle.h41_codes.specs.declared.line.Line.TheVariants.{Number}
-use Rattle.h41_focal.specs.MachineCalls.{KeepsElsewhere, StepsBriefly}
+use Rattle.h41_focal.specs.MachineCalls.{KeepsElsewhere, Steps}
 use Rattle.h41_positions.specs.LabelledMachine.{LabelledMachine, machine_of}
 use Rattle.h41_focal.specs.LineStep.{Stands}
 use Rattle.h41_positions.specs.FocalState.{Machine}

@@ -8,7 +8,7 @@ use Rattle.h41_focal.specs.Destinations.{Typed}
 use Rattle.h41_focal.specs.private.Carrying.{TakesAs, TakesBriefly, manner_of}
 use Rattle.h41_focal.specs.BriefOutcomes.{CallingKeeps}
 use Rattle.h41_focal.specs.MachineCalls.{KeepsElsewhere}
-use Rattle.h41_focal.specs.LineStep.{AppliesTo, AppliesWith, CarriesOut, Ends, FailsIn, Left, TakesLine, answer_of_showing}
+use Rattle.h41_focal.specs.LineStep.{AppliesTo, AppliesWith, CarriesOut, Ends, EndsInError, Left, TakesLine, answer_of_showing}
 use Rattle.h41_positions.specs.FocalState.{Machine}
 use Rattle.h41_focal.specs.LineStep.{error_flag, left_by_fault, left_done, left_failed, named_by, with_fault_caught}
 use Rattle.h41_positions.specs.FocalState.{at_line}
@@ -61,12 +61,12 @@ fault_left Typed machine fault = own_fault (flag_of machine.memory error_flag) (
 same_left : (left other : Left) → ◌≡◌ {A = Result Left FocalRefusal} (Ok left) (Ok other) → left ≡ other
 same_left left other is = cc
 
-pub fails_here : (how : Manner) (machine : Machine) (fault : LineFault) (left : Left) → FailsIn how machine fault (Ok left)
+pub fails_here : (how : Manner) (machine : Machine) (fault : LineFault) (left : Left) → EndsInError how machine fault (Ok left)
     → is_elsewhere left.answer ≡ false
 fails_here how machine fault left failing =
     ap (λ (of : Left). is_elsewhere of.answer) (same_left left (left_by_fault how machine fault) failing) ∙ fault_left how machine fault
 
-fails_in : (how : Manner) (machine old : Machine) (fault : LineFault) (left : Left) → FailsIn how machine fault (Ok left)
+fails_in : (how : Manner) (machine old : Machine) (fault : LineFault) (left : Left) → EndsInError how machine fault (Ok left)
     → is_elsewhere left.answer ≡ true → left.machine ≡ old
 fails_in how machine old fault left failing elsewhere =
     never left left.answer old refl (fails_here how machine fault left failing) elsewhere

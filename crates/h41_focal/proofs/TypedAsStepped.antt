@@ -9,7 +9,7 @@ use Rattle.h41_focal.proofs.OneOutcome.{same_line, typed_determined}
 use Rattle.h41_focal.specs.Destinations.{Arrives, Destination, Stays, StepsFrom, Stepped, Typed, TypedFrom}
 use Rattle.h41_focal.specs.LineLaws.{AreAlike, GoesToNext, IsAt, NextIsHere, StepsInTurn, SteppedCanBeTyped, TypedAsStepped}
 use Rattle.h41_focal.specs.LineLaws.{TypedIsDetermined, TypesInTurn}
-use Rattle.h41_focal.specs.LineStep.{Applies, AppliesTo, AppliesWith, CarriesOut, Ends, FailsIn, Left, Stands, StepsAs}
+use Rattle.h41_focal.specs.LineStep.{Applies, AppliesTo, AppliesWith, CarriesOut, Ends, EndsInError, Left, Stands, StepsAs}
 use Rattle.h41_positions.specs.FocalState.{FocalState, Machine}
 use Rattle.h41_focal.specs.LineStep.{StepsLine, TakesLine, TypesLine, answer_of_showing, with_fault_caught, left_done}
 use Rattle.h41_focal.specs.LineStep.{error_flag, left_by_fault, left_failed, named_by}
@@ -67,7 +67,7 @@ caught_alike true next machine focal fault = (refl, refl)
 caught_alike false next machine focal fault = (refl, refl)
 
 failure_alike : (next : Position) (machine : Machine) (focal : FocalState) (fault : LineFault) (left : Left)
-    → FailsIn (Stepped next) machine fault (Ok left) → LeavesLike (FailsIn Typed (beside machine focal) fault) left
+    → EndsInError (Stepped next) machine fault (Ok left) → LeavesLike (EndsInError Typed (beside machine focal) fault) left
 failure_alike next machine focal fault left failing =
     let typed = left_by_fault Typed (beside machine focal) fault in
     let own = left_by_fault (Stepped next) machine fault in (

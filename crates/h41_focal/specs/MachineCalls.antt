@@ -3,10 +3,9 @@
 use Rattle.std.specs.Prelude.{◌≡◌, ℕ, IfOk, IsTrue, Option, Result, Ok, Err}
 use Rattle.h41_codes.specs.declared.functions.Function.{Function}
 use Rattle.h41_codes.specs.declared.line.Line.{Line}
-use Rattle.h41_focal.specs.LineStep.{EntersLine, FailsLine, Left, PassesLine, StepsLine}
+use Rattle.h41_focal.specs.LineStep.{EntersLine, Left, PassesLine, SteppedLineFails, StepsLine}
 use Rattle.h41_positions.specs.FocalState.{Machine}
-use Rattle.h41_focal.specs.LineStep.{TypesLine}
-use Rattle.h41_focal.specs.LineStep as steps
+use Rattle.h41_focal.specs.LineStep.{TypedLineFails, TypesLine}
 use Rattle.h41_focal.specs.Outcomes.{answer_of, is_elsewhere}
 use Rattle.h41_focal.specs.declared.outcome.LineOutcome.{LineOutcome}
 use Rattle.h41_focal.specs.declared.refusal.FocalRefusal.{FocalRefusal}
@@ -31,12 +30,12 @@ abbrev pub Steps : PageMap → Option Function → Call
 Steps pages function old new result = StepsLine pages function old (carried_as new result)
 
 -- The line at the position fails.
-abbrev pub Fails : PageMap → LineFault → Call
-Fails pages fault old new result = FailsLine pages fault old (carried_as new result)
+abbrev pub FailCall : PageMap → LineFault → Call
+FailCall pages fault old new result = SteppedLineFails pages fault old (carried_as new result)
 
 -- A typed line fails.
-abbrev pub FailsTyped : LineFault → Call
-FailsTyped fault old new result = steps.FailsTyped fault old (carried_as new result)
+abbrev pub FailTypedCall : LineFault → Call
+FailTypedCall fault old new result = TypedLineFails fault old (carried_as new result)
 
 -- The machine after a call without an outcome, or its refusal.
 abbrev pub passed_as : Machine → Result (Unit {0}) FocalRefusal → Result Machine FocalRefusal

@@ -2,7 +2,7 @@
 
 ghost use Rattle.std.specs.Prelude.{◌≡◌};
 ghost use Rattle.h41_positions.specs.LabelledMachine.{Keeps, machine_of};
-ghost use Rattle.h41_focal.specs.private.Carrying.{FailsAs, behind_line, fault_outcome};
+ghost use Rattle.h41_focal.specs.private.Carrying.{FailsBriefly, behind_line, fault_outcome};
 ghost use Rattle.h41_focal.specs.private.Carrying.{on_to_next};
 ghost use Rattle.h41_rows.specs.declared.fault.LineFault.{LineFault};
 ghost use Rattle.h41_rows.specs.Rows.{AsItWas, On};
@@ -60,7 +60,8 @@ pub fn fail<const REGS: usize>(
     origin: Origin,
     fault: LineFault,
 ) -> BriefOutcome
-    ensures done { FailsAs origin fault (machine_of machine.old) (machine_of machine.new) result }
+    ensures done { FailsBriefly origin fault (machine_of machine.old) (machine_of machine.new)
+        result }
     ensures keeps { Keeps machine.old machine.new }
     ensures left { LeavesMark machine.old.ram machine.new.ram }
 {
@@ -75,7 +76,7 @@ pub fn fail<const REGS: usize>(
 /// position to the next line, unless the line was typed; otherwise the position remains at the line.
 #[inline(never)]
 fn passes_fault<const REGS: usize>(machine: &mut Machine<REGS>, origin: Origin) -> bool
-    ensures done { (fault : LineFault) → FailsAs origin fault (machine_of machine.old)
+    ensures done { (fault : LineFault) → FailsBriefly origin fault (machine_of machine.old)
         (machine_of machine.new) (fault_outcome result fault) }
     ensures keeps { Keeps machine.old machine.new }
     ensures left { LeavesMark machine.old.ram machine.new.ram }

@@ -2,7 +2,8 @@
 
 ghost use Rattle.std.specs.Prelude.{◌≡◌, ◌≤◌, ℕ, false, true, [], None, Some, OnErr};
 ghost use Rattle.h41_focal.specs.BriefOutcomes.{CallingKeeps, StepsBriefly, end_told};
-ghost use Rattle.h41_focal.specs.MachineCalls.{Enters, Fails, FailsTyped, KeepsElsewhere, Passes};
+ghost use Rattle.h41_focal.specs.MachineCalls.{Enters, FailCall, FailTypedCall, KeepsElsewhere};
+ghost use Rattle.h41_focal.specs.MachineCalls.{Passes};
 ghost use Rattle.h41_focal.specs.MachineCalls.{Steps, Types};
 ghost use Rattle.h41_focal.specs.LabelSearches.{StepKeeps, TypingKeeps};
 ghost use Rattle.h41_positions.specs.LabelledMachine.{AreRight, Keeps, begun_ram, labelled_with};
@@ -187,7 +188,7 @@ impl<const REGS: usize> Machine<REGS> {
     /// outcome is the error. The only errors of the call itself are MemoryLost (15) if memory is not sound, and
     /// BrokenProgram (14) if the line at the position cannot be read.
     pub fn fail(&mut self, pages: &Pages, fault: LineFault) -> Result<LineOutcome, FocalRefusal>
-        ensures line { Fails pages.now fault (machine_of self.old) (machine_of self.new) result }
+        ensures line { FailCall pages.now fault (machine_of self.old) (machine_of self.new) result }
         ensures unchanged { OnErr result (machine_of self.new ≡ machine_of self.old) }
         ensures keeps { Keeps self.old self.new }
         ensures mark { self.new.ram.touched ≡ self.old.ram.touched }
@@ -200,7 +201,7 @@ impl<const REGS: usize> Machine<REGS> {
     /// flag 25 is set, it is cleared; otherwise the outcome is the error. The only error of the call itself is
     /// MemoryLost (15) if memory is not sound.
     pub fn fail_typed(&mut self, fault: LineFault) -> Result<LineOutcome, FocalRefusal>
-        ensures line { FailsTyped fault (machine_of self.old) (machine_of self.new) result }
+        ensures line { FailTypedCall fault (machine_of self.old) (machine_of self.new) result }
         ensures unchanged { OnErr result (machine_of self.new ≡ machine_of self.old) }
         ensures keeps { Keeps self.old self.new }
         ensures mark { self.new.ram.touched ≡ self.old.ram.touched }

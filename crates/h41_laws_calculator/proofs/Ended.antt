@@ -15,7 +15,7 @@ use Rattle.h41_rows.specs.declared.fault.LineFault.TheVariants.{Nonexistent}
 use Rattle.h41_text.specs.TextLaws.{OneLineOfText}
 use Rattle.h41_xrom.proofs.StepLaws.{line_determined}
 use Rattle.h41_xrom.specs.Lines.{Answers, BeginsEntry, CallsEntry, CallsName, CarriesFrom, CarriesLine}
-use Rattle.h41_xrom.specs.Lines.{CarriesNamed, Ended, EntersFrom, Fails, FailsFrom}
+use Rattle.h41_xrom.specs.Lines.{CarriesNamed, Ended, EndsAsNonexistent, EntersFrom, FailsAsNonexistent}
 use Rattle.h41_xrom.specs.Lines.{GoesOn, GoesOnFrom, PassesFrom, begun_at, end_of_answer, end_of_entering}
 use Rattle.h41_xrom.specs.declared.lines.LineSource.{LineSource}
 use Rattle.h41_xrom.specs.declared.lines.LineSource.TheVariants as sources
@@ -38,7 +38,7 @@ module _ (steps : StepHasOneOutcome) (typed : TypedHasOneOutcome) (failures : Fa
   carried sources.Program pages function machine = one_there (steps pages function machine)
   carried (sources.Keys line) pages function machine = one_there (typed pages (line_as function line) machine)
 
-  failed : (source : LineSource) (pages : PageMap) (machine : Machine) → Has (FailsFrom source pages machine)
+  failed : (source : LineSource) (pages : PageMap) (machine : Machine) → Has (FailsAsNonexistent source pages machine)
   failed sources.Program pages machine = one_there (failures pages Nonexistent machine)
   failed (sources.Keys line) pages machine = one_there (typed_failures Nonexistent machine)
 
@@ -46,7 +46,7 @@ module _ (steps : StepHasOneOutcome) (typed : TypedHasOneOutcome) (failures : Fa
   passed sources.Program pages machine = one_there (passings pages machine)
   passed (sources.Keys line) pages machine = alone (Ok machine)
 
-  fails : (source : LineSource) (pages : PageMap) (machine : Machine) → Has (Fails source pages machine)
+  fails : (source : LineSource) (pages : PageMap) (machine : Machine) → Has (EndsAsNonexistent source pages machine)
   fails source pages machine =
       let left = failed source pages machine in
       record { answer = end_of_answer left.answer; right = (left.answer, left.right, refl) }

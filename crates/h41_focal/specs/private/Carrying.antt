@@ -16,7 +16,7 @@ use Rattle.h41_focal.specs.Destinations.{Manner}
 use Rattle.h41_focal.specs.Destinations as destinations
 use Rattle.h41_focal.specs.BriefOutcomes.{briefly, briefly_as}
 use Rattle.h41_focal.specs.MachineCalls.{carried_as}
-use Rattle.h41_focal.specs.LineStep.{Applies, FailsIn, Stands}
+use Rattle.h41_focal.specs.LineStep.{Applies, EndsInError, Stands}
 use Rattle.h41_positions.specs.FocalState.{FocalState, Machine}
 use Rattle.h41_focal.specs.LineStep.{TakesLine, lift_behind}
 use Rattle.h41_positions.specs.FocalState.{at_position}
@@ -120,7 +120,7 @@ abbrev pub CarriesFound : {A : Type 0} → PageMap → Origin → (A → LineRow
 CarriesFound pages origin row named (Ok found) old new result =
     CarriesRow pages origin (row found) (named found) old new result
 CarriesFound pages origin row named (Err fault) old new result =
-    FailsIn (manner_of origin) old fault (briefly_as new result)
+    EndsInError (manner_of origin) old fault (briefly_as new result)
 
 -- A function with the register of an operand was executed.
 abbrev pub UsesAddress : PageMap → Origin → RegisterUse → Operand → (old new : Machine)
@@ -226,9 +226,9 @@ fault_outcome true fault = briefs.Done
 fault_outcome false fault = briefs.Failed fault
 
 -- A line had an error.
-abbrev pub FailsAs : Origin → LineFault → (old new : Machine) → BriefOutcome → Type 0
-FailsAs origin fault old new brief =
-    FailsIn (manner_of origin) old fault (Ok (briefly new brief))
+abbrev pub FailsBriefly : Origin → LineFault → (old new : Machine) → BriefOutcome → Type 0
+FailsBriefly origin fault old new brief =
+    EndsInError (manner_of origin) old fault (Ok (briefly new brief))
 
 -- A line with a name was executed, or refused.
 abbrev pub TakesNamed : PageMap → Origin → NameFunction → List ℕ → BriefCall
@@ -268,9 +268,9 @@ abbrev pub PutsText : List ℕ → RegisterMap → RegisterMap → Type 0
 PutsText text old new = (named : ℕ) → new ≡ with_alpha_change old named (text_row text).alpha old
 
 -- The text after the append sign.
-abbrev pub IsBehind : List ℕ → List ℕ → Type 0
-IsBehind text rest = (text_row text).alpha ≡ Some (Appends rest)
+abbrev pub IsAppended : List ℕ → List ℕ → Type 0
+IsAppended text rest = (text_row text).alpha ≡ Some (Appends rest)
 
 -- A text that does not begin with the append sign.
-abbrev pub IsWhole : List ℕ → Type 0
-IsWhole text = 1 ≤ length text → (text_row text).alpha ≡ Some (Becomes text)
+abbrev pub ReplacesAlpha : List ℕ → Type 0
+ReplacesAlpha text = 1 ≤ length text → (text_row text).alpha ≡ Some (Becomes text)

@@ -1,11 +1,11 @@
 mod Apart
 mod Begun
 mod Briefly
-mod Elsewhere
 mod LabelsMet
 mod LabelsRight
 mod LinesTaken
 mod OneOutcome
+mod OutsideCalls
 mod RowApplied
 mod RowAsked
 mod RowDone

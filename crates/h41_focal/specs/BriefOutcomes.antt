@@ -3,7 +3,7 @@
 use Rattle.std.specs.Prelude.{◌≡◌, Bool, true, false, IfOk, IsTrue, None, Result, Ok, Err}
 use Rattle.h41_focal.specs.LineStep.{Left, StepsLine}
 use Rattle.h41_positions.specs.FocalState.{Machine}
-use Rattle.h41_focal.specs.Outcomes.{Answer, is_elsewhere}
+use Rattle.h41_focal.specs.Outcomes.{Answer, calls_outside}
 use Rattle.h41_focal.specs.Outcomes as answers
 use Rattle.h41_focal.specs.declared.outcome.BriefOutcome.{BriefOutcome}
 use Rattle.h41_focal.specs.declared.outcome.BriefOutcome.TheVariants as briefs
@@ -52,4 +52,4 @@ StepsBriefly pages old new result = StepsLine pages None old (briefly_as new res
 -- A line that calls something outside memory changes nothing.
 abbrev pub CallingKeeps : (old new : Machine) → Result BriefOutcome FocalRefusal → Type 0
 CallingKeeps old new result =
-    IfOk result (λ brief. IsTrue (is_elsewhere (brief_answer new.memory brief)) → new ≡ old)
+    IfOk result (λ brief. IsTrue (calls_outside (brief_answer new.memory brief)) → new ≡ old)

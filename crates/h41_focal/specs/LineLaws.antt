@@ -7,7 +7,7 @@ use Rattle.h41_codes.specs.declared.line.Line.TheVariants.{Module}
 use Rattle.h41_focal.specs.LineStep.{EntersLine, Left, PassesLine, SteppedLineFails, TypedLineFails}
 use Rattle.h41_positions.specs.FocalState.{Machine}
 use Rattle.h41_focal.specs.LineStep.{StepsLine, TypesLine}
-use Rattle.h41_focal.specs.Outcomes.{is_elsewhere}
+use Rattle.h41_focal.specs.Outcomes.{calls_outside}
 use Rattle.h41_focal.specs.declared.refusal.FocalRefusal.{FocalRefusal}
 use Rattle.h41_pages.specs.PageMap.{PageMap}
 use Rattle.h41_positions.specs.Positions.{LineAt}
@@ -121,4 +121,4 @@ NextIsHere =
     (pages : PageMap) (line : Line) (machine : Machine) (left : Left)
     → GoesToNext line → IsAt pages line machine
     → StepsLine pages None machine (Ok left)
-    → is_elsewhere left.answer ≡ false
+    → calls_outside left.answer ≡ false

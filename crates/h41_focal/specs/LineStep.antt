@@ -243,15 +243,17 @@ TypedLineFails fault machine carried =
 
 -- Stack lift after a line whose function is executed elsewhere: an XROM line turns it on, XEQ with
 -- a name leaves it unchanged (this project's choice).
-abbrev pub lift_behind : Line → Bool → Bool
-lift_behind (Module number entry) lift = true
-lift_behind line lift = lift
+abbrev pub stack_lift_after : Line → Bool → Bool
+stack_lift_after (Module number entry) lift = true
+stack_lift_after line lift = lift
 
 -- Execution continues after such a line.
 abbrev pub with_line_passed : Line → Position → Machine → Machine
 with_line_passed line next machine =
     at_line next
-    (record machine { focal = record machine.focal { lift = lift_behind line machine.focal.lift } })
+    (record machine {
+      focal = record machine.focal { lift = stack_lift_after line machine.focal.lift };
+    })
 
 -- Execution continues after such a line, or it is refused.
 abbrev pub PassesWith : Machine → Result (Line × Position) FocalRefusal

@@ -6,7 +6,7 @@ use Rattle.h41_codes.specs.declared.line.Line.{Line}
 use Rattle.h41_focal.specs.LineStep.{EntersLine, Left, PassesLine, SteppedLineFails, StepsLine}
 use Rattle.h41_positions.specs.FocalState.{Machine}
 use Rattle.h41_focal.specs.LineStep.{TypedLineFails, TypesLine}
-use Rattle.h41_focal.specs.Outcomes.{answer_of, is_elsewhere}
+use Rattle.h41_focal.specs.Outcomes.{answer_of, calls_outside}
 use Rattle.h41_focal.specs.declared.outcome.LineOutcome.{LineOutcome}
 use Rattle.h41_focal.specs.declared.refusal.FocalRefusal.{FocalRefusal}
 use Rattle.h41_pages.specs.PageMap.{PageMap}
@@ -55,6 +55,6 @@ abbrev pub Types : PageMap → Line → Call
 Types pages line old new result = TypesLine pages line old (carried_as new result)
 
 -- A line that calls something outside memory changes nothing.
-abbrev pub KeepsElsewhere : Call
-KeepsElsewhere old new result =
-    IfOk result (λ outcome. IsTrue (is_elsewhere (answer_of outcome)) → new ≡ old)
+abbrev pub OutsideCallKeeps : Call
+OutsideCallKeeps old new result =
+    IfOk result (λ outcome. IsTrue (calls_outside (answer_of outcome)) → new ≡ old)

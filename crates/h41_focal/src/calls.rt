@@ -4,7 +4,7 @@ ghost use Rattle.std.specs.Prelude.{◌≡◌, false, None, Some, OnErr};
 ghost use Rattle.h41_focal.specs.LabelSearches.{StepKeeps, TypingKeeps};
 ghost use Rattle.h41_positions.specs.LabelledMachine.{AreRight, begun_ram, labelled_with};
 ghost use Rattle.h41_positions.specs.FocalState.{machine_with};
-ghost use Rattle.h41_focal.specs.MachineCalls.{KeepsElsewhere, Steps, Types};
+ghost use Rattle.h41_focal.specs.MachineCalls.{OutsideCallKeeps, Steps, Types};
 ghost use Rattle.h41_ram.specs.RamState.{KeepsMark};
 
 use crate::machine::Machine;
@@ -29,7 +29,7 @@ pub fn step_line<const REGS: usize>(
         result }
     ensures unchanged { OnErr result (machine_with ram.new.registers focal.new.state
         ≡ machine_with ram.old.registers focal.old.state) }
-    ensures elsewhere { KeepsElsewhere (machine_with ram.old.registers focal.old.state)
+    ensures elsewhere { OutsideCallKeeps (machine_with ram.old.registers focal.old.state)
         (machine_with ram.new.registers focal.new.state) result }
     ensures kept { StepKeeps pages.now None (labelled_with ram.old focal.old)
         (labelled_with ram.new focal.new) }
@@ -94,7 +94,7 @@ pub fn key_line<const REGS: usize>(
         result }
     ensures unchanged { OnErr result (machine_with ram.new.registers focal.new.state
         ≡ machine_with ram.old.registers focal.old.state) }
-    ensures elsewhere { KeepsElsewhere (machine_with ram.old.registers focal.old.state)
+    ensures elsewhere { OutsideCallKeeps (machine_with ram.old.registers focal.old.state)
         (machine_with ram.new.registers focal.new.state) result }
     ensures kept { TypingKeeps line.now (labelled_with ram.old focal.old)
         (labelled_with ram.new focal.new) }

@@ -2,7 +2,7 @@
 
 ghost use Rattle.std.specs.Prelude.{◌≡◌};
 ghost use Rattle.h41_positions.specs.LabelledMachine.{Keeps, machine_of};
-ghost use Rattle.h41_focal.specs.private.Carrying.{FailsBriefly, behind_line, fault_outcome};
+ghost use Rattle.h41_focal.specs.private.Carrying.{FailsBriefly, fault_outcome, state_after_line};
 ghost use Rattle.h41_focal.specs.private.Carrying.{on_to_next};
 ghost use Rattle.h41_rows.specs.declared.fault.LineFault.{LineFault};
 ghost use Rattle.h41_rows.specs.Rows.{AsItWas, On};
@@ -41,8 +41,8 @@ pub fn go_on_lifting(focal: &mut Focal, origin: Origin)
 
 /// Moves the position to the line at `next`, after a line that calls a function outside program memory. An XROM line
 /// turns stack lift on; other lines leave it unchanged.
-pub fn go_behind(focal: &mut Focal, line: &Line, next: Position)
-    ensures state { focal.new.state ≡ behind_line line.now next focal.old.state }
+pub fn pass_line(focal: &mut Focal, line: &Line, next: Position)
+    ensures state { focal.new.state ≡ state_after_line line.now next focal.old.state }
     ensures labels { focal.new.labels ≡ focal.old.labels }
 {
     match line {

@@ -2,7 +2,7 @@
 
 ghost use Rattle.std.specs.Prelude.{◌≡◌, ◌≤◌, ℕ, false, true, [], None, Some, OnErr};
 ghost use Rattle.h41_focal.specs.BriefOutcomes.{CallingKeeps, StepsBriefly, end_told};
-ghost use Rattle.h41_focal.specs.MachineCalls.{Enters, FailCall, FailTypedCall, KeepsElsewhere};
+ghost use Rattle.h41_focal.specs.MachineCalls.{Enters, FailCall, FailTypedCall, OutsideCallKeeps};
 ghost use Rattle.h41_focal.specs.MachineCalls.{Passes};
 ghost use Rattle.h41_focal.specs.MachineCalls.{Steps, Types};
 ghost use Rattle.h41_focal.specs.LabelSearches.{StepKeeps, TypingKeeps};
@@ -16,7 +16,7 @@ ghost use Rattle.h41_positions.specs.declared.position.Position.TheVariants.{Pag
 ghost use Rattle.h41_ram.specs.RamState.{KeepsMark};
 ghost use Rattle.h41_ram.specs.RegisterMap as registers;
 
-use crate::course::{fail, go_behind};
+use crate::course::{fail, pass_line};
 use crate::labels::arrive;
 use crate::laws::kept_answers_stay_right;
 use crate::lines::{carry_briefly, carry_out, standing};
@@ -89,7 +89,7 @@ impl<const REGS: usize> Machine<REGS> {
         requires { AreRight self.old }
         ensures line { Steps pages.now None (machine_of self.old) (machine_of self.new) result }
         ensures unchanged { OnErr result (machine_of self.new ≡ machine_of self.old) }
-        ensures elsewhere { KeepsElsewhere (machine_of self.old) (machine_of self.new) result }
+        ensures elsewhere { OutsideCallKeeps (machine_of self.old) (machine_of self.new) result }
         ensures kept { StepKeeps pages.now None self.old self.new }
         ensures mark { KeepsMark (begun_ram self.old.ram) self.new.ram }
         ensures clear { self.new.ram.touched ≡ false }
@@ -222,7 +222,7 @@ impl<const REGS: usize> Machine<REGS> {
         ensures mark { self.new.ram.touched ≡ self.old.ram.touched }
     {
         let (line, next) = standing(self, pages)?;
-        go_behind(&mut self.focal, &line, next);
+        pass_line(&mut self.focal, &line, next);
         Ok(())
     }
 
@@ -236,7 +236,7 @@ impl<const REGS: usize> Machine<REGS> {
         ensures mark { self.new.ram.touched ≡ self.old.ram.touched }
     {
         let (line, next) = standing(self, pages)?;
-        go_behind(&mut self.focal, &line, next);
+        pass_line(&mut self.focal, &line, next);
         let origin = Origin::Program(next);
         let start = Position::Page(address);
         arrive(&mut self.focal, origin, Branch::Execute, start);
@@ -261,7 +261,7 @@ impl<const REGS: usize> Machine<REGS> {
         requires { AreRight self.old }
         ensures line { Types pages.now line.now (machine_of self.old) (machine_of self.new) result }
         ensures unchanged { OnErr result (machine_of self.new ≡ machine_of self.old) }
-        ensures elsewhere { KeepsElsewhere (machine_of self.old) (machine_of self.new) result }
+        ensures elsewhere { OutsideCallKeeps (machine_of self.old) (machine_of self.new) result }
         ensures kept { TypingKeeps line.now self.old self.new }
         ensures mark { KeepsMark (begun_ram self.old.ram) self.new.ram }
         ensures clear { self.new.ram.touched ≡ false }

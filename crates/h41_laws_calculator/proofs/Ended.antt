@@ -16,7 +16,7 @@ use Rattle.h41_text.specs.TextLaws.{OneLineOfText}
 use Rattle.h41_xrom.proofs.StepLaws.{line_determined}
 use Rattle.h41_xrom.specs.Lines.{Answers, BeginsEntry, CallsEntry, CallsName, CarriesFrom, CarriesLine}
 use Rattle.h41_xrom.specs.Lines.{CarriesNamed, Ended, EndsAsNonexistent, EntersFrom, FailsAsNonexistent}
-use Rattle.h41_xrom.specs.Lines.{GoesOn, GoesOnFrom, PassesFrom, begun_at, end_of_answer, end_of_entering}
+use Rattle.h41_xrom.specs.Lines.{GoesOn, GoesOnFrom, PassesFrom, end_of_answer, end_of_entering, end_of_starting}
 use Rattle.h41_xrom.specs.declared.lines.LineSource.{LineSource}
 use Rattle.h41_xrom.specs.declared.lines.LineSource.TheVariants as sources
 use Rattle.h41_laws_words.proofs.Answering.{Has}
@@ -28,7 +28,7 @@ use Rattle.h41_laws_calculator.proofs.Chosen.{alone, either, one_there}
 -- A function starts.
 abbrev Begun : LineSource → PageMap → ℕ → Machine → Result Ended FocalRefusal → Type 0
 Begun source pages address machine ended =
-    (after : Result Machine FocalRefusal) × PassesFrom source pages machine after × (ended ≡ begun_at address after)
+    (after : Result Machine FocalRefusal) × PassesFrom source pages machine after × (ended ≡ end_of_starting address after)
 
 module _ (steps : StepHasOneOutcome) (typed : TypedHasOneOutcome) (failures : FailureHasOneOutcome)
     (typed_failures : TypedFailureHasOneOutcome) (passings : PassingHasOneOutcome) (enterings : EnteringHasOneOutcome)
@@ -61,7 +61,7 @@ module _ (steps : StepHasOneOutcome) (typed : TypedHasOneOutcome) (failures : Fa
   begun : (source : LineSource) (pages : PageMap) (address : ℕ) (machine : Machine) → Has (Begun source pages address machine)
   begun source pages address machine =
       let after = passed source pages machine in
-      record { answer = begun_at address after.answer; right = (after.answer, after.right, refl) }
+      record { answer = end_of_starting address after.answer; right = (after.answer, after.right, refl) }
 
   begins : (source : LineSource) (pages : PageMap) (entry : Entry) (machine : Machine) → Has (BeginsEntry source pages entry machine)
   begins source pages entry machine =

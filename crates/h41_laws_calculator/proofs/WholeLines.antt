@@ -44,7 +44,7 @@ use Rattle.h41_rows.specs.declared.fault.LineFault.{LineFault}
 use Rattle.h41_rows.specs.declared.fault.LineFault.TheVariants.{AlphaData, DataError, Nonexistent, OutOfRange}
 use Rattle.h41_xrom.specs.Lines.{Answers, Begins, BeginsEntry, CallsEntry, CallsName, CarriesFrom, CarriesLine, CarriesNamed, Ended}
 use Rattle.h41_xrom.specs.Lines.{EntersFrom}
-use Rattle.h41_xrom.specs.Lines.{EndsAsNonexistent, FailsAsNonexistent, GoesOn, GoesOnFrom, PassesFrom, begun_at, end_of_answer}
+use Rattle.h41_xrom.specs.Lines.{EndsAsNonexistent, FailsAsNonexistent, GoesOn, GoesOnFrom, PassesFrom, end_of_answer, end_of_starting}
 use Rattle.h41_xrom.specs.Lines.{end_of_entering}
 use Rattle.h41_xrom.specs.declared.lines.LineSource.{LineSource}
 use Rattle.h41_xrom.specs.declared.lines.LineSource.TheVariants as sources
@@ -252,7 +252,7 @@ ended_so : (carried : Result Left FocalRefusal) → Leaves carried → EndsWhole
 ended_so (Ok left) whole = whole
 ended_so (Err refusal) whole = tt
 
-begun_so : (address : ℕ) (after : Result Machine FocalRefusal) → LeavesMachine after → EndsWhole (begun_at address after)
+begun_so : (address : ℕ) (after : Result Machine FocalRefusal) → LeavesMachine after → EndsWhole (end_of_starting address after)
 begun_so address (Ok machine) whole = whole
 begun_so address (Err refusal) whole = tt
 
@@ -280,7 +280,7 @@ begun : (source : LineSource) (pages : PageMap) (entry : Entry) (machine : Machi
     → IsWholeMemory machine.memory → BeginsEntry source pages entry machine ended → EndsWhole ended
 begun source pages entry machine ended whole is =
     matched entry.keystroke (EntersFrom source pages entry.address machine ended)
-    ((after : Result Machine FocalRefusal) × PassesFrom source pages machine after × (ended ≡ begun_at entry.address after))
+    ((after : Result Machine FocalRefusal) × PassesFrom source pages machine after × (ended ≡ end_of_starting entry.address after))
     (EndsWhole ended) is (entered_from source pages entry.address machine ended whole)
     (λ passes. subst EndsWhole (sym passes.2) (begun_so entry.address passes.0 (passed_from source pages machine passes.0 whole passes.1)))
 

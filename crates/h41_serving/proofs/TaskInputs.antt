@@ -82,7 +82,7 @@ module _ {R W : Type 0} (result : Result Ended Fault) (source : sources.Ghosts R
     kind = whole.kind;
     flushed = whole.flushed;
     read = λ is. why_unread _ _ _ (kept_unread is whole.nothing) (whole.unread is);
-    begun = whole.nothing;
+    partial = whole.nothing;
     unread = λ is. kept_unread is whole.nothing;
     memory = λ is. kept_memory is whole.nothing;
     cut = whole.cut;
@@ -101,7 +101,7 @@ module _ {R W : Type 0} (result : Result Ended Fault) (source : sources.Ghosts R
     kind = whole.kind;
     flushed = whole.flushed;
     read = λ is. why_unread _ _ _ (kept_unread is whole.nothing) (whole.unread is);
-    begun = whole.nothing;
+    partial = whole.nothing;
     unread = λ is. kept_unread is whole.nothing;
     memory = λ is. kept_memory is whole.nothing;
     cut = whole.cut;

@@ -33,7 +33,7 @@ use Rattle.h41_xrom.specs.CalculatorLaws as CalculatorLaws
 use Rattle.h41_xrom.specs.CalculatorLaws.{LoadIsDetermined, StepRefusalIsDetermined}
 use Rattle.h41_xrom.specs.Lines.{CallsEntry, CallsName, CarriesFrom, CarriesLine, CarriesNamed, Ended, EndsAsNonexistent, EntersFrom}
 use Rattle.h41_xrom.specs.Lines.{FailsAsNonexistent}
-use Rattle.h41_xrom.specs.Lines.{GoesOn, GoesOnFrom, IsNamed, PassesFrom, begun_at, end_of_answer, end_of_entering, of_line}
+use Rattle.h41_xrom.specs.Lines.{GoesOn, GoesOnFrom, IsNamed, PassesFrom, end_of_answer, end_of_entering, end_of_starting, of_line}
 use Rattle.h41_xrom.specs.declared.lines.LineSource.{LineSource}
 use Rattle.h41_xrom.specs.declared.lines.LineSource.TheVariants as sources
 use Rattle.h41_xrom.specs.Programs.{change_refusal, after_load}
@@ -41,7 +41,7 @@ use Rattle.h41_xrom.specs.Programs.{change_refusal, after_load}
 -- A function starts.
 abbrev Begun : LineSource → PageMap → ℕ → Machine → Result Ended FocalRefusal → Type 0
 Begun source pages address machine ended =
-    (after : Result Machine FocalRefusal) × PassesFrom source pages machine after × (ended ≡ begun_at address after)
+    (after : Result Machine FocalRefusal) × PassesFrom source pages machine after × (ended ≡ end_of_starting address after)
 
 -- A line.
 same_function_by : (a b : Function) → Plain a ≡ Plain b → a ≡ b
@@ -88,7 +88,7 @@ module _ (same_step : StepIsDetermined) (same_typing : TypedIsDetermined) (same_
       → MatchBool keystroke (EntersFrom source pages address machine b) (Begun source pages address machine b) → a ≡ b
   same_begun true source pages address machine a b p q = same_entered source pages address machine a b p q
   same_begun false source pages address machine a b (p, p_passes, p_is) (q, q_passes, q_is) =
-      p_is ∙ ap (begun_at address) (same_passed source pages machine p q p_passes q_passes) ∙ sym q_is
+      p_is ∙ ap (end_of_starting address) (same_passed source pages machine p q p_passes q_passes) ∙ sym q_is
 
   same_entry : (source : LineSource) (pages : PageMap) (entry : Option Entry) (machine : Machine) (a b : Result Ended FocalRefusal)
       → CallsEntry source pages entry machine a → CallsEntry source pages entry machine b → a ≡ b

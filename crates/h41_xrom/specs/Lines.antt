@@ -41,9 +41,9 @@ end_of_answer (Ok left) = Ok (Answers left)
 end_of_answer (Err refusal) = Err refusal
 
 -- A line that starts the function at an address, or is refused.
-abbrev pub begun_at : ℕ → Result Machine FocalRefusal → Result Ended FocalRefusal
-begun_at address (Ok machine) = Ok (Begins machine address)
-begun_at address (Err refusal) = Err refusal
+abbrev pub end_of_starting : ℕ → Result Machine FocalRefusal → Result Ended FocalRefusal
+end_of_starting address (Ok machine) = Ok (Begins machine address)
+end_of_starting address (Err refusal) = Err refusal
 
 -- A line that has called a module's program, or is refused.
 abbrev pub end_of_entering : Result Machine FocalRefusal → Result Ended FocalRefusal
@@ -97,7 +97,7 @@ BeginsEntry source pages entry machine ended =
     MatchBool entry.keystroke (EntersFrom source pages entry.address machine ended)
     ((after : Result Machine FocalRefusal)
     × PassesFrom source pages machine after
-    × (ended ≡ begun_at entry.address after))
+    × (ended ≡ end_of_starting entry.address after))
 
 -- A module's function is called; if the lowest page with its number has no such table entry, the
 -- line fails with NONEXISTENT.

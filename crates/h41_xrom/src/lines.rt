@@ -3,7 +3,7 @@
 
 ghost use Rattle.std.specs.Prelude.{◌≡◌, None, Some, OnErr};
 ghost use Rattle.h41_positions.specs.LabelledMachine.{AreRight, machine_of};
-ghost use Rattle.h41_focal.specs.MachineCalls.{KeepsElsewhere, carried_as, passed_as};
+ghost use Rattle.h41_focal.specs.MachineCalls.{OutsideCallKeeps, carried_as, passed_as};
 ghost use Rattle.h41_xrom.specs.KeptLabels.{KeepsAfterLine};
 ghost use Rattle.h41_xrom.specs.LabelledCalculator.{cache_of};
 ghost use Rattle.h41_xrom.specs.Lines.{BeginsEntry, CallsEntry, CarriesFrom, CarriesLine};
@@ -107,7 +107,7 @@ fn carry<const REGS: usize>(
     ensures line { CarriesFrom source.now pages.now None (machine_of machine.old)
         (carried_as (machine_of machine.new) result) }
     ensures unchanged { OnErr result (machine_of machine.new ≡ machine_of machine.old) }
-    ensures elsewhere { KeepsElsewhere (machine_of machine.old) (machine_of machine.new) result }
+    ensures elsewhere { OutsideCallKeeps (machine_of machine.old) (machine_of machine.new) result }
     ensures kept { KeepsAfterLine source.now pages.now (machine_of machine.old)
         (cache_of machine.old) (cache_of machine.new) }
     ensures right { AreRight machine.new }

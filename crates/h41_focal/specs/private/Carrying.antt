@@ -18,7 +18,7 @@ use Rattle.h41_focal.specs.BriefOutcomes.{briefly, briefly_as}
 use Rattle.h41_focal.specs.MachineCalls.{carried_as}
 use Rattle.h41_focal.specs.LineStep.{Applies, EndsInError, Stands}
 use Rattle.h41_positions.specs.FocalState.{FocalState, Machine}
-use Rattle.h41_focal.specs.LineStep.{TakesLine, lift_behind}
+use Rattle.h41_focal.specs.LineStep.{TakesLine, stack_lift_after}
 use Rattle.h41_positions.specs.FocalState.{at_position}
 use Rattle.h41_rows.specs.Operands.{Address, Count, DigitKind, FlagKind, NoOperand, RegisterKind}
 use Rattle.h41_rows.specs.Operands.{meant_as}
@@ -64,9 +64,9 @@ on_to_next (Program next) lift focal =
 on_to_next Typed lift focal = record focal { lift = lift_after lift focal.lift }
 
 -- The state after a line whose function is executed elsewhere.
-abbrev pub behind_line : Line → Position → FocalState → FocalState
-behind_line line next focal =
-    record (at_position next focal) { lift = lift_behind line focal.lift }
+abbrev pub state_after_line : Line → Position → FocalState → FocalState
+state_after_line line next focal =
+    record (at_position next focal) { lift = stack_lift_after line focal.lift }
 
 -- A row was applied to a machine by a line that searches no position, whatever the pages contain.
 abbrev pub Leaves : Origin → LineRow → ℕ → (old new : Machine) → BriefOutcome → Type 0

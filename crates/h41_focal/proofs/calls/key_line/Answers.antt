@@ -1,6 +1,6 @@
 use Rattle.std.proofs.Common.{◌≡◌, false, OnErr, ap, subst, sym}
 use Rattle.h41_focal.specs.LabelSearches.{TypingKeeps}
-use Rattle.h41_focal.specs.MachineCalls.{KeepsElsewhere, Types}
+use Rattle.h41_focal.specs.MachineCalls.{OutsideCallKeeps, Types}
 use Rattle.h41_positions.specs.LabelledMachine.{AreRight, LabelledMachine, begun_ram, labelled_with, machine_of}
 use Rattle.h41_positions.specs.FocalState.{Machine, machine_with}
 use Rattle.h41_ram.specs.RamState.{KeepsMark}
@@ -27,7 +27,7 @@ returns g c =
           subst (λ (machine : Machine). OnErr result (machine ≡ before)) after
           (rw (c.take.ensures.taken, c.replace.ensures.value) at unchanged);
       elsewhere =
-          subst (λ (machine : Machine). KeepsElsewhere before machine result) after
+          subst (λ (machine : Machine). OutsideCallKeeps before machine result) after
           (rw (c.take.ensures.taken, c.replace.ensures.value) at elsewhere);
       kept =
           subst (λ (machine : LabelledMachine). TypingKeeps c.args.line.now old machine) (sym c.part.ensures)

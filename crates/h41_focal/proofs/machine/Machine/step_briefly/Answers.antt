@@ -1,6 +1,6 @@
 use Rattle.std.proofs.Common.{Ok}
 use Rattle.h41_codes.specs.ShortLines.{line_of}
-use Rattle.h41_focal.proofs.Elsewhere.{calling_keeps}
+use Rattle.h41_focal.proofs.OutsideCalls.{calling_keeps}
 use Rattle.h41_focal.proofs.machine.Machine.step_briefly.Goals as goal
 use Rattle.h41_focal.specs.BriefOutcomes.{end_told}
 use Rattle.h41_positions.specs.LabelledMachine.{machine_of}

@@ -4,7 +4,7 @@ use Rattle.h41_focal.specs.BriefOutcomes.{CallingKeeps, StepsBriefly}
 use Rattle.h41_positions.specs.LabelledMachine.{LabelledMachine, machine_of}
 use Rattle.h41_focal.specs.LineStep.{Stands}
 use Rattle.h41_positions.specs.FocalState.{Machine}
-use Rattle.h41_focal.proofs.Elsewhere.{calling_keeps}
+use Rattle.h41_focal.proofs.OutsideCalls.{calling_keeps}
 use Rattle.h41_focal.proofs.machine.Machine.step_long.Goals as goal
 use Rattle.h41_focal.specs.declared.origin.Origin.TheVariants.{Program}
 

@@ -5,7 +5,7 @@ use Rattle.h41_positions.specs.LabelledMachine.{machine_of}
 use Rattle.h41_focal.specs.LineStep.{StepsLine}
 use Rattle.h41_positions.specs.FocalState.{Machine}
 use Rattle.h41_focal.proofs.Begun.{refuses, takes}
-use Rattle.h41_focal.proofs.Elsewhere.{calling_keeps}
+use Rattle.h41_focal.proofs.OutsideCalls.{calling_keeps}
 use Rattle.h41_focal.proofs.machine.Machine.step_whole.Goals as goal
 use Rattle.h41_focal.specs.declared.origin.Origin.TheVariants.{Program}
 

@@ -13,7 +13,7 @@ use Rattle.std.specs.declared.cmp.Ordering.TheVariants.{Equal}
 use Rattle.std.proofs.lemmas.Cmp.{nat_cmp_total, on_total, then_total}
 use Rattle.std.proofs.lemmas.List.Quantifiers.{position-Some}
 use Rattle.std.proofs.lemmas.List.Sorted.{IsPermutation-swap_remove, list_any-IsPermutation}
-use Rattle.h41_breakpoints.specs.Breakpoints.{BreakpointSet, is_set, kind_of, location_cmp, number_of}
+use Rattle.h41_breakpoints.specs.Breakpoints.{BreakpointSet, is_set, kind_of, location_cmp, location_number}
 use Rattle.h41_breakpoints.specs.Breakpoints.{with_breakpoint, without_breakpoint}
 use Rattle.h41_breakpoints.specs.private.Members.{IsEachOnce, is_same, set_of}
 use Rattle.h41_breakpoints.specs.declared.location.Location.{Location}
@@ -22,7 +22,7 @@ use Rattle.h41_positions.specs.declared.position.Position.TheVariants.{Memory, P
 
 -- The order of locations is total, and only equal locations compare as equal.
 pub cmp_total : IsTotalOrder location_cmp
-cmp_total = then_total (on_total kind_of nat_cmp_total) (on_total number_of nat_cmp_total)
+cmp_total = then_total (on_total kind_of nat_cmp_total) (on_total location_number nat_cmp_total)
 
 pub cmp_apart : (x y : Location) → location_cmp x y ≡ Equal → x ≡ y
 cmp_apart (Word a) (Word b) p = ap Word (nat_cmp-IsAntisymmetric a b p)
@@ -37,9 +37,9 @@ cmp_apart (Line (Page a)) (Line (Page b)) p = ap (λ (n : ℕ). Line (Page n)) (
 
 pub same_is : (x y : Location) → is_same x y ≡ eq_by_cmp location_cmp x y
 same_is x y =
-    ap (λ (same : Bool). same && (number_of x == number_of y)) (sym (unsigned_tied (kind_of x) (kind_of y)))
-    ∙ ap (λ (same : Bool). eq_by_cmp nat_cmp (kind_of x) (kind_of y) && same) (sym (unsigned_tied (number_of x) (number_of y)))
-    ∙ tied_then (nat_cmp (kind_of x) (kind_of y)) (nat_cmp (number_of x) (number_of y))
+    ap (λ (same : Bool). same && (location_number x == location_number y)) (sym (unsigned_tied (kind_of x) (kind_of y)))
+    ∙ ap (λ (same : Bool). eq_by_cmp nat_cmp (kind_of x) (kind_of y) && same) (sym (unsigned_tied (location_number x) (location_number y)))
+    ∙ tied_then (nat_cmp (kind_of x) (kind_of y)) (nat_cmp (location_number x) (location_number y))
 
 pub equal_are : (x y : Location) → eq_by_cmp location_cmp x y ≡ true → x ≡ y
 equal_are x y p = cmp_apart x y ((Equal-is (location_cmp x y)).0 p)

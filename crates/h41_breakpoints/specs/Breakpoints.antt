@@ -16,15 +16,15 @@ kind_of (Line (Memory byte)) = 1
 kind_of (Line (Page address)) = 2
 
 -- The number of a location within its kind: its address, or its byte of program memory.
-abbrev pub number_of : Location → ℕ
-number_of (Word address) = address
-number_of (Line (Memory byte)) = byte
-number_of (Line (Page address)) = address
+abbrev pub location_number : Location → ℕ
+location_number (Word address) = address
+location_number (Line (Memory byte)) = byte
+location_number (Line (Page address)) = address
 
 -- The order of locations: by their kinds, and locations of one kind by their numbers. Only equal
 -- locations compare as equal.
 abbrev pub location_cmp : Location → Location → Ordering
-location_cmp = then_cmp (on kind_of nat_cmp) (on number_of nat_cmp)
+location_cmp = then_cmp (on kind_of nat_cmp) (on location_number nat_cmp)
 
 -- A set of breakpoints.
 abbrev pub BreakpointSet : Type 0

@@ -37,7 +37,7 @@ impl Model for Breakpoints {
     ghost use Rattle.std.specs.FinSet as set;
     ghost use Rattle.h41_breakpoints.specs.Breakpoints.{BreakpointSet};
     ghost use Rattle.h41_breakpoints.specs.private.Members.{IsEachOnce, set_of};
-    ghost use Rattle.h41_breakpoints.specs.private.Tables.{AreMarksOf};
+    ghost use Rattle.h41_breakpoints.specs.private.Tables.{AreTablesOf};
     ghost use Rattle.h41_breakpoints.specs.contracts.location.Location as member;
 
     ghost Value = { BreakpointSet };
@@ -47,7 +47,7 @@ impl Model for Breakpoints {
     ghost view = { λ set. set_of set.items.items };
 
     ghost invariant = { λ set.
-        IsEachOnce set.items.items × AreMarksOf set.items.items set.tables };
+        IsEachOnce set.items.items × AreTablesOf set.items.items set.tables };
 }
 
 impl Breakpoints {

@@ -1,7 +1,8 @@
 //! Tables of bits that record which words and program lines have a breakpoint.
 
 ghost use Rattle.std.specs.Prelude.{◌≡◌, [], IfOk};
-ghost use Rattle.h41_breakpoints.specs.private.Tables.{AreMarksOf, mark_at, with_mark};
+ghost use Rattle.h41_breakpoints.specs.private.Tables.{AreTablesOf, location_bit};
+ghost use Rattle.h41_breakpoints.specs.private.Tables.{with_location_bit};
 
 use crate::bit_table::BitTable;
 use crate::location::Location;
@@ -25,9 +26,9 @@ pub struct Tables {
 }
 
 impl Model for Tables {
-    ghost use Rattle.h41_breakpoints.specs.private.Tables.{Marks};
+    ghost use Rattle.h41_breakpoints.specs.private.Tables.{BitTables};
 
-    ghost Value = { Marks };
+    ghost Value = { BitTables };
 
     ghost view = { λ tables. record {
       words = tables.words;
@@ -39,7 +40,7 @@ impl Model for Tables {
 impl Tables {
     /// Returns the tables for an empty set of breakpoints. OutOfMemory (21) if allocation fails.
     pub fn new(alloc: Global) -> Result<Self, AllocError>
-        ensures { IfOk result (AreMarksOf []) }
+        ensures { IfOk result (AreTablesOf []) }
     {
         Ok(Tables {
             words: BitTable::new(alloc)?,
@@ -52,7 +53,7 @@ impl Tables {
     /// memory from 10,000 on, because it has no bit.
     #[inline(always)]
     pub fn get(&self, location: Location) -> Option<bool>
-        ensures { result ≡ mark_at self.now location }
+        ensures { result ≡ location_bit self.now location }
     {
         match location {
             Location::Word(address) => self.words.get(usize::from(address)),
@@ -64,7 +65,7 @@ impl Tables {
     /// Sets or clears the bit of a location. Does nothing for a position in program memory from 10,000 on, because it
     /// has no bit.
     pub fn set(&mut self, location: Location, bit: bool)
-        ensures { self.new ≡ with_mark self.old location bit }
+        ensures { self.new ≡ with_location_bit self.old location bit }
     {
         match location {
             Location::Word(address) => self.words.set(usize::from(address), bit),

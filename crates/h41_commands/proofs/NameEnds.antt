@@ -8,7 +8,7 @@ use Rattle.std.proofs.lemmas.List.Sums.{passes_at_first, prefix_len-le-length}
 use Rattle.h41_lines.proofs.FirstWord.{words_of-first, words_of-none, word_end-le}
 use Rattle.h41_lines.proofs.Positions.{position_some}
 use Rattle.h41_lines.specs.Words.{is_blank, words_of}
-use Rattle.h41_commands.specs.FirstLines.{first_line, first_word, kind_by_words, line_kind, name_end, name_start, told_by}
+use Rattle.h41_commands.specs.FirstLines.{first_line, first_line_by, first_word, kind_by_words, line_kind, name_end, name_start}
 use Rattle.h41_commands.specs.declared.commands.FirstWord.{FirstWord}
 use Rattle.h41_commands.specs.declared.line.FirstLine.{FirstLine}
 use Rattle.h41_commands.specs.declared.line.LineKind.{LineKind}
@@ -26,7 +26,7 @@ end_behind line start n found here =
 -- A line with a first word is classified by it.
 pub named_told : (line : List ℕ) (start n : ℕ) (word : FirstWord) → Some start ≡ position (λ byte. not (is_blank byte)) line
     → n ≡ position_or_len is_blank (drop (start + 1) line) → word ≡ first_word (take (1 + n) (drop start line))
-    → Some (record { kind = Named word; name_end = start + 1 + n }) ≡ told_by line (kind_by_words (words_of line))
+    → Some (record { kind = Named word; name_end = start + 1 + n }) ≡ first_line_by line (kind_by_words (words_of line))
 named_told line start n word found here is =
     let at = (position_some (λ byte. not (is_blank byte)) line start found).0 in
     let length = end_behind line start n found here in
@@ -65,7 +65,7 @@ abbrev kind_in : Option FirstLine → Option LineKind
 kind_in None = None
 kind_in (Some first) = Some first.kind
 
-told : (line : List ℕ) (kind : Option LineKind) (first : FirstLine) → told_by line kind ≡ Some first → kind ≡ Some first.kind
+told : (line : List ℕ) (kind : Option LineKind) (first : FirstLine) → first_line_by line kind ≡ Some first → kind ≡ Some first.kind
 told line None first e = cc
 told line (Some Long) first e = ap (λ (of : Option FirstLine). kind_in of) e
 told line (Some (Named word)) first e = ap (λ (of : Option FirstLine). kind_in of) e
@@ -73,7 +73,7 @@ told line (Some (Named word)) first e = ap (λ (of : Option FirstLine). kind_in 
 pub told_kind : (line : List ℕ) (first : FirstLine) → first_line line ≡ Some first → line_kind line ≡ Some first.kind
 told_kind line first e = told line (line_kind line) first e
 
-none_told : (line : List ℕ) (kind : Option LineKind) → told_by line kind ≡ None → kind ≡ None
+none_told : (line : List ℕ) (kind : Option LineKind) → first_line_by line kind ≡ None → kind ≡ None
 none_told line None e = refl
 none_told line (Some kind) e = cc
 
@@ -84,7 +84,7 @@ abbrev end_in : Option FirstLine → Option ℕ
 end_in None = None
 end_in (Some first) = Some first.name_end
 
-end_told : (line : List ℕ) (kind : Option LineKind) (first : FirstLine) (word : FirstWord) → told_by line kind ≡ Some first
+end_told : (line : List ℕ) (kind : Option LineKind) (first : FirstLine) (word : FirstWord) → first_line_by line kind ≡ Some first
     → kind ≡ Some (Named word) → first.name_end ≡ name_end line
 end_told line None first word e is = cc
 end_told line (Some Long) first word e is = cc

@@ -51,15 +51,15 @@ abbrev pub name_end : List ℕ → ℕ
 name_end line = name_start line + position_or_len is_blank (drop (name_start line) line)
 
 -- What a line is, with the end of its first word.
-abbrev pub told_as : List ℕ → LineKind → FirstLine
-told_as line Long = record { kind = Long; name_end = 0 }
-told_as line (Named word) = record { kind = Named word; name_end = name_end line }
+abbrev pub first_line_as : List ℕ → LineKind → FirstLine
+first_line_as line Long = record { kind = Long; name_end = 0 }
+first_line_as line (Named word) = record { kind = Named word; name_end = name_end line }
 
 -- What a line is, with the end of its first word; none if the line is skipped.
-abbrev pub told_by : List ℕ → Option LineKind → Option FirstLine
-told_by line None = None
-told_by line (Some kind) = Some (told_as line kind)
+abbrev pub first_line_by : List ℕ → Option LineKind → Option FirstLine
+first_line_by line None = None
+first_line_by line (Some kind) = Some (first_line_as line kind)
 
 -- The first line of an item; none if the line is skipped.
 abbrev pub first_line : List ℕ → Option FirstLine
-first_line line = told_by line (line_kind line)
+first_line line = first_line_by line (line_kind line)

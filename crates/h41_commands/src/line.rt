@@ -4,7 +4,7 @@ ghost use Rattle.std.specs.List.{position};
 ghost use Rattle.std.specs.Prelude.{◌≡◌, ◌==◌, length};
 ghost use Rattle.h41_lines.specs.Words.{is_blank, words_of};
 ghost use Rattle.h41_commands.specs.DeckLines.{is_end, is_long, is_only_end, is_skipped};
-ghost use Rattle.h41_commands.specs.FirstLines.{first_line, kind_by_words, told_by};
+ghost use Rattle.h41_commands.specs.FirstLines.{first_line, first_line_by, kind_by_words};
 
 use crate::commands::FirstWord;
 use h41_lines::words::{LineWords, is_blank, word_start};
@@ -64,11 +64,11 @@ pub(crate) fn first_line(line: &[u8]) -> Option<FirstLine>
 /// Returns the kind of a deck line by its first word, and where this word ends. Returns `None` if the line has no word.
 #[inline(always)]
 fn named_line(line: &[u8]) -> Option<FirstLine>
-    ensures { result ≡ told_by line.now (kind_by_words (words_of line.now)) }
+    ensures { result ≡ first_line_by line.now (kind_by_words (words_of line.now)) }
 {
     let start = word_start(line)?;
-    let behind = &line[start + 1..];
-    let name_end = start + 1 + word_end(behind).unwrap_or(behind.len());
+    let rest = &line[start + 1..];
+    let name_end = start + 1 + word_end(rest).unwrap_or(rest.len());
     let name = FirstWord::of_word(&line[start..name_end]);
     Some(FirstLine {
         kind: LineKind::Named(name),

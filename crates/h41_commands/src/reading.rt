@@ -12,7 +12,7 @@ ghost use Rattle.h41_commands.specs.private.Entries.{what_is_spelled};
 ghost use Rattle.h41_commands.specs.Commands.{command_of, kind_of};
 ghost use Rattle.h41_commands.specs.FirstLines.{first_line, opens_block};
 ghost use Rattle.h41_commands.specs.private.ItemReading.{HearsFirst, LeavesFewer, ReadsFirst};
-ghost use Rattle.h41_commands.specs.private.ItemReading.{TellsFirst, kind_told};
+ghost use Rattle.h41_commands.specs.private.ItemReading.{TellsFirst, kind_returned};
 ghost use Rattle.h41_commands.specs.Items.{is_open};
 
 use crate::blocks::Block;
@@ -41,9 +41,9 @@ pub fn read_first_line<R: Talk<W>, W: Sink>(
 ) -> Result<Option<FirstLine>, LineReadFault>
     requires reader_clear { R.failed reader.old ≡ false }
     requires writer_clear { W.failed writer.old ≡ false }
-    ensures line { ReadsFirst (kind_told result) (R.remaining reader.old) (R.remaining reader.new)
-        input.old input.new }
-    ensures heard { HearsFirst (kind_told result) (R.reads reader.old) (R.reads reader.new)
+    ensures line { ReadsFirst (kind_returned result)
+        (R.remaining reader.old) (R.remaining reader.new) input.old input.new }
+    ensures heard { HearsFirst (kind_returned result) (R.reads reader.old) (R.reads reader.new)
         (W.contents writer.old) input.old input.new }
     ensures first { IfOk result (TellsFirst (line_in input.new)) }
     ensures shorter { OnOk result (most_left input.new ≤ most_left input.old) }

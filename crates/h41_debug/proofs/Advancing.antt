@@ -12,7 +12,7 @@ use Rattle.h41_debug.specs.private.Advancing.{Advances, MakesSteps}
 use Rattle.h41_debug.specs.Bench.{BenchState, with_calculator}
 use Rattle.h41_breakpoints.specs.Breakpoints.{is_set}
 use Rattle.h41_debug.specs.Positions.{location_of}
-use Rattle.h41_debug.specs.private.Running.{runs_function, stop_at, stop_behind, stop_running}
+use Rattle.h41_debug.specs.private.Running.{runs_function, stop_after, stop_at, stop_running}
 use Rattle.h41_debug.specs.declared.run.Stop.{Stop}
 use Rattle.h41_debug.specs.declared.run.Stop.TheVariants.{Break, Idle}
 use Rattle.h41_debug.proofs.Runs.{made_more}
@@ -40,19 +40,19 @@ line_steps modes.Run s t none steps = steps
 line_steps (modes.Micro caller) s t none steps = cc
 
 -- After a word of a function that still runs, only a breakpoint is a reason to stop.
-stop_either : (behind : Bool) (t : BenchState) → stop_at t ≡ None → stop_behind behind t ≡ None
+stop_either : (behind : Bool) (t : BenchState) → stop_at t ≡ None → stop_after behind t ≡ None
 stop_either true t none = none
 stop_either false t none = refl
 
 pub clear_behind : (behind : Bool) (t : BenchState) (caller : Caller) → t.calculator.mode ≡ modes.Micro caller
-    → is_set t.breakpoints (location_of t.calculator) ≡ false → stop_behind behind t ≡ None
+    → is_set t.breakpoints (location_of t.calculator) ≡ false → stop_after behind t ≡ None
 clear_behind behind t caller mode free =
     stop_either behind t
     (subst (λ (m : Mode). (if is_idle m then Some Idle else stop_running t) ≡ None) (sym mode)
     (ap (λ (set : Bool). if set then Some Break else None) free))
 
 -- The same holds after a line with which a program continues.
-pub clear_in_program : (behind : Bool) (t : BenchState) → t.calculator.mode ≡ modes.Run → stop_running t ≡ None → stop_behind behind t
+pub clear_in_program : (behind : Bool) (t : BenchState) → t.calculator.mode ≡ modes.Run → stop_running t ≡ None → stop_after behind t
     ≡ None
 clear_in_program behind t mode clear =
     stop_either behind t (subst (λ (m : Mode). (if is_idle m then Some Idle else stop_running t) ≡ None) (sym mode) clear)
@@ -65,11 +65,11 @@ pub goes_past : (s : BenchState) → is_set s.breakpoints (location_of s.calcula
 goes_past s free = rw free refl
 
 -- After a step, a reason to stop is that nothing runs, otherwise only a breakpoint.
-pub idle_stops : (behind : Bool) (s : BenchState) → behind ≡ true → s.calculator.mode ≡ modes.Idle → Some Idle ≡ stop_behind behind s
+pub idle_stops : (behind : Bool) (s : BenchState) → behind ≡ true → s.calculator.mode ≡ modes.Idle → Some Idle ≡ stop_after behind s
 idle_stops behind s is mode = rw (is, mode) refl
 
 pub running_stops : (behind : Bool) (s : BenchState) (m : Mode) → behind ≡ true → m ≡ s.calculator.mode → (m ≡ modes.Idle → ⊥)
-    → (stop : Option Stop) → stop ≡ stop_running s → stop ≡ stop_behind behind s
+    → (stop : Option Stop) → stop ≡ stop_running s → stop ≡ stop_after behind s
 running_stops behind s m is mode other stop same =
     let runs : is_idle s.calculator.mode ≡ false = ap is_idle (sym mode) ∙ not_idle m other in
     rw (is, runs) same
@@ -77,7 +77,7 @@ running_stops behind s m is mode other stop same =
 module _ (same_refusal : StepRefusalIsDetermined) (same_step : StepIsDetermined) where
   -- One step more.
   pub one_more : (limit from made : ℕ) (first s t : BenchState)
-      → ((start : BenchState) → MakesSteps limit from start first → MakesSteps limit made start s) → stop_behind (nat_lt 0 made) s ≡ None
+      → ((start : BenchState) → MakesSteps limit from start first → MakesSteps limit made start s) → stop_after (nat_lt 0 made) s ≡ None
       → made < limit → RefusesStep s.calculator None → Step s.calculator t.calculator → t ≡ with_calculator t.calculator s
       → (start : BenchState) → MakesSteps limit from start first → MakesSteps limit (made + 1) start t
   one_more limit from made first s t so_far clear below accepted step others start begun =
@@ -86,7 +86,7 @@ module _ (same_refusal : StepRefusalIsDetermined) (same_step : StepIsDetermined)
   -- A piece of steps that ends with this one.
   pub ends_piece : (limit from made : ℕ) (first s t : BenchState)
       → ((start : BenchState) → MakesSteps limit from start first → MakesSteps limit made start s) → s.breakpoints ≡ first.breakpoints
-      → from ≤ made → stop_behind (nat_lt 0 made) s ≡ None → made < limit → RefusesStep s.calculator None → Step s.calculator t.calculator
+      → from ≤ made → stop_after (nat_lt 0 made) s ≡ None → made < limit → RefusesStep s.calculator None → Step s.calculator t.calculator
       → t ≡ with_calculator t.calculator s → Advances limit from first (made + 1) t None
   ends_piece limit from made first s t so_far kept behind clear below accepted step others = record {
     most = omega (arith, below);
@@ -98,7 +98,7 @@ module _ (same_refusal : StepRefusalIsDetermined) (same_step : StepIsDetermined)
 -- A piece of steps after which the next one is refused.
 pub refused_piece : (limit from made : ℕ) (first s t : BenchState) (why : CalculatorRefusal)
     → ((start : BenchState) → MakesSteps limit from start first → MakesSteps limit made start s) → s.breakpoints ≡ first.breakpoints
-    → stop_behind (nat_lt 0 made) s ≡ None → made < limit → RefusesStep s.calculator (Some why) → t ≡ s
+    → stop_after (nat_lt 0 made) s ≡ None → made < limit → RefusesStep s.calculator (Some why) → t ≡ s
     → Advances limit from first made t (Some why)
 refused_piece limit from made first s t why so_far kept clear below refused stays =
     subst (λ (at : BenchState). Advances limit from first made at (Some why)) (sym stays) (record {

@@ -8,7 +8,7 @@ use Rattle.h41_debug.specs.KeptInTurn.{KeepsAfterCount, KeepsAfterKeys, KeepsAft
 use Rattle.h41_debug.specs.declared.run.Stop.{Stop}
 use Rattle.h41_debug.specs.declared.run.Stop.TheVariants.{Break, Idle, Limit, Refused}
 use Rattle.h41_debug.specs.private.Advancing.{KeepsOn}
-use Rattle.h41_debug.specs.private.Running.{runs_function, stop_at, stop_behind, stop_running}
+use Rattle.h41_debug.specs.private.Running.{runs_function, stop_after, stop_at, stop_running}
 use Rattle.h41_debug.specs.Bench.{BenchState}
 use Rattle.h41_keys.specs.declared.key.Key.{Key}
 use Rattle.h41_xrom.specs.Calculator.{RefusesStep, Step, is_idle, machine_of}
@@ -86,7 +86,7 @@ stopped true false true stop is = let same : Break ≡ stop = cc in subst (λ (o
 stopped true false false stop is = absurd (let no : ⊥ = cc in no)
 stopped false idle set stop is = absurd (let no : ⊥ = cc in no)
 
-pub stops_unrefused : (behind : Bool) (s : BenchState) (stop : Stop) → stop_behind behind s ≡ Some stop → refusal_of stop ≡ None
+pub stops_unrefused : (behind : Bool) (s : BenchState) (stop : Stop) → stop_after behind s ≡ Some stop → refusal_of stop ≡ None
 stops_unrefused behind s stop is =
     stopped behind (is_idle s.calculator.mode) (is_set s.breakpoints (location_of s.calculator)) stop is
 

@@ -13,7 +13,7 @@ use Rattle.h41_breakpoints.specs.Breakpoints.{is_set}
 use Rattle.h41_debug.specs.Positions.{location_of}
 use Rattle.h41_debug.specs.Run.{Run, StopsFor, turn_of}
 use Rattle.h41_debug.specs.private.Advancing.{EndsFor, MakesSteps, NoneBefore}
-use Rattle.h41_debug.specs.private.Running.{stop_at, stop_behind}
+use Rattle.h41_debug.specs.private.Running.{stop_after, stop_at}
 use Rattle.h41_debug.specs.declared.run.Stop.{Stop}
 use Rattle.h41_debug.specs.declared.run.Stop.TheVariants.{Break, Idle, Limit, Refused}
 use Rattle.h41_debug.proofs.StepsInTurn.{steps-refused, steps_determined}
@@ -206,10 +206,10 @@ at_first : (made : ℕ) (s t : BenchState) → nat_lt 0 made ≡ false → Steps
 at_first zero s t none steps = steps.0
 at_first (suc made) s t none steps = absurd (omega (arith, ltb-false _ _ none))
 
-pub goes_on : (limit made : ℕ) (s t : BenchState) → MakesSteps limit made s t → stop_behind (nat_lt 0 made) t ≡ None
+pub goes_on : (limit made : ℕ) (s t : BenchState) → MakesSteps limit made s t → stop_after (nat_lt 0 made) t ≡ None
     → is_idle s.calculator.mode ≡ false → GoesOn limit made s t
 goes_on limit made s t so_far stop running =
-    elim (nat_lt 0 made) as (λ behind. nat_lt 0 made ≡ behind → stop_behind behind t ≡ None → GoesOn limit made s t) [
+    elim (nat_lt 0 made) as (λ behind. nat_lt 0 made ≡ behind → stop_after behind t ≡ None → GoesOn limit made s t) [
       | true ↦ λ some stop. on_behind limit made s t so_far stop running
       | false ↦ λ none stop. record {
         steps = so_far.steps;
@@ -219,22 +219,22 @@ goes_on limit made s t so_far stop running =
       }
     ] refl stop
 
-pub stops : (limit made : ℕ) (s t : BenchState) (why : Stop) → MakesSteps limit made s t → stop_behind (nat_lt 0 made) t ≡ Some why
+pub stops : (limit made : ℕ) (s t : BenchState) (why : Stop) → MakesSteps limit made s t → stop_after (nat_lt 0 made) t ≡ Some why
     → Ended limit made s t why
 stops limit made s t why so_far stop =
-    elim (nat_lt 0 made) as (λ behind. nat_lt 0 made ≡ behind → stop_behind behind t ≡ Some why → Ended limit made s t why) [
+    elim (nat_lt 0 made) as (λ behind. nat_lt 0 made ≡ behind → stop_after behind t ≡ Some why → Ended limit made s t why) [
       | true ↦ λ some stop. stops_behind limit made s t why so_far (ltb-true _ _ some) stop
       | false ↦ λ none stop. let no : None ≡ Some why = stop in cc
     ] refl stop
 
 -- The next step is refused.
 pub ends_at_refusal : (limit made : ℕ) (s t : BenchState) (why : CalculatorRefusal) → MakesSteps limit made s t
-    → stop_behind (nat_lt 0 made) t ≡ None → made < limit → RefusesStep t.calculator (Some why) → Ended limit made s t (Refused why)
+    → stop_after (nat_lt 0 made) t ≡ None → made < limit → RefusesStep t.calculator (Some why) → Ended limit made s t (Refused why)
 ends_at_refusal limit made s t why so_far stop below refused =
     ((below, refused), λ running. ends_refused limit made s t why (goes_on limit made s t so_far stop running) below refused)
 
 -- As many steps were made as the limit permits.
-pub ends_limited : (limit made : ℕ) (s t : BenchState) → MakesSteps limit made s t → stop_behind (nat_lt 0 made) t ≡ None → made ≡ limit
+pub ends_limited : (limit made : ℕ) (s t : BenchState) → MakesSteps limit made s t → stop_after (nat_lt 0 made) t ≡ None → made ≡ limit
     → is_idle s.calculator.mode ≡ false → Run limit s t made Limit
 ends_limited limit made s t so_far stop all running = ends_at_limit limit made s t (goes_on limit made s t so_far stop running) all
 
@@ -294,7 +294,7 @@ module _ (same_refusal : StepRefusalIsDetermined) (same_step : StepIsDetermined)
       ]
 
   -- One more step.
-  pub made_more : (limit made : ℕ) (s t next : BenchState) → MakesSteps limit made s t → stop_behind (nat_lt 0 made) t ≡ None → made < limit
+  pub made_more : (limit made : ℕ) (s t next : BenchState) → MakesSteps limit made s t → stop_after (nat_lt 0 made) t ≡ None → made < limit
       → RefusesStep t.calculator None → Step t.calculator next.calculator → next ≡ with_calculator next.calculator t
       → MakesSteps limit (made + 1) s next
   made_more limit made s t next so_far stop below accepted step others = record {

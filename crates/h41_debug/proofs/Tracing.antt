@@ -15,7 +15,7 @@ use Rattle.h41_xrom.specs.Calculator.{CalculatorState}
 use Rattle.h41_xrom.specs.CalculatorLaws.{StepIsDetermined, StepRefusalIsDetermined}
 use Rattle.h41_xrom.specs.declared.refusal.CalculatorRefusal.{CalculatorRefusal}
 use Rattle.h41_debug.specs.Bench.{BenchState, Steps, StepsInto, with_calculator}
-use Rattle.h41_debug.specs.BenchLaws.{StatesAreTold, StepsAreTraced, TracesAreDetermined, TracesAreSteps}
+use Rattle.h41_debug.specs.BenchLaws.{StatesAreDescribed, StepsAreTraced, TracesAreDetermined, TracesAreSteps}
 use Rattle.h41_debug.specs.Positions.{location_of, position_text}
 use Rattle.h41_debug.specs.Traces.{TellsAt, TellsLine, TellsStep, Traces, instruction_at, line_or_unknown, traced_line, unknown_text}
 
@@ -51,7 +51,7 @@ module _ (each : EachIsRead) where
   told_at (Word address) s = (instruction_at s.nut.pages address, refl)
   told_at (Line position) s = line_told s.nut.pages s.nut.ram position
 
-  pub step_told : StatesAreTold
+  pub step_told : StatesAreDescribed
   step_told s =
       let next = told_at (location_of s.calculator) s.calculator in
       (position_text s ++ codes " " ++ next.0, (next.0, next.1, refl))

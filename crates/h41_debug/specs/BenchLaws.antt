@@ -57,8 +57,8 @@ TracesAreDetermined =
     → (t ≡ u) × (lines ≡ text) × (refusal ≡ other)
 
 -- The next step of every state can be described.
-abbrev pub StatesAreTold : Type 0
-StatesAreTold = (s : BenchState) → (text : List ℕ) × TellsStep s text
+abbrev pub StatesAreDescribed : Type 0
+StatesAreDescribed = (s : BenchState) → (text : List ℕ) × TellsStep s text
 
 -- Steps that were made have a trace, whose first line describes the first step.
 abbrev pub StepsAreTraced : Type 0

@@ -12,7 +12,7 @@ ghost use Rattle.h41_debug.specs.KeptInTurn.{KeepsAfterCount, KeepsAfterKeys};
 ghost use Rattle.h41_debug.specs.LabelledBench.{calculator_of};
 ghost use Rattle.h41_debug.specs.Positions.{location_of};
 ghost use Rattle.h41_xrom.specs.Calculator.{RefusesLine, RefusesStep, Step, StepsByLine};
-ghost use Rattle.h41_xrom.specs.Calculator.{machine_of, mode_behind_word};
+ghost use Rattle.h41_xrom.specs.Calculator.{machine_of, mode_after_word};
 ghost use Rattle.h41_xrom.specs.KeptLabels.{KeepsAfterLine, KeepsAfterStep};
 ghost use Rattle.h41_xrom.specs.LabelledCalculator.{no_searches};
 ghost use Rattle.h41_xrom.specs.declared.calculator.Mode.TheVariants.{Micro};
@@ -135,7 +135,7 @@ impl<const REGS: usize> Bench<REGS> {
         ensures refusal { RefusesStep self.old.state.calculator (result_err result) }
         ensures change { OnOk result (Step self.old.state.calculator self.new.state.calculator) }
         ensures mode { IfOk result
-            (λ on. self.new.state.calculator.mode ≡ mode_behind_word on caller) }
+            (λ on. self.new.state.calculator.mode ≡ mode_after_word on caller) }
         ensures others { self.new.state
             ≡ with_calculator self.new.state.calculator self.old.state }
         ensures unchanged { OnErr result (self.new.state ≡ self.old.state) }

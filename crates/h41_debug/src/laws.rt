@@ -2,7 +2,7 @@
 //! on.
 
 ghost use Rattle.h41_debug.specs.BenchLaws.{PressesAreDetermined, RefusedStepIsRun, RunsAddUp};
-ghost use Rattle.h41_debug.specs.BenchLaws.{RunsAreDetermined, StatesAreTold, StepIsRun};
+ghost use Rattle.h41_debug.specs.BenchLaws.{RunsAreDetermined, StatesAreDescribed, StepIsRun};
 ghost use Rattle.h41_debug.specs.BenchLaws.{StepsAreDetermined, StepsAreTraced};
 ghost use Rattle.h41_debug.specs.BenchLaws.{TracesAreDetermined, TracesAreSteps};
 
@@ -62,7 +62,7 @@ pub fn traces_are_determined()
 /// States that in every state of the bench there is a line that a trace prints for the next step, and that single steps
 /// that were made have a trace.
 pub fn steps_are_traced()
-    ensures told { StatesAreTold }
+    ensures described { StatesAreDescribed }
     ensures traced { StepsAreTraced }
 {
     positions_are_read();

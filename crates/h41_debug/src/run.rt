@@ -8,7 +8,7 @@ ghost use Rattle.h41_debug.specs.KeptInTurn.{KeepsAfterRun};
 ghost use Rattle.h41_debug.specs.LabelledBench.{calculator_of};
 ghost use Rattle.h41_debug.specs.Positions.{location_of};
 ghost use Rattle.h41_debug.specs.Run.{Run};
-ghost use Rattle.h41_debug.specs.private.Running.{runs_function, stop_behind, stop_running};
+ghost use Rattle.h41_debug.specs.private.Running.{runs_function, stop_after, stop_running};
 ghost use Rattle.h41_xrom.specs.declared.calculator.Mode.TheVariants.{Micro};
 
 use crate::bench::Bench;
@@ -83,7 +83,7 @@ impl<const REGS: usize> Bench<REGS> {
     /// many steps are made then in all, and why the next one is refused, if it is.
     fn go_on(&mut self, from: u32, limit: u32, watched: bool) -> (u32, Option<CalculatorRefusal>)
         requires below { from < limit }
-        requires clear { stop_behind (nat_lt 0 from) self.old.state ≡ None }
+        requires clear { stop_after (nat_lt 0 from) self.old.state ≡ None }
         requires free { watched ≡ false → len self.old.state.breakpoints ≡ 0 }
         ensures steps { Advances limit from self.old.state result.0 self.new.state result.1 }
         ensures kept { KeepsOn from (calculator_of self.old) result.0 (calculator_of self.new)
@@ -110,7 +110,7 @@ impl<const REGS: usize> Bench<REGS> {
     ) -> (u32, Option<CalculatorRefusal>)
         requires below { from < limit }
         requires mode { self.old.state.calculator.mode ≡ Micro caller }
-        requires clear { stop_behind (nat_lt 0 from) self.old.state ≡ None }
+        requires clear { stop_after (nat_lt 0 from) self.old.state ≡ None }
         requires free { watched ≡ false → len self.old.state.breakpoints ≡ 0 }
         ensures steps { Advances limit from self.old.state result.0 self.new.state result.1 }
         ensures kept { KeepsOn from (calculator_of self.old) result.0 (calculator_of self.new)
@@ -152,7 +152,7 @@ impl<const REGS: usize> Bench<REGS> {
     fn lines(&mut self, from: u32, limit: u32, watched: bool) -> (u32, Option<CalculatorRefusal>)
         requires below { from < limit }
         requires mode { runs_function self.old.state.calculator.mode ≡ false }
-        requires clear { stop_behind (nat_lt 0 from) self.old.state ≡ None }
+        requires clear { stop_after (nat_lt 0 from) self.old.state ≡ None }
         requires free { watched ≡ false → len self.old.state.breakpoints ≡ 0 }
         ensures steps { Advances limit from self.old.state result.0 self.new.state result.1 }
         ensures kept { KeepsOn from (calculator_of self.old) result.0 (calculator_of self.new)
@@ -176,14 +176,14 @@ impl<const REGS: usize> Bench<REGS> {
         (limit, None)
     }
 
-    /// Returns why a run stops here, apart from its limit, or `None`. Before its first step (`behind` is false) a run
+    /// Returns why a run stops here, apart from its limit, or `None`. Before its first step (`stepped` is false) a run
     /// does not stop. Breakpoints are tested only if `watched`; otherwise none may be set.
     #[inline(always)]
-    fn stop(&self, behind: bool, watched: bool) -> Option<Stop>
+    fn stop(&self, stepped: bool, watched: bool) -> Option<Stop>
         requires { watched ≡ false → len self.now.state.breakpoints ≡ 0 }
-        ensures { result ≡ stop_behind behind self.now.state }
+        ensures { result ≡ stop_after stepped self.now.state }
     {
-        if !behind {
+        if !stepped {
             return None;
         }
         match self.calculator().mode() {
@@ -216,7 +216,7 @@ impl<const REGS: usize> Bench<REGS> {
 fn next_look(made: u32, limit: u32, watched: bool) -> u32
     requires { made < limit }
     ensures look { result ≡ (if watched then made + 1 else limit) }
-    ensures behind { made < result }
+    ensures after { made < result }
     ensures most { result ≤ limit }
 {
     if watched { made + 1 } else { limit }

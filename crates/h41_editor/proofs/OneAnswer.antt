@@ -8,7 +8,8 @@ use Rattle.h41_editor.specs.Changes.{ShowsFront}
 use Rattle.h41_editor.specs.Changes.{ShowsNew}
 use Rattle.h41_editor.specs.Changes.{showing_line, shown_in_front}
 use Rattle.h41_editor.specs.EditorLaws.{ChangeIsDetermined, MoveIsDetermined, NumberedIsDetermined, TextIsDetermined}
-use Rattle.h41_editor.specs.Moves.{EndsBy, GoesToEnd, ShowsAt, ShowsBefore, ShowsBeforeLine, ShowsBehind, ShowsEnd, ShowsInFront, ShowsNext}
+use Rattle.h41_editor.specs.Moves.{EndsBy, GoesToEnd, ShowsAfterLine, ShowsAt, ShowsBefore, ShowsBeforeLine, ShowsEnd, ShowsInFront}
+use Rattle.h41_editor.specs.Moves.{ShowsNext}
 use Rattle.h41_editor.specs.Moves.{ShowsStart, is_last, returns_kept, shown_end}
 use Rattle.h41_editor.specs.NumberedLines.{Numbers, with_number}
 use Rattle.h41_editor.specs.ProgramText.{ShowsLine, line_00_text, text_of, unknown_text}
@@ -102,21 +103,21 @@ module _ (once : IsReadOnce) (same_start : HasOneAnswer StartOf) where
       p.2 ∙ ap (λ (next : Position). Ok (at_line next machine)) same ∙ sym q.2
 
   same_shown_behind : (pages : PageMap) (machine : Machine) (first : Result PlacedLine ProgramRefusal) (a b : Moved)
-      → ShowsBehind pages machine first a → ShowsBehind pages machine first b → a ≡ b
+      → ShowsAfterLine pages machine first a → ShowsAfterLine pages machine first b → a ≡ b
   same_shown_behind pages machine (Ok first) a b p q = same_onward pages (is_last first) machine a b p q
   same_shown_behind pages machine (Err refusal) a b p q = p ∙ sym q
 
   same_step : (pages : PageMap) (at_line_00 : Bool) (machine : Machine) (a b : Moved)
       → MatchBool at_line_00 (a ≡ Ok (at_line machine.focal.position machine))
-      (ByFirst pages machine (λ first. ShowsBehind pages machine first a))
+      (ByFirst pages machine (λ first. ShowsAfterLine pages machine first a))
       → MatchBool at_line_00 (b ≡ Ok (at_line machine.focal.position machine))
-      (ByFirst pages machine (λ first. ShowsBehind pages machine first b))
+      (ByFirst pages machine (λ first. ShowsAfterLine pages machine first b))
       → a ≡ b
   same_step pages true machine a b p q = p ∙ sym q
   same_step pages false machine a b p q =
       let same = once.line pages machine.memory machine.focal.position p.0 q.0 p.1 q.1 in
-      same_shown_behind pages machine q.0 a b (subst (λ (first : Result PlacedLine ProgramRefusal). ShowsBehind pages machine first a) same
-      p.2) q.2
+      same_shown_behind pages machine q.0 a b
+      (subst (λ (first : Result PlacedLine ProgramRefusal). ShowsAfterLine pages machine first a) same p.2) q.2
 
   pub next_determined : (pages : PageMap) → MoveIsDetermined (ShowsNext pages)
   next_determined pages machine a b p q = same_step pages machine.focal.at_line_00 machine a b p q

@@ -41,15 +41,15 @@ is_last at_line = is_end at_line.line || is_final_end at_line.line
 -- SST shows the next line, or after the last line of a program its line 00 (this project's choice).
 -- If no line follows, it moves to the byte or word after the shown line. It is refused as
 -- BrokenProgram (14) if the shown line cannot be read.
-abbrev pub ShowsBehind : PageMap → Machine → Result PlacedLine ProgramRefusal
+abbrev pub ShowsAfterLine : PageMap → Machine → Result PlacedLine ProgramRefusal
     → Result Machine ProgramRefusal
     → Type 0
-ShowsBehind pages machine (Ok first) moved =
+ShowsAfterLine pages machine (Ok first) moved =
     MatchBool (is_last first) (ShowsStart pages machine moved)
     ((next : Position)
     × NextAt pages machine.memory machine.focal.position (Ok next)
     × (moved ≡ Ok (at_line next machine)))
-ShowsBehind pages machine (Err refusal) moved = moved ≡ Err BrokenProgram
+ShowsAfterLine pages machine (Err refusal) moved = moved ≡ Err BrokenProgram
 
 -- SST at line 00 shows the line at the position, which is the program's first line.
 abbrev pub ShowsNext : PageMap → Machine → Result Machine ProgramRefusal → Type 0
@@ -57,7 +57,7 @@ ShowsNext pages machine moved =
     MatchBool machine.focal.at_line_00 (moved ≡ Ok (at_line machine.focal.position machine))
     ((first : Result PlacedLine ProgramRefusal)
     × LineAt pages machine.memory machine.focal.position first
-    × ShowsBehind pages machine first moved)
+    × ShowsAfterLine pages machine first moved)
 
 -- The end of a program is shown, or it has none and the key is refused as BrokenProgram (14).
 abbrev pub shown_end : Machine → Option Position → Result Machine ProgramRefusal

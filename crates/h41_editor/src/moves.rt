@@ -37,8 +37,8 @@ pub fn show_next<const REGS: usize>(
     if is_last(&line_at(ram, pages, position)?) {
         show_start(ram, pages, focal);
     } else {
-        let behind = next(ram, pages, position)?;
-        focal.go_to(behind);
+        let following = next(ram, pages, position)?;
+        focal.go_to(following);
     }
     Ok(())
 }

@@ -3,7 +3,7 @@ use Rattle.std.proofs.Common.{◌≡◌, ℕ, List, [], ◌∷◌, Some, None, O
 use Rattle.h41_codes.specs.declared.functions.Branch.{Branch}
 use Rattle.h41_codes.specs.declared.functions.Branch.TheVariants.{GoTo, Execute}
 use Rattle.h41_focal.specs.private.Arrivals.{GoesBackFrom, ReturnsFrom, answer_at, focal_at, from_of}
-use Rattle.h41_focal.specs.private.Carrying.{CarriesRow, FailsAs}
+use Rattle.h41_focal.specs.private.Carrying.{CarriesRow, LineFails}
 use Rattle.h41_focal.specs.Destinations as destinations
 use Rattle.h41_rows.specs.LineRows as lines
 use Rattle.h41_positions.specs.FocalState.{Machine, at_halt}
@@ -52,7 +52,7 @@ label_found pages Typed Execute label named machine position outcome found answe
 pub label_lost :
     (pages : PageMap) (origin : Origin) (branch : Branch) (label named : ℕ) (old new : Machine) (outcome : LineOutcome)
     → LocalFrom label pages old.memory (from_of origin old.focal.position) None
-    → FailsAs origin Nonexistent old new outcome
+    → LineFails origin Nonexistent old new outcome
     → CarriesRow pages origin (lines.to_label branch label) named old new (Ok outcome)
 label_lost pages (Program next) branch label named old new outcome lost fails =
     (Ok zeros, refl, (destinations.HasNoLabel, (None, lost, refl), fails))
@@ -85,7 +85,7 @@ name_found pages Typed Execute name named machine byte outcome found answer =
 pub name_lost :
     (pages : PageMap) (origin : Origin) (name : List ℕ) (named : ℕ) (old new : Machine) (outcome : LineOutcome)
     → AnswersOf (λ lines. position_of (named_in name lines)) old.memory 0 None
-    → FailsAs origin Nonexistent old new outcome
+    → LineFails origin Nonexistent old new outcome
     → CarriesRow pages origin (lines.to_name GoTo name) named old new (Ok outcome)
 name_lost pages (Program next) name named old new outcome lost fails =
     (Ok zeros, refl, (destinations.HasNoLabel, (None, lost, refl), fails))

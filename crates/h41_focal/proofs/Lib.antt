@@ -1,7 +1,7 @@
 mod Apart
 mod Begun
 mod Targets
-mod Elsewhere
+mod OutsideCalls
 mod LabelsMet
 mod LabelsRight
 mod LinesTaken

@@ -11,7 +11,7 @@ use Rattle.h41_codes.specs.declared.short_lines.ShortLine.{ShortLine}
 use Rattle.h41_codes.specs.ShortLines.{line_of}
 use Rattle.h41_focal.specs.private.Carrying.{CarriesFound, CarriesRow, StandsNoShort, StandsNumber, TakesAs}
 use Rattle.h41_focal.specs.private.Carrying.{UsesAddress, UsesDigits, UsesFlag}
-use Rattle.h41_focal.specs.LineStep.{StandsAt, lift_behind}
+use Rattle.h41_focal.specs.LineStep.{StandsAt, stack_lift_after}
 use Rattle.h41_positions.specs.FocalState.{Machine}
 use Rattle.h41_focal.specs.private.Works.{digits_use_row, flag_use_row, highest_of, register_use_row, row_of_work}
 use Rattle.h41_focal.specs.declared.origin.Origin.{Origin}
@@ -123,7 +123,8 @@ unsearched memory true old new same = same
 unsearched memory false old new same = same
 
 -- After a line that is no XROM line, stack lift is unchanged.
-pub lift_kept : (line : Line) (lift : Bool) → ((number entry : ℕ) → line ≡ lines.Module number entry → ⊥) → lift_behind line lift ≡ lift
+pub lift_kept : (line : Line) (lift : Bool) → ((number entry : ℕ) → line ≡ lines.Module number entry → ⊥)
+    → stack_lift_after line lift ≡ lift
 lift_kept (lines.Module number entry) lift other = absurd (other number entry refl)
 lift_kept lines.Null lift other = refl
 lift_kept (lines.LocalLabel label) lift other = refl

@@ -11,7 +11,7 @@ use Rattle.h41_focal.specs.Destinations.{Seeks, Stays}
 use Rattle.h41_focal.specs.Destinations.{Stepped, StepsFrom, Tells, Typed, TypedFrom, found_at, lost_name, typed_at}
 use Rattle.h41_focal.specs.LineLaws.{EnteringIsDetermined, FailureIsDetermined, PassingIsDetermined, StepIsDetermined, TypedIsDetermined}
 use Rattle.h41_focal.specs.LineLaws.{TypedFailureIsDetermined}
-use Rattle.h41_focal.specs.LineStep.{Applies, AppliesTo, AppliesWith, CarriesOut, ComputesIn, Ends, FailsIn, FailsWith, Left}
+use Rattle.h41_focal.specs.LineStep.{Applies, AppliesTo, AppliesWith, CarriesOut, ComputesIn, Ends, EndsInError, FailsIfRead, Left}
 use Rattle.h41_positions.specs.FocalState.{Machine}
 use Rattle.h41_focal.specs.LineStep.{EntersWith, PassesWith, Stands, StandsAt, StepsAs, TakesLine, Works, answer_of_showing, line_as}
 use Rattle.h41_focal.specs.LineStep.{named_by}
@@ -101,12 +101,12 @@ module _ (once : IsReadOnce) where
   -- A line that fails has one outcome.
   same_outside : (fault : LineFault) (machine : Machine) (standing : Result (Line × Position) FocalRefusal)
       (a b : Result Left FocalRefusal)
-      → FailsWith fault machine standing a → FailsWith fault machine standing b → a ≡ b
+      → FailsIfRead fault machine standing a → FailsIfRead fault machine standing b → a ≡ b
   same_outside fault machine (Ok standing) a b p q = p ∙ sym q
   same_outside fault machine (Err refusal) a b p q = p ∙ sym q
 
   pub failure_determined : FailureIsDetermined
-  failure_determined pages fault machine a b p q = by_standing pages (FailsWith fault) (same_outside fault) machine a b p q
+  failure_determined pages fault machine a b p q = by_standing pages (FailsIfRead fault) (same_outside fault) machine a b p q
 
   -- A line whose function is executed elsewhere has one outcome.
   same_beyond : (machine : Machine) (standing : Result (Line × Position) FocalRefusal) (a b : Result Machine FocalRefusal)
@@ -128,8 +128,8 @@ module _ (once : IsReadOnce) where
 
 -- A typed line that fails has one outcome.
 same_typed_failure : (sound : Bool) (fault : LineFault) (machine : Machine) (a b : Result Left FocalRefusal)
-    → MatchBool sound (FailsIn Typed machine fault a) (a ≡ Err MemoryLost)
-    → MatchBool sound (FailsIn Typed machine fault b) (b ≡ Err MemoryLost) → a ≡ b
+    → MatchBool sound (EndsInError Typed machine fault a) (a ≡ Err MemoryLost)
+    → MatchBool sound (EndsInError Typed machine fault b) (b ≡ Err MemoryLost) → a ≡ b
 same_typed_failure true fault machine a b p q = p ∙ sym q
 same_typed_failure false fault machine a b p q = p ∙ sym q
 

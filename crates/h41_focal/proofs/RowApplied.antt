@@ -1,6 +1,6 @@
 -- A row whose line continues at the next one is applied, by what it computes, by memory after it, and by the position.
 use Rattle.std.proofs.Common.{◌≡◌, ℕ, List, Ok, Err, Result, refl, subst}
-use Rattle.h41_focal.specs.private.Carrying.{FailsAs, Leaves, on_to_next, manner_of}
+use Rattle.h41_focal.specs.private.Carrying.{LineFails, Leaves, on_to_next, manner_of}
 use Rattle.h41_focal.specs.Outcomes.{answer_of}
 use Rattle.h41_focal.specs.Destinations as destinations
 use Rattle.h41_focal.specs.LineStep.{Applies, Left, Works, answer_of_showing}
@@ -52,7 +52,7 @@ pub row_failed :
     (outcome : LineOutcome)
     → machine_with memory focal ≡ machine
     → Works memory named row (Err fault)
-    → FailsAs origin fault machine new outcome
+    → LineFails origin fault machine new outcome
     → Leaves origin row named machine new outcome
 row_failed origin row named machine new memory focal fault outcome opened works fails =
     let P : Machine → Type 0 = λ old. Works old.memory named row (Err fault) in

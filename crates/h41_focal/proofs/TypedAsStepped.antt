@@ -4,18 +4,18 @@ use Rattle.std.proofs.lemmas.List.Elements.{All-head, All-tail}
 use Rattle.std.specs.Prelude.{IfOk, MatchBool, if◌then◌else◌}
 use Rattle.h41_codes.specs.declared.line.Line.{Line}
 use Rattle.h41_codes.specs.declared.line.Line.TheVariants.{Module}
-use Rattle.h41_focal.proofs.Elsewhere.{fails_here, own_answer}
+use Rattle.h41_focal.proofs.OutsideCalls.{fails_here, own_answer}
 use Rattle.h41_focal.proofs.OneOutcome.{same_line, typed_determined}
 use Rattle.h41_focal.specs.Destinations.{Arrives, Destination, Stays, StepsFrom, Stepped, Typed, TypedFrom}
 use Rattle.h41_focal.specs.LineLaws.{AreAlike, GoesToNext, IsAt, NextIsHere, StepsInTurn, SteppedCanBeTyped, TypedAsStepped}
 use Rattle.h41_focal.specs.LineLaws.{TypedIsDetermined, TypesInTurn}
-use Rattle.h41_focal.specs.LineStep.{Applies, AppliesTo, AppliesWith, CarriesOut, Ends, FailsIn, Left, Stands, StepsAs}
+use Rattle.h41_focal.specs.LineStep.{Applies, AppliesTo, AppliesWith, CarriesOut, Ends, EndsInError, Left, Stands, StepsAs}
 use Rattle.h41_positions.specs.FocalState.{FocalState, Machine}
 use Rattle.h41_focal.specs.LineStep.{StepsLine, TakesLine, TypesLine, answer_of_showing, with_fault_caught, left_done}
 use Rattle.h41_focal.specs.LineStep.{error_flag, left_by_fault, left_failed, named_by}
 use Rattle.h41_positions.specs.FocalState.{at_line}
 use Rattle.h41_focal.specs.LineStep.{with_row}
-use Rattle.h41_focal.specs.Outcomes.{is_elsewhere}
+use Rattle.h41_focal.specs.Outcomes.{calls_outside}
 use Rattle.h41_focal.specs.declared.refusal.FocalRefusal.{FocalRefusal}
 use Rattle.h41_focal.specs.declared.refusal.FocalRefusal.TheVariants.{NotInProfile}
 use Rattle.h41_pages.specs.PageMap.{PageMap}
@@ -52,10 +52,10 @@ as_same left other is machine alike = subst (λ (of : Left). AreAlike of.machine
 
 -- A line leaves a machine like this one, and calls nothing outside memory.
 abbrev LeavesLike : (Result Left FocalRefusal → Type 0) → Left → Type 0
-LeavesLike carries left = (typed : Left) × carries (Ok typed) × AreAlike left.machine typed.machine × (is_elsewhere left.answer ≡ false)
+LeavesLike carries left = (typed : Left) × carries (Ok typed) × AreAlike left.machine typed.machine × (calls_outside left.answer ≡ false)
 
-here : (left other : Left) → left ≡ other → is_elsewhere other.answer ≡ false → is_elsewhere left.answer ≡ false
-here left other is found = subst (λ (of : Left). is_elsewhere of.answer ≡ false) (sym is) found
+here : (left other : Left) → left ≡ other → calls_outside other.answer ≡ false → calls_outside left.answer ≡ false
+here left other is found = subst (λ (of : Left). calls_outside of.answer ≡ false) (sym is) found
 
 -- An error.
 caught_alike : (flag_25 : Bool) (next : Position) (machine : Machine) (focal : FocalState) (fault : LineFault)
@@ -67,7 +67,7 @@ caught_alike true next machine focal fault = (refl, refl)
 caught_alike false next machine focal fault = (refl, refl)
 
 failure_alike : (next : Position) (machine : Machine) (focal : FocalState) (fault : LineFault) (left : Left)
-    → FailsIn (Stepped next) machine fault (Ok left) → LeavesLike (FailsIn Typed (beside machine focal) fault) left
+    → EndsInError (Stepped next) machine fault (Ok left) → LeavesLike (EndsInError Typed (beside machine focal) fault) left
 failure_alike next machine focal fault left failing =
     let typed = left_by_fault Typed (beside machine focal) fault in
     let own = left_by_fault (Stepped next) machine fault in (

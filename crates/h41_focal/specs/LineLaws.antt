@@ -4,10 +4,10 @@ use Rattle.std.specs.Prelude.{◌≡◌, ℕ, false, All, IfOk, List, [], ◌∷
 use Rattle.h41_codes.specs.declared.functions.Function.{Function}
 use Rattle.h41_codes.specs.declared.line.Line.{Line}
 use Rattle.h41_codes.specs.declared.line.Line.TheVariants.{Module}
-use Rattle.h41_focal.specs.LineStep.{EntersLine, FailsLine, FailsTyped, Left, PassesLine}
+use Rattle.h41_focal.specs.LineStep.{EntersLine, Left, PassesLine, SteppedLineFails, TypedLineFails}
 use Rattle.h41_positions.specs.FocalState.{Machine}
 use Rattle.h41_focal.specs.LineStep.{StepsLine, TypesLine}
-use Rattle.h41_focal.specs.Outcomes.{is_elsewhere}
+use Rattle.h41_focal.specs.Outcomes.{calls_outside}
 use Rattle.h41_focal.specs.declared.refusal.FocalRefusal.{FocalRefusal}
 use Rattle.h41_pages.specs.PageMap.{PageMap}
 use Rattle.h41_positions.specs.Positions.{LineAt}
@@ -37,13 +37,14 @@ abbrev pub FailureIsDetermined : Type 0
 FailureIsDetermined =
     (pages : PageMap) (fault : LineFault) (machine : Machine)
     (carried other : Result Left FocalRefusal)
-    → FailsLine pages fault machine carried → FailsLine pages fault machine other → carried ≡ other
+    → SteppedLineFails pages fault machine carried → SteppedLineFails pages fault machine other
+    → carried ≡ other
 
 -- A typed line that fails has one outcome.
 abbrev pub TypedFailureIsDetermined : Type 0
 TypedFailureIsDetermined =
     (fault : LineFault) (machine : Machine) (carried other : Result Left FocalRefusal)
-    → FailsTyped fault machine carried → FailsTyped fault machine other → carried ≡ other
+    → TypedLineFails fault machine carried → TypedLineFails fault machine other → carried ≡ other
 
 -- A line whose function is executed elsewhere has one outcome.
 abbrev pub PassingIsDetermined : Type 0
@@ -120,4 +121,4 @@ NextIsHere =
     (pages : PageMap) (line : Line) (machine : Machine) (left : Left)
     → GoesToNext line → IsAt pages line machine
     → StepsLine pages None machine (Ok left)
-    → is_elsewhere left.answer ≡ false
+    → calls_outside left.answer ≡ false

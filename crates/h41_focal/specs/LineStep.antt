@@ -99,8 +99,8 @@ left_by_fault Typed machine fault =
     else left_failed machine fault
 
 -- A line has an error.
-abbrev pub FailsIn : Manner → Machine → LineFault → Result Left FocalRefusal → Type 0
-FailsIn how machine fault carried = carried ≡ Ok (left_by_fault how machine fault)
+abbrev pub EndsInError : Manner → Machine → LineFault → Result Left FocalRefusal → Type 0
+EndsInError how machine fault carried = carried ≡ Ok (left_by_fault how machine fault)
 
 -- The outcome of a line whose row is applied, by the place at which execution continues.
 abbrev pub Ends : Manner → Machine → Machine → Answer → Destination → Result Left FocalRefusal
@@ -123,7 +123,7 @@ Ends how old new answer (Runs position) carried =
 -- read
 Ends how old new answer (Seeks name) carried =
     carried ≡ Ok (record { machine = old; answer = answers.Seeks name })
-Ends how old new answer HasNoLabel carried = FailsIn how old Nonexistent carried
+Ends how old new answer HasNoLabel carried = EndsInError how old Nonexistent carried
 Ends how old new answer HasNoLine carried = carried ≡ Err BrokenProgram
 
 -- The machine after the changes of a row.
@@ -136,7 +136,7 @@ with_row row named result machine = record {
 -- A row is applied, given the register that its line names and the computed register, or an error.
 abbrev pub AppliesWith : PageMap → Manner → rows.LineRow → ℕ → Machine → Result (List ℕ) LineFault
     → Result Left FocalRefusal → Type 0
-AppliesWith pages how row named machine (Err fault) carried = FailsIn how machine fault carried
+AppliesWith pages how row named machine (Err fault) carried = EndsInError how machine fault carried
 AppliesWith pages how row named machine (Ok result) carried =
     (to : Destination)
     × Goes pages how row.goes machine.memory named machine.focal.position machine.focal.returns to
@@ -160,7 +160,7 @@ named_by meant = 0
 abbrev pub AppliesTo : PageMap → Manner → Line → Machine → Result Meant LineFault
     → Result Left FocalRefusal
     → Type 0
-AppliesTo pages how line machine (Err fault) carried = FailsIn how machine fault carried
+AppliesTo pages how line machine (Err fault) carried = EndsInError how machine fault carried
 AppliesTo pages how line machine (Ok meant) carried =
     Applies pages how (row_of line meant) (named_by meant) machine carried
 
@@ -221,36 +221,39 @@ StepsLine pages function machine carried =
     × StepsAs pages function machine standing carried
 
 -- A line fails, for example because nothing has the name that it calls.
-abbrev pub FailsWith : LineFault → Machine → Result (Line × Position) FocalRefusal
+abbrev pub FailsIfRead : LineFault → Machine → Result (Line × Position) FocalRefusal
     → Result Left FocalRefusal → Type 0
-FailsWith fault machine (Ok standing) carried = FailsIn (Stepped standing.1) machine fault carried
-FailsWith fault machine (Err refusal) carried = carried ≡ Err refusal
+FailsIfRead fault machine (Ok standing) carried =
+    EndsInError (Stepped standing.1) machine fault carried
+FailsIfRead fault machine (Err refusal) carried = carried ≡ Err refusal
 
 -- The line at the position fails.
-abbrev pub FailsLine : PageMap → LineFault → Machine → Result Left FocalRefusal → Type 0
-FailsLine pages fault machine carried =
+abbrev pub SteppedLineFails : PageMap → LineFault → Machine → Result Left FocalRefusal → Type 0
+SteppedLineFails pages fault machine carried =
     (standing : Result (Line × Position) FocalRefusal)
     × Stands pages machine standing
-    × FailsWith fault machine standing carried
+    × FailsIfRead fault machine standing carried
 
 -- A typed line fails, for example because nothing has the name that it calls. It is refused as
 -- MemoryLost (15) if memory is not sound.
-abbrev pub FailsTyped : LineFault → Machine → Result Left FocalRefusal → Type 0
-FailsTyped fault machine carried =
+abbrev pub TypedLineFails : LineFault → Machine → Result Left FocalRefusal → Type 0
+TypedLineFails fault machine carried =
     MatchBool (is_sound machine.memory)
-    (FailsIn Typed machine fault carried) (carried ≡ Err MemoryLost)
+    (EndsInError Typed machine fault carried) (carried ≡ Err MemoryLost)
 
 -- Stack lift after a line whose function is executed elsewhere: an XROM line turns it on, XEQ with
 -- a name leaves it unchanged (this project's choice).
-abbrev pub lift_behind : Line → Bool → Bool
-lift_behind (Module number entry) lift = true
-lift_behind line lift = lift
+abbrev pub stack_lift_after : Line → Bool → Bool
+stack_lift_after (Module number entry) lift = true
+stack_lift_after line lift = lift
 
 -- Execution continues after such a line.
 abbrev pub with_line_passed : Line → Position → Machine → Machine
 with_line_passed line next machine =
     at_line next
-    (record machine { focal = record machine.focal { lift = lift_behind line machine.focal.lift } })
+    (record machine {
+      focal = record machine.focal { lift = stack_lift_after line machine.focal.lift };
+    })
 
 -- Execution continues after such a line, or it is refused.
 abbrev pub PassesWith : Machine → Result (Line × Position) FocalRefusal

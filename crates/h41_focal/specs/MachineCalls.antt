@@ -3,11 +3,10 @@
 use Rattle.std.specs.Prelude.{◌≡◌, ℕ, Bool, true, false, IfOk, IsTrue, Option, Result, Ok, Err}
 use Rattle.h41_codes.specs.declared.functions.Function.{Function}
 use Rattle.h41_codes.specs.declared.line.Line.{Line}
-use Rattle.h41_focal.specs.LineStep.{EntersLine, FailsLine, Left, PassesLine, StepsLine}
+use Rattle.h41_focal.specs.LineStep.{EntersLine, SteppedLineFails, Left, PassesLine, StepsLine}
 use Rattle.h41_positions.specs.FocalState.{Machine}
-use Rattle.h41_focal.specs.LineStep.{TypesLine}
-use Rattle.h41_focal.specs.LineStep as steps
-use Rattle.h41_focal.specs.Outcomes.{answer_of, is_elsewhere}
+use Rattle.h41_focal.specs.LineStep.{TypedLineFails, TypesLine}
+use Rattle.h41_focal.specs.Outcomes.{answer_of, calls_outside}
 use Rattle.h41_focal.specs.declared.outcome.LineOutcome.{LineOutcome}
 use Rattle.h41_focal.specs.declared.outcome.LineOutcome.TheVariants as outcomes
 use Rattle.h41_focal.specs.declared.refusal.FocalRefusal.{FocalRefusal}
@@ -42,12 +41,12 @@ abbrev pub Steps : PageMap → Option Function → Call
 Steps pages function old new result = StepsLine pages function old (carried_as new result)
 
 -- The line at the position fails.
-abbrev pub Fails : PageMap → LineFault → Call
-Fails pages fault old new result = FailsLine pages fault old (carried_as new result)
+abbrev pub FailCall : PageMap → LineFault → Call
+FailCall pages fault old new result = SteppedLineFails pages fault old (carried_as new result)
 
 -- A typed line fails.
-abbrev pub FailsTyped : LineFault → Call
-FailsTyped fault old new result = steps.FailsTyped fault old (carried_as new result)
+abbrev pub FailTypedCall : LineFault → Call
+FailTypedCall fault old new result = TypedLineFails fault old (carried_as new result)
 
 -- The machine after a call without an outcome, or its refusal.
 abbrev pub passed_as : Machine → Result (Unit {0}) FocalRefusal → Result Machine FocalRefusal
@@ -67,6 +66,6 @@ abbrev pub Types : PageMap → Line → Call
 Types pages line old new result = TypesLine pages line old (carried_as new result)
 
 -- A line that calls something outside memory changes nothing.
-abbrev pub KeepsElsewhere : Call
-KeepsElsewhere old new result =
-    IfOk result (λ outcome. IsTrue (is_elsewhere (answer_of new.memory outcome)) → new ≡ old)
+abbrev pub OutsideCallKeeps : Call
+OutsideCallKeeps old new result =
+    IfOk result (λ outcome. IsTrue (calls_outside (answer_of new.memory outcome)) → new ≡ old)

@@ -34,10 +34,10 @@ pub data Answer : Type 0 where
   Failed : LineFault → Answer
 
 -- The calculator has to search for a function of a module or for a name.
-abbrev pub is_elsewhere : Answer → Bool
-is_elsewhere (Calls number entry) = true
-is_elsewhere (Seeks name) = true
-is_elsewhere answer = false
+abbrev pub calls_outside : Answer → Bool
+calls_outside (Calls number entry) = true
+calls_outside (Seeks name) = true
+calls_outside answer = false
 
 -- The answer of an outcome. Texts are made from memory as the line left it.
 abbrev pub answer_of : RegisterMap → LineOutcome → Answer

@@ -3,7 +3,7 @@
 ghost use Rattle.std.specs.Prelude.{◌≡◌, ◌≤◌, ℕ, IfNone, IfSome, length};
 ghost use Rattle.h41_codes.specs.declared.line.Line.TheVariants as lines;
 ghost use Rattle.h41_positions.specs.LabelledMachine.{Keeps, machine_of};
-ghost use Rattle.h41_focal.specs.private.Carrying.{DoesLine, DoesWork, IsBehind, IsWhole};
+ghost use Rattle.h41_focal.specs.private.Carrying.{DoesLine, DoesWork, IsAppended, ReplacesAlpha};
 ghost use Rattle.h41_focal.specs.private.Carrying.{PutsText};
 ghost use Rattle.h41_focal.specs.declared.works.FunctionWork.TheVariants.{Alpha};
 ghost use Rattle.h41_ram.specs.RamState.{KeepsMark};
@@ -88,8 +88,8 @@ fn put_text<const REGS: usize>(ram: &mut Ram<REGS>, text: &[u8])
 
 /// Returns the part of a text after the append sign (7F), or `None` if the text does not begin with it.
 fn appended(text: &[u8]) -> Option<&[u8]>
-    ensures behind { IfSome result (λ rest. IsBehind text.now rest.now) }
-    ensures whole { IfNone result (IsWhole text.now) }
+    ensures appends { IfSome result (λ rest. IsAppended text.now rest.now) }
+    ensures replaces { IfNone result (ReplacesAlpha text.now) }
 {
     match text {
         [] => None,

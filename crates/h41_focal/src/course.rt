@@ -2,7 +2,7 @@
 
 ghost use Rattle.std.specs.Prelude.{◌≡◌};
 ghost use Rattle.h41_positions.specs.LabelledMachine.{Keeps, machine_of};
-ghost use Rattle.h41_focal.specs.private.Carrying.{FailsAs, behind_line, fault_outcome};
+ghost use Rattle.h41_focal.specs.private.Carrying.{LineFails, state_after_line, fault_outcome};
 ghost use Rattle.h41_focal.specs.private.Carrying.{on_to_next};
 ghost use Rattle.h41_rows.specs.declared.fault.LineFault.{LineFault};
 ghost use Rattle.h41_rows.specs.Rows.{AsItWas, On};
@@ -41,8 +41,8 @@ pub fn go_on_lifting(focal: &mut Focal, origin: Origin)
 
 /// Moves the position to the line at `next`, after a line that calls a function outside program memory. An XROM line
 /// turns stack lift on; other lines leave it unchanged.
-pub fn go_behind(focal: &mut Focal, line: &Line, next: Position)
-    ensures state { focal.new.state ≡ behind_line line.now next focal.old.state }
+pub fn pass_line(focal: &mut Focal, line: &Line, next: Position)
+    ensures state { focal.new.state ≡ state_after_line line.now next focal.old.state }
     ensures labels { focal.new.labels ≡ focal.old.labels }
 {
     match line {
@@ -60,7 +60,7 @@ pub fn fail<const REGS: usize>(
     origin: Origin,
     fault: LineFault,
 ) -> LineOutcome
-    ensures done { FailsAs origin fault (machine_of machine.old) (machine_of machine.new) result }
+    ensures done { LineFails origin fault (machine_of machine.old) (machine_of machine.new) result }
     ensures keeps { Keeps machine.old machine.new }
     ensures left { LeavesMark machine.old.ram machine.new.ram }
 {
@@ -75,7 +75,7 @@ pub fn fail<const REGS: usize>(
 /// position to the next line, unless the line was typed; otherwise the position remains at the line.
 #[inline(never)]
 fn passes_fault<const REGS: usize>(machine: &mut Machine<REGS>, origin: Origin) -> bool
-    ensures done { (fault : LineFault) → FailsAs origin fault (machine_of machine.old)
+    ensures done { (fault : LineFault) → LineFails origin fault (machine_of machine.old)
         (machine_of machine.new) (fault_outcome result fault) }
     ensures keeps { Keeps machine.old machine.new }
     ensures left { LeavesMark machine.old.ram machine.new.ram }

@@ -1,7 +1,8 @@
 //! The machine: memory and the other state of keystroke programs as one value.
 
 ghost use Rattle.std.specs.Prelude.{◌≡◌, ◌≤◌, ℕ, false, true, [], None, Some, OnErr};
-ghost use Rattle.h41_focal.specs.MachineCalls.{Enters, Fails, FailsTyped, KeepsElsewhere, Passes};
+ghost use Rattle.h41_focal.specs.MachineCalls.{Enters, FailCall, FailTypedCall};
+ghost use Rattle.h41_focal.specs.MachineCalls.{OutsideCallKeeps, Passes};
 ghost use Rattle.h41_focal.specs.MachineCalls.{Steps, Types, outcome_by};
 ghost use Rattle.h41_focal.specs.LabelSearches.{StepKeeps, TypingKeeps};
 ghost use Rattle.h41_positions.specs.LabelledMachine.{AreRight, Keeps, begun_ram};
@@ -14,7 +15,7 @@ ghost use Rattle.h41_positions.specs.declared.position.Position.TheVariants.{Pag
 ghost use Rattle.h41_ram.specs.RamState.{KeepsMark};
 ghost use Rattle.h41_ram.specs.RegisterMap as registers;
 
-use crate::course::{fail, go_behind};
+use crate::course::{fail, pass_line};
 use crate::labels::arrive;
 use crate::laws::kept_answers_stay_right;
 use crate::lines::{carry_out, standing};
@@ -87,7 +88,7 @@ impl<const REGS: usize> Machine<REGS> {
         requires { AreRight self.old }
         ensures line { Steps pages.now None (machine_of self.old) (machine_of self.new) result }
         ensures unchanged { OnErr result (machine_of self.new ≡ machine_of self.old) }
-        ensures elsewhere { KeepsElsewhere (machine_of self.old) (machine_of self.new) result }
+        ensures elsewhere { OutsideCallKeeps (machine_of self.old) (machine_of self.new) result }
         ensures kept { StepKeeps pages.now None self.old self.new }
         ensures mark { KeepsMark (begun_ram self.old.ram) self.new.ram }
         ensures clear { self.new.ram.touched ≡ false }
@@ -112,7 +113,7 @@ impl<const REGS: usize> Machine<REGS> {
             (outcome_by result outcome.new) }
         ensures unchanged { OnErr (outcome_by result outcome.new)
             (machine_of self.new ≡ machine_of self.old) }
-        ensures elsewhere { KeepsElsewhere (machine_of self.old) (machine_of self.new)
+        ensures elsewhere { OutsideCallKeeps (machine_of self.old) (machine_of self.new)
             (outcome_by result outcome.new) }
         ensures kept { StepKeeps pages.now None self.old self.new }
         ensures mark { KeepsMark (begun_ram self.old.ram) self.new.ram }
@@ -172,7 +173,7 @@ impl<const REGS: usize> Machine<REGS> {
     /// outcome is the error. The only errors of the call itself are MemoryLost (15) if memory is not sound, and
     /// BrokenProgram (14) if the line at the position cannot be read.
     pub fn fail(&mut self, pages: &Pages, fault: LineFault) -> Result<LineOutcome, FocalRefusal>
-        ensures line { Fails pages.now fault (machine_of self.old) (machine_of self.new) result }
+        ensures line { FailCall pages.now fault (machine_of self.old) (machine_of self.new) result }
         ensures unchanged { OnErr result (machine_of self.new ≡ machine_of self.old) }
         ensures keeps { Keeps self.old self.new }
         ensures mark { self.new.ram.touched ≡ self.old.ram.touched }
@@ -185,7 +186,7 @@ impl<const REGS: usize> Machine<REGS> {
     /// flag 25 is set, it is cleared; otherwise the outcome is the error. The only error of the call itself is
     /// MemoryLost (15) if memory is not sound.
     pub fn fail_typed(&mut self, fault: LineFault) -> Result<LineOutcome, FocalRefusal>
-        ensures line { FailsTyped fault (machine_of self.old) (machine_of self.new) result }
+        ensures line { FailTypedCall fault (machine_of self.old) (machine_of self.new) result }
         ensures unchanged { OnErr result (machine_of self.new ≡ machine_of self.old) }
         ensures keeps { Keeps self.old self.new }
         ensures mark { self.new.ram.touched ≡ self.old.ram.touched }
@@ -206,7 +207,7 @@ impl<const REGS: usize> Machine<REGS> {
         ensures mark { self.new.ram.touched ≡ self.old.ram.touched }
     {
         let (line, next) = standing(self, pages)?;
-        go_behind(&mut self.focal, &line, next);
+        pass_line(&mut self.focal, &line, next);
         Ok(())
     }
 
@@ -220,7 +221,7 @@ impl<const REGS: usize> Machine<REGS> {
         ensures mark { self.new.ram.touched ≡ self.old.ram.touched }
     {
         let (line, next) = standing(self, pages)?;
-        go_behind(&mut self.focal, &line, next);
+        pass_line(&mut self.focal, &line, next);
         let origin = Origin::Program(next);
         let start = Position::Page(address);
         arrive(&mut self.focal, origin, Branch::Execute, start);
@@ -245,7 +246,7 @@ impl<const REGS: usize> Machine<REGS> {
         requires { AreRight self.old }
         ensures line { Types pages.now line.now (machine_of self.old) (machine_of self.new) result }
         ensures unchanged { OnErr result (machine_of self.new ≡ machine_of self.old) }
-        ensures elsewhere { KeepsElsewhere (machine_of self.old) (machine_of self.new) result }
+        ensures elsewhere { OutsideCallKeeps (machine_of self.old) (machine_of self.new) result }
         ensures kept { TypingKeeps line.now self.old self.new }
         ensures mark { KeepsMark (begun_ram self.old.ram) self.new.ram }
         ensures clear { self.new.ram.touched ≡ false }

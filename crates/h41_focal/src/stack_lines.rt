@@ -42,7 +42,7 @@ pub fn move_stack<const REGS: usize>(
     ensures left { LeavesMark machine.old.ram machine.new.ram }
 {
     move_registers(&mut machine.ram, movement, machine.focal.lift);
-    go_on_behind(&mut machine.focal, origin, movement);
+    go_on_after_movement(&mut machine.focal, origin, movement);
     LineOutcome::Done
 }
 
@@ -69,7 +69,7 @@ fn move_registers<const REGS: usize>(ram: &mut Ram<REGS>, movement: Movement, li
 /// Moves to the next line after a function that changes the stack; a typed line leaves the position unchanged.
 /// Stack lift is off after `ENTER^` and `CLX`, so that the next number replaces X, and on after the others.
 #[inline(always)]
-fn go_on_behind(focal: &mut Focal, origin: Origin, movement: Movement)
+fn go_on_after_movement(focal: &mut Focal, origin: Origin, movement: Movement)
     ensures state { focal.new.state
         ≡ on_to_next origin (move_row movement).lift focal.old.state }
     ensures labels { focal.new.labels ≡ focal.old.labels }

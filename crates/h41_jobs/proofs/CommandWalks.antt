@@ -192,21 +192,21 @@ module _ (c : CommandName) where
 -- ---- The words after `run` that do not have one FILE.
 
 -- The walk over the words fails from this point.
-FailsFrom : Walk → List Text → Type 0
-FailsFrom w rest = walk_fault (leaf run_name) [] w rest ≡ [] → ⊥
+WalkFails : Walk → List Text → Type 0
+WalkFails w rest = walk_fault (leaf run_name) [] w rest ≡ [] → ⊥
 
 -- A parse of the words fails from the beginning.
 Stops : List Text → Type 0
 Stops rest = level_fault (leaf run_name) [] nothing_held rest false [] ≡ [] → ⊥
 
-walk_stops : (rest : List Text) → FailsFrom (walk_from nothing_held) rest → Stops rest
-unfolding FailsFrom Stops
+walk_stops : (rest : List Text) → WalkFails (walk_from nothing_held) rest → Stops rest
+unfolding WalkFails Stops
 walk_stops rest fails e = fails (nothing_left _ _ e).0
 
 -- The walk after one word.
 goes_on : (w to : Walk) (word : Text) (rest : List Text) → walked (leaf run_name).rules [] w word ≡ to
-    → FailsFrom to rest → FailsFrom w (word ∷ rest)
-unfolding FailsFrom
+    → WalkFails to rest → WalkFails w (word ∷ rest)
+unfolding WalkFails
 goes_on w to word rest is fails e =
     fails (ap (λ (w : Walk). walk_fault (leaf run_name) [] w rest) (sym is) ∙ (walk_split (leaf run_name) [] w word rest e).1)
 
@@ -219,15 +219,15 @@ unfolding walked
 file_after_mark file = refl
 
 -- A word after FILE and `--`.
-third_fails : (file word : Text) (rest : List Text) → FailsFrom (taken file true) (word ∷ rest)
-unfolding FailsFrom
+third_fails : (file word : Text) (rest : List Text) → WalkFails (taken file true) (word ∷ rest)
+unfolding WalkFails
 third_fails file word rest e =
     let bad : kind.UnknownArgument ∷ [] ≡ [] = (walk_split (leaf run_name) [] (taken file true) word rest e).0 in cc
 
 -- A second FILE.
 second_fails : (file word : Text) (rest : List Text) → is_memory_flag word ≡ false → is_last_flag word ≡ false
-    → FailsFrom (taken file false) (word ∷ rest)
-unfolding FailsFrom
+    → WalkFails (taken file false) (word ∷ rest)
+unfolding WalkFails
 second_fails file word rest none more e = go (is_flag word) refl
   where
     turn : turn_fault (leaf run_name) [] (taken file false) word ≡ []
@@ -239,8 +239,8 @@ second_fails file word rest none more e = go (is_flag word) refl
     go false plain = let bad : kind.UnknownArgument ∷ [] ≡ [] = sym (second_plain run_name file word plain) ∙ turn in cc
 
 flag_first : (a : Text) (rest : List Text) → is_memory_flag a ≡ false → is_flag a ≡ true → is_last_flag a ≡ false
-    → FailsFrom (at [] None 1 false) (a ∷ rest)
-unfolding FailsFrom
+    → WalkFails (at [] None 1 false) (a ∷ rest)
+unfolding WalkFails
 flag_first a rest none flag more e =
     flag_turn (leaf run_name) [] [] None 1 a is_memory run_refuses (no_memory a none) refl more flag
     (walk_split (leaf run_name) [] (at [] None 1 false) a rest e).0
@@ -263,18 +263,18 @@ stops_marked (b ∷ d ∷ rest) is =
 
 -- A FILE first, and then not only `--`.
 stops_taken : (a : Text) (rest : List Text) → give_memory rest ≡ false → is_last_flag a ≡ false → is_flag a ≡ false
-    → only_file (a ∷ rest) ≡ None → FailsFrom (taken a false) rest
+    → only_file (a ∷ rest) ≡ None → WalkFails (taken a false) rest
 stops_taken a [] none more plain is = let bad : Some a ≡ None = rw plain at is in cc
 stops_taken a (b ∷ rest) none more plain is = go (is_last_flag b) refl rest is
   where
     given : (is_memory_flag b ≡ false) × (give_memory rest ≡ false)
     given = or_parts (is_memory_flag b) (give_memory rest) none
 
-    go : (u : Bool) → is_last_flag b ≡ u → (rest : List Text) → only_file (a ∷ b ∷ rest) ≡ None → FailsFrom (taken a false) (b ∷ rest)
+    go : (u : Bool) → is_last_flag b ≡ u → (rest : List Text) → only_file (a ∷ b ∷ rest) ≡ None → WalkFails (taken a false) (b ∷ rest)
     go false other rest is = second_fails a b rest given.0 other
     go true last [] is = let bad : Some a ≡ None = rw (more, last, plain) at is in cc
     go true last (d ∷ rest) is =
-        subst (λ (x : Text). FailsFrom (taken a false) (x ∷ d ∷ rest)) (sym (is_last b last))
+        subst (λ (x : Text). WalkFails (taken a false) (x ∷ d ∷ rest)) (sym (is_last b last))
         (goes_on (taken a false) (taken a true) last_flag (d ∷ rest) (around_mark run_name a).1 (third_fails a d rest))
 
 stops : (rest : List Text) → give_memory rest ≡ false → only_file rest ≡ None → Stops rest

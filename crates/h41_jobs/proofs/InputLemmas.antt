@@ -10,11 +10,11 @@ use Rattle.h41_commands.specs.declared.refusal.LineRefusal.{LineRefusal}
 use Rattle.h41_commands.specs.declared.refusal.LineRefusal.TheVariants.{Source}
 use Rattle.h41_ends.specs.Ends.{most_bytes}
 use Rattle.h41_commands.specs.PageBlocks.{SourceMakes}
-use Rattle.h41_jobs.specs.Inputs.{IsWhole}
+use Rattle.h41_jobs.specs.Inputs.{IsAllOfInput}
 
 -- The bytes are the whole input.
 pub whole_input : (known : Option (List ℕ)) (bytes : List ℕ) (whole : Bool) → IfSome known (λ input. bytes ≡ take most_bytes input)
-    → IfSome known (λ input. whole ≡ nat_le (length input) most_bytes) → whole ≡ true → IfSome known (IsWhole bytes)
+    → IfSome known (λ input. whole ≡ nat_le (length input) most_bytes) → whole ≡ true → IfSome known (IsAllOfInput bytes)
 whole_input None bytes whole front says is = tt
 whole_input (Some input) bytes whole front says is =
     let short : length input ≤ most_bytes = leb-true _ _ (sym says ∙ is) in

@@ -13,7 +13,7 @@ use Rattle.h41_commands.specs.declared.refusal.LineRefusal.{LineRefusal}
 use Rattle.h41_commands.specs.declared.refusal.LineRefusal.TheVariants.{Source}
 use Rattle.h41_ends.specs.Ends.{most_bytes}
 use Rattle.h41_jobs.specs.JobLaws.{FaultIsPrinted, HasOne, IsFirstWrong, ListHasOneEnd, ListHasOneText, SourceHasOneEnd}
-use Rattle.h41_jobs.specs.JobLaws.{SourceHasOneText, WordsAreListed, WordsArePrinted, WrongWordIsTold, is_word}
+use Rattle.h41_jobs.specs.JobLaws.{SourceHasOneText, WordsAreListed, WordsArePrinted, WrongWordIsReported, is_word}
 use Rattle.h41_jobs.specs.Texts.{ListReadsAs, ReadsAs, SourceAssemblesTo, ended_of_list, ended_of_source, given_text, list_text}
 use Rattle.h41_jobs.specs.WordTexts.{parts_of, word_value}
 use Rattle.h41_jobs.proofs.WordLemmas.{is_wrong}
@@ -222,7 +222,7 @@ first_found list number first =
     ∙ found_at 1 first.before first.part first.after first.words first.wrong
     ∙ ap (λ (n : ℕ). Some n) same
 
-pub wrong_told : WrongWordIsTold
+pub wrong_told : WrongWordIsReported
 wrong_told list text number ended first is ends =
     let says : PartsSay 1 (parts_of list) (Err number) = first_found list number first in
     let of_text : is.0 ≡ Err number = same_said 1 (parts_of list) is.0 (Err number) (parts_say list is.0 is.1.says) says in

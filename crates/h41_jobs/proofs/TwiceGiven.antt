@@ -26,8 +26,8 @@ option_text dis_name = codes "--origin="
 abbrev pub conflict : Kinds
 conflict = kind.ArgumentConflict ∷ []
 
-abbrev Fails : CommandName → List Text → Type 0
-Fails c words = walk_fault (leaf c) [] (walk_from nothing_held) words ≡ conflict
+abbrev IsConflict : CommandName → List Text → Type 0
+IsConflict c words = walk_fault (leaf c) [] (walk_from nothing_held) words ≡ conflict
 
 -- What a parse keeps of the option.
 abbrev pub held_rows : CommandName → Text → List Row
@@ -74,7 +74,7 @@ file_between asm_name a file plain = plain_turn (leaf asm_name) [] (held_rows as
 file_between dis_name a file plain = plain_turn (leaf dis_name) [] (held_rows dis_name a) None 1 file refl plain
 
 module _ (c : CommandName) (rest : List Text) where
-  two_first : (a b : Text) → Fails c ((option_text c ++ a) ∷ (option_text c ++ b) ∷ rest)
+  two_first : (a b : Text) → IsConflict c ((option_text c ++ a) ∷ (option_text c ++ b) ∷ rest)
   unfolding walk_fault
   two_first a b =
       let first = first_given c a in
@@ -82,7 +82,7 @@ module _ (c : CommandName) (rest : List Text) where
       ∙ ap (λ k. or_else k (walk_fault (leaf c) []
       (walked (leaf c).rules [] (at (held_rows c a) None 1 false) (option_text c ++ b)) rest)) (again_given c a b)
 
-  two_around : (a file b : Text) → is_flag file ≡ false → Fails c ((option_text c ++ a) ∷ file ∷ (option_text c ++ b) ∷ rest)
+  two_around : (a file b : Text) → is_flag file ≡ false → IsConflict c ((option_text c ++ a) ∷ file ∷ (option_text c ++ b) ∷ rest)
   unfolding walk_fault
   two_around a file b plain =
       let first = first_given c a in
@@ -93,7 +93,7 @@ module _ (c : CommandName) (rest : List Text) where
       ∙ ap (λ k. or_else k (walk_fault (leaf c) [] (walked (leaf c).rules [] held (option_text c ++ b)) rest))
       (again_after c a file b)
 
-  two_behind : (file a b : Text) → is_flag file ≡ false → Fails c (file ∷ (option_text c ++ a) ∷ (option_text c ++ b) ∷ rest)
+  two_behind : (file a b : Text) → is_flag file ≡ false → IsConflict c (file ∷ (option_text c ++ a) ∷ (option_text c ++ b) ∷ rest)
   unfolding walk_fault
   two_behind file a b plain =
       let first = first_plain c file plain in
@@ -113,10 +113,10 @@ given_word dis_name word is =
     ap (λ (front : Text). front ++ drop 9 word) (sym ((bytes_eq-Decides (take 9 word) (codes "--origin=")).0 is)) ∙ take-append-drop 9 word
 
 gives_at : (c : CommandName) (words : Text → List Text) (word : Text) → gives_option (name_text c) word ≡ true
-    → Fails c (words (option_text c ++ drop 9 word)) → Fails c (words word)
-gives_at c words word is fails = subst (λ (x : Text). Fails c (words x)) (given_word c word is) fails
+    → IsConflict c (words (option_text c ++ drop 9 word)) → IsConflict c (words word)
+gives_at c words word is fails = subst (λ (x : Text). IsConflict c (words x)) (given_word c word is) fails
 
-two_fail : (c : CommandName) (words : List Text) → give_two (name_text c) words ≡ true → Fails c words
+two_fail : (c : CommandName) (words : List Text) → give_two (name_text c) words ≡ true → IsConflict c words
 two_fail c [] is = cc
 two_fail c (a ∷ []) is = cc
 two_fail c (a ∷ b ∷ []) is = cc
@@ -127,7 +127,7 @@ two_fail c (a ∷ b ∷ d ∷ rest) is = go (or_cases _ _ is)
 
     go : ((gives_option (name_text c) a && gives_option (name_text c) b) ≡ true)
         ⊎ (((gives_option (name_text c) a && (not (is_flag b) && gives_option (name_text c) d))
-        || (not (is_flag a) && (gives_option (name_text c) b && gives_option (name_text c) d))) ≡ true) → Fails c (a ∷ b ∷ d ∷ rest)
+        || (not (is_flag a) && (gives_option (name_text c) b && gives_option (name_text c) d))) ≡ true) → IsConflict c (a ∷ b ∷ d ∷ rest)
     go (inl two) =
         let given = both _ _ two in
         gives_at c (λ x. x ∷ b ∷ d ∷ rest) a given.0

@@ -4,7 +4,7 @@ use Rattle.h41_ends.specs.declared.source.Source as sources
 use Rattle.h41_ends.specs.Ends.{GivesTooMany, most_bytes}
 
 -- These bytes are all of an input that is not too long.
-pub record IsWhole (bytes input : List ℕ) : Type 0 where
+pub record IsAllOfInput (bytes input : List ℕ) : Type 0 where
   pub all : bytes ≡ input
   pub bound : length input ≤ most_bytes
 

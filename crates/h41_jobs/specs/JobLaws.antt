@@ -81,8 +81,8 @@ pub record IsFirstWrong (list : List ℕ) (number : ℕ) : Type 0 where
   pub place : number ≡ length before + 1
 
 -- A list with such a part ends with its number, and has no text.
-abbrev pub WrongWordIsTold : Type 0
-WrongWordIsTold =
+abbrev pub WrongWordIsReported : Type 0
+WrongWordIsReported =
     (list text : List ℕ) (number : ℕ) (ended : Ended) → IsFirstWrong list number
     → ListingText list text → ListingEnds ended list
     → (text ≡ []) × (ended ≡ WrongWord number)

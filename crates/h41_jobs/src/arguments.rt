@@ -186,7 +186,7 @@ fn empty_bench<'a>(alloc: Global) -> Command<'a>
     ensures { app_of result ≡ empty_bench }
 {
     let about = "Runs decks of commands for the HP-41 bench, assembles sources, lists words";
-    told_command(alloc, "bench", about, USAGE, DECKS)
+    command_with_help(alloc, "bench", about, USAGE, DECKS)
         .version(VERSION)
         .subcommand_required(true)
 }
@@ -267,14 +267,14 @@ fn option_command<'a>(
         (λ command. app_of command ≡ option_app name.now (rule_of option.entry)) }
     ensures local { IfOk result (λ command. has_globals command ≡ false) }
 {
-    told_command(alloc, name, about, usage, text)
+    command_with_help(alloc, name, about, usage, text)
         .arg(option)?
         .arg(file_argument(alloc))
 }
 
 /// Returns the parser of a command without arguments. Its help prints `about`, which says what the command does, then
 /// `usage`, then `text`.
-fn told_command<'a>(
+fn command_with_help<'a>(
     alloc: Global,
     name: &'a str,
     about: &'a str,

@@ -2,7 +2,7 @@
 
 ghost use Rattle.std.specs.Prelude.{◌≡◌, ◌≢◌, ◌≤◌, true, false, Err, IfOk, IfSome, vec_len};
 ghost use Rattle.h41_ends.specs.Ends.{GivesWithin, most_bytes};
-ghost use Rattle.h41_jobs.specs.Inputs.{IsUnread, IsWhole};
+ghost use Rattle.h41_jobs.specs.Inputs.{IsAllOfInput, IsUnread};
 
 use h41_ends::{Source, read_whole};
 use h41_refusals::Fault;
@@ -16,7 +16,8 @@ use std::alloc::Global;
 /// allocation failed.
 pub fn read_input<R: Source>(alloc: Global, reader: &mut R) -> Result<Vec<u8>, Fault>
     requires { R.failed reader.old ≡ false }
-    ensures bytes { IfOk result (λ bytes. IfSome (R.remaining reader.old) (IsWhole bytes.items)) }
+    ensures bytes { IfOk result
+        (λ bytes. IfSome (R.remaining reader.old) (IsAllOfInput bytes.items)) }
     ensures bound { IfOk result (λ bytes. vec_len bytes ≤ most_bytes) }
     ensures read_fault { result ≡ Err Fault.ReadFault → IsUnread R.Source reader.old reader.new }
     ensures within { GivesWithin (R.given reader.old) (R.given reader.new) }

@@ -3,7 +3,7 @@
 
 ghost use Rattle.h41_jobs.specs.JobLaws.{FaultIsPrinted, ListHasOneEnd, ListHasOneText};
 ghost use Rattle.h41_jobs.specs.JobLaws.{PrintedWordsAreRead, SourceHasOneEnd, SourceHasOneText};
-ghost use Rattle.h41_jobs.specs.JobLaws.{WordsAreListed, WordsArePrinted, WrongWordIsTold};
+ghost use Rattle.h41_jobs.specs.JobLaws.{WordsAreListed, WordsArePrinted, WrongWordIsReported};
 
 use h41_asm::laws::{words_are_determined, words_or_fault};
 use h41_lines::laws::hexadecimal_round_trip;
@@ -26,7 +26,7 @@ pub fn list_has_one_text()
     ensures text { ListHasOneText }
     ensures end { ListHasOneEnd }
     ensures words { WordsAreListed }
-    ensures wrong { WrongWordIsTold }
+    ensures wrong { WrongWordIsReported }
 {}
 
 /// States that the text that `bench asm` prints for the words of a source is a list of exactly these words for

@@ -8,8 +8,9 @@ use Rattle.h41_focal.specs.Destinations.{Tells, Typed}
 use Rattle.h41_focal.specs.LineLaws.{EnteringIsDetermined, FailureIsDetermined, PassingIsDetermined, StepIsDetermined}
 use Rattle.h41_focal.specs.LineLaws.{TypedFailureIsDetermined}
 use Rattle.h41_focal.specs.LineLaws.{TypedIsDetermined}
-use Rattle.h41_focal.specs.LineStep.{Applies, AppliesTo, AppliesWith, CarriesOut, ComputesIn, Ends, FailsIn, FailsLine, FailsTyped}
-use Rattle.h41_focal.specs.LineStep.{EntersLine, EntersWith, FailsWith, PassesLine, PassesWith, Stands, StandsAt, StepsAs}
+use Rattle.h41_focal.specs.LineStep.{Applies, AppliesTo, AppliesWith, CarriesOut, ComputesIn, Ends, EndsInError, SteppedLineFails}
+use Rattle.h41_focal.specs.LineStep.{TypedLineFails}
+use Rattle.h41_focal.specs.LineStep.{EntersLine, EntersWith, FailsIfRead, PassesLine, PassesWith, Stands, StandsAt, StepsAs}
 use Rattle.h41_positions.specs.FocalState.{Machine}
 use Rattle.h41_focal.specs.LineStep.{StepsLine, TakesLine}
 use Rattle.h41_focal.specs.LineStep.{TypesLine, Works, answer_of_showing, left_by_fault, line_as, named_by, with_line_passed}
@@ -140,16 +141,17 @@ module _ (values : ValueHasOneRegister) (next_or_none : NextOrNone) (onward : Li
   steps pages function machine = by_standing pages (StepsAs pages function machine) (steps_as pages function machine) machine
 
   fails_with : (fault : LineFault) (machine : Machine) (standing : Result (Line × Position) FocalRefusal)
-      → Has (FailsWith fault machine standing)
+      → Has (FailsIfRead fault machine standing)
   fails_with fault machine (Ok (line, next)) = alone (Ok (left_by_fault (Stepped next) machine fault))
   fails_with fault machine (Err refusal) = alone (Err refusal)
 
-  fails_line : (pages : PageMap) (fault : LineFault) (machine : Machine) → Has (FailsLine pages fault machine)
-  fails_line pages fault machine = by_standing pages (FailsWith fault machine) (fails_with fault machine) machine
+  fails_line : (pages : PageMap) (fault : LineFault) (machine : Machine) → Has (SteppedLineFails pages fault machine)
+  fails_line pages fault machine = by_standing pages (FailsIfRead fault machine) (fails_with fault machine) machine
 
-  fails_typed : (fault : LineFault) (machine : Machine) → Has (FailsTyped fault machine)
+  fails_typed : (fault : LineFault) (machine : Machine) → Has (TypedLineFails fault machine)
   fails_typed fault machine =
-      where_true (is_sound machine.memory) (FailsIn Typed machine fault) (Err MemoryLost) (alone (Ok (left_by_fault Typed machine fault)))
+      where_true (is_sound machine.memory) (EndsInError Typed machine fault) (Err MemoryLost)
+      (alone (Ok (left_by_fault Typed machine fault)))
 
   passes_with : (machine : Machine) (standing : Result (Line × Position) FocalRefusal) → Has (PassesWith machine standing)
   passes_with machine (Ok (line, next)) = alone (Ok (with_line_passed line next machine))

@@ -3,7 +3,8 @@ use Rattle.std.proofs.Common.{◌≡◌, ℕ, List, Option, Some, None, Result, 
 use Rattle.h41_codes.specs.declared.line.Line.{Line}
 use Rattle.h41_editor.specs.Changes.{Changed, Deletes, DeletesAt, DeletesLine, Inserts, InsertsBefore, InsertsBy, Replaces, ReplacesAt}
 use Rattle.h41_editor.specs.Changes.{ShowsFront, ShowsNew, shown_in_front}
-use Rattle.h41_editor.specs.Moves.{EndsBy, GoesToEnd, ShowsAt, ShowsBefore, ShowsBeforeLine, ShowsBehind, ShowsEnd, ShowsInFront, ShowsNext}
+use Rattle.h41_editor.specs.Moves.{EndsBy, GoesToEnd, ShowsAfterLine, ShowsAt, ShowsBefore, ShowsBeforeLine, ShowsEnd, ShowsInFront}
+use Rattle.h41_editor.specs.Moves.{ShowsNext}
 use Rattle.h41_editor.specs.Moves.{ShowsStart, is_last, shown_end}
 use Rattle.h41_editor.specs.declared.numbered.NumberedLine.{NumberedLine}
 use Rattle.h41_positions.specs.FocalState.{Machine, at_line}
@@ -39,7 +40,7 @@ shows_start : (pages : PageMap) (machine : Machine) (moved : Moved) → IsWholeM
 shows_start pages machine moved whole is = subst MachineKept (sym is.2) whole
 
 shows_behind : (pages : PageMap) (machine : Machine) (first : Result PlacedLine ProgramRefusal) (moved : Moved)
-    → IsWholeMemory machine.memory → ShowsBehind pages machine first moved → MachineKept moved
+    → IsWholeMemory machine.memory → ShowsAfterLine pages machine first moved → MachineKept moved
 shows_behind pages machine (Ok first) moved whole is =
     matched (is_last first) (ShowsStart pages machine moved)
     ((next : Position) × NextAt pages machine.memory machine.focal.position (Ok next) × (moved ≡ Ok (at_line next machine)))
@@ -51,7 +52,7 @@ pub next_kept : (pages : PageMap) (machine : Machine) (moved : Moved) → IsWhol
 next_kept pages machine moved whole is =
     matched machine.focal.at_line_00 (moved ≡ Ok (at_line machine.focal.position machine))
     ((first : Result PlacedLine ProgramRefusal) × LineAt pages machine.memory machine.focal.position first
-    × ShowsBehind pages machine first moved)
+    × ShowsAfterLine pages machine first moved)
     (MachineKept moved) is (λ begins. subst MachineKept (sym begins) whole)
     (λ goes. shows_behind pages machine goes.0 moved whole goes.2)
 

@@ -15,8 +15,8 @@ use Rattle.h41_rows.specs.declared.fault.LineFault.TheVariants.{Nonexistent}
 use Rattle.h41_text.specs.TextLaws.{OneLineOfText}
 use Rattle.h41_xrom.proofs.StepLaws.{line_determined}
 use Rattle.h41_xrom.specs.Lines.{Answers, BeginsEntry, CallsEntry, CallsName, CarriesFrom, CarriesLine}
-use Rattle.h41_xrom.specs.Lines.{CarriesNamed, Ended, EntersFrom, Fails, FailsFrom}
-use Rattle.h41_xrom.specs.Lines.{GoesOn, GoesOnFrom, PassesFrom, begun_at, end_of_answer, end_of_entering}
+use Rattle.h41_xrom.specs.Lines.{CarriesNamed, Ended, EndsAsNonexistent, EntersFrom, FailsAsNonexistent}
+use Rattle.h41_xrom.specs.Lines.{GoesOn, GoesOnFrom, PassesFrom, end_of_answer, end_of_entering, end_of_starting}
 use Rattle.h41_xrom.specs.declared.lines.LineSource.{LineSource}
 use Rattle.h41_xrom.specs.declared.lines.LineSource.TheVariants as sources
 use Rattle.h41_laws_words.proofs.Answering.{Has}
@@ -28,7 +28,7 @@ use Rattle.h41_laws_calculator.proofs.Chosen.{alone, either, one_there}
 -- A function starts.
 abbrev Begun : LineSource → PageMap → ℕ → Machine → Result Ended FocalRefusal → Type 0
 Begun source pages address machine ended =
-    (after : Result Machine FocalRefusal) × PassesFrom source pages machine after × (ended ≡ begun_at address after)
+    (after : Result Machine FocalRefusal) × PassesFrom source pages machine after × (ended ≡ end_of_starting address after)
 
 module _ (steps : StepHasOneOutcome) (typed : TypedHasOneOutcome) (failures : FailureHasOneOutcome)
     (typed_failures : TypedFailureHasOneOutcome) (passings : PassingHasOneOutcome) (enterings : EnteringHasOneOutcome)
@@ -38,7 +38,7 @@ module _ (steps : StepHasOneOutcome) (typed : TypedHasOneOutcome) (failures : Fa
   carried sources.Program pages function machine = one_there (steps pages function machine)
   carried (sources.Keys line) pages function machine = one_there (typed pages (line_as function line) machine)
 
-  failed : (source : LineSource) (pages : PageMap) (machine : Machine) → Has (FailsFrom source pages machine)
+  failed : (source : LineSource) (pages : PageMap) (machine : Machine) → Has (FailsAsNonexistent source pages machine)
   failed sources.Program pages machine = one_there (failures pages Nonexistent machine)
   failed (sources.Keys line) pages machine = one_there (typed_failures Nonexistent machine)
 
@@ -46,7 +46,7 @@ module _ (steps : StepHasOneOutcome) (typed : TypedHasOneOutcome) (failures : Fa
   passed sources.Program pages machine = one_there (passings pages machine)
   passed (sources.Keys line) pages machine = alone (Ok machine)
 
-  fails : (source : LineSource) (pages : PageMap) (machine : Machine) → Has (Fails source pages machine)
+  fails : (source : LineSource) (pages : PageMap) (machine : Machine) → Has (EndsAsNonexistent source pages machine)
   fails source pages machine =
       let left = failed source pages machine in
       record { answer = end_of_answer left.answer; right = (left.answer, left.right, refl) }
@@ -61,7 +61,7 @@ module _ (steps : StepHasOneOutcome) (typed : TypedHasOneOutcome) (failures : Fa
   begun : (source : LineSource) (pages : PageMap) (address : ℕ) (machine : Machine) → Has (Begun source pages address machine)
   begun source pages address machine =
       let after = passed source pages machine in
-      record { answer = begun_at address after.answer; right = (after.answer, after.right, refl) }
+      record { answer = end_of_starting address after.answer; right = (after.answer, after.right, refl) }
 
   begins : (source : LineSource) (pages : PageMap) (entry : Entry) (machine : Machine) → Has (BeginsEntry source pages entry machine)
   begins source pages entry machine =

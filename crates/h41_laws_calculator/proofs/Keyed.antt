@@ -42,9 +42,9 @@ use Rattle.h41_rows.specs.declared.fault.LineFault.{LineFault}
 use Rattle.h41_xrom.specs.Calculator.{CalculatorState, is_idle, machine_of}
 use Rattle.h41_xrom.specs.CalculatorLaws.{KeyIsDetermined}
 use Rattle.h41_xrom.specs.KeyActions.{Acts, BeginsNumber, Carries, ChangesNumber, Edits, HasFlags, IsPlace, IsStoredAs}
-use Rattle.h41_xrom.specs.KeyActions.{KeyMakes, KeyOutcome, Leaves, Presses, StoredElsewhere, StoredFunction, StoredName}
+use Rattle.h41_xrom.specs.KeyActions.{KeyMakes, KeyOutcome, Leaves, Presses, StoredFunction, StoredIfNoLabel, StoredName}
 use Rattle.h41_xrom.specs.KeyActions.{StoresLine, activity_of, after_outcome, edit_effect, flags_at, is_final, line_effect}
-use Rattle.h41_xrom.specs.KeyActions.{press_of, puts_end, with_key_told, with_number_begun, with_number_changed}
+use Rattle.h41_xrom.specs.KeyActions.{press_of, puts_end, with_key_accepted, with_number_changed, with_number_started}
 use Rattle.h41_xrom.specs.declared.calculator.Caller.{Caller}
 use Rattle.h41_xrom.specs.declared.calculator.Mode.{Mode}
 use Rattle.h41_xrom.specs.declared.calculator.Mode.TheVariants as modes
@@ -99,7 +99,7 @@ module _ (ends : LineHasOneEnd) (names : NameHasOneFunction) (labels : MemoryHas
   begins text machine =
       let found = values (Written text) machine.memory 0 in
       let of = register_of text machine.memory found.answer found.right in
-      record { answer = Ok (Leaves (with_number_begun machine of.0)); right = (of.0, of.1, refl) }
+      record { answer = Ok (Leaves (with_number_started machine of.0)); right = (of.0, of.1, refl) }
 
   changes : (text : List Character) (machine : Machine) → Has (ChangesNumber text machine)
   changes text machine =
@@ -116,7 +116,7 @@ module _ (ends : LineHasOneEnd) (names : NameHasOneFunction) (labels : MemoryHas
   stored_function line None inner = (line, refl, inner)
 
   stored_elsewhere : (line : Line) (name : List ℕ) (numbers : Option (ℕ × ℕ)) → IsInner line → IfSome numbers AreNumbers
-      → Stored (StoredElsewhere line name numbers)
+      → Stored (StoredIfNoLabel line name numbers)
   stored_elsewhere line name (Some numbers) inner are =
       (lines.Module numbers.0 numbers.1, refl, record { valid = (are.1, are.2); inner = refl })
   stored_elsewhere line name None inner are =
@@ -174,7 +174,7 @@ module _ (ends : LineHasOneEnd) (names : NameHasOneFunction) (labels : MemoryHas
   abbrev Makes : CalculatorState → Key → Action → Input → Result CalculatorState CalculatorRefusal → Type 0
   Makes s key action input made =
       (effect : Made) × Acts s.nut.pages input.program_mode action (machine_of s) effect
-      × (made ≡ after_outcome (with_key_told key input s) effect)
+      × (made ≡ after_outcome (with_key_accepted key input s) effect)
 
   abbrev MakesIn : Mode → CalculatorState → Key → Option Pressed → Result CalculatorState CalculatorRefusal → Type 0
   MakesIn mode s key None made = made ≡ Err KeyNotHeld
@@ -185,7 +185,7 @@ module _ (ends : LineHasOneEnd) (names : NameHasOneFunction) (labels : MemoryHas
   makes : (s : CalculatorState) (key : Key) (action : Action) (input : Input)
       → Has (Acts s.nut.pages input.program_mode action (machine_of s)) → Has (Makes s key action input)
   makes s key action input effect =
-      record { answer = after_outcome (with_key_told key input s) effect.answer; right = (effect.answer, effect.right, refl) }
+      record { answer = after_outcome (with_key_accepted key input s) effect.answer; right = (effect.answer, effect.right, refl) }
 
   made_if : (sound : Bool) (s : CalculatorState) (key : Key) (press : Pressed) → is_sound s.nut.ram ≡ sound → StoresInner press.action
       → Has (λ made. MatchOption (then_some (not sound) MemoryLost) (Makes s key press.action press.input made) (λ why. made ≡ Err why))

@@ -3,7 +3,7 @@ use Rattle.std.proofs.Common.{◌≡◌, ℕ, zero, suc, List, [], ◌++◌, Opt
 use Rattle.h41_keys.specs.declared.key.Key.{Key}
 use Rattle.h41_xrom.specs.declared.refusal.CalculatorRefusal.{CalculatorRefusal}
 use Rattle.h41_debug.specs.Bench.{BenchState, PressesInTurn, Steps}
-use Rattle.h41_debug.specs.BenchLaws.{PressesAreDetermined, RunsAreDetermined, StatesAreTold, StepsAreDetermined, StepsAreTraced}
+use Rattle.h41_debug.specs.BenchLaws.{PressesAreDetermined, RunsAreDetermined, StatesAreDescribed, StepsAreDetermined, StepsAreTraced}
 use Rattle.h41_debug.specs.BenchLaws.{TracesAreDetermined}
 use Rattle.h41_debug.specs.Run.{Run}
 use Rattle.h41_debug.specs.Traces.{Traces, traced_line}
@@ -47,7 +47,7 @@ one_of_runs determined limit s t made why run = record {
 abbrev Traced : ℕ → BenchState → BenchState → Option CalculatorRefusal → Type 0
 Traced count s t refusal = (lines : List ℕ) × Traces count s t lines refusal
 
-traced : StatesAreTold → StepsAreTraced → (count : ℕ) (s t : BenchState) (refusal : Option CalculatorRefusal) → Steps count s t refusal
+traced : StatesAreDescribed → StepsAreTraced → (count : ℕ) (s t : BenchState) (refusal : Option CalculatorRefusal) → Steps count s t refusal
     → Traced count s t refusal
 traced told traces zero s t refusal steps = ([], (steps.0, refl, steps.1))
 traced told traces (suc count) s t refusal steps =
@@ -55,7 +55,7 @@ traced told traces (suc count) s t refusal steps =
     let rest = traces count s t text.0 refusal text.1 steps in
     (traced_line text.0 ++ rest.0, rest.1)
 
-pub one_of_traces : StatesAreTold → StepsAreTraced → TracesAreDetermined → (count : ℕ) (s t : BenchState)
+pub one_of_traces : StatesAreDescribed → StepsAreTraced → TracesAreDetermined → (count : ℕ) (s t : BenchState)
     (refusal : Option CalculatorRefusal) → Steps count s t refusal → HasOne (TraceLeaves count s)
 one_of_traces told traces determined count s t refusal steps =
     let of = traced told traces count s t refusal steps in

@@ -3,7 +3,8 @@ use Rattle.std.proofs.Common.{◌≡◌, ℕ, List, Option, Some, None, Result, 
 use Rattle.std.specs.Option.{option_map}
 use Rattle.h41_editor.specs.Changes.{Changed, Deletes, DeletesAt, DeletesLine, ShowsFront, shown_in_front}
 use Rattle.h41_editor.specs.EditorLaws.{MoveIsDetermined}
-use Rattle.h41_editor.specs.Moves.{EndsBy, GoesToEnd, ShowsAt, ShowsBefore, ShowsBeforeLine, ShowsBehind, ShowsEnd, ShowsInFront, ShowsNext}
+use Rattle.h41_editor.specs.Moves.{EndsBy, GoesToEnd, ShowsAfterLine, ShowsAt, ShowsBefore, ShowsBeforeLine, ShowsEnd, ShowsInFront}
+use Rattle.h41_editor.specs.Moves.{ShowsNext}
 use Rattle.h41_editor.specs.Moves.{ShowsStart, is_last, shown_end}
 use Rattle.h41_editor.specs.NumberedLines.{HasNumbered, Numbers, with_number}
 use Rattle.h41_editor.specs.ProgramText.{ShowsLine, ShowsProgram, line_00_text, text_of, unknown_text}
@@ -97,7 +98,7 @@ module _ (lines : PositionHasOne LineAt) (numbers : PositionHasOne NumberAt) whe
       shows_on pages machine next = record { answer = Ok (at_line next.0 machine); right = (next.0, next.1, refl) }
 
       shows_behind : (pages : PageMap) (machine : Machine) (first : Result PlacedLine ProgramRefusal)
-          → LineAt pages machine.memory machine.focal.position first → Has (ShowsBehind pages machine first)
+          → LineAt pages machine.memory machine.focal.position first → Has (ShowsAfterLine pages machine first)
       shows_behind pages machine (Ok first) stands =
           let next = nexts pages machine.memory machine.focal.position in
           either (is_last first) (ShowsStart pages machine) (ShowsOn pages machine) (shows_start pages machine)
@@ -108,7 +109,7 @@ module _ (lines : PositionHasOne LineAt) (numbers : PositionHasOne NumberAt) whe
       ShowsFrom pages machine moved =
           (first : Result PlacedLine ProgramRefusal)
           × LineAt pages machine.memory machine.focal.position first
-          × ShowsBehind pages machine first moved
+          × ShowsAfterLine pages machine first moved
 
       shows_from : (pages : PageMap) (machine : Machine) → Has (ShowsFrom pages machine)
       shows_from pages machine =

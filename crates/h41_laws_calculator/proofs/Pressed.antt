@@ -33,10 +33,10 @@ use Rattle.h41_rows.specs.Rows.{coming_in, compute}
 use Rattle.h41_rows.specs.Values.{Written}
 use Rattle.h41_xrom.specs.Calculator.{CalculatorState, machine_of}
 use Rattle.h41_xrom.specs.KeyActions.{Acts, BeginsNumber, Carries, ChangesNumber, Edits, IsStoredAs, KeyMakes}
-use Rattle.h41_xrom.specs.KeyActions.{KeyOutcome, Leaves, LineEnds, Starts, StoredElsewhere, StoredFunction, StoredName, Stops}
+use Rattle.h41_xrom.specs.KeyActions.{KeyOutcome, Leaves, LineEnds, Starts, Stops, StoredFunction, StoredIfNoLabel, StoredName}
 use Rattle.h41_xrom.specs.KeyActions.{StoresLine, activity_of, after_outcome, edit_effect, key_refusal}
 use Rattle.h41_xrom.specs.KeyActions.{line_effect}
-use Rattle.h41_xrom.specs.KeyActions.{press_of, taken_in, with_key_told, with_letters}
+use Rattle.h41_xrom.specs.KeyActions.{press_of, taken_in, with_key_accepted, with_letters}
 use Rattle.h41_xrom.specs.KeyActions.{with_text}
 use Rattle.h41_xrom.specs.Lines.{Ended}
 use Rattle.h41_xrom.specs.declared.lines.LineSource.{LineSource}
@@ -90,7 +90,7 @@ stored_function line (Some function) stored inner is = subst IsInner (sym is) (r
 stored_function line None stored inner is = subst IsInner (sym is) inner
 
 stored_elsewhere : (line : Line) (name : List ℕ) (numbers : Option (ℕ × ℕ)) (stored : Line) → IsInner line → IfSome numbers AreNumbers
-    → StoredElsewhere line name numbers stored → IsInner stored
+    → StoredIfNoLabel line name numbers stored → IsInner stored
 stored_elsewhere line name (Some numbers) stored inner are is =
     subst IsInner (sym is) (record { valid = (are.1, are.2); inner = refl })
 stored_elsewhere line name None stored inner are is = stored_function line is.0 stored inner is.2
@@ -187,7 +187,7 @@ code_small keyboard.On = omega arith
 code_small key = omega arith
 
 told : (key : Key) (input : Input) (s : CalculatorState) → IsWholeCalculator s → IsWholeInput input
-    → IsWholeCalculator (with_key_told key input s)
+    → IsWholeCalculator (with_key_accepted key input s)
 told key input s whole is = record {
   nut = record {
     processor = record {
@@ -226,10 +226,10 @@ makes s key None made whole valid is = subst MadeWhole (sym is) tt
 makes s key (Some press) made whole valid is =
     by_refusal (key_refusal s) made
     ((effect : Made) × Acts s.nut.pages press.input.program_mode press.action (machine_of s) effect
-    × (made ≡ after_outcome (with_key_told key press.input s) effect)) is
+    × (made ≡ after_outcome (with_key_accepted key press.input s) effect)) is
     (λ none goes.
     subst MadeWhole (sym goes.2)
-    (acted (with_key_told key press.input s) goes.0 (told key press.input s whole valid.1)
+    (acted (with_key_accepted key press.input s) goes.0 (told key press.input s whole valid.1)
     (acts s.nut.pages press.input.program_mode press.action (machine_of s) goes.0 valid.0 (memory_of s whole) goes.1)))
 
 module _ (keys : KeyLeavesWhole) where

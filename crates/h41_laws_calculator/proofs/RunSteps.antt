@@ -9,7 +9,7 @@ use Rattle.h41_xrom.specs.CalculatorLaws.{StepIsDetermined, StepRefusalIsDetermi
 use Rattle.h41_debug.specs.Bench.{BenchState, Steps, with_calculator}
 use Rattle.h41_debug.specs.Run.{Run}
 use Rattle.h41_debug.specs.private.Advancing.{MakesSteps}
-use Rattle.h41_debug.specs.private.Running.{stop_at, stop_behind}
+use Rattle.h41_debug.specs.private.Running.{stop_after, stop_at}
 use Rattle.h41_debug.specs.declared.run.Stop.{Stop}
 use Rattle.h41_debug.specs.declared.run.Stop.TheVariants.{Idle}
 use Rattle.h41_debug.proofs.Runs.{ends_at_limit, ends_refused, goes_on, made_more, made_none, stops}
@@ -20,8 +20,8 @@ use Rattle.h41_laws_calculator.specs.BenchOutcomes.{LeadsToRegisters}
 some_made : (made : ℕ) → nat_lt 0 (made + 1) ≡ true
 some_made made = grind (arith, nat_tests)
 
-behind_one : (made : ℕ) (t : BenchState) (stop : Option Stop) → stop_at t ≡ stop → stop_behind (nat_lt 0 (made + 1)) t ≡ stop
-behind_one made t stop is = subst (λ (behind : Bool). stop_behind behind t ≡ stop) (sym (some_made made)) is
+behind_one : (made : ℕ) (t : BenchState) (stop : Option Stop) → stop_at t ≡ stop → stop_after (nat_lt 0 (made + 1)) t ≡ stop
+behind_one made t stop is = subst (λ (behind : Bool). stop_after behind t ≡ stop) (sym (some_made made)) is
 
 -- Steps in turn, and a run, that exist.
 pub record Stepped (count : ℕ) (s : BenchState) : Type 0 where
@@ -57,7 +57,7 @@ module _ (refusals : StepHasOneRefusal) (states : AcceptedStepHasOneState) where
     abbrev Runs : ℕ → Type 0
     Runs left =
         (limit made : ℕ) (s t : BenchState) → made + left ≡ limit → LeadsToRegisters s → is_idle s.calculator.mode ≡ false
-        → MakesSteps limit made s t → stop_behind (nat_lt 0 made) t ≡ None → Ran limit s
+        → MakesSteps limit made s t → stop_after (nat_lt 0 made) t ≡ None → Ran limit s
 
     run_behind : (left limit made : ℕ) → Runs left → (s t : BenchState) → made + suc left ≡ limit → LeadsToRegisters s
         → is_idle s.calculator.mode ≡ false → MakesSteps limit (made + 1) s t → (stop : Option Stop) → stop_at t ≡ stop → Ran limit s
@@ -72,7 +72,7 @@ module _ (refusals : StepHasOneRefusal) (states : AcceptedStepHasOneState) where
         more limit (made + 1) s t (omega (arith, sum)) leads running so_far (behind_one made t None stop)
 
     run_by : (left limit made : ℕ) → Runs left → (s t : BenchState) → made + suc left ≡ limit → LeadsToRegisters s
-        → is_idle s.calculator.mode ≡ false → MakesSteps limit made s t → stop_behind (nat_lt 0 made) t ≡ None
+        → is_idle s.calculator.mode ≡ false → MakesSteps limit made s t → stop_after (nat_lt 0 made) t ≡ None
         → (why : Option CalculatorRefusal) → RefusesStep t.calculator why → Ran limit s
     run_by left limit made more s t sum leads running so_far stop None accepted =
         let next = states t.calculator (leads made t so_far.steps) accepted in

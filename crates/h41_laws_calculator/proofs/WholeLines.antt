@@ -11,8 +11,8 @@ use Rattle.h41_decimal.specs.declared.ten.Ten.{Ten}
 use Rattle.h41_digits.specs.Register.{IsRegister}
 use Rattle.h41_focal.specs.Destinations.{Arrives, Destination, Halts, HasNoLabel, HasNoLine, Manner, Runs, Seeks, Stays, Stepped, Tells}
 use Rattle.h41_focal.specs.Destinations.{Typed}
-use Rattle.h41_focal.specs.LineStep.{Applies, AppliesTo, AppliesWith, CarriesOut, ComputesIn, EntersWith, Ends, FailsIn}
-use Rattle.h41_focal.specs.LineStep.{FailsWith, Left, PassesWith, Stands, StepsAs, StepsLine}
+use Rattle.h41_focal.specs.LineStep.{Applies, AppliesTo, AppliesWith, CarriesOut, ComputesIn, Ends, EndsInError, EntersWith}
+use Rattle.h41_focal.specs.LineStep.{FailsIfRead, Left, PassesWith, Stands, StepsAs, StepsLine}
 use Rattle.h41_positions.specs.FocalState.{Machine}
 use Rattle.h41_focal.specs.LineStep.{TakesLine, TypesLine, Works, answer_of_showing, error_flag, left_by_fault, left_done}
 use Rattle.h41_positions.specs.FocalState.{at_line}
@@ -44,7 +44,8 @@ use Rattle.h41_rows.specs.declared.fault.LineFault.{LineFault}
 use Rattle.h41_rows.specs.declared.fault.LineFault.TheVariants.{AlphaData, DataError, Nonexistent, OutOfRange}
 use Rattle.h41_xrom.specs.Lines.{Answers, Begins, BeginsEntry, CallsEntry, CallsName, CarriesFrom, CarriesLine, CarriesNamed, Ended}
 use Rattle.h41_xrom.specs.Lines.{EntersFrom}
-use Rattle.h41_xrom.specs.Lines.{Fails, FailsFrom, GoesOn, GoesOnFrom, PassesFrom, begun_at, end_of_answer, end_of_entering}
+use Rattle.h41_xrom.specs.Lines.{EndsAsNonexistent, FailsAsNonexistent, GoesOn, GoesOnFrom, PassesFrom, end_of_answer, end_of_starting}
+use Rattle.h41_xrom.specs.Lines.{end_of_entering}
 use Rattle.h41_xrom.specs.declared.lines.LineSource.{LineSource}
 use Rattle.h41_xrom.specs.declared.lines.LineSource.TheVariants as sources
 use Rattle.h41_laws_words.proofs.Registers.{zeros_register}
@@ -109,7 +110,7 @@ fault_left Typed machine fault whole =
     (λ shown. whole)
 
 fails_left : (how : Manner) (machine : Machine) (fault : LineFault) (carried : Result Left FocalRefusal) → IsWholeMemory machine.memory
-    → FailsIn how machine fault carried → Leaves carried
+    → EndsInError how machine fault carried → Leaves carried
 fails_left how machine fault carried whole is = subst Leaves (sym is) (fault_left how machine fault whole)
 
 -- A line that continues.
@@ -220,16 +221,16 @@ carried_from (sources.Keys line) pages function machine carried valid whole is =
     typed_line pages (line_as function line) machine carried (as_valid function line valid) whole is
 
 failed_with : (fault : LineFault) (machine : Machine) (standing : Result (Line × Position) FocalRefusal)
-    (carried : Result Left FocalRefusal) → IsWholeMemory machine.memory → FailsWith fault machine standing carried → Leaves carried
+    (carried : Result Left FocalRefusal) → IsWholeMemory machine.memory → FailsIfRead fault machine standing carried → Leaves carried
 failed_with fault machine (Ok standing) carried whole is = fails_left (Stepped standing.1) machine fault carried whole is
 failed_with fault machine (Err refusal) carried whole is = subst Leaves (sym is) tt
 
 failed_from : (source : LineSource) (pages : PageMap) (machine : Machine) (carried : Result Left FocalRefusal)
-    → IsWholeMemory machine.memory → FailsFrom source pages machine carried → Leaves carried
+    → IsWholeMemory machine.memory → FailsAsNonexistent source pages machine carried → Leaves carried
 failed_from sources.Program pages machine carried whole is = failed_with Nonexistent machine is.0 carried whole is.2
 failed_from (sources.Keys line) pages machine carried whole is =
-    matched (is_sound machine.memory) (FailsIn Typed machine Nonexistent carried) (carried ≡ Err refusals.MemoryLost) (Leaves carried) is
-    (fails_left Typed machine Nonexistent carried whole) (λ lost. subst Leaves (sym lost) tt)
+    matched (is_sound machine.memory) (EndsInError Typed machine Nonexistent carried) (carried ≡ Err refusals.MemoryLost) (Leaves carried)
+    is (fails_left Typed machine Nonexistent carried whole) (λ lost. subst Leaves (sym lost) tt)
 
 passed_with : (machine : Machine) (standing : Result (Line × Position) FocalRefusal) (after : Result Machine FocalRefusal)
     → IsWholeMemory machine.memory → PassesWith machine standing after → LeavesMachine after
@@ -251,7 +252,7 @@ ended_so : (carried : Result Left FocalRefusal) → Leaves carried → EndsWhole
 ended_so (Ok left) whole = whole
 ended_so (Err refusal) whole = tt
 
-begun_so : (address : ℕ) (after : Result Machine FocalRefusal) → LeavesMachine after → EndsWhole (begun_at address after)
+begun_so : (address : ℕ) (after : Result Machine FocalRefusal) → LeavesMachine after → EndsWhole (end_of_starting address after)
 begun_so address (Ok machine) whole = whole
 begun_so address (Err refusal) whole = tt
 
@@ -260,7 +261,7 @@ entered_so (Ok machine) whole = whole
 entered_so (Err refusal) whole = tt
 
 failed : (source : LineSource) (pages : PageMap) (machine : Machine) (ended : Result Ended FocalRefusal) → IsWholeMemory machine.memory
-    → Fails source pages machine ended → EndsWhole ended
+    → EndsAsNonexistent source pages machine ended → EndsWhole ended
 failed source pages machine ended whole is =
     subst EndsWhole (sym is.2) (ended_so is.0 (failed_from source pages machine is.0 whole is.1))
 
@@ -279,7 +280,7 @@ begun : (source : LineSource) (pages : PageMap) (entry : Entry) (machine : Machi
     → IsWholeMemory machine.memory → BeginsEntry source pages entry machine ended → EndsWhole ended
 begun source pages entry machine ended whole is =
     matched entry.keystroke (EntersFrom source pages entry.address machine ended)
-    ((after : Result Machine FocalRefusal) × PassesFrom source pages machine after × (ended ≡ begun_at entry.address after))
+    ((after : Result Machine FocalRefusal) × PassesFrom source pages machine after × (ended ≡ end_of_starting entry.address after))
     (EndsWhole ended) is (entered_from source pages entry.address machine ended whole)
     (λ passes. subst EndsWhole (sym passes.2) (begun_so entry.address passes.0 (passed_from source pages machine passes.0 whole passes.1)))
 

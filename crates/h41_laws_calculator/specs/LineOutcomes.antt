@@ -2,7 +2,7 @@
 use Rattle.std.specs.Prelude.{ℕ, Option}
 use Rattle.h41_codes.specs.declared.functions.Function.{Function}
 use Rattle.h41_codes.specs.declared.line.Line.{Line}
-use Rattle.h41_focal.specs.LineStep.{EntersLine, FailsLine, FailsTyped, PassesLine}
+use Rattle.h41_focal.specs.LineStep.{EntersLine, PassesLine, SteppedLineFails, TypedLineFails}
 use Rattle.h41_positions.specs.FocalState.{Machine}
 use Rattle.h41_focal.specs.LineStep.{StepsLine, TypesLine}
 use Rattle.h41_pages.specs.PageMap.{PageMap}
@@ -24,12 +24,12 @@ TypedHasOneOutcome =
 abbrev pub FailureHasOneOutcome : Type 0
 FailureHasOneOutcome =
     (pages : PageMap) (fault : LineFault) (machine : Machine)
-    → HasOne (FailsLine pages fault machine)
+    → HasOne (SteppedLineFails pages fault machine)
 
 -- A typed line that fails has exactly one outcome.
 abbrev pub TypedFailureHasOneOutcome : Type 0
 TypedFailureHasOneOutcome =
-    (fault : LineFault) (machine : Machine) → HasOne (FailsTyped fault machine)
+    (fault : LineFault) (machine : Machine) → HasOne (TypedLineFails fault machine)
 
 -- A line that is passed has exactly one outcome.
 abbrev pub PassingHasOneOutcome : Type 0

@@ -31,30 +31,39 @@ mistake_differs : (text : String Global) → endings.Mistake text ≡ endings.Ou
 mistake_differs text is = cc
 
 module _ {O R X W E : Type 0} (opener : Mut O (Bor (List ℕ) × Unit {0}) (Result R X))
-    (source : sources.Ghosts (FromRead R)) (sink : sinks.Ghosts W) (told : sinks.Ghosts E)
+    (source : sources.Ghosts (FromRead R)) (sink : sinks.Ghosts W) (stderr : sinks.Ghosts E)
     (opener_old opener_new : O) (file_old file_new : Option (FromRead R)) (input_old input_new : FromRead R)
-    (old new : W) (told_old told_new : E) (status : ℕ) where
+    (old new : W) (stderr_old stderr_new : E) (status : ℕ) where
   abbrev Out : Type 0
-  Out = RunsOut opener source sink told opener_old opener_new file_old file_new input_old input_new old new told_old told_new status
+  Out = RunsOut opener source sink stderr opener_old opener_new file_old file_new input_old input_new old new stderr_old stderr_new status
 
   abbrev Of : Task × List ℕ → Type 0
-  Of = DoesJobOf opener source sink told opener_old opener_new file_old file_new input_old input_new old new told_old told_new status
+  Of = DoesJobOf opener source sink stderr opener_old opener_new file_old file_new input_old input_new old new stderr_old stderr_new status
 
   abbrev Mistaken : List ℕ → Type 0
   Mistaken =
-      EndsMistaken opener source sink told opener_old opener_new file_old file_new input_old input_new old new told_old told_new status
+      EndsMistaken opener source sink stderr opener_old opener_new file_old file_new input_old input_new
+      old new stderr_old stderr_new status
 
   abbrev Printed : List ℕ → Type 0
-  Printed = EndsPrinted opener source sink told opener_old opener_new file_old file_new input_old input_new old new told_old told_new status
+  Printed =
+      EndsPrinted opener source sink stderr opener_old opener_new file_old file_new input_old input_new
+      old new stderr_old stderr_new status
 
   abbrev Refused : Kinds → Type 0
-  Refused = EndsRefused opener source sink told opener_old opener_new file_old file_new input_old input_new old new told_old told_new status
+  Refused =
+      EndsRefused opener source sink stderr opener_old opener_new file_old file_new input_old input_new
+      old new stderr_old stderr_new status
 
   abbrev Words : List (List ℕ) → Type 0
-  Words = AnswersWords opener source sink told opener_old opener_new file_old file_new input_old input_new old new told_old told_new status
+  Words =
+      AnswersWords opener source sink stderr opener_old opener_new file_old file_new input_old input_new
+      old new stderr_old stderr_new status
 
   abbrev Inputs : Type 0
-  Inputs = LeavesInputs opener source sink told opener_old opener_new file_old file_new input_old input_new old new told_old told_new status
+  Inputs =
+      LeavesInputs opener source sink stderr opener_old opener_new file_old file_new input_old input_new
+      old new stderr_old stderr_new status
 
   -- Allocation may fail for any words.
   pub answers_out : (words : List (List ℕ)) → Out → Words words
@@ -66,7 +75,8 @@ module _ {O R X W E : Type 0} (opener : Mut O (Bor (List ℕ) × Unit {0}) (Resu
 
   -- The words gave a job, which is done.
   pub answers_job : (words : List (List ℕ)) (job : Job) → RefusedByKind words (Ok job) → GivesJobOf words (Ok job)
-      → DoesJob opener source sink told opener_old opener_new file_old file_new input_old input_new old new told_old told_new status job
+      → DoesJob opener source sink stderr opener_old opener_new file_old file_new input_old input_new old new
+      stderr_old stderr_new status job
       → Words words
   answers_job words job refused given does = record {
     job = λ passed. if_some (job_asked words) _ (λ parts is.
@@ -113,7 +123,7 @@ module _ {O R X W E : Type 0} (opener : Mut O (Bor (List ℕ) × Unit {0}) (Resu
   -- What the program does instead of a job.
   pub answers_ending : (words : List (List ℕ)) (ending : Ending) → RefusedByKind words (Err ending)
       → GivesJobOf words (Err ending) → SaysWrongOption words (Err ending) → Inputs
-      → EndsAtOnce sink told old new told_old told_new status ending → Words words
+      → EndsAtOnce sink stderr old new stderr_old stderr_new status ending → Words words
   answers_ending words endings.OutOfMemory refused given option inputs ends =
       answers_out words (record { inputs = inputs; out = ends })
   answers_ending words (endings.Help text) refused given option inputs ends =
@@ -176,8 +186,8 @@ module _ {O R X W E : Type 0} (opener : Mut O (Bor (List ℕ) × Unit {0}) (Resu
   ]
 
   pub answers_plainly : (words : List (List ℕ)) → Words words
-      → AnswersPlainly opener source sink told opener_old opener_new file_old file_new input_old input_new
-      old new told_old told_new status words
+      → AnswersPlainly opener source sink stderr opener_old opener_new file_old file_new input_old input_new
+      old new stderr_old stderr_new status words
   answers_plainly words answers = record {
     run = plain_job run_name words answers;
     asm = plain_job asm_name words answers;

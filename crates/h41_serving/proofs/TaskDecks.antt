@@ -82,7 +82,7 @@ module _ {R W : Type 0} (size : MemorySize) (source : sources.Ghosts R) (sink : 
         read = λ is.
             let same = same_fault _ refl is in
             why_deck registers source sink before after old new (rw same at left) (rw same at passed (λ other. cc));
-        begun = leaves_begun registers source sink before after old new fault left;
+        partial = leaves_begun registers source sink before after old new fault left;
         unread = λ is. leaves_unread registers source sink before after old new (let same = same_fault _ refl is in rw same at left);
         memory = λ is. leaves_memory registers source sink before after old new (let same = same_fault _ refl is in rw same at left);
         cut = λ is. leaves_front registers source sink before after old new (let same = same_fault _ refl is in rw same at left);
@@ -104,7 +104,7 @@ module _ {R W : Type 0} (size : MemorySize) (source : sources.Ghosts R) (sink : 
     kind = no_wrong_word outcome;
     flushed = flushed;
     read = λ is. cc;
-    begun = tt;
+    partial = tt;
     unread = λ is. cc;
     memory = λ is. cc;
     cut = λ is. cc;

@@ -10,25 +10,25 @@ use Rattle.h41_ends.specs.Ends.{GivesWithin, most_bytes}
 use Rattle.h41_refusals.specs.declared.fault.Fault.{Fault}
 use Rattle.h41_refusals.specs.declared.fault.Fault.TheVariants.{OutOfMemory, ReadFault, WriteFault}
 use Rattle.h41_jobs.specs.declared.ended.Ended.{Ended}
-use Rattle.h41_jobs.specs.Inputs.{IsWhole}
+use Rattle.h41_jobs.specs.Inputs.{IsAllOfInput}
 use Rattle.h41_jobs.specs.Texts.{AssemblyEnds, AssemblyText, HasNoWrongWord, IsNotRefused, ListingEnds, ListingText}
 use Rattle.h41_serving.specs.Tasks.{IsTooLong, WritesFrontOf, WritesTextOf}
 use Rattle.h41_serving.specs.private.CarriedOut.{CarriesOut, CarriesOutWhole}
 
 -- What holds of the bytes holds of the input, because they are the whole of it.
-whole_holds : (known : Option (List ℕ)) (bytes : List ℕ) (P : List ℕ → Type 0) → IfSome known (IsWhole bytes)
+whole_holds : (known : Option (List ℕ)) (bytes : List ℕ) (P : List ℕ → Type 0) → IfSome known (IsAllOfInput bytes)
     → P bytes → IfSome known P
 whole_holds None bytes P read holds = tt
 whole_holds (Some input) bytes P read holds = subst P read.all holds
 
 -- A text of the bytes is written, or a prefix of it.
 whole_text : (text_of : List ℕ → List ℕ → Type 0) (known old new : Option (List ℕ)) (bytes text : List ℕ)
-    → IfSome known (IsWhole bytes) → text_of bytes text → Appends old new text → IfSome known (WritesTextOf text_of old new)
+    → IfSome known (IsAllOfInput bytes) → text_of bytes text → Appends old new text → IfSome known (WritesTextOf text_of old new)
 whole_text text_of known old new bytes text read has written =
     whole_holds known bytes (WritesTextOf text_of old new) read (text, has, written)
 
 whole_front : (text_of : List ℕ → List ℕ → Type 0) (known old new : Option (List ℕ)) (bytes text : List ℕ)
-    → IfSome known (IsWhole bytes) → text_of bytes text → (count : ℕ) × Appends old new (take count text)
+    → IfSome known (IsAllOfInput bytes) → text_of bytes text → (count : ℕ) × Appends old new (take count text)
     → IfSome known (WritesFrontOf text_of old new)
 whole_front text_of known old new bytes text read has front =
     whole_holds known bytes (WritesFrontOf text_of old new) read (text, has, front.0, front.1)
@@ -82,7 +82,7 @@ module _ {R W : Type 0} (result : Result Ended Fault) (source : sources.Ghosts R
     kind = whole.kind;
     flushed = whole.flushed;
     read = λ is. why_unread _ _ _ (kept_unread is whole.nothing) (whole.unread is);
-    begun = whole.nothing;
+    partial = whole.nothing;
     unread = λ is. kept_unread is whole.nothing;
     memory = λ is. kept_memory is whole.nothing;
     cut = whole.cut;
@@ -101,7 +101,7 @@ module _ {R W : Type 0} (result : Result Ended Fault) (source : sources.Ghosts R
     kind = whole.kind;
     flushed = whole.flushed;
     read = λ is. why_unread _ _ _ (kept_unread is whole.nothing) (whole.unread is);
-    begun = whole.nothing;
+    partial = whole.nothing;
     unread = λ is. kept_unread is whole.nothing;
     memory = λ is. kept_memory is whole.nothing;
     cut = whole.cut;
@@ -114,7 +114,7 @@ module _ {R W : Type 0} (result : Result Ended Fault) (source : sources.Ghosts R
 
 module _ {R W : Type 0} (text_of : List ℕ → List ℕ → Type 0) (ends_of : Ended → List ℕ → Type 0) (may_end : Ended → Type 0)
     (source : sources.Ghosts R) (sink : sinks.Ghosts W) (before after : R) (old new : W) (bytes text : List ℕ)
-    (read : IfSome (source.remaining before) (IsWhole bytes)) (has : text_of bytes text) (reader : source.failed after ≡ false)
+    (read : IfSome (source.remaining before) (IsAllOfInput bytes)) (has : text_of bytes text) (reader : source.failed after ≡ false)
     (within : GivesWithin (source.given before) (source.given after)) where
   -- Writing the text fails.
   pub not_written : (count : ℕ) × Appends (sink.contents old) (sink.contents new) (take count text) → sink.failed new ≡ true

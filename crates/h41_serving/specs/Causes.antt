@@ -10,13 +10,14 @@ cause_line file cause =
     codes "bench" ++ (codes ": " ++ (file ++ (codes ": " ++ (cause ++ codes "\n"))))
 
 -- A text is written after others. If the stream has failed before, nothing is written.
-pub record TellsOn {E : Type 0} (told : sinks.Ghosts E) (old new : E) (text : List ℕ) : Type 0 where
-  pub clear : told.failed old ≡ false → Tells told old new text
-  pub failed : told.failed old ≡ true → new ≡ old
+pub record TellsOn {E : Type 0} (stderr : sinks.Ghosts E) (old new : E) (text : List ℕ)
+    : Type 0 where
+  pub clear : stderr.failed old ≡ false → Tells stderr old new text
+  pub failed : stderr.failed old ≡ true → new ≡ old
 
 -- The operating system's message about this file is written in this way.
 abbrev pub SaysCause : {E : Type 0} → sinks.Ghosts E → E → E → List ℕ → Type 0
-SaysCause told old new file = (cause : List ℕ) × TellsOn told old new (cause_line file cause)
+SaysCause stderr old new file = (cause : List ℕ) × TellsOn stderr old new (cause_line file cause)
 
 -- What is reported of a file after the line of the error: the operating system's message, if a read
 -- has failed.

@@ -25,13 +25,14 @@ use Rattle.h41_jobs.specs.declared.arguments.Task.{Task}
 use Rattle.h41_jobs.specs.declared.arguments.Task.TheVariants as tasks
 use Rattle.h41_jobs.specs.declared.memory.MemorySize.TheVariants as sizes
 use Rattle.h41_serving.specs.Causes.{IsSaid, cause_line}
-use Rattle.h41_serving.specs.Statuses.{EndsJob, IsCause, IsTaskStatus, TellsMark, fault_line}
-use Rattle.h41_serving.specs.Tasks.{JobBegun, JobLeavesFront, JobLeavesUnread, JobPassedOn}
+use Rattle.h41_serving.specs.Statuses.{EndsJob, ErrorFlagGivesStatus, IsCause, IsTaskStatus}
+use Rattle.h41_serving.specs.Statuses.{fault_line}
+use Rattle.h41_serving.specs.Tasks.{JobLeavesFront, JobLeavesPartial, JobLeavesUnread, JobPassedOn}
 use Rattle.h41_serving.specs.Tasks.{JobWritesText, Tells, TellsWord}
 
 -- The words with the program's own name as the first, whatever that was.
-abbrev pub behind_name : List (List ℕ) → List (List ℕ)
-behind_name words = codes "bench" ∷ drop 1 words
+abbrev pub with_own_name : List (List ℕ) → List (List ℕ)
+with_own_name words = codes "bench" ∷ drop 1 words
 
 -- The message if a word is not UTF-8.
 abbrev pub no_text : List ℕ
@@ -49,30 +50,30 @@ print_status true = 3
 
 -- A file cannot be opened: the line of ReadFault (22), followed by the operating system's message.
 abbrev pub TellsUnopened : {E : Type 0} → sinks.Ghosts E → E → E → List ℕ → Type 0
-TellsUnopened told old new file =
-    (cause : List ℕ) × Tells told old new (fault_line ReadFault ++ cause_line file cause)
+TellsUnopened stderr old new file =
+    (cause : List ℕ) × Tells stderr old new (fault_line ReadFault ++ cause_line file cause)
 
 -- ---- There is no job.
 
-module _ {W E : Type 0} (sink : sinks.Ghosts W) (told : sinks.Ghosts E) (old new : W)
-    (told_old told_new : E) (status : ℕ) where
+module _ {W E : Type 0} (sink : sinks.Ghosts W) (stderr : sinks.Ghosts E) (old new : W)
+    (stderr_old stderr_new : E) (status : ℕ) where
   -- A text that was asked for is printed. If that fails, the error is reported.
   pub record PrintsText (text : List ℕ) : Type 0 where
     pub ends : status ≡ print_status (sink.failed new)
     pub printed : Tells sink old new text
-    pub silent : sink.failed new ≡ false → told_new ≡ told_old
-    pub fault : sink.failed new ≡ true → Tells told told_old told_new (fault_line WriteFault)
+    pub silent : sink.failed new ≡ false → stderr_new ≡ stderr_old
+    pub fault : sink.failed new ≡ true → Tells stderr stderr_old stderr_new (fault_line WriteFault)
 
   -- A message about wrong words is written, and nothing is printed.
   pub record TellsWrong (text : List ℕ) : Type 0 where
-    pub ends : status ≡ mistake_status (told.failed told_new)
-    pub line : Tells told told_old told_new text
+    pub ends : status ≡ mistake_status (stderr.failed stderr_new)
+    pub line : Tells stderr stderr_old stderr_new text
     pub silent : new ≡ old
 
   -- OutOfMemory (21) is reported, and nothing is printed.
   pub record TellsOut : Type 0 where
     pub ends : status ≡ 3
-    pub line : Tells told told_old told_new (fault_line OutOfMemory)
+    pub line : Tells stderr stderr_old stderr_new (fault_line OutOfMemory)
     pub silent : new ≡ old
 
   -- What the program does instead of a job.
@@ -84,7 +85,7 @@ module _ {W E : Type 0} (sink : sinks.Ghosts W) (told : sinks.Ghosts E) (old new
 -- ---- A job with the bytes of a reader.
 
 module _ {R W E : Type 0} (source : sources.Ghosts R) (sink : sinks.Ghosts W)
-    (told : sinks.Ghosts E) (before after : R) (old new : W) (told_old told_new : E)
+    (stderr : sinks.Ghosts E) (before after : R) (old new : W) (stderr_old stderr_new : E)
     (status : ℕ) where
   -- The error says correctly what failed, and its line is reported, followed by the operating
   -- system's message about the job's file if a read failed.
@@ -93,7 +94,7 @@ module _ {R W E : Type 0} (source : sources.Ghosts R) (sink : sinks.Ghosts W)
     pub cause : IsCause fault job.task source sink before after old new
     pub said : List ℕ
     pub says : IsSaid job.file.now (source.failed after) said
-    pub line : Tells told told_old told_new (fault_line fault ++ said)
+    pub line : Tells stderr stderr_old stderr_new (fault_line fault ++ said)
 
   -- What `serve` promises, with such reports of errors.
   pub record ServesNamed (job : Job) : Type 0 where
@@ -101,11 +102,11 @@ module _ {R W E : Type 0} (source : sources.Ghosts R) (sink : sinks.Ghosts W)
     pub text : JobWritesText status job source sink before old new
     pub flushed : status ≢ 3 → sink.flushed new ≡ true
     pub outcome : status ≢ 3 → IfSome (source.remaining before) (EndsJob job status)
-    pub silent : status ≤ 1 → told_new ≡ told_old
-    pub mistake : TellsWord status job source told before told_old told_new
-    pub reader : TellsMark status (source.failed after)
-    pub writer : TellsMark status (sink.failed new)
-    pub begun : JobBegun status job source sink before after old new
+    pub silent : status ≤ 1 → stderr_new ≡ stderr_old
+    pub mistake : TellsWord status job source stderr before stderr_old stderr_new
+    pub reader : ErrorFlagGivesStatus status (source.failed after)
+    pub writer : ErrorFlagGivesStatus status (sink.failed new)
+    pub partial : JobLeavesPartial status job source sink before after old new
     pub within : GivesWithin (source.given before) (source.given after)
     pub unread : JobLeavesUnread job source sink before after old new
     pub cut : JobLeavesFront status job source sink before after old new
@@ -116,9 +117,9 @@ module _ {R W E : Type 0} (source : sources.Ghosts R) (sink : sinks.Ghosts W)
 -- file, standard input, the output and the stream for errors.
 
 module _ {O R X W E : Type 0} (opener : Mut O (Bor (List ℕ) × Unit {0}) (Result R X))
-    (source : sources.Ghosts (FromRead R)) (sink : sinks.Ghosts W) (told : sinks.Ghosts E)
+    (source : sources.Ghosts (FromRead R)) (sink : sinks.Ghosts W) (stderr : sinks.Ghosts E)
     (opener_old opener_new : O) (file_old file_new : Option (FromRead R))
-    (input_old input_new : FromRead R) (old new : W) (told_old told_new : E) (status : ℕ) where
+    (input_old input_new : FromRead R) (old new : W) (stderr_old stderr_new : E) (status : ℕ) where
   -- No file is opened, and standard input is not read.
   pub record LeavesInputs : Type 0 where
     pub unopened : opener_new ≡ opener_old
@@ -128,24 +129,24 @@ module _ {O R X W E : Type 0} (opener : Mut O (Bor (List ℕ) × Unit {0}) (Resu
   -- Allocation failed before there was anything to do.
   pub record RunsOut : Type 0 where
     pub inputs : LeavesInputs
-    pub out : TellsOut sink told old new told_old told_new status
+    pub out : TellsOut sink stderr old new stderr_old stderr_new status
 
   -- A text that was asked for is printed.
   pub record EndsPrinted (text : List ℕ) : Type 0 where
     pub inputs : LeavesInputs
-    pub prints : PrintsText sink told old new told_old told_new status text
+    pub prints : PrintsText sink stderr old new stderr_old stderr_new status text
 
   -- The words are wrong, which a message says.
   pub record EndsMistaken (text : List ℕ) : Type 0 where
     pub inputs : LeavesInputs
-    pub tells : TellsWrong sink told old new told_old told_new status text
+    pub tells : TellsWrong sink stderr old new stderr_old stderr_new status text
 
   -- A job with standard input; no file is opened.
   pub record DoesJobOfInput (job : Job) : Type 0 where
     pub unopened : opener_new ≡ opener_old
     pub kept : file_new ≡ file_old
     pub serves :
-        ServesNamed source sink told input_old input_new old new told_old told_new status job
+        ServesNamed source sink stderr input_old input_new old new stderr_old stderr_new status job
 
   -- A job with an opened file. `before` is a new source over it, and `after` is that source as the
   -- job leaves it, which the caller receives.
@@ -155,7 +156,8 @@ module _ {O R X W E : Type 0} (opener : Mut O (Bor (List ℕ) × Unit {0}) (Resu
     pub reader : reader_of before ≡ file
     pub clear : has_read_failed before ≡ false
     pub given : read_given before ≡ 0
-    pub serves : ServesNamed source sink told before after old new told_old told_new status job
+    pub serves :
+        ServesNamed source sink stderr before after old new stderr_old stderr_new status job
     pub received : file_new ≡ Some after
 
   -- The file cannot be opened.
@@ -163,7 +165,7 @@ module _ {O R X W E : Type 0} (opener : Mut O (Bor (List ℕ) × Unit {0}) (Resu
     pub ends : status ≡ 3
     pub kept : file_new ≡ file_old
     pub silent : new ≡ old
-    pub line : TellsUnopened told told_old told_new job.file.now
+    pub line : TellsUnopened stderr stderr_old stderr_new job.file.now
 
   -- A job with the file that it names, which is opened; standard input is not read.
   pub record DoesJobOfFile (job : Job) : Type 0 where

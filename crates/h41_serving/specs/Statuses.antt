@@ -46,8 +46,8 @@ abbrev pub fault_line : Fault → List ℕ
 fault_line fault = refusal_line (of_fault fault)
 
 -- If the error flag of a stream is set at the end, something failed, and the status is 3.
-abbrev pub TellsMark : ℕ → Bool → Type 0
-TellsMark status mark = mark ≡ true → status ≡ 3
+abbrev pub ErrorFlagGivesStatus : ℕ → Bool → Type 0
+ErrorFlagGivesStatus status flag = flag ≡ true → status ≡ 3
 
 -- What an error says of the streams. ReadFault (22): a read failed or the input was too long.
 -- WriteFault (23): a write failed. OutOfMemory (21): neither failed, and allocation can fail after
@@ -62,14 +62,15 @@ pub record IsCause {R W : Type 0} (fault : Fault) (task : Task) (source : source
 
 -- An error that says correctly what failed and is reported, as far as the stream for errors accepts
 -- its line.
-pub record IsTold {R W E : Type 0} (task : Task) (source : sources.Ghosts R) (sink : sinks.Ghosts W)
-    (told : sinks.Ghosts E) (before after : R) (old new : W) (told_old told_new : E) : Type 0 where
+pub record IsReported {R W E : Type 0} (task : Task) (source : sources.Ghosts R)
+    (sink : sinks.Ghosts W) (stderr : sinks.Ghosts E) (before after : R) (old new : W)
+    (stderr_old stderr_new : E) : Type 0 where
   pub fault : Fault
   pub cause : IsCause fault task source sink before after old new
-  pub line : Tells told told_old told_new (fault_line fault)
+  pub line : Tells stderr stderr_old stderr_new (fault_line fault)
 
 -- A job with status 3 has reported such an error.
 abbrev pub TellsFault : {R W E : Type 0} → ℕ → Task → sources.Ghosts R → sinks.Ghosts W
     → sinks.Ghosts E → R → R → W → W → E → E → Type 0
-TellsFault status task source sink told before after old new told_old told_new =
-    status ≡ 3 → IsTold task source sink told before after old new told_old told_new
+TellsFault status task source sink stderr before after old new stderr_old stderr_new =
+    status ≡ 3 → IsReported task source sink stderr before after old new stderr_old stderr_new

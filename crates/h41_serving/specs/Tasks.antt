@@ -122,13 +122,13 @@ FailedOrTooLong task source sink before after old new =
 
 -- What a task leaves written if reading or allocation failed: of a deck the replies to the first
 -- commands that were read, of a source or a list of words nothing.
-abbrev pub LeavesBegun : {R W : Type 0} → Task → sources.Ghosts R → sinks.Ghosts W → R → R → W → W
+abbrev pub LeavesPartial : {R W : Type 0} → Task → sources.Ghosts R → sinks.Ghosts W → R → R → W → W
     → Type 0
-LeavesBegun (tasks.Run size) source sink before after old new =
+LeavesPartial (tasks.Run size) source sink before after old new =
     WritesOfRead (decks.FirstText (registers_of size)) source sink before after old new
-LeavesBegun (tasks.Assemble origin) source sink before after old new =
+LeavesPartial (tasks.Assemble origin) source sink before after old new =
     Keeps (sink.contents old) (sink.contents new)
-LeavesBegun (tasks.List origin) source sink before after old new =
+LeavesPartial (tasks.List origin) source sink before after old new =
     Keeps (sink.contents old) (sink.contents new)
 
 -- What a task leaves written if reading failed: of a deck the replies to all commands whose last
@@ -188,11 +188,11 @@ abbrev pub JobPassedOn : ℕ → Job → Bool → Bool → Type 0
 JobPassedOn status job failed flushed = status ≡ 3 → failed ≡ false → IsPassedOn job.task flushed
 
 -- If a job has status 3 and the output did not fail, it leaves this written.
-abbrev pub JobBegun : {R W : Type 0} → ℕ → Job → sources.Ghosts R → sinks.Ghosts W → R → R → W → W
-    → Type 0
-JobBegun status job source sink before after old new =
+abbrev pub JobLeavesPartial : {R W : Type 0} → ℕ → Job → sources.Ghosts R → sinks.Ghosts W → R → R
+    → W → W → Type 0
+JobLeavesPartial status job source sink before after old new =
     status ≡ 3 → sink.failed new ≡ false
-    → LeavesBegun job.task source sink before after old new
+    → LeavesPartial job.task source sink before after old new
 
 -- If a read failed, the job leaves this written.
 abbrev pub JobLeavesUnread : {R W : Type 0} → Job → sources.Ghosts R → sinks.Ghosts W → R → R → W
@@ -220,20 +220,20 @@ TaskInTurn (tasks.List origin) before after old = Unit {0}
 
 -- A text is written completely and flushed. If the stream fails, a prefix of it is written, and
 -- nothing after that.
-pub record Tells {E : Type 0} (told : sinks.Ghosts E) (old new : E) (text : List ℕ) : Type 0 where
-  pub whole : told.failed new ≡ false → Appended told.contents old new text
-  pub flushed : told.failed new ≡ false → told.flushed new ≡ true
-  pub front : told.failed new ≡ true → AppendsFront told.contents old new text
+pub record Tells {E : Type 0} (stderr : sinks.Ghosts E) (old new : E) (text : List ℕ) : Type 0 where
+  pub whole : stderr.failed new ≡ false → Appended stderr.contents old new text
+  pub flushed : stderr.failed new ≡ false → stderr.flushed new ≡ true
+  pub front : stderr.failed new ≡ true → AppendsFront stderr.contents old new text
 
 -- The number of the wrong word is reported, and nothing else.
 abbrev pub TellsMistake : {E : Type 0} → Task → Option (List ℕ) → sinks.Ghosts E → E → E → Type 0
-TellsMistake task known told old new =
+TellsMistake task known stderr old new =
     (number : ℕ)
     × IfSome known (TaskEnds task (WrongWord number))
-    × Tells told old new (mistake_line number)
+    × Tells stderr old new (mistake_line number)
 
 -- A job with status 2 reports a wrong word.
 abbrev pub TellsWord : {R E : Type 0} → ℕ → Job → sources.Ghosts R → sinks.Ghosts E → R → E → E
     → Type 0
-TellsWord status job source told before old new =
-    status ≡ 2 → TellsMistake job.task (source.remaining before) told old new
+TellsWord status job source stderr before old new =
+    status ≡ 2 → TellsMistake job.task (source.remaining before) stderr old new

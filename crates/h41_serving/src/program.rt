@@ -6,7 +6,7 @@ ghost use Rattle.std.specs.IoError.{error_kind};
 ghost use Rattle.h41_ends.specs.Ends.{has_read_failed};
 ghost use Rattle.h41_serving.specs.Program.{AnswersPlainly, AnswersWords, DoesJob, EndsAtOnce};
 ghost use Rattle.h41_serving.specs.Program.{EndsMistaken, PrintsText, RunsOut, ServesNamed};
-ghost use Rattle.h41_serving.specs.Program.{TellsUnopened, behind_name, mistake_status, no_text};
+ghost use Rattle.h41_serving.specs.Program.{TellsUnopened, mistake_status, no_text, with_own_name};
 ghost use Rattle.h41_serving.specs.Tasks.{Tells};
 
 use crate::causes::{NAME, tell_cause};
@@ -45,12 +45,12 @@ pub fn run_program<O: FnMut(&str) -> io::Result<R>, R: Read + Drop, W: Sink, E: 
         O.FnMut ⟦<FromRead<R> as Source>⟧ W.Sink E.Sink open_file.old open_file.new
         file.old file.new input.old input.new output.old output.new
         faults.old faults.new result
-        (behind_name (map string_bytes all.items))) }
+        (with_own_name (map string_bytes all.items))) }
     ensures plainly { IfOk words (λ all. AnswersPlainly
         O.FnMut ⟦<FromRead<R> as Source>⟧ W.Sink E.Sink open_file.old open_file.new
         file.old file.new input.old input.new output.old output.new
         faults.old faults.new result
-        (behind_name (map string_bytes all.items))) }
+        (with_own_name (map string_bytes all.items))) }
     ensures no_memory { IfErr words (λ error. error_kind error ≡ ErrorKind.OutOfMemory
         → RunsOut
         O.FnMut ⟦<FromRead<R> as Source>⟧ W.Sink E.Sink open_file.old open_file.new
@@ -97,7 +97,7 @@ fn run_words<O: FnMut(&str) -> io::Result<R>, R: Read + Drop, W: Sink, E: Sink>(
         O.FnMut ⟦<FromRead<R> as Source>⟧ W.Sink E.Sink open_file.old open_file.new
         file.old file.new input.old input.new output.old output.new
         faults.old faults.new result
-        (behind_name (map string_bytes words.now)) }
+        (with_own_name (map string_bytes words.now)) }
     ensures bound { result ≤ 3 }
 {
     let Ok(words) = named(alloc, words) else {
@@ -113,7 +113,7 @@ fn run_words<O: FnMut(&str) -> io::Result<R>, R: Read + Drop, W: Sink, E: Sink>(
 /// OutOfMemory (21) if allocation failed.
 fn named(alloc: Global, words: &[String]) -> Result<Vec<&str>, AllocError>
     ensures { IfOk result (λ all. map (λ w. w.now) all.items
-        ≡ behind_name (map string_bytes words.now)) }
+        ≡ with_own_name (map string_bytes words.now)) }
 {
     let mut named = Vec::new(alloc);
     named.push(NAME)?;

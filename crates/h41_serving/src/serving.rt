@@ -3,9 +3,11 @@
 ghost use Rattle.std.specs.Prelude.{◌≡◌, ◌≢◌, ◌≤◌, true, false, IfSome};
 ghost use Rattle.h41_ends.specs.Ends.{GivesWithin};
 ghost use Rattle.h41_jobs.specs.Texts.{mistake_line};
-ghost use Rattle.h41_serving.specs.Statuses.{EndsJob, IsTaskStatus, TellsFault, TellsMark};
+ghost use Rattle.h41_serving.specs.Statuses.{EndsJob, ErrorFlagGivesStatus, IsTaskStatus};
+ghost use Rattle.h41_serving.specs.Statuses.{TellsFault};
 ghost use Rattle.h41_serving.specs.Statuses.{fault_line};
-ghost use Rattle.h41_serving.specs.Tasks.{JobBegun, JobLeavesFront, JobLeavesUnread, JobPassedOn};
+ghost use Rattle.h41_serving.specs.Tasks.{JobLeavesFront, JobLeavesPartial, JobLeavesUnread};
+ghost use Rattle.h41_serving.specs.Tasks.{JobPassedOn};
 ghost use Rattle.h41_serving.specs.Tasks.{JobWritesText, TaskInTurn, Tells, TellsWord};
 ghost use Rattle.h41_serving.specs.Tasks.{ended_of_deck};
 ghost use Rattle.h41_serving.specs.private.CarriedOut.{CarriesOut};
@@ -56,14 +58,14 @@ pub fn serve<R: Talk<W>, W: Sink, E: Sink>(
     ensures mistake { TellsWord result job.entry R.Source E.Sink reader.old faults.old faults.new }
 
     // If a read or a write failed, the status is 3.
-    ensures reader { TellsMark result (R.failed reader.new) }
-    ensures writer { TellsMark result (W.failed writer.new) }
+    ensures reader { ErrorFlagGivesStatus result (R.failed reader.new) }
+    ensures writer { ErrorFlagGivesStatus result (W.failed writer.new) }
 
     // If something failed, the replies to the first commands of a deck are written, and nothing of a source or of a
     // list. If writing failed, a prefix of these replies, or of the text of the source or list, is written. What is
     // written is flushed before the error is reported. The error says correctly what failed, and its line is reported
     // if `faults` accepts it.
-    ensures begun { JobBegun result job.entry R.Source W.Sink
+    ensures partial { JobLeavesPartial result job.entry R.Source W.Sink
         reader.old reader.new writer.old writer.new }
     ensures unread { JobLeavesUnread job.entry R.Source W.Sink
         reader.old reader.new writer.old writer.new }

@@ -61,11 +61,11 @@ fn stops_at_a_failed_read(rt: HostRuntime) {
         let mut reader = reader(DECK, 7, calls);
         let mut writer = writer(rt.alloc(), 100, 1000);
         let result = run_deck::<_, _, 320>(rt.alloc(), &mut reader, &mut writer);
-        let is_told = result == Err(Fault::ReadFault) && reader.failed() && !writer.failed();
+        let is_reported = result == Err(Fault::ReadFault) && reader.failed() && !writer.failed();
         let is_front = TEXT.as_bytes().starts_with(&writer.taken);
         let is_all = writer.taken.len() == text_within(7 * calls);
         assert!(rt;
-            is_told && is_front && is_all && writer.is_flushed(),
+            is_reported && is_front && is_all && writer.is_flushed(),
             "at call {calls}"
         );
     }
@@ -78,10 +78,10 @@ fn stops_at_a_failed_write(rt: HostRuntime) {
         let mut reader = reader(DECK, 100, 1000);
         let mut writer = writer(rt.alloc(), 1, calls);
         let result = run_deck::<_, _, 320>(rt.alloc(), &mut reader, &mut writer);
-        let is_told = result == Err(Fault::WriteFault) && writer.failed() && !reader.failed();
+        let is_reported = result == Err(Fault::WriteFault) && writer.failed() && !reader.failed();
         let is_front = TEXT.as_bytes().starts_with(&writer.taken);
         assert!(rt;
-            is_told && is_front && writer.taken.len() == calls,
+            is_reported && is_front && writer.taken.len() == calls,
             "at call {calls}"
         );
     }
@@ -91,21 +91,25 @@ fn stops_at_a_failed_write(rt: HostRuntime) {
 fn stops_where_a_write_takes_nothing(rt: HostRuntime) {
     let mut none = writer(rt.alloc(), 0, 1000);
     let result = run_deck::<_, _, 320>(rt.alloc(), &mut reader(DECK, 100, 1000), &mut none);
-    let is_told = result == Err(Fault::WriteFault) && none.failed();
+    let is_reported = result == Err(Fault::WriteFault) && none.failed();
     wants(
         &rt,
         "a sink that takes nothing",
-        is_told && none.taken.is_empty(),
+        is_reported && none.taken.is_empty(),
     );
 
     // The 20 bytes are the first refusal and the start of the text of `trace`.
     let mut room = [0u8; 20];
     let mut full = ToWrite::new(Cursor::new(room.as_mut_slice()));
     let result = run_deck::<_, _, 320>(rt.alloc(), &mut reader(DECK, 100, 1000), &mut full);
-    let is_told = result == Err(Fault::WriteFault) && full.failed();
+    let is_reported = result == Err(Fault::WriteFault) && full.failed();
     let is_full = full.into_inner().position() == 20;
     let is_front = TEXT.as_bytes().starts_with(&room);
-    wants(&rt, "a sink that is full", is_told && is_full && is_front);
+    wants(
+        &rt,
+        "a sink that is full",
+        is_reported && is_full && is_front,
+    );
 }
 
 /// Requires that a deck ends as expected and prints `text`. The deck consists of the bytes `before`, spaces up to

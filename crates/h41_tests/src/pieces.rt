@@ -176,7 +176,7 @@ const RUN: Job<'static> = Job {
 #[derive(Clone, Copy, Debug, PartialEq, Eq)]
 struct Ended {
     /// Whether the line of the I/O error is reported and the exit status is 3.
-    is_told: bool,
+    is_reported: bool,
     /// Whether exactly the expected replies are written.
     is_whole: bool,
     /// Whether what is written is a prefix of the expected replies.
@@ -205,7 +205,7 @@ fn served(
     let mut faults = Writer::new(alloc, 4096, None);
     let status = serve(alloc, RUN, &mut reader, &mut writer, &mut faults);
     Ended {
-        is_told: status == 3 && faults.taken.as_slice() == line.as_bytes(),
+        is_reported: status == 3 && faults.taken.as_slice() == line.as_bytes(),
         is_whole: writer.taken.as_slice() == text,
         is_front: text.starts_with(&writer.taken),
         is_passed_on: writer.is_passed_on(),
@@ -236,7 +236,7 @@ fn a_read_that_fails_once_ends_the_deck(rt: HostRuntime) -> Result<(), Fail> {
                 );
                 is_over = end.reads <= call;
                 let is_last = end.reads == call.saturating_add(1);
-                let is_so = end.is_told && end.is_whole && end.is_passed_on && is_last;
+                let is_so = end.is_reported && end.is_whole && end.is_passed_on && is_last;
                 assert!(&rt; is_over || is_so, "by {most} at read {call}");
             }
         }
@@ -265,7 +265,7 @@ fn a_write_that_fails_once_ends_the_deck(rt: HostRuntime) -> Result<(), Fail> {
                     );
                     is_over = end.writes <= call;
                     let is_last = end.writes == call.saturating_add(1);
-                    let is_so = end.is_front && (is_over || end.is_told && is_last);
+                    let is_so = end.is_front && (is_over || end.is_reported && is_last);
                     assert!(&rt; is_so, "by {most} at write {call}");
                 }
             }

@@ -86,7 +86,7 @@ const USAGE: &str = "Usage: bench..";
 
 /// Requires for each row that the program ends with its exit status, and that both output streams have its texts.
 fn end(rt: &impl Abort, alloc: Global, rows: &[ProgramRow]) -> Result<(), Fail> {
-    for (words, writes, tells, status, printed, told) in rows {
+    for (words, writes, tells, status, printed, message) in rows {
         let mut open_file = |name: &str| open(name);
         let mut file = None;
         let mut input = FromRead::new(sound_text(INPUT));
@@ -104,7 +104,7 @@ fn end(rt: &impl Abort, alloc: Global, rows: &[ProgramRow]) -> Result<(), Fail> 
         );
         assert!(rt; answered == *status, "status {answered} of {words:?}");
         wants(rt, printed, is_text(output.taken.as_slice(), printed));
-        wants(rt, told, is_text(faults.taken.as_slice(), told));
+        wants(rt, message, is_text(faults.taken.as_slice(), message));
     }
     Ok(())
 }
@@ -248,7 +248,7 @@ fn tells_words_that_cannot_be_had(rt: HostRuntime) {
         ),
         (ErrorKind::OutOfMemory, 3, "! 21 OutOfMemory\n"),
     ];
-    for (kind, status, told) in rows {
+    for (kind, status, message) in rows {
         let mut open_file = |name: &str| open(name);
         let mut file = None;
         let mut input = FromRead::new(sound_text(INPUT));
@@ -267,8 +267,8 @@ fn tells_words_that_cannot_be_had(rt: HostRuntime) {
         assert!(rt; answered == status, "status {answered}");
         wants(
             &rt,
-            told,
-            faults.taken.as_slice() == told.as_bytes() && output.taken.is_empty(),
+            message,
+            faults.taken.as_slice() == message.as_bytes() && output.taken.is_empty(),
         );
     }
 }

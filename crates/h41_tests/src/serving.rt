@@ -40,7 +40,7 @@ fn end(rt: &impl Abort, alloc: Global, input: &GivenInput, rows: &[ServedRow]) {
         task: input.task,
         file: "-",
     };
-    for (reads, writes, tells, status, count, told) in rows {
+    for (reads, writes, tells, status, count, message) in rows {
         let mut source = reader(input.text, 7, *reads);
         let mut output = writer(alloc, 1, *writes);
         let mut faults = writer(alloc, 1, *tells);
@@ -48,7 +48,7 @@ fn end(rt: &impl Abort, alloc: Global, input: &GivenInput, rows: &[ServedRow]) {
         assert!(rt; answered == *status, "at {reads}, {writes}, {tells}");
         let is_front = input.output.as_bytes().starts_with(&output.taken);
         wants(rt, "the output", is_front && output.taken.len() == *count);
-        wants(rt, told, faults.taken.as_slice() == told.as_bytes());
+        wants(rt, message, faults.taken.as_slice() == message.as_bytes());
     }
 }
 

@@ -199,9 +199,9 @@ fn answers<const REGS: usize>(rt: &impl Abort, alloc: Global, size: &Size) -> Re
     let mut reader = reader(deck.as_str(), 4096, 1000);
     let mut writer = writer(alloc, 4096, 1000);
     let outcome = run_deck::<_, _, REGS>(alloc, &mut reader, &mut writer);
-    let is_told = outcome == Ok(Outcome::Refused);
+    let is_reported = outcome == Ok(Outcome::Refused);
     assert!(rt;
-        is_told && writer.taken.as_slice() == text.as_bytes(),
+        is_reported && writer.taken.as_slice() == text.as_bytes(),
         "at {REGS}"
     );
     Ok(())

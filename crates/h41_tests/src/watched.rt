@@ -142,7 +142,7 @@ pub struct Writer<'a> {
     flushes: usize,
     has_failed: bool,
     is_flushed: bool,
-    told: Option<&'a Cell<usize>>,
+    passed: Option<&'a Cell<usize>>,
 }
 
 impl<'a> Writer<'a> {
@@ -160,7 +160,7 @@ impl<'a> Writer<'a> {
             flushes: 0,
             has_failed: false,
             is_flushed: false,
-            told: None,
+            passed: None,
         }
     }
 
@@ -168,7 +168,7 @@ impl<'a> Writer<'a> {
     pub fn tell(&mut self, passed: &'a Cell<usize>)
         ensures { self.new.has_failed ≡ self.old.has_failed }
     {
-        self.told = Some(passed);
+        self.passed = Some(passed);
     }
 
     /// Returns the number of writes and flushes so far.
@@ -233,7 +233,7 @@ impl Sink for Writer<'_> {
             self.has_failed = true;
             return Err(io::Error::from(ErrorKind::Other));
         }
-        if let Some(passed) = self.told {
+        if let Some(passed) = self.passed {
             passed.set(self.taken.len());
         }
         Ok(())

@@ -41,9 +41,9 @@ use Rattle.h41_xrom.proofs.StepLaws.{line_determined, same_function}
 use Rattle.h41_xrom.specs.Calculator.{CalculatorState, machine_of}
 use Rattle.h41_xrom.specs.CalculatorLaws.{KeyIsDetermined}
 use Rattle.h41_xrom.specs.KeyActions.{Acts, BeginsNumber, Carries, ChangesNumber, Edits, HasFlags, IsPlace, IsStoredAs, KeyMakes}
-use Rattle.h41_xrom.specs.KeyActions.{KeyOutcome, Leaves, StoredElsewhere, StoredFunction, StoredName, StoresLine, after_outcome}
-use Rattle.h41_xrom.specs.KeyActions.{edit_effect, flags_at, is_final, key_refusal, line_effect, press_of, puts_end, with_key_told}
-use Rattle.h41_xrom.specs.KeyActions.{with_number_begun, with_number_changed}
+use Rattle.h41_xrom.specs.KeyActions.{KeyOutcome, Leaves, StoredFunction, StoredIfNoLabel, StoredName, StoresLine, after_outcome}
+use Rattle.h41_xrom.specs.KeyActions.{edit_effect, flags_at, is_final, key_refusal, line_effect, press_of, puts_end, with_key_accepted}
+use Rattle.h41_xrom.specs.KeyActions.{with_number_changed, with_number_started}
 use Rattle.h41_xrom.specs.declared.lines.LineSource.{LineSource}
 use Rattle.h41_xrom.specs.declared.lines.LineSource.TheVariants as sources
 use Rattle.h41_xrom.specs.declared.refusal.CalculatorRefusal.{CalculatorRefusal}
@@ -70,7 +70,7 @@ module _ (same_value : ValuesAreDetermined) where
   same_beginning : (text : List Character) (machine : Machine) (a b : Made) → BeginsNumber text machine a → BeginsNumber text machine b
       → a ≡ b
   same_beginning text machine a b (p, p_computes, p_is) (q, q_computes, q_is) =
-      p_is ∙ ap (λ (of : List ℕ). Ok (Leaves (with_number_begun machine of))) (same_written text machine.memory p q p_computes q_computes)
+      p_is ∙ ap (λ (of : List ℕ). Ok (Leaves (with_number_started machine of))) (same_written text machine.memory p q p_computes q_computes)
       ∙ sym q_is
 
   same_change : (text : List Character) (machine : Machine) (a b : Made) → ChangesNumber text machine a → ChangesNumber text machine b
@@ -114,7 +114,7 @@ module _ (same_step : StepIsDetermined) (same_typing : TypedIsDetermined) (same_
   same_stored_function None line a b p q = p ∙ sym q
 
   same_elsewhere : (numbers : Option (ℕ × ℕ)) (line : Line) (name : List ℕ) (a b : Line)
-      → StoredElsewhere line name numbers a → StoredElsewhere line name numbers b → a ≡ b
+      → StoredIfNoLabel line name numbers a → StoredIfNoLabel line name numbers b → a ≡ b
   same_elsewhere (Some numbers) line name a b p q = p ∙ sym q
   same_elsewhere None line name a b (f, f_named, f_stored) (g, g_named, g_stored) =
       let same : f ≡ g = same_function same_step same_typing same_failure same_passing same_entering one_line name f g f_named g_named in
@@ -197,15 +197,15 @@ module _ (same_step : StepIsDetermined) (same_typing : TypedIsDetermined) (same_
           (action : Action) (input : Input) (a b : Result CalculatorState CalculatorRefusal)
           → MatchOption why
           ((effect : Made) × Acts s.nut.pages input.program_mode action (machine_of s) effect
-          × (a ≡ after_outcome (with_key_told key input s) effect))
+          × (a ≡ after_outcome (with_key_accepted key input s) effect))
           (λ why. a ≡ Err why)
           → MatchOption why
           ((effect : Made) × Acts s.nut.pages input.program_mode action (machine_of s) effect
-          × (b ≡ after_outcome (with_key_told key input s) effect))
+          × (b ≡ after_outcome (with_key_accepted key input s) effect))
           (λ why. b ≡ Err why)
           → a ≡ b
       same_made None s key action input a b p q =
-          p.2 ∙ ap (after_outcome (with_key_told key input s))
+          p.2 ∙ ap (after_outcome (with_key_accepted key input s))
           (same_act action s.nut.pages input.program_mode (machine_of s) p.0 q.0 p.1 q.1) ∙ sym q.2
       same_made (Some why) s key action input a b p q = p ∙ sym q
 

@@ -5,7 +5,7 @@ use Rattle.h41_keys.specs.declared.action.Action.{Action}
 use Rattle.h41_keys.specs.declared.input.Input.{Input}
 use Rattle.h41_keys.specs.declared.key.Key.{Key}
 use Rattle.h41_xrom.specs.Calculator.{CalculatorState, machine_of, with_machine}
-use Rattle.h41_xrom.specs.KeyActions.{Acts, after_key, key_refusal, with_key_told}
+use Rattle.h41_xrom.specs.KeyActions.{Acts, after_key, key_refusal, with_key_accepted}
 use Rattle.h41_xrom.specs.private.PrivateCalls.{Accepts, after_effect, effect_as, effect_with}
 use Rattle.h41_xrom.specs.declared.acting.KeyEffect.{KeyEffect}
 use Rattle.h41_xrom.specs.declared.acting.KeyEffect.TheVariants as effects
@@ -33,7 +33,8 @@ key_failed key input action from s new why is accepted acts same = (
 
 -- The action is performed, followed by what remains to be done.
 effect_same : (effect : KeyEffect) (key : Key) (input : Input) (s : CalculatorState) (new : Machine)
-    → after_effect effect (with_key_told key input (with_machine new s)) ≡ after_key (with_key_told key input s) (effect_with new effect)
+    → after_effect effect (with_key_accepted key input (with_machine new s))
+    ≡ after_key (with_key_accepted key input s) (effect_with new effect)
 effect_same effects.Nothing key input s new = refl
 effect_same (effects.Line (ends.Answers outcome)) key input s new = refl
 effect_same (effects.Line (ends.Begins address)) key input s new = refl
@@ -42,13 +43,13 @@ effect_same effects.Starts key input s new = refl
 
 pub key_done : (key : Key) (input : Input) (action : Action) (from s t : CalculatorState) (new : Machine) (effect : KeyEffect)
     → from ≡ s → None ≡ key_refusal s → ActsIn input action from new (Ok effect)
-    → t ≡ after_effect effect (with_key_told key input (with_machine new from)) → Accepts key input action s t None
+    → t ≡ after_effect effect (with_key_accepted key input (with_machine new from)) → Accepts key input action s t None
 key_done key input action from s t new effect is accepted acts left = (
-  Ok (after_key (with_key_told key input s) (effect_with new effect)),
+  Ok (after_key (with_key_accepted key input s) (effect_with new effect)),
   rw (sym accepted) (Ok (effect_with new effect), subst (λ (of : CalculatorState). ActsIn input action of new (Ok effect)) is acts, refl),
   (
     left ∙ effect_same effect key input from new
-        ∙ ap (λ (of : CalculatorState). after_key (with_key_told key input of) (effect_with new effect)) is,
+        ∙ ap (λ (of : CalculatorState). after_key (with_key_accepted key input of) (effect_with new effect)) is,
     refl,
   ),
 )

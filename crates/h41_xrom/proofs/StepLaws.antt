@@ -7,7 +7,7 @@ use Rattle.h41_codes.specs.declared.line.Line.TheVariants.{Plain}
 use Rattle.h41_focal.specs.LineLaws.{EnteringIsDetermined, FailureIsDetermined, PassingIsDetermined, StepIsDetermined}
 use Rattle.h41_focal.specs.LineLaws.{TypedIsDetermined}
 use Rattle.h41_focal.specs.Destinations.{Typed}
-use Rattle.h41_focal.specs.LineStep.{FailsIn, Left, line_as}
+use Rattle.h41_focal.specs.LineStep.{EndsInError, Left, line_as}
 use Rattle.h41_positions.specs.FocalState.{Machine}
 use Rattle.h41_focal.specs.Outcomes.{Answer}
 use Rattle.h41_focal.specs.Outcomes as answers
@@ -31,8 +31,9 @@ use Rattle.h41_xrom.specs.Calculator.{CalculatorState, CarriesHere, RefusesLine,
 use Rattle.h41_xrom.specs.Calculator.{machine_of, not_typing}
 use Rattle.h41_xrom.specs.CalculatorLaws as CalculatorLaws
 use Rattle.h41_xrom.specs.CalculatorLaws.{LoadIsDetermined, StepRefusalIsDetermined}
-use Rattle.h41_xrom.specs.Lines.{CallsEntry, CallsName, CarriesFrom, CarriesLine, CarriesNamed, Ended, EntersFrom, Fails, FailsFrom}
-use Rattle.h41_xrom.specs.Lines.{GoesOn, GoesOnFrom, IsNamed, PassesFrom, begun_at, end_of_answer, end_of_entering, of_line}
+use Rattle.h41_xrom.specs.Lines.{CallsEntry, CallsName, CarriesFrom, CarriesLine, CarriesNamed, Ended, EndsAsNonexistent, EntersFrom}
+use Rattle.h41_xrom.specs.Lines.{FailsAsNonexistent}
+use Rattle.h41_xrom.specs.Lines.{GoesOn, GoesOnFrom, IsNamed, PassesFrom, end_of_answer, end_of_entering, end_of_starting, of_line}
 use Rattle.h41_xrom.specs.declared.lines.LineSource.{LineSource}
 use Rattle.h41_xrom.specs.declared.lines.LineSource.TheVariants as sources
 use Rattle.h41_xrom.specs.Programs.{change_refusal, after_load}
@@ -40,7 +41,7 @@ use Rattle.h41_xrom.specs.Programs.{change_refusal, after_load}
 -- A function starts.
 abbrev Begun : LineSource → PageMap → ℕ → Machine → Result Ended FocalRefusal → Type 0
 Begun source pages address machine ended =
-    (after : Result Machine FocalRefusal) × PassesFrom source pages machine after × (ended ≡ begun_at address after)
+    (after : Result Machine FocalRefusal) × PassesFrom source pages machine after × (ended ≡ end_of_starting address after)
 
 -- A line.
 same_function_by : (a b : Function) → Plain a ≡ Plain b → a ≡ b
@@ -48,8 +49,8 @@ same_function_by a b is = cc
 
 -- A typed line that fails.
 same_typed_fault : (sound : Bool) (machine : Machine) (a b : Result Left FocalRefusal)
-    → MatchBool sound (FailsIn Typed machine Nonexistent a) (a ≡ Err lines.MemoryLost)
-    → MatchBool sound (FailsIn Typed machine Nonexistent b) (b ≡ Err lines.MemoryLost) → a ≡ b
+    → MatchBool sound (EndsInError Typed machine Nonexistent a) (a ≡ Err lines.MemoryLost)
+    → MatchBool sound (EndsInError Typed machine Nonexistent b) (b ≡ Err lines.MemoryLost) → a ≡ b
 same_typed_fault true machine a b p q = p ∙ sym q
 same_typed_fault false machine a b p q = p ∙ sym q
 
@@ -61,7 +62,7 @@ module _ (same_step : StepIsDetermined) (same_typing : TypedIsDetermined) (same_
   same_carried (sources.Keys line) pages function machine a b p q = same_typing pages (line_as function line) machine a b p q
 
   same_failing : (source : LineSource) (pages : PageMap) (machine : Machine) (a b : Result Left FocalRefusal)
-      → FailsFrom source pages machine a → FailsFrom source pages machine b → a ≡ b
+      → FailsAsNonexistent source pages machine a → FailsAsNonexistent source pages machine b → a ≡ b
   same_failing sources.Program pages machine a b p q = same_failure pages Nonexistent machine a b p q
   same_failing (sources.Keys line) pages machine a b p q = same_typed_fault (is_sound machine.memory) machine a b p q
 
@@ -70,8 +71,8 @@ module _ (same_step : StepIsDetermined) (same_typing : TypedIsDetermined) (same_
   same_passed sources.Program pages machine a b p q = same_passing pages machine a b p q
   same_passed (sources.Keys line) pages machine a b p q = p ∙ sym q
 
-  same_failed : (source : LineSource) (pages : PageMap) (machine : Machine) (a b : Result Ended FocalRefusal) → Fails source pages machine a
-      → Fails source pages machine b → a ≡ b
+  same_failed : (source : LineSource) (pages : PageMap) (machine : Machine) (a b : Result Ended FocalRefusal)
+      → EndsAsNonexistent source pages machine a → EndsAsNonexistent source pages machine b → a ≡ b
   same_failed source pages machine a b (p, p_fails, p_is) (q, q_fails, q_is) =
       p_is ∙ ap end_of_answer (same_failing source pages machine p q p_fails q_fails) ∙ sym q_is
 
@@ -87,7 +88,7 @@ module _ (same_step : StepIsDetermined) (same_typing : TypedIsDetermined) (same_
       → MatchBool keystroke (EntersFrom source pages address machine b) (Begun source pages address machine b) → a ≡ b
   same_begun true source pages address machine a b p q = same_entered source pages address machine a b p q
   same_begun false source pages address machine a b (p, p_passes, p_is) (q, q_passes, q_is) =
-      p_is ∙ ap (begun_at address) (same_passed source pages machine p q p_passes q_passes) ∙ sym q_is
+      p_is ∙ ap (end_of_starting address) (same_passed source pages machine p q p_passes q_passes) ∙ sym q_is
 
   same_entry : (source : LineSource) (pages : PageMap) (entry : Option Entry) (machine : Machine) (a b : Result Ended FocalRefusal)
       → CallsEntry source pages entry machine a → CallsEntry source pages entry machine b → a ≡ b

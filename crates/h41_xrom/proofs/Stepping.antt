@@ -3,8 +3,8 @@ use Rattle.std.proofs.Common.{◌≡◌, Some, None, Option, Result, Ok, Err, re
 use Rattle.std.specs.Option.{option_map}
 use Rattle.std.specs.Prelude.{IsTrue, OnErr, OnOk}
 use Rattle.std.specs.Result.{result_err}
-use Rattle.h41_focal.specs.Outcomes.{answer_of, Answer, is_elsewhere}
-use Rattle.h41_focal.specs.MachineCalls.{KeepsElsewhere, left_of}
+use Rattle.h41_focal.specs.Outcomes.{answer_of, Answer, calls_outside}
+use Rattle.h41_focal.specs.MachineCalls.{OutsideCallKeeps, left_of}
 use Rattle.h41_focal.specs.LineStep.{StepsLine}
 use Rattle.h41_positions.specs.FocalState.{Machine}
 use Rattle.h41_focal.specs.Outcomes as answers
@@ -25,7 +25,7 @@ use Rattle.h41_xrom.specs.declared.refusal.CalculatorRefusal.{CalculatorRefusal}
 
 -- What a line calls is called by the machine before the line, since such a line changes nothing.
 pub called_before : (source : LineSource) (pages : PageMap) (old mid : Machine) (answer : Answer) (ended : Result Ended FocalRefusal)
-    → (IsTrue (is_elsewhere answer) → mid ≡ old) → CallsOut source pages mid answer ended
+    → (IsTrue (calls_outside answer) → mid ≡ old) → CallsOut source pages mid answer ended
     → GoesOn source pages old (record { machine = mid; answer = answer }) answer ended
 called_before source pages old mid (answers.Calls number entry) ended keeps calls =
     subst (λ (machine : Machine). CallsEntry source pages (entry_at pages number entry) machine ended) (keeps refl) calls
@@ -35,7 +35,7 @@ called_before source pages old mid answer ended keeps calls = calls
 
 -- Only a line that calls something is refused after it was executed.
 refused_before : (source : LineSource) (pages : PageMap) (old mid : Machine) (answer : Answer) (why : FocalRefusal)
-    → (IsTrue (is_elsewhere answer) → mid ≡ old) → CallsOut source pages mid answer (Err why) → mid ≡ old
+    → (IsTrue (calls_outside answer) → mid ≡ old) → CallsOut source pages mid answer (Err why) → mid ≡ old
 refused_before source pages old mid (answers.Calls number entry) why keeps calls = keeps refl
 refused_before source pages old mid (answers.Seeks name) why keeps calls = keeps refl
 refused_before source pages old mid answer why keeps calls = cc calls
@@ -70,7 +70,7 @@ done_ends s t shown = (Ok (Answers (left_of (machine_of s) outcomes.Done)), refl
 abbrev pub StepsTo : CalculatorState → Machine → LineOutcome → Type 0
 StepsTo from new outcome =
     StepsLine from.nut.pages None (machine_of from) (Ok (left_of new outcome))
-    × KeepsElsewhere (machine_of from) new (Ok outcome)
+    × OutsideCallKeeps (machine_of from) new (Ok outcome)
 
 carried : (from : CalculatorState) (new : Machine) (outcome : LineOutcome) (ended : Result Ended FocalRefusal)
     → StepsTo from new outcome → CallsOut Program from.nut.pages new (answer_of new.memory outcome) ended → CarriesHere Program from ended

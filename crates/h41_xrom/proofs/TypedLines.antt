@@ -6,7 +6,7 @@ use Rattle.h41_focal.specs.LineLaws.{AreAlike, GoesToNext, IsAt, NextIsHere, Ste
 use Rattle.h41_focal.specs.LineLaws as lines
 use Rattle.h41_focal.specs.LineStep.{Left, StepsLine}
 use Rattle.h41_positions.specs.FocalState.{Machine}
-use Rattle.h41_focal.specs.Outcomes.{Answer, is_elsewhere}
+use Rattle.h41_focal.specs.Outcomes.{Answer, calls_outside}
 use Rattle.h41_focal.specs.Outcomes as answers
 use Rattle.h41_focal.specs.declared.refusal.FocalRefusal.{FocalRefusal}
 use Rattle.h41_pages.specs.PageMap.{PageMap}
@@ -24,7 +24,7 @@ same_end : (ended other : Ended) → ◌≡◌ {A = Result Ended FocalRefusal} (
 same_end ended other is = cc
 
 -- A line that calls nothing outside memory is done.
-done_here : (pages : PageMap) (machine : Machine) (left : Left) (answer : Answer) (ended : Ended) → is_elsewhere answer ≡ false
+done_here : (pages : PageMap) (machine : Machine) (left : Left) (answer : Answer) (ended : Ended) → calls_outside answer ≡ false
     → GoesOn Program pages machine left answer (Ok ended) → ended ≡ Answers left
 done_here pages machine left (answers.Calls number entry) ended none goes = cc
 done_here pages machine left (answers.Seeks name) ended none goes = cc

@@ -191,18 +191,18 @@ abbrev pub mode_at : ℕ → Caller → Mode
 mode_at address caller = if address == end_of_function then mode_of caller else modes.Micro caller
 
 -- The mode after a word, by whether the function still runs.
-abbrev pub mode_behind_word : Bool → Caller → Mode
-mode_behind_word runs caller = if runs then modes.Micro caller else mode_of caller
+abbrev pub mode_after_word : Bool → Caller → Mode
+mode_after_word runs caller = if runs then modes.Micro caller else mode_of caller
 
 -- Stack lift is enabled when a function ends.
-abbrev pub lift_at : ℕ → Bool → Bool
-lift_at address lift = if address == end_of_function then true else lift
+abbrev pub stack_lift_at : ℕ → Bool → Bool
+stack_lift_at address lift = if address == end_of_function then true else lift
 
 -- The calculator after a word was executed.
 abbrev pub after_word : Caller → CalculatorState → Nut → CalculatorState
 after_word caller s nut = record s {
   nut = nut;
-  focal = record s.focal { lift = lift_at nut.processor.pc s.focal.lift };
+  focal = record s.focal { lift = stack_lift_at nut.processor.pc s.focal.lift };
   mode = mode_at nut.processor.pc caller;
 }
 

@@ -74,8 +74,8 @@ abbrev pub with_memory : RegisterMap → Machine → Machine
 with_memory memory machine = record machine { memory = memory }
 
 -- A machine with stack lift enabled or disabled.
-abbrev pub with_lift : Bool → Machine → Machine
-with_lift lift machine = record machine { focal = record machine.focal { lift = lift } }
+abbrev pub with_stack_lift : Bool → Machine → Machine
+with_stack_lift lift machine = record machine { focal = record machine.focal { lift = lift } }
 
 -- An effect on memory alone.
 abbrev pub leaves_memory : RegisterMap → Machine → Result KeyOutcome CalculatorRefusal
@@ -112,16 +112,16 @@ StoredFunction line (Some function) stored = stored ≡ lines.Plain function
 StoredFunction line None stored = stored ≡ line
 
 -- The line for a name that is not a label in memory.
-abbrev pub StoredElsewhere : Line → List ℕ → Option (ℕ × ℕ) → Line → Type 0
-StoredElsewhere line name (Some numbers) stored = stored ≡ lines.Module numbers.0 numbers.1
-StoredElsewhere line name None stored =
+abbrev pub StoredIfNoLabel : Line → List ℕ → Option (ℕ × ℕ) → Line → Type 0
+StoredIfNoLabel line name (Some numbers) stored = stored ≡ lines.Module numbers.0 numbers.1
+StoredIfNoLabel line name None stored =
     (function : Option Function) × IsNamed name function × StoredFunction line function stored
 
 -- The line for a name, by the label in memory, if there is one.
 abbrev pub StoredName : PageMap → Line → List ℕ → Option ℕ → Line → Type 0
 StoredName pages line name (Some position) stored = stored ≡ line
 StoredName pages line name None stored =
-    StoredElsewhere line name (function_of_name pages name) stored
+    StoredIfNoLabel line name (function_of_name pages name) stored
 
 -- The line that is stored for a typed one: only XEQ of a name is replaced.
 abbrev pub IsStoredAs : PageMap → RegisterMap → Line → Line → Type 0
@@ -146,9 +146,9 @@ taken_in memory lift register =
     with_taken memory 0 register (takes_of (coming_in (compute X)) lift) memory
 
 -- Memory and stack lift after the first character.
-abbrev pub with_number_begun : Machine → List ℕ → Machine
-with_number_begun machine register =
-    with_lift true (with_memory
+abbrev pub with_number_started : Machine → List ℕ → Machine
+with_number_started machine register =
+    with_stack_lift true (with_memory
     (with_flag (taken_in machine.memory machine.focal.lift register) number_entry true) machine)
 
 -- The first character of a number.
@@ -156,7 +156,7 @@ abbrev pub BeginsNumber : List Character → Machine → Result KeyOutcome Calcu
 BeginsNumber text machine effect =
     (register : List ℕ)
     × Computes (Written text) machine.memory 0 (Ok register)
-    × (effect ≡ Ok (Leaves (with_number_begun machine register)))
+    × (effect ≡ Ok (Leaves (with_number_started machine register)))
 
 -- Memory after a further character: the number in X is replaced.
 abbrev pub with_number_changed : Machine → List ℕ → Machine
@@ -265,18 +265,18 @@ press_of s key flags = presses s.input key (activity_of s.mode) flags
 
 -- An accepted key stores its code, sets the key flag and turns the display on; while nothing runs,
 -- it removes the message.
-abbrev pub message_told : Mode → Option (List ℕ) → Option (List ℕ)
-message_told mode message = if is_idle mode then None else message
+abbrev pub message_after_key : Mode → Option (List ℕ) → Option (List ℕ)
+message_after_key mode message = if is_idle mode then None else message
 
 -- The calculator after that.
-abbrev pub with_key_told : Key → Input → CalculatorState → CalculatorState
-with_key_told key input s = record s {
+abbrev pub with_key_accepted : Key → Input → CalculatorState → CalculatorState
+with_key_accepted key input s = record s {
   nut = record s.nut {
     keys = record { ky = code_of key; flag = true };
     processor = with_display true s.nut.processor;
   };
   input = input;
-  message = message_told s.mode s.message;
+  message = message_after_key s.mode s.message;
 }
 
 -- Then the effect of its action follows.
@@ -305,7 +305,7 @@ ActionMakes s key action input made =
     MatchOption (key_refusal s)
     ((effect : Result KeyOutcome CalculatorRefusal)
     × Acts s.nut.pages input.program_mode action (machine_of s) effect
-    × (made ≡ after_outcome (with_key_told key input s) effect))
+    × (made ≡ after_outcome (with_key_accepted key input s) effect))
     (λ why. made ≡ Err why)
 
 -- A key without a meaning is refused as KeyNotHeld (18).

@@ -3,7 +3,7 @@
 -- searched before the calculator's own functions.
 use Rattle.std.specs.Prelude.{◌≡◌, ℕ, List, MatchBool, Option, Some, None, Result, Ok, Err}
 use Rattle.h41_codes.specs.declared.functions.Function.{Function}
-use Rattle.h41_focal.specs.LineStep.{EntersLine, FailsLine, FailsTyped, Left, PassesLine}
+use Rattle.h41_focal.specs.LineStep.{EntersLine, Left, PassesLine, SteppedLineFails, TypedLineFails}
 use Rattle.h41_positions.specs.FocalState.{Machine}
 use Rattle.h41_focal.specs.LineStep.{StepsLine, TypesLine, left_done, line_as, with_program_run}
 use Rattle.h41_focal.specs.Outcomes.{Answer}
@@ -41,9 +41,9 @@ end_of_answer (Ok left) = Ok (Answers left)
 end_of_answer (Err refusal) = Err refusal
 
 -- A line that starts the function at an address, or is refused.
-abbrev pub begun_at : ℕ → Result Machine FocalRefusal → Result Ended FocalRefusal
-begun_at address (Ok machine) = Ok (Begins machine address)
-begun_at address (Err refusal) = Err refusal
+abbrev pub end_of_starting : ℕ → Result Machine FocalRefusal → Result Ended FocalRefusal
+end_of_starting address (Ok machine) = Ok (Begins machine address)
+end_of_starting address (Err refusal) = Err refusal
 
 -- A line that has called a module's program, or is refused.
 abbrev pub end_of_entering : Result Machine FocalRefusal → Result Ended FocalRefusal
@@ -62,9 +62,10 @@ CarriesFrom (sources.Keys line) pages function machine left =
     TypesLine pages (line_as function line) machine left
 
 -- The line fails with NONEXISTENT, because what it calls does not exist.
-abbrev pub FailsFrom : LineSource → PageMap → Machine → Result Left FocalRefusal → Type 0
-FailsFrom sources.Program pages machine left = FailsLine pages Nonexistent machine left
-FailsFrom (sources.Keys line) pages machine left = FailsTyped Nonexistent machine left
+abbrev pub FailsAsNonexistent : LineSource → PageMap → Machine → Result Left FocalRefusal → Type 0
+FailsAsNonexistent sources.Program pages machine left =
+    SteppedLineFails pages Nonexistent machine left
+FailsAsNonexistent (sources.Keys line) pages machine left = TypedLineFails Nonexistent machine left
 
 -- The line is passed for a module's function: the program will continue after it. A typed line
 -- changes neither the position nor stack lift.
@@ -73,10 +74,10 @@ PassesFrom sources.Program pages machine after = PassesLine pages machine after
 PassesFrom (sources.Keys line) pages machine after = after ≡ Ok machine
 
 -- A line that fails with NONEXISTENT ends with that answer, or is refused.
-abbrev pub Fails : LineSource → PageMap → Machine → Result Ended FocalRefusal → Type 0
-Fails source pages machine ended =
+abbrev pub EndsAsNonexistent : LineSource → PageMap → Machine → Result Ended FocalRefusal → Type 0
+EndsAsNonexistent source pages machine ended =
     (left : Result Left FocalRefusal)
-    × FailsFrom source pages machine left
+    × FailsAsNonexistent source pages machine left
     × (ended ≡ end_of_answer left)
 
 -- A module's program is called like one in memory: execution continues at its start, the next line
@@ -96,14 +97,14 @@ BeginsEntry source pages entry machine ended =
     MatchBool entry.keystroke (EntersFrom source pages entry.address machine ended)
     ((after : Result Machine FocalRefusal)
     × PassesFrom source pages machine after
-    × (ended ≡ begun_at entry.address after))
+    × (ended ≡ end_of_starting entry.address after))
 
 -- A module's function is called; if the lowest page with its number has no such table entry, the
 -- line fails with NONEXISTENT.
 abbrev pub CallsEntry : LineSource → PageMap → Option Entry → Machine → Result Ended FocalRefusal
     → Type 0
 CallsEntry source pages (Some entry) machine ended = BeginsEntry source pages entry machine ended
-CallsEntry source pages None machine ended = Fails source pages machine ended
+CallsEntry source pages None machine ended = EndsAsNonexistent source pages machine ended
 
 -- The function of the calculator with a name, if there is one.
 abbrev pub IsNamed : List ℕ → Option Function → Type 0
@@ -118,7 +119,7 @@ CarriesNamed source pages (Some function) machine ended =
     (left : Result Left FocalRefusal)
     × CarriesFrom source pages (Some function) machine left
     × (ended ≡ end_of_answer left)
-CarriesNamed source pages None machine ended = Fails source pages machine ended
+CarriesNamed source pages None machine ended = EndsAsNonexistent source pages machine ended
 
 -- What has a name is called: if a module has such a function, the table entry of its two numbers,
 -- otherwise a function of the calculator.

@@ -13,7 +13,7 @@ ghost use Rattle.h41_xrom.specs.Calculator.{RefusesLine, RefusesPage, RefusesSte
 ghost use Rattle.h41_xrom.specs.Calculator.{Step, StepIn, StepsByLine, TakesPage, after_answer};
 ghost use Rattle.h41_xrom.specs.Calculator.{call_refusal, after_call, caller_in, with_function};
 ghost use Rattle.h41_xrom.specs.Calculator.{machine_of};
-ghost use Rattle.h41_xrom.specs.Calculator.{mode_after, mode_behind_word, mode_of, not_typing};
+ghost use Rattle.h41_xrom.specs.Calculator.{mode_after, mode_after_word, mode_of, not_typing};
 ghost use Rattle.h41_xrom.specs.Calculator.{after_reset, start, with_page, with_shown};
 ghost use Rattle.h41_xrom.specs.Calculator.{without_page};
 ghost use Rattle.h41_xrom.specs.KeptLabels.{KeepsAfterKey, KeepsAfterLine, KeepsAfterMeaning};
@@ -359,7 +359,7 @@ impl<const REGS: usize> Calculator<REGS> {
             ≡ after_answer (answer_of self.old.state.nut.ram outcome) self.old.state }
         ensures cache { self.new.cache ≡ self.old.cache }
     {
-        self.mode = mode_behind(self.mode, &outcome);
+        self.mode = mode_after_line(self.mode, &outcome);
         self.show(outcome);
     }
 
@@ -471,7 +471,7 @@ impl<const REGS: usize> Calculator<REGS> {
     /// Stores the code of an accepted key for the processor, sets the key flag, turns the display on, and stores
     /// `input` as what the keyboard remembers. While nothing runs, also removes the message.
     fn tell(&mut self, key: Key, input: Input)
-        ensures state { self.new.state ≡ keys.with_key_told key input self.old.state }
+        ensures state { self.new.state ≡ keys.with_key_accepted key input self.old.state }
         ensures cache { self.new.cache ≡ self.old.cache }
     {
         self.keys = Keys {
@@ -511,7 +511,7 @@ impl<const REGS: usize> Calculator<REGS> {
         ensures refusal { RefusesStepIn (Micro caller) self.old.state (result_err result) }
         ensures change { OnOk result (StepIn (Micro caller) self.old.state self.new.state) }
         ensures kept { KeepsAfterStepIn (Micro caller) (is_ok result) self.old self.new }
-        ensures running { IfOk result (λ runs. self.new.state.mode ≡ mode_behind_word runs caller) }
+        ensures running { IfOk result (λ runs. self.new.state.mode ≡ mode_after_word runs caller) }
         ensures unchanged { OnErr result (self.new.state ≡ self.old.state) }
     {
         kept_answers_stay_right();
@@ -628,7 +628,7 @@ impl<const REGS: usize> Calculator<REGS> {
         ensures cache { self.new.cache ≡ no_searches }
     {
         self.cpu = Cpu::new();
-        self.machine = begun_anew(&self.machine);
+        self.machine = initial_machine(&self.machine);
         self.pages.choose_first_banks();
         self.keys = Keys::new();
         self.input = Input::new();
@@ -639,7 +639,7 @@ impl<const REGS: usize> Calculator<REGS> {
 
 /// Returns memory and the rest of the state of keystroke programs in their initial state, with as many registers of
 /// main memory as `machine` has.
-fn begun_anew<const REGS: usize>(machine: &Machine<REGS>) -> Machine<REGS>
+fn initial_machine<const REGS: usize>(machine: &Machine<REGS>) -> Machine<REGS>
     ensures machine { labelled.machine_of result
         ≡ machine_with (registers.start (length machine.now.ram.registers.main)) focal.start }
     ensures cache { cache_of result ≡ no_searches }
@@ -653,7 +653,7 @@ fn begun_anew<const REGS: usize>(machine: &Machine<REGS>) -> Machine<REGS>
 /// Returns the mode after an executed line with this outcome: `Idle` if the line stops a program or fails, `Run` if it
 /// starts one, otherwise `mode` unchanged.
 #[inline(always)]
-fn mode_behind(mode: Mode, outcome: &LineOutcome) -> Mode
+fn mode_after_line(mode: Mode, outcome: &LineOutcome) -> Mode
     ensures { (memory : RegisterMap) → result ≡ mode_after (answer_of memory outcome.now) mode }
 {
     match outcome {

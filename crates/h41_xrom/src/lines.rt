@@ -3,11 +3,12 @@
 
 ghost use Rattle.std.specs.Prelude.{◌≡◌, None, Some, OnErr};
 ghost use Rattle.h41_positions.specs.LabelledMachine.{AreRight, machine_of};
-ghost use Rattle.h41_focal.specs.MachineCalls.{KeepsElsewhere, carried_as, passed_as};
+ghost use Rattle.h41_focal.specs.MachineCalls.{OutsideCallKeeps, carried_as, passed_as};
 ghost use Rattle.h41_xrom.specs.KeptLabels.{KeepsAfterLine};
 ghost use Rattle.h41_xrom.specs.LabelledCalculator.{cache_of};
 ghost use Rattle.h41_xrom.specs.Lines.{BeginsEntry, CallsEntry, CarriesFrom, CarriesLine};
-ghost use Rattle.h41_xrom.specs.Lines.{EntersFrom, Fails, FailsFrom, IsNamed, PassesFrom, Seeks};
+ghost use Rattle.h41_xrom.specs.Lines.{EndsAsNonexistent, EntersFrom, FailsAsNonexistent, IsNamed};
+ghost use Rattle.h41_xrom.specs.Lines.{PassesFrom, Seeks};
 ghost use Rattle.h41_focal.specs.Outcomes.{answer_of};
 ghost use Rattle.h41_xrom.specs.private.PrivateCalls.{CallsOut, CarriesFunction, IsFunction};
 ghost use Rattle.h41_xrom.specs.private.PrivateCalls.{KeepsClear, ended_as};
@@ -107,7 +108,7 @@ fn carry<const REGS: usize>(
     ensures line { CarriesFrom source.now pages.now None (machine_of machine.old)
         (carried_as (machine_of machine.new) result) }
     ensures unchanged { OnErr result (machine_of machine.new ≡ machine_of machine.old) }
-    ensures elsewhere { KeepsElsewhere (machine_of machine.old) (machine_of machine.new) result }
+    ensures elsewhere { OutsideCallKeeps (machine_of machine.old) (machine_of machine.new) result }
     ensures kept { KeepsAfterLine source.now pages.now (machine_of machine.old)
         (cache_of machine.old) (cache_of machine.new) }
     ensures right { AreRight machine.new }
@@ -244,7 +245,7 @@ fn fail<const REGS: usize>(
     source: &LineSource,
 ) -> Result<LineEnd, FocalRefusal>
     requires { AreRight machine.old }
-    ensures line { Fails source.now pages.now (machine_of machine.old)
+    ensures line { EndsAsNonexistent source.now pages.now (machine_of machine.old)
         (ended_as (machine_of machine.new) result) }
     ensures unchanged { OnErr result (machine_of machine.new ≡ machine_of machine.old) }
     ensures kept { KeepsClear machine.old machine.new }
@@ -261,7 +262,7 @@ fn fault_of<const REGS: usize>(
     source: &LineSource,
 ) -> Result<LineOutcome, FocalRefusal>
     requires { AreRight machine.old }
-    ensures line { FailsFrom source.now pages.now (machine_of machine.old)
+    ensures line { FailsAsNonexistent source.now pages.now (machine_of machine.old)
         (carried_as (machine_of machine.new) result) }
     ensures unchanged { OnErr result (machine_of machine.new ≡ machine_of machine.old) }
     ensures kept { KeepsClear machine.old machine.new }

@@ -2,12 +2,12 @@
 -- file.
 use Rattle.std.specs.Prelude.{◌≡◌, ◌==◌, ◌&&◌, Bool, List, length}
 use Rattle.std.specs.FinSet.{from_list, len}
-use Rattle.h41_breakpoints.specs.Breakpoints.{BreakpointSet, kind_of, number_of}
+use Rattle.h41_breakpoints.specs.Breakpoints.{BreakpointSet, kind_of, location_number}
 use Rattle.h41_breakpoints.specs.declared.location.Location.{Location}
 
 -- Two locations are the same if they have the same kind and the same number.
 abbrev pub is_same : Location → Location → Bool
-is_same one other = (kind_of one == kind_of other) && (number_of one == number_of other)
+is_same one other = (kind_of one == kind_of other) && (location_number one == location_number other)
 
 -- The set of the members of a list.
 abbrev pub set_of : List Location → BreakpointSet

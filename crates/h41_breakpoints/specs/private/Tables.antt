@@ -25,26 +25,27 @@ pub record IsWithBit (number place : ℕ) (bit : Bool) (changed : ℕ) : Type 0 
 
 -- The three tables: a bit for each word's address, one for each of the first positions in program
 -- memory, and one for each position in a page.
-pub record Marks : Type 0 where
+pub record BitTables : Type 0 where
   pub words : List Bool
   pub lines : List Bool
   pub page_lines : List Bool
 
 -- The bit of a location. Positions in program memory after the end of their table have none.
-abbrev pub mark_at : Marks → Location → Option Bool
-mark_at marks (Word address) = slice_get marks.words address
-mark_at marks (Line (Memory byte)) = slice_get marks.lines byte
-mark_at marks (Line (Page address)) = slice_get marks.page_lines address
+abbrev pub location_bit : BitTables → Location → Option Bool
+location_bit tables (Word address) = slice_get tables.words address
+location_bit tables (Line (Memory byte)) = slice_get tables.lines byte
+location_bit tables (Line (Page address)) = slice_get tables.page_lines address
 
 -- The tables after the bit of a location is changed.
-abbrev pub with_mark : Marks → Location → Bool → Marks
-with_mark marks (Word address) mark = record marks { words = slice_set marks.words address mark }
-with_mark marks (Line (Memory byte)) mark =
-    record marks { lines = slice_set marks.lines byte mark }
-with_mark marks (Line (Page address)) mark =
-    record marks { page_lines = slice_set marks.page_lines address mark }
+abbrev pub with_location_bit : BitTables → Location → Bool → BitTables
+with_location_bit tables (Word address) bit =
+    record tables { words = slice_set tables.words address bit }
+with_location_bit tables (Line (Memory byte)) bit =
+    record tables { lines = slice_set tables.lines byte bit }
+with_location_bit tables (Line (Page address)) bit =
+    record tables { page_lines = slice_set tables.page_lines address bit }
 
 -- Each bit says whether its location is in the list.
-abbrev pub AreMarksOf : List Location → Marks → Type 0
-AreMarksOf members marks =
-    (q : Location) (mark : Bool) → mark_at marks q ≡ Some mark → mark ≡ is_set (set_of members) q
+abbrev pub AreTablesOf : List Location → BitTables → Type 0
+AreTablesOf members tables =
+    (q : Location) (bit : Bool) → location_bit tables q ≡ Some bit → bit ≡ is_set (set_of members) q

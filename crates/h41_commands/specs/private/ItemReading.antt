@@ -94,10 +94,10 @@ pub record HearsNext (result : Result (Option Spelled) ItemFault)
   pub spelled : SpellNext result new.at_end lines
 
 -- The kind of the line that was returned.
-abbrev pub kind_told : {E : Type 0} → Result (Option FirstLine) E → Result (Option LineKind) E
-kind_told (Ok None) = Ok None
-kind_told (Ok (Some first)) = Ok (Some first.kind)
-kind_told (Err fault) = Err fault
+abbrev pub kind_returned : {E : Type 0} → Result (Option FirstLine) E → Result (Option LineKind) E
+kind_returned (Ok None) = Ok None
+kind_returned (Ok (Some first)) = Ok (Some first.kind)
+kind_returned (Err fault) = Err fault
 
 -- The result describes this line.
 abbrev pub TellsFirst : List ℕ → Option FirstLine → Type 0

@@ -11,7 +11,7 @@ use Rattle.h41_commands.specs.ProgramBlocks.{texts_of}
 
 -- The texts that remain.
 abbrev pub texts_left : Texts → List (List ℕ)
-texts_left left = if left.is_done then [] else texts_of left.rest.now
+texts_left left = if left.is_finished then [] else texts_of left.rest.now
 
 -- The bytes between a line and the line before it: a null byte between two numbers, because their
 -- digits would run together.

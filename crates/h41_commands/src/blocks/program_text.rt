@@ -22,7 +22,7 @@ struct Texts<'a> {
     /// The bytes of the text that are not returned yet.
     rest: &'a [u8],
     /// Whether the last line of the text was returned.
-    is_done: bool,
+    is_finished: bool,
 }
 
 impl<'a> Texts<'a> {
@@ -32,7 +32,7 @@ impl<'a> Texts<'a> {
     {
         Texts {
             rest: text,
-            is_done: false,
+            is_finished: false,
         }
     }
 }
@@ -45,7 +45,7 @@ impl<'a> Iterator for Texts<'a> {
     ghost remaining = { item_count texts_left };
 
     fn next(&mut self) -> Option<&'a [u8]> {
-        if self.is_done {
+        if self.is_finished {
             return None;
         }
         let text = self.rest;
@@ -55,7 +55,7 @@ impl<'a> Iterator for Texts<'a> {
                 Some(&text[..end])
             }
             None => {
-                self.is_done = true;
+                self.is_finished = true;
                 Some(text)
             }
         }

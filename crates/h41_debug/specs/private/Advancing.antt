@@ -6,7 +6,7 @@ use Rattle.h41_xrom.specs.LabelledCalculator.{LabelledCalculator}
 use Rattle.h41_debug.specs.Bench.{BenchState, Steps}
 use Rattle.h41_debug.specs.KeptInTurn.{KeepsAfterSteps, KeepsAfterTries}
 use Rattle.h41_debug.specs.Run.{StopsFor}
-use Rattle.h41_debug.specs.private.Running.{stop_behind}
+use Rattle.h41_debug.specs.private.Running.{stop_after}
 use Rattle.h41_debug.specs.declared.run.Stop.{Stop}
 use Rattle.h41_debug.specs.declared.run.Stop.TheVariants.{Break, Idle, Limit, Refused}
 
@@ -37,7 +37,7 @@ EndsFor limit made t (Refused refusal) = (made < limit) × RefusesStep t.calcula
 abbrev pub IsRefused : ℕ → ℕ → BenchState → CalculatorRefusal → Type 0
 IsRefused limit made t refusal =
     (made < limit)
-    × (stop_behind (nat_lt 0 made) t ≡ None)
+    × (stop_after (nat_lt 0 made) t ≡ None)
     × RefusesStep t.calculator (Some refusal)
 
 -- Steps that continue after others, of which the last left s: `made` steps are made then, and the

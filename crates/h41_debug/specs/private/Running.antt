@@ -24,5 +24,5 @@ abbrev pub stop_at : BenchState → Option Stop
 stop_at s = if is_idle s.calculator.mode then Some Idle else stop_running s
 
 -- The same after a step, and no reason before the first.
-abbrev pub stop_behind : Bool → BenchState → Option Stop
-stop_behind behind s = if behind then stop_at s else None
+abbrev pub stop_after : Bool → BenchState → Option Stop
+stop_after stepped s = if stepped then stop_at s else None

@@ -15,9 +15,9 @@ use Rattle.h41_rows.specs.Results.{result_map}
 use Rattle.h41_focal.specs.Destinations.{Manner}
 use Rattle.h41_focal.specs.Destinations as destinations
 use Rattle.h41_focal.specs.MachineCalls.{Call, carried_as, left_of}
-use Rattle.h41_focal.specs.LineStep.{Applies, FailsIn, Stands}
+use Rattle.h41_focal.specs.LineStep.{Applies, EndsInError, Stands}
 use Rattle.h41_positions.specs.FocalState.{FocalState, Machine}
-use Rattle.h41_focal.specs.LineStep.{TakesLine, lift_behind}
+use Rattle.h41_focal.specs.LineStep.{TakesLine, stack_lift_after}
 use Rattle.h41_positions.specs.FocalState.{at_position}
 use Rattle.h41_rows.specs.Operands.{Address, Count, DigitKind, FlagKind, NoOperand, RegisterKind}
 use Rattle.h41_rows.specs.Operands.{meant_as}
@@ -62,9 +62,9 @@ on_to_next (Program next) lift focal =
 on_to_next Typed lift focal = record focal { lift = lift_after lift focal.lift }
 
 -- The state after a line whose function is executed elsewhere.
-abbrev pub behind_line : Line → Position → FocalState → FocalState
-behind_line line next focal =
-    record (at_position next focal) { lift = lift_behind line focal.lift }
+abbrev pub state_after_line : Line → Position → FocalState → FocalState
+state_after_line line next focal =
+    record (at_position next focal) { lift = stack_lift_after line focal.lift }
 
 -- A row was applied to a machine by a line that searches no position, whatever the pages contain.
 abbrev pub Leaves : Origin → LineRow → ℕ → (old new : Machine) → LineOutcome → Type 0
@@ -108,7 +108,7 @@ abbrev pub CarriesFound : {A : Type 0} → PageMap → Origin → (A → LineRow
 CarriesFound pages origin row named (Ok found) old new result =
     CarriesRow pages origin (row found) (named found) old new result
 CarriesFound pages origin row named (Err fault) old new result =
-    FailsIn (manner_of origin) old fault (carried_as new result)
+    EndsInError (manner_of origin) old fault (carried_as new result)
 
 -- A function with the register of an operand was executed.
 abbrev pub UsesAddress : PageMap → Origin → RegisterUse → Operand → (old new : Machine)
@@ -214,9 +214,9 @@ fault_outcome true fault = outcomes.Done
 fault_outcome false fault = outcomes.Failed fault
 
 -- A line had an error.
-abbrev pub FailsAs : Origin → LineFault → (old new : Machine) → LineOutcome → Type 0
-FailsAs origin fault old new outcome =
-    FailsIn (manner_of origin) old fault (Ok (left_of new outcome))
+abbrev pub LineFails : Origin → LineFault → (old new : Machine) → LineOutcome → Type 0
+LineFails origin fault old new outcome =
+    EndsInError (manner_of origin) old fault (Ok (left_of new outcome))
 
 -- A line with a name was executed, or refused.
 abbrev pub TakesNamed : PageMap → Origin → NameFunction → List ℕ → Call
@@ -256,9 +256,9 @@ abbrev pub PutsText : List ℕ → RegisterMap → RegisterMap → Type 0
 PutsText text old new = (named : ℕ) → new ≡ with_alpha_change old named (text_row text).alpha old
 
 -- The text after the append sign.
-abbrev pub IsBehind : List ℕ → List ℕ → Type 0
-IsBehind text rest = (text_row text).alpha ≡ Some (Appends rest)
+abbrev pub IsAppended : List ℕ → List ℕ → Type 0
+IsAppended text rest = (text_row text).alpha ≡ Some (Appends rest)
 
 -- A text that does not begin with the append sign.
-abbrev pub IsWhole : List ℕ → Type 0
-IsWhole text = 1 ≤ length text → (text_row text).alpha ≡ Some (Becomes text)
+abbrev pub ReplacesAlpha : List ℕ → Type 0
+ReplacesAlpha text = 1 ≤ length text → (text_row text).alpha ≡ Some (Becomes text)

@@ -10,7 +10,7 @@ use Rattle.h41_refusals.specs.declared.fault.Fault.TheVariants.{OutOfMemory, Rea
 use Rattle.h41_jobs.specs.declared.arguments.Task.{Task}
 use Rattle.h41_jobs.specs.declared.ended.Ended.{Ended}
 use Rattle.h41_jobs.specs.Inputs.{IsUnread}
-use Rattle.h41_serving.specs.Tasks.{FailedOrTooLong, IsPassedOn, LeavesBegun, LeavesFront}
+use Rattle.h41_serving.specs.Tasks.{FailedOrTooLong, IsPassedOn, LeavesFront, LeavesPartial}
 use Rattle.h41_serving.specs.Tasks.{LeavesMemory, LeavesUnread, MayEnd, TaskEnds, WritesFrontOf}
 use Rattle.h41_serving.specs.Tasks.{WritesTaskText, WritesTextOf}
 
@@ -23,9 +23,9 @@ pub record CarriesOut {R W : Type 0} (task : Task) (result : Result Ended Fault)
   pub kind : IfOk result (MayEnd task)
   pub flushed : OnOk result (sink.flushed new ≡ true)
   pub read : result ≡ Err ReadFault → FailedOrTooLong task source sink before after old new
-  pub begun :
+  pub partial :
       IfErr result
-      (λ fault. fault ≢ WriteFault → LeavesBegun task source sink before after old new)
+      (λ fault. fault ≢ WriteFault → LeavesPartial task source sink before after old new)
   pub unread : result ≡ Err ReadFault → LeavesUnread task source sink before after old new
   pub memory : result ≡ Err OutOfMemory → LeavesMemory task source sink before after old new
   pub cut : result ≡ Err WriteFault → LeavesFront task source sink before after old new

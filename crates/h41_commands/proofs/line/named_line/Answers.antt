@@ -15,9 +15,9 @@ pub returns : goal.returns
 returns c =
     let line = c.args.line.now in
     let start = c.in_ok-start.start in
-    let behind = drop (start + 1) line in
+    let rest = drop (start + 1) line in
     let n = c.unwrap_or.result in
-    let end : n ≡ position_or_len is_blank behind =
-    word_end_is behind c.word_end.result n (simp take_rest at c.word_end.ensures) (simp take_rest at c.unwrap_or.ensures) in
+    let end : n ≡ position_or_len is_blank rest =
+    word_end_is rest c.word_end.result n (simp take_rest at c.word_end.ensures) (simp take_rest at c.unwrap_or.ensures) in
     let length : start + 1 + n - start ≡ 1 + n = omega arith in
     named_told line start n c.of_word-name.result c.in_ok-start.ensures end (rw length at c.of_word-name.ensures)

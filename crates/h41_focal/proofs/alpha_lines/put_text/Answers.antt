@@ -2,10 +2,10 @@ use Rattle.h41_focal.proofs.alpha_lines.put_text.Goals as goal
 
 pub returns-in-Some-clause-change : goal.returns-in-Some-clause-change
 returns-in-Some-clause-change g c = λ named.
-    let behind = c.appended.ensures.behind in
-    rw (rw c.in-Some.is at behind) (c.append_text.ensures.change named)
+    let appends = c.appended.ensures.appends in
+    rw (rw c.in-Some.is at appends) (c.append_text.ensures.change named)
 
 pub returns-in-None-clause-change : goal.returns-in-None-clause-change
 returns-in-None-clause-change g c = λ named.
-    let whole = c.appended.ensures.whole in
-    rw ((rw c.in-None.is at whole) c.in_default.len_at_least) (c.replace_text.ensures.change named)
+    let replaces = c.appended.ensures.replaces in
+    rw ((rw c.in-None.is at replaces) c.in_default.len_at_least) (c.replace_text.ensures.change named)

@@ -3,7 +3,7 @@ use Rattle.h41_focal.proofs.RowApplied.{opened_row}
 use Rattle.h41_positions.specs.LabelledMachine.{LabelledMachine, machine_of}
 use Rattle.h41_positions.specs.LabelledMachine.{local_search}
 use Rattle.h41_focal.specs.private.Arrivals.{from_of}
-use Rattle.h41_focal.specs.private.Carrying.{FailsAs}
+use Rattle.h41_focal.specs.private.Carrying.{LineFails}
 use Rattle.h41_positions.specs.FocalState.{Machine, machine_with}
 use Rattle.h41_labels.specs.KeptAnswers.{KeepsSearch}
 use Rattle.h41_positions.specs.Positions.{LocalFrom}
@@ -50,7 +50,7 @@ returns-in-None-clause-done g c = λ named.
     (subst (λ (machine : Machine). LocalFrom c.args.label c.args.pages.now machine.memory (from_of c.args.origin machine.focal.position)
     None)
     (ap machine_of c.machine.view_is) lost)
-    (subst (λ (machine : Machine). FailsAs c.args.origin Nonexistent machine (machine_of c.fail.new.machine) c.fail.result) same
+    (subst (λ (machine : Machine). LineFails c.args.origin Nonexistent machine (machine_of c.fail.new.machine) c.fail.result) same
     (let fails = c.fail.ensures.done in rw origin_is at fails))
 
 pub returns-in-None-clause-kept : goal.returns-in-None-clause-kept

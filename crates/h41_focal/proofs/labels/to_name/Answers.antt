@@ -3,7 +3,7 @@ use Rattle.h41_codes.specs.declared.functions.Branch.TheVariants.{Execute}
 use Rattle.h41_focal.specs.declared.outcome.LineOutcome.TheVariants as outcomes
 use Rattle.h41_positions.specs.LabelledMachine.{LabelledMachine, machine_of}
 use Rattle.h41_focal.proofs.RowApplied.{opened_row}
-use Rattle.h41_focal.specs.private.Carrying.{CarriesRow, FailsAs}
+use Rattle.h41_focal.specs.private.Carrying.{CarriesRow, LineFails}
 use Rattle.h41_positions.specs.FocalState.{Machine, machine_with}
 use Rattle.h41_labels.specs.KeptAnswers.{KeepsSearch}
 use Rattle.h41_labels.specs.declared.search.Search.TheVariants.{Global}
@@ -39,7 +39,7 @@ returns-in-None-GoTo-clause-done g c = λ pages named.
     (name_lost pages c.args.origin c.args.name named _ _ _
     (subst (λ (machine : Machine). AnswersOf (λ lines. position_of (named_in c.args.name lines)) machine.memory 0 None)
     (ap machine_of c.machine.view_is) lost)
-    (subst (λ (machine : Machine). FailsAs c.args.origin Nonexistent machine (machine_of c.fail.new.machine) c.fail.result) same
+    (subst (λ (machine : Machine). LineFails c.args.origin Nonexistent machine (machine_of c.fail.new.machine) c.fail.result) same
     c.fail.ensures.done))
 
 pub returns-in-None-GoTo-clause-kept : goal.returns-in-None-GoTo-clause-kept

@@ -42,4 +42,4 @@ returns-clause-done g c = λ named.
     let opened = ap (λ (inside : Inside g.row.REGS). machine_with inside.ram.registers inside.focal.state) c.machine-inside.view_is
     ∙ (ap machine_of c.machine.view_is) in
     row_done _ (move_row c.args.movement) named _ _ _ moved.0 outcomes.Done _ _ opened
-    (goes_on c.args.movement) moved.1 (answers_done _ c.args.movement named) moved.2 c.go_on_behind.ensures.state
+    (goes_on c.args.movement) moved.1 (answers_done _ c.args.movement named) moved.2 c.go_on_after_movement.ensures.state

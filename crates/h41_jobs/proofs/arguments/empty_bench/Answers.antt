@@ -8,4 +8,4 @@ returns c =
     ap app_of_fields c.subcommand_required.ensures
     ∙ ap (λ (a : App). record a { top = record a.top { subcommand_required = true } })
     (ap app_of_fields c.version.ensures
-    ∙ ap (λ (a : App). record a { top = record a.top { has_version = true } }) c.told_command.ensures.app)
+    ∙ ap (λ (a : App). record a { top = record a.top { has_version = true } }) c.command_with_help.ensures.app)

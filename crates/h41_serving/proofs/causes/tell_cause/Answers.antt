@@ -1,5 +1,5 @@
 use Rattle.std.proofs.Common.{codes, ◌++◌}
-use Rattle.h41_serving.proofs.Told.{tells_on_both}
+use Rattle.h41_serving.proofs.Reported.{tells_on_both}
 use Rattle.h41_serving.proofs.causes.tell_cause.Goals as goal
 
 pub returns : goal.returns

@@ -1,5 +1,5 @@
 use Rattle.std.proofs.Common.{Ok, refl, sym, ◌∙◌}
-use Rattle.h41_serving.proofs.Told.{not_chosen}
+use Rattle.h41_serving.proofs.Reported.{not_chosen}
 use Rattle.h41_serving.proofs.program.run_job.Goals as goal
 
 pub returns-in-Ok : goal.returns-in-Ok

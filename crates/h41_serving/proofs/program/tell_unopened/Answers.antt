@@ -1,7 +1,7 @@
 use Rattle.h41_refusals.specs.declared.fault.Fault.TheVariants.{ReadFault}
 use Rattle.h41_serving.specs.Causes.{cause_line}
 use Rattle.h41_serving.specs.Statuses.{fault_line}
-use Rattle.h41_serving.proofs.Told.{tells_both}
+use Rattle.h41_serving.proofs.Reported.{tells_both}
 use Rattle.h41_serving.proofs.program.tell_unopened.Goals as goal
 
 pub returns-clause-line : goal.returns-clause-line

@@ -32,9 +32,9 @@ returns-in-Err-clause-flushed g c = λ other. absurd (other c.tell.ensures.statu
 pub returns-in-Err-clause-outcome : goal.returns-in-Err-clause-outcome
 returns-in-Err-clause-outcome g c = λ other. absurd (other c.tell.ensures.status)
 
-pub returns-in-Err-clause-begun : goal.returns-in-Err-clause-begun
-returns-in-Err-clause-begun g c =
-    λ is clear. c.in-Err.ensures.carried.begun
+pub returns-in-Err-clause-partial : goal.returns-in-Err-clause-partial
+returns-in-Err-clause-partial g c =
+    λ is clear. c.in-Err.ensures.carried.partial
     (λ was. absurd (false≢true (sym clear ∙ c.in-Err.ensures.carried.write_fault (ap (λ (of : Fault). Err of) was))))
 
 pub returns-in-Err-clause-unread : goal.returns-in-Err-clause-unread

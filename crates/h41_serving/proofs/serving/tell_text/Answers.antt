@@ -1,4 +1,4 @@
-use Rattle.h41_serving.proofs.Told.{written_tells}
+use Rattle.h41_serving.proofs.Reported.{written_tells}
 use Rattle.h41_serving.proofs.serving.tell_text.Goals as goal
 
 pub returns : goal.returns

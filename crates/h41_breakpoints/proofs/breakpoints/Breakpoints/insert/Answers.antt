@@ -1,7 +1,7 @@
 use Rattle.std.proofs.Common.{◌≡◌, false, sym, ap, ◌∙◌}
 use Rattle.h41_breakpoints.specs.Breakpoints.{BreakpointSet, is_set, with_breakpoint}
 use Rattle.h41_breakpoints.specs.private.Members.{set_of}
-use Rattle.h41_breakpoints.proofs.Marks.{marks_pushed}
+use Rattle.h41_breakpoints.proofs.TableBits.{tables_pushed}
 use Rattle.h41_breakpoints.proofs.Members.{once_pushed, set_again, set_pushed}
 use Rattle.h41_breakpoints.proofs.breakpoints.Breakpoints.insert.Goals as goal
 
@@ -15,7 +15,7 @@ invariant_of-self c =
     ap (λ (set : BreakpointSet). is_set set c.args.location) c.self.view_is ∙ sym c.contains.ensures ∙ c.if-contains.false in
     rw (c.push.ensures.items, c.set.ensures) (
       once_pushed items c.args.location c.self.invariant.0 fresh,
-      marks_pushed items c.self.inside.tables c.args.location c.self.invariant.1,
+      tables_pushed items c.self.inside.tables c.args.location c.self.invariant.1,
     )
 
 pub returns-clause-change : goal.returns-clause-change

@@ -4,7 +4,7 @@ use Rattle.std.proofs.lemmas.List.Folds.{list_any_at}
 use Rattle.std.proofs.lemmas.List.Quantifiers.{position-Some}
 use Rattle.h41_breakpoints.specs.Breakpoints.{BreakpointSet, is_set, without_breakpoint}
 use Rattle.h41_breakpoints.specs.private.Members.{is_same}
-use Rattle.h41_breakpoints.proofs.Marks.{marks_left}
+use Rattle.h41_breakpoints.proofs.TableBits.{tables_left}
 use Rattle.h41_breakpoints.proofs.Members.{none_found, set_has, taken}
 use Rattle.h41_breakpoints.proofs.breakpoints.Breakpoints.remove.Goals as goal
 
@@ -15,7 +15,7 @@ invariant_of-self c =
     let left =
     taken items _ c.args.location c.swap_remove.result c.in-Some.index c.self.invariant.0 found
     c.swap_remove.ensures.value c.swap_remove.ensures.items c.swap_remove.ensures.len in
-    rw c.set.ensures (left.once, marks_left items _ c.self.inside.tables c.args.location left.set c.self.invariant.1)
+    rw c.set.ensures (left.once, tables_left items _ c.self.inside.tables c.args.location left.set c.self.invariant.1)
 
 pub returns-in-Some-clause-refusal : goal.returns-in-Some-clause-refusal
 returns-in-Some-clause-refusal c =

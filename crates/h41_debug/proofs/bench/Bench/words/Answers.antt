@@ -3,7 +3,7 @@ use Rattle.h41_xrom.specs.declared.calculator.Caller.{Caller}
 use Rattle.h41_xrom.specs.declared.calculator.Mode.TheVariants.{Micro}
 use Rattle.h41_debug.specs.Bench.{BenchState}
 use Rattle.h41_debug.specs.private.Advancing.{MakesSteps}
-use Rattle.h41_debug.specs.private.Running.{stop_behind}
+use Rattle.h41_debug.specs.private.Running.{stop_after}
 use Rattle.h41_breakpoints.specs.Breakpoints.{is_set}
 use Rattle.h41_debug.specs.Positions.{location_of}
 use Rattle.h41_debug.proofs.Advancing.{all_steps, clear_behind, ends_piece, next_fits, one_more, refused_piece, same, up_to}
@@ -18,7 +18,7 @@ use Rattle.h41_debug.proofs.bench.Bench.words.Goals.{else-watched-via-then-watch
 -- Between two words breakpoints are not tested if none is set; if some are, they are tested after each word.
 between : (watched : Bool) (made word limit : ℕ) (t : BenchState) (behind : Bool) (caller : Caller)
     → (watched ≡ false → is_set t.breakpoints (location_of t.calculator) ≡ false) → t.calculator.mode ≡ Micro caller → made ≤ word
-    → word + 1 < (if watched then made + 1 else limit) → stop_behind behind t ≡ None
+    → word + 1 < (if watched then made + 1 else limit) → stop_after behind t ≡ None
 between true made word limit t behind caller free mode from more = absurd (omega (arith, from, more))
 between false made word limit t behind caller free mode from more = clear_behind behind t caller mode (free refl)
 
@@ -66,7 +66,7 @@ pub loop-made-preserved : goal.loop-made-preserved
 loop-made-preserved g c =
     let until = c.next_look-until.result in
     let all : c.loop-word.word ≡ until =
-    omega (arith, c.loop-word-test.false, c.loop-word.auto.word-end, c.next_look-until.ensures.behind) in
+    omega (arith, c.loop-word-test.false, c.loop-word.auto.word-end, c.next_look-until.ensures.after) in
     let kept = c.loop-word.invariant.3 in
     let free : is_set c.loop-word.self.state.breakpoints (location_of c.loop-word.self.state.calculator) ≡ false = elim
     c.else-watched.branch [
@@ -83,7 +83,7 @@ loop-made-preserved g c =
       clear_behind _ c.loop-word.self.state c.args.caller c.loop-word.invariant.2 free,
       c.loop-word.invariant.2,
       kept,
-      omega (arith, c.loop-made.invariant.4, c.next_look-until.ensures.behind),
+      omega (arith, c.loop-made.invariant.4, c.next_look-until.ensures.after),
       c.next_look-until.ensures.most,
       subst (λ n. (start : LabelledCalculator) → KeepsAfterSteps c.args.from start (calculator_of c.args.self.now)
           → KeepsAfterSteps n start (calculator_of c.loop-word.self)) all c.loop-word.invariant.4,
@@ -119,11 +119,11 @@ word_location-requires g c = (search rules, rw c.loop-word.invariant.2 refl)
 pub returns-then-has_breakpoint-clause-steps : goal.returns-then-has_breakpoint-clause-steps
 returns-then-has_breakpoint-clause-steps g c =
     all_steps _ _ _ _ _ _ c.loop-word.invariant.0 c.loop-word.invariant.3 c.loop-word-test.false
-    (c.loop-word.auto.word-end (up_to _ _ c.next_look-until.ensures.behind)) c.next_look-until.ensures.most
-    (behind_all _ _ _ c.loop-made.invariant.4 c.next_look-until.ensures.behind)
+    (c.loop-word.auto.word-end (up_to _ _ c.next_look-until.ensures.after)) c.next_look-until.ensures.most
+    (behind_all _ _ _ c.loop-made.invariant.4 c.next_look-until.ensures.after)
 
 pub loop-made-smaller : goal.loop-made-smaller
-loop-made-smaller g c = less_left _ _ _ c.loop-made-test.true c.next_look-until.ensures.behind
+loop-made-smaller g c = less_left _ _ _ c.loop-made-test.true c.next_look-until.ensures.after
 
 pub returns-clause-steps : goal.returns-clause-steps
 returns-clause-steps g c =
@@ -150,7 +150,7 @@ returns-in-Err-clause-kept g c start begun =
 pub returns-then-has_breakpoint-clause-kept : goal.returns-then-has_breakpoint-clause-kept
 returns-then-has_breakpoint-clause-kept g c start begun =
     let all : c.loop-word.word ≡ c.next_look-until.result =
-    omega (arith, c.loop-word-test.false, c.loop-word.auto.word-end, c.next_look-until.ensures.behind) in
+    omega (arith, c.loop-word-test.false, c.loop-word.auto.word-end, c.next_look-until.ensures.after) in
     subst (λ n. KeepsAfterSteps n start (calculator_of c.loop-word.self)) all (c.loop-word.invariant.4 start begun)
 
 pub returns-clause-kept : goal.returns-clause-kept

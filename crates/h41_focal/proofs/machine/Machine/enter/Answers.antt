@@ -19,14 +19,14 @@ returns-clause-line g c = (
       (subst
       (λ (machine : Machine). machine_with c.self.inside.ram.registers c.arrive.new.focal.state
       ≡ with_program_called c.in_ok-line.line c.in_ok-line.next (Page c.args.address) machine)
-      (ap machine_of c.self.view_is) (rw (c.arrive.ensures.state, c.go_behind.ensures.state) refl)),
+      (ap machine_of c.self.view_is) (rw (c.arrive.ensures.state, c.pass_line.ensures.state) refl)),
 )
 
 pub arrive-requires : goal.arrive-requires
 arrive-requires g c = assumption
 
-pub go_behind-requires : goal.go_behind-requires
-go_behind-requires g c = assumption
+pub pass_line-requires : goal.pass_line-requires
+pass_line-requires g c = assumption
 
 pub standing-requires : goal.standing-requires
 standing-requires g c = assumption

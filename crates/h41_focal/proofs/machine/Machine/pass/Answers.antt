@@ -16,13 +16,13 @@ returns-clause-line g c = (
   c.in_ok-line.ensures,
   ap (λ (after : Machine). Ok after)
       (subst
-      (λ (machine : Machine). machine_with c.self.inside.ram.registers c.go_behind.new.focal.state
+      (λ (machine : Machine). machine_with c.self.inside.ram.registers c.pass_line.new.focal.state
       ≡ with_line_passed c.in_ok-line.line c.in_ok-line.next machine)
-      (ap machine_of c.self.view_is) (rw c.go_behind.ensures.state refl)),
+      (ap machine_of c.self.view_is) (rw c.pass_line.ensures.state refl)),
 )
 
-pub go_behind-requires : goal.go_behind-requires
-go_behind-requires g c = assumption
+pub pass_line-requires : goal.pass_line-requires
+pass_line-requires g c = assumption
 
 pub standing-requires : goal.standing-requires
 standing-requires g c = assumption

@@ -3,9 +3,9 @@ use Rattle.std.proofs.lemmas.Result.{err_from_is_err_and}
 use Rattle.h41_positions.specs.LabelledMachine.{machine_of}
 use Rattle.h41_focal.specs.LineStep.{StepsLine}
 use Rattle.h41_positions.specs.FocalState.{Machine}
-use Rattle.h41_focal.specs.MachineCalls.{KeepsElsewhere, Steps}
+use Rattle.h41_focal.specs.MachineCalls.{OutsideCallKeeps, Steps}
 use Rattle.h41_focal.proofs.Begun.{refuses, takes}
-use Rattle.h41_focal.proofs.Elsewhere.{kept_elsewhere}
+use Rattle.h41_focal.proofs.OutsideCalls.{kept_elsewhere}
 use Rattle.h41_focal.proofs.machine.Machine.step.Goals as goal
 use Rattle.h41_focal.specs.declared.origin.Origin.TheVariants.{Program}
 
@@ -40,7 +40,7 @@ returns g c =
           (Ok (c.in_ok-line.line, c.in_ok-line.next), c.in_ok-line.ensures, c.carry_out.ensures.taken);
       unchanged = takes.unchanged;
       elsewhere =
-          subst (λ (machine : Machine). KeepsElsewhere machine (machine_of c.carry_out.new.machine) c.carry_out.result)
+          subst (λ (machine : Machine). OutsideCallKeeps machine (machine_of c.carry_out.new.machine) c.carry_out.result)
           (ap machine_of c.begin.ensures.begun)
           (kept_elsewhere c.args.pages.now (Program c.in_ok-line.next) c.in_ok-line.line _ _ _ c.carry_out.ensures.taken);
       kept = takes.kept;

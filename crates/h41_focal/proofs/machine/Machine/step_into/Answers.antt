@@ -1,6 +1,6 @@
 use Rattle.std.proofs.Common.{Ok}
 use Rattle.h41_codes.specs.ShortLines.{line_of}
-use Rattle.h41_focal.proofs.Elsewhere.{kept_elsewhere}
+use Rattle.h41_focal.proofs.OutsideCalls.{kept_elsewhere}
 use Rattle.h41_focal.proofs.machine.Machine.step_into.Goals as goal
 use Rattle.h41_focal.specs.MachineCalls.{outcome_by}
 use Rattle.h41_positions.specs.LabelledMachine.{machine_of}

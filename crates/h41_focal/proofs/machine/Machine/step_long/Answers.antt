@@ -1,10 +1,10 @@
 use Rattle.std.proofs.Common.{ap, subst, sym, Ok, None, rules, ◌∙◌}
 use Rattle.h41_codes.specs.declared.line.Line.TheVariants.{Number}
-use Rattle.h41_focal.specs.MachineCalls.{KeepsElsewhere, Steps}
+use Rattle.h41_focal.specs.MachineCalls.{OutsideCallKeeps, Steps}
 use Rattle.h41_positions.specs.LabelledMachine.{LabelledMachine, machine_of}
 use Rattle.h41_focal.specs.LineStep.{Stands}
 use Rattle.h41_positions.specs.FocalState.{Machine}
-use Rattle.h41_focal.proofs.Elsewhere.{kept_elsewhere}
+use Rattle.h41_focal.proofs.OutsideCalls.{kept_elsewhere}
 use Rattle.h41_focal.proofs.machine.Machine.step_long.Goals as goal
 use Rattle.h41_focal.specs.declared.origin.Origin.TheVariants.{Program}
 
@@ -26,7 +26,7 @@ returns-in-Some g c =
           );
       unchanged = tt;
       elsewhere =
-          subst (λ (machine : Machine). KeepsElsewhere machine (machine_of c.number_line.new.machine) (Ok c.number_line.result))
+          subst (λ (machine : Machine). OutsideCallKeeps machine (machine_of c.number_line.new.machine) (Ok c.number_line.result))
           (ap machine_of begun.ensures.begun)
           (kept_elsewhere c.args.pages.now (Program c.in-Some.next) (Number found.0) (machine_of begun.new.self)
           (machine_of c.number_line.new.machine) (Ok c.number_line.result) done);

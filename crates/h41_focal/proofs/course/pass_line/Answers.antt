@@ -1,6 +1,6 @@
 use Rattle.std.proofs.Common.{refl}
 use Rattle.h41_focal.proofs.LinesTaken.{lift_kept}
-use Rattle.h41_focal.proofs.course.go_behind.Goals as goal
+use Rattle.h41_focal.proofs.course.pass_line.Goals as goal
 
 pub returns-in-Module-clause-state : goal.returns-in-Module-clause-state
 returns-in-Module-clause-state c = rw (c.go_on_lifting.ensures.state, c.in-Module.is) refl

@@ -2,7 +2,7 @@ use Rattle.std.proofs.Common.{ap, Bool, ◌∙◌}
 use Rattle.clap.specs.Simple.{app_of_fields}
 use Rattle.clap.specs.declared.builder.command.Command.{Command}
 use Rattle.clap.specs.declared.builder.command.Command.TheOpen.{Command-F}
-use Rattle.h41_jobs.proofs.arguments.told_command.Goals as goal
+use Rattle.h41_jobs.proofs.arguments.command_with_help.Goals as goal
 
 abbrev globals : Command-F Command → Bool
 globals fields = fields.has_globals

@@ -11,13 +11,13 @@ use Rattle.h41_jobs.specs.Outputs.{AppendsFront}
 use Rattle.h41_serving.specs.Causes.{TellsOn}
 use Rattle.h41_serving.specs.Tasks.{Tells}
 
-pub written_tells : {T F E : Type 0} (result : Result T F) (told : sinks.Ghosts E) (old new : E) (text : List ℕ)
-    → OnOk result (Appended told.contents old new text) → OnErr result (AppendsFront told.contents old new text)
-    → OnOk result (told.flushed new ≡ true) → OnOk result (told.failed new ≡ false) → OnErr result (told.failed new ≡ true)
-    → Tells told old new text
-written_tells (Ok done) told old new text whole front flushed clear mark =
+pub written_tells : {T F E : Type 0} (result : Result T F) (stderr : sinks.Ghosts E) (old new : E) (text : List ℕ)
+    → OnOk result (Appended stderr.contents old new text) → OnErr result (AppendsFront stderr.contents old new text)
+    → OnOk result (stderr.flushed new ≡ true) → OnOk result (stderr.failed new ≡ false) → OnErr result (stderr.failed new ≡ true)
+    → Tells stderr old new text
+written_tells (Ok done) stderr old new text whole front flushed clear mark =
     record { whole = λ is. whole; flushed = λ is. flushed; front = λ is. cc }
-written_tells (Err fault) told old new text whole front flushed clear mark =
+written_tells (Err fault) stderr old new text whole front flushed clear mark =
     record { whole = λ is. cc; flushed = λ is. cc; front = λ is. front }
 
 -- A prefix of a text is a prefix of a longer text.
@@ -38,31 +38,31 @@ appends_both (Some before) (Some between) (Some after) a b first second =
     let joined : after ≡ (before ++ a) ++ b = cc in
     joined ∙ append_assoc before a b
 
-module _ {E : Type 0} (told : sinks.Ghosts E) (old mid new : E) (a b : List ℕ) where
-  front_first : AppendsFront told.contents old mid a → AppendsFront told.contents old mid (a ++ b)
+module _ {E : Type 0} (stderr : sinks.Ghosts E) (old mid new : E) (a b : List ℕ) where
+  front_first : AppendsFront stderr.contents old mid a → AppendsFront stderr.contents old mid (a ++ b)
   front_first front =
       let count = front.0 in (
         min count (length a),
-        subst (λ (text : List ℕ). Appends (told.contents old) (told.contents mid) text)
+        subst (λ (text : List ℕ). Appends (stderr.contents old) (stderr.contents mid) text)
             (sym (front_of_more count a b)) front.1,
       )
 
-  front_second : Appended told.contents old mid a → AppendsFront told.contents mid new b
-      → AppendsFront told.contents old new (a ++ b)
+  front_second : Appended stderr.contents old mid a → AppendsFront stderr.contents mid new b
+      → AppendsFront stderr.contents old new (a ++ b)
   front_second first front = (
     length a + front.0,
-    subst (λ (text : List ℕ). Appends (told.contents old) (told.contents new) text)
+    subst (λ (text : List ℕ). Appends (stderr.contents old) (stderr.contents new) text)
         (sym (front_behind front.0 a b)) (appends_both _ _ _ a (take front.0 b) first front.1),
   )
 
   -- A text followed by another one.
-  pub tells_both : Tells told old mid a → TellsOn told mid new b → Tells told old new (a ++ b)
-  tells_both first second = go (told.failed mid) refl
+  pub tells_both : Tells stderr old mid a → TellsOn stderr mid new b → Tells stderr old new (a ++ b)
+  tells_both first second = go (stderr.failed mid) refl
     where
-      go : (mark : Bool) → told.failed mid ≡ mark → Tells told old new (a ++ b)
+      go : (mark : Bool) → stderr.failed mid ≡ mark → Tells stderr old new (a ++ b)
       go true set =
           let same = second.failed set in
-          subst (λ (after : E). Tells told old after (a ++ b)) (sym same) (record {
+          subst (λ (after : E). Tells stderr old after (a ++ b)) (sym same) (record {
             whole = λ is. cc;
             flushed = λ is. cc;
             front = λ is. front_first (first.front set);
@@ -76,14 +76,14 @@ module _ {E : Type 0} (told : sinks.Ghosts E) (old mid new : E) (a b : List ℕ)
             front = λ is. front_second whole (more.front is);
           }
 
-module _ {E : Type 0} (told : sinks.Ghosts E) (old mid new : E) (a b : List ℕ) where
+module _ {E : Type 0} (stderr : sinks.Ghosts E) (old mid new : E) (a b : List ℕ) where
   -- The same after other texts.
-  pub tells_on_both : TellsOn told old mid a → TellsOn told mid new b → TellsOn told old new (a ++ b)
+  pub tells_on_both : TellsOn stderr old mid a → TellsOn stderr mid new b → TellsOn stderr old new (a ++ b)
   tells_on_both first second = record {
-    clear = λ unset. tells_both told old mid new a b (first.clear unset) second;
+    clear = λ unset. tells_both stderr old mid new a b (first.clear unset) second;
     failed = λ set.
         let same : mid ≡ old = first.failed set in
-        second.failed (subst (λ (of : E). told.failed of ≡ true) (sym same) set) ∙ same;
+        second.failed (subst (λ (of : E). stderr.failed of ≡ true) (sym same) set) ∙ same;
   }
 
 -- A choice that is made.

@@ -28,7 +28,8 @@ at_label origin branch position machine = record machine { focal = focal_at orig
 
 -- The label was found.
 pub label_found :
-    (pages : PageMap) (origin : Origin) (branch : Branch) (label named : ℕ) (machine : Machine) (position : Position) (outcome : LineOutcome)
+    (pages : PageMap) (origin : Origin) (branch : Branch) (label named : ℕ) (machine : Machine) (position : Position)
+    (outcome : LineOutcome)
     → LocalFrom label pages machine.memory (from_of origin machine.focal.position) (Some position)
     → outcome ≡ answer_at origin branch
     → CarriesRow pages origin (lines.to_label branch label) named machine (at_label origin branch position machine) (Ok outcome)

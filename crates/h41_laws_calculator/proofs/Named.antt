@@ -1,6 +1,6 @@
 -- Any characters name one function of the calculator, or none.
-use Rattle.std.proofs.Common.{◌≡◌, ◌⊎◌, ◌-◌, ℕ, zero, suc, Bool, true, false, List, [], ◌∷◌, Some, None, inl, inr, get_or, refl, subst, sym, ◌∙◌}
-use Rattle.std.proofs.Common.{bytes_eq}
+use Rattle.std.proofs.Common.{◌≡◌, ◌⊎◌, ◌-◌, ℕ, zero, suc, Bool, true, false, List, [], ◌∷◌, Some, None, inl, inr, get_or, refl}
+use Rattle.std.proofs.Common.{bytes_eq, subst, sym, ◌∙◌}
 use Rattle.std.specs.List.{AllByRecursion}
 use Rattle.std.proofs.lemmas.Bool.{true≢false}
 use Rattle.std.proofs.lemmas.Slice.Eq.{bytes_eq-Decides}
@@ -17,7 +17,7 @@ use Rattle.h41_xrom.proofs.StepLaws.{same_function}
 use Rattle.h41_laws_words.proofs.Answering.{Has}
 use Rattle.h41_laws_calculator.specs.LineEnds.{NameHasOneFunction}
 
--- Each function stands in the list of functions, at the place that its code gives.
+-- Each function is in the list of functions, at the place that its code gives.
 in_list : (function : Function) → get_or functions (function_code function - 0x40) Add ≡ function
 in_list Add = refl
 in_list function = refl

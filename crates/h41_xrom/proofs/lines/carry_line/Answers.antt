@@ -13,7 +13,8 @@ returns-clause-line g c = (
   carried_as (machine_of c.carry.new.machine) (Ok c.in_ok-outcome.outcome),
   c.in_ok-outcome.ensures.line,
   called_before c.args.source.now c.args.pages.now (machine_of c.args.machine.now) (machine_of c.carry.new.machine)
-      (answer_of (machine_of c.carry.new.machine).memory c.in_ok-outcome.outcome) (ended_as (machine_of c.call_out.new.machine) c.call_out.result)
+      (answer_of (machine_of c.carry.new.machine).memory c.in_ok-outcome.outcome)
+      (ended_as (machine_of c.call_out.new.machine) c.call_out.result)
       c.in_ok-outcome.ensures.elsewhere c.call_out.ensures.line,
 )
 

@@ -2,10 +2,11 @@
 and the last change of a value."""
 import os
 import signal
+from typing import Any
 
 from hp41.decks import answered
 from hp41.history import MOST_STATES
-from visits import LOOP, Page, Visit, bench_of, row
+from visits import LOOP, Page, Visit, bench_of, on_page, row
 
 # Moves the slider over the session to a state.
 SLIDE = "by('moment').value = arguments[0]; by('moment').dispatchEvent(new Event('input'))"
@@ -19,17 +20,9 @@ return (async () => { while (made() < wanted) await ask({ do: 'go', steps: wante
 
 # By requests alone.
 
-def branches() -> None:
+@on_page
+def branches(page: Page) -> None:
     """A session goes on from a past state; what followed is kept as a branch, which can be saved and opened again."""
-    page = Page()
-    page.open()
-    branches_kept(page)
-    branches_refused(page)
-    page.end()
-
-
-def branches_kept(page: Page) -> None:
-    """Goes on from a state, from a branch that was kept, and from a command."""
     for key in ("4", "2", "ENTER", "7"):
         answer = page.ask(do="give", deck=f"key {key}\n")
     states = answer["states"]["at"] + len(answer["states"]["changes"])
@@ -45,14 +38,20 @@ def branches_kept(page: Page) -> None:
     answer = page.go(page.ask(do="branch", entry=0))
     row("a session that goes on from a command", page.deck(), b"key 4\n")
     row("a branch that is kept already is kept once", len(answer["branches"]), 2)
+    branches_refused(page)
+    page.give(LOOP)
+    answer = page.give("trace 9\n")
+    end = answer["states"]["at"] + len(answer["states"]["changes"])
+    page.go(page.ask(do="branch", state=end - 4))
+    row("the deck of a state in a trace", page.deck().decode().splitlines()[-1], "trace 5")
 
 
 def branches_refused(page: Page) -> None:
-    """Refuses branches that there are not and wrong requests, which do not change the session, and goes on from a state in a trace."""
+    """Branches that there are not and wrong requests are refused, and do not change the session; an empty session has no branches."""
     row("a branch that is not kept", page.ask(do="branch", branch=99),
         (409, "there is no branch 99: only the last 20 are kept, so choose one of the list\n"))
     before = page.deck()
-    wrong: list[dict[str, object]] = [{"branch": "x"}, {"state": None}, {"entry": {}}, {"state": "1e9"}, {}]
+    wrong: list[dict[str, Any]] = [{"branch": "x"}, {"state": None}, {"entry": {}}, {"state": "1e9"}, {}]
     for words in wrong:
         row(f"a branch from {words}", page.ask(do="branch", **words)[0], 400)
     row("the deck of a branch that is no number", page.request("GET", "deck?branch=x")[0], 400)
@@ -61,11 +60,6 @@ def branches_refused(page: Page) -> None:
     row("a state that there is not", page.ask(do="branch", state=99999),
         (409, "there is no state 99999: the last one of the session is 1\n"))
     row("branches after an empty bench was started", page.ask(do="begin")["branches"], [])
-    page.give(LOOP)
-    answer = page.give("trace 9\n")
-    end = answer["states"]["at"] + len(answer["states"]["changes"])
-    page.go(page.ask(do="branch", state=end - 4))
-    row("the deck of a state in a trace", page.deck().decode().splitlines()[-1], "trace 5")
 
 
 # In a browser.

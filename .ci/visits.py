@@ -1,5 +1,6 @@
 """A tools/calculator and a page of it in a browser, for the scripts .ci/page-*: the requests of the page, and what a visitor does."""
 import base64
+import functools
 import http.client
 import json
 import os
@@ -224,9 +225,25 @@ def bench_of(page: Page) -> int:
 
 # The checks of a script.
 
+def on_page(check: Callable[[Page], None]) -> Callable[[], None]:
+    """Decorates a check that needs no browser but a page: it gets the page of a calculator of its own."""
+    @functools.wraps(check)
+    def alone() -> None:
+        """Tries the check."""
+        page = Page()
+        try:
+            page.open()
+            check(page)
+        finally:
+            page.end()
+    return alone
+
+
 def chosen_of(names: Sequence[str]) -> Optional[Sequence[str]]:
-    """Returns the names of checks on the command line, or all of them if it is empty. If there is no check of one of these names, prints
-    a message and returns None."""
+    """Begins a script with checks of these names. Returns those that the command line names, or all of them if it is empty. If it names
+    another one, prints a message and returns None."""
+    # A process in the background may ignore SIGINT (Ctrl-C), and its children would inherit that.
+    signal.signal(signal.SIGINT, signal.default_int_handler)
     words = sys.argv[1:]
     if set(words) <= set(names):
         return words or names
@@ -257,8 +274,6 @@ def visited(checks: Sequence[Callable[[Visit], None]]) -> None:
 def tried(alone: Sequence[Callable[[], None]], in_browser: Sequence[Callable[[Visit], None]]) -> int:
     """Tries the checks that the command line names, or all of them: first those that need no browser. Prints the closing line, and returns
     the status."""
-    # A process in the background may ignore SIGINT (Ctrl-C), and its children would inherit that.
-    signal.signal(signal.SIGINT, signal.default_int_handler)
     chosen = chosen_of([check.__name__ for check in (*alone, *in_browser)])
     if chosen is None:
         return 2

@@ -132,6 +132,7 @@ def old_refusals(visit: Visit) -> None:
     """Refusals that were shown already are not shown again when a session goes on from a past state, or a branch is opened."""
     browser = visit.browser
     browser.run("by('trace-panel').open = true; return give('fly\\nkey 4\\nkey 5\\n')")
+    visit.quiet()
     browser.run("return begun(goBack)")
     browser.click("#branch")
     shown = "return [entries.length, by('refusal').textContent, by('causes').textContent]"

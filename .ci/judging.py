@@ -90,6 +90,17 @@ def build() -> None:
         sys.exit(status)
 
 
+def judged(*parts: Callable[[], object], jobs: Optional[Jobs] = None) -> int:
+    """Builds the program, tries the parts of a script in turn, and waits for the rows that they have begun as jobs. Prints the closing line,
+    and returns the status."""
+    build()
+    for part in parts:
+        part()
+    if jobs:
+        jobs.end()
+    return closing()
+
+
 def run(words: Sequence[str], room: Optional[str] = None, given: Optional[Data] = None, env: Optional[Mapping[str, str]] = None) -> Ran:
     """Runs a program in a folder, with this standard input; without one, it is empty. Returns the status and both outputs."""
     data = given.encode() if isinstance(given, str) else given or b""

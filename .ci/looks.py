@@ -1,10 +1,11 @@
 """Measures what users found wrong in the layout of the page: the bar of a past state, refusals on the large page in wide and narrow
 windows, tall steps of the trace, keys that flash again, and the sizes of printed letters."""
+from collections.abc import Iterator, Sequence
+
 from visits import Visit, row
 
 # Sizes of windows in which the page itself does not scroll; the one of 853 by 480 is that of 1280 by 720 at 150 %.
 WIDE = [(1366, 650), (1024, 650), (853, 480), (1280, 720)]
-
 
 # What is measured when the page is drawn is measured after two frames.
 DRAWN = "return new Promise((done) => requestAnimationFrame(() => requestAnimationFrame(() => done(true))))"
@@ -20,6 +21,20 @@ def sized(visit: Visit, width: int, height: int, is_dark: bool = False) -> None:
 def choose(visit: Visit, name: str, value: str) -> None:
     """Chooses in a list."""
     visit.browser.run("by(arguments[0]).value = arguments[1]; by(arguments[0]).dispatchEvent(new Event('change'))", name, value)
+
+
+def large_at(visit: Visit, panels: Sequence[str], sizes: Sequence[tuple[int, int]]) -> Iterator[tuple[str, str]]:
+    """Shows the large page with each panel at each size of the window; after the last one, an empty session and the page as it was. Yields
+    the panel, and what the page is for the name of a row."""
+    visit.browser.click("#large")
+    for panel in panels:
+        choose(visit, "panel", panel)
+        for width, height in sizes:
+            sized(visit, width, height)
+            yield panel, f"large with {panel} at {width} by {height}"
+    visit.browser.click("#large")
+    sized(visit, 1280, 900)
+    visit.anew()
 
 
 # Whether the buttons below the keys end above the bar of a past state, and the panels too; and where the panels begin.
@@ -79,20 +94,11 @@ return list.clientWidth - pen.measureText('full speed').width >= 20"""
 
 def large_refusals(visit: Visit) -> None:
     """On the large page a refusal and its causes are readable in the window, and the buttons are in one line."""
-    browser = visit.browser
-    browser.click("#large")
-    for panel in ("stack-panel", "keys"):
-        choose(visit, "panel", panel)
-        for width, height in WIDE:
-            sized(visit, width, height)
-            browser.run("return press(['7', 'SIN'])")
-            visit.row(f"a refusal, large with {panel} at {width} by {height}", REFUSED,
-                      [True, True, [True, True], True, False, True, False, 1, True])
-            if panel != "keys":
-                visit.row(f"the list of speeds at {width} by {height}", LIST, True)
-    browser.click("#large")
-    sized(visit, 1280, 900)
-    visit.anew()
+    for panel, where in large_at(visit, ["stack-panel", "keys"], WIDE):
+        visit.browser.run("return press(['7', 'SIN'])")
+        visit.row(f"a refusal, {where}", REFUSED, [True, True, [True, True], True, False, True, False, 1, True])
+        if panel != "keys":
+            visit.row(f"the list of speeds, {where}", LIST, True)
 
 
 # Windows with one column, in which the page itself scrolls.
@@ -120,17 +126,15 @@ return [causes.querySelector('p').textContent === by('refusal').title, causes.qu
 
 def narrow_refusals(visit: Visit) -> None:
     """On the large page in a narrow window a refusal and all its causes are readable, cover nothing, and the keys are as large as a finger."""
-    browser = visit.browser
-    browser.click("#large")
-    for panel in ("stack-panel", "keys"):
-        choose(visit, "panel", panel)
-        for width, height in NARROW:
-            sized(visit, width, height)
-            browser.run("return press(['7', 'SIN'])")
-            visit.row(f"a refusal, large with {panel} at {width} by {height}", CAUSES, [True, True, [], False, [], False, [], []])
-    browser.click("#large")
-    sized(visit, 1280, 900)
-    visit.anew()
+    for _, where in large_at(visit, ["stack-panel", "keys"], NARROW):
+        visit.browser.run("return press(['7', 'SIN'])")
+        visit.row(f"a refusal, {where}", CAUSES, [True, True, [], False, [], False, [], []])
+
+
+# Whether the last step of the trace is taller than a line, and whether it is in view.
+TALL = """
+const [one, panel] = [document.querySelector('#trace .next'), by('trace-panel')].map((part) => part.getBoundingClientRect());
+return [one.height > 60, one.bottom <= panel.bottom && one.top >= panel.top]"""
 
 
 def tall_steps(visit: Visit) -> None:
@@ -138,23 +142,14 @@ def tall_steps(visit: Visit) -> None:
     browser = visit.browser
     browser.run("by('trace-panel').open = true")
     browser.run("return give('program\\n' + '1\\n2\\n+\\nX<>Y\\n'.repeat(9) + 'end\\nkey R/S\\n')")
-    browser.click("#large")
-    choose(visit, "panel", "trace-panel")
-    cut = "const [one, panel] = [document.querySelector('#trace .next'), by('trace-panel')].map((part) => part.getBoundingClientRect()); " \
-          "return [one.height > 60, one.bottom <= panel.bottom && one.top >= panel.top]"
-    for width, height in WIDE:
-        sized(visit, width, height)
+    for _, where in large_at(visit, ["trace-panel"], WIDE):
         seen = []
         for _ in range(7):
             browser.run("return step()")
             visit.quiet()
-            seen.append(browser.run(cut))
-        found = [any(is_tall for is_tall, _ in seen), all(is_whole for _, is_whole in seen)]
-        row(f"tall steps at {width} by {height}", found, [True, True])
-    browser.click("#large")
+            seen.append(browser.run(TALL))
+        row(f"tall steps, {where}", [any(is_tall for is_tall, _ in seen), all(is_whole for _, is_whole in seen)], [True, True])
     browser.run("by('trace-panel').open = false")
-    sized(visit, 1280, 900)
-    visit.anew()
 
 
 def flashes(visit: Visit) -> None:

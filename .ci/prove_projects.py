@@ -31,7 +31,7 @@ IN_BANK_2 = "NOP\nC=C+1 S&X\nENBANK1\nNOP\n"
 TO_BANK_2 = "%sF: ENBANK2\nNOP\nNOP\nRTN\n"
 
 # Claims that are false, or functions that do not return, with parts of the lines that are printed.
-FALSE_PROJECTS = [
+FALSE_PROJECTS: list[tuple[dict[str, str], list[str]]] = [
     # All is right here.
     (files_of(TO_BANK_2 % "; requires C.SX <= 0FFE\n; ensures C.SX = old C.SX + 1, in 4 steps\n", IN_BANK_2), []),
     # The carry of a function of page 9 is lost at 999.

@@ -1,5 +1,6 @@
 """A tools/calculator and a page of it in a browser, for the scripts .ci/page-*: the requests of the page, and what a visitor does."""
 import base64
+import functools
 import http.client
 import json
 import os
@@ -8,12 +9,13 @@ import signal
 import subprocess
 import sys
 import time
+from collections.abc import Callable, Sequence
 from email.message import Message
 from typing import Any, Optional, TextIO, cast
 
-from judging import BENCH, TOP, judge, run, sure
+from judging import BENCH, TOP, closing, judge, run, sure
 
-from browser import PATIENCE, Browser
+from browser import PATIENCE, Browser, missing
 from hp41.decks import answered
 from hp41.history import applied
 
@@ -219,3 +221,66 @@ def bench_of(page: Page) -> int:
             raise LookupError(f"found the benches {found}, expected one")
         time.sleep(0.02)
     return found[0]
+
+
+# The checks of a script.
+
+def on_page(check: Callable[[Page], None]) -> Callable[[], None]:
+    """Decorates a check that needs no browser but a page: it gets the page of a calculator of its own."""
+    @functools.wraps(check)
+    def alone() -> None:
+        """Tries the check."""
+        page = Page()
+        try:
+            page.open()
+            check(page)
+        finally:
+            page.end()
+    return alone
+
+
+def chosen_of(names: Sequence[str]) -> Optional[Sequence[str]]:
+    """Begins a script with checks of these names. Returns those that the command line names, or all of them if it is empty. If it names
+    another one, prints a message and returns None."""
+    # A process in the background may ignore SIGINT (Ctrl-C), and its children would inherit that.
+    signal.signal(signal.SIGINT, signal.default_int_handler)
+    words = sys.argv[1:]
+    if set(words) <= set(names):
+        return words or names
+    print(f"{os.path.basename(sys.argv[0])}: expected names of checks: {', '.join(names)}", file=sys.stderr)
+    return None
+
+
+def visited(checks: Sequence[Callable[[Visit], None]]) -> None:
+    """Tries checks on one page in a browser. If Chromium or its driver is missing, prints that they are skipped."""
+    lacking = missing()
+    if lacking:
+        print(f"skipped: {', '.join(check.__name__ for check in checks)}, which want {' and '.join(lacking)}")
+        return
+    browser = Browser()
+    try:
+        visit = Visit(browser)
+        for check in checks:
+            try:
+                check(visit)
+            except (OSError, LookupError, TypeError, ValueError) as error:
+                row(check.__name__, repr(error), "an answer")
+        row("the browser complains of nothing", browser.complaints(), [])
+        visit.page.end()
+    finally:
+        browser.close()
+
+
+def tried(alone: Sequence[Callable[[], None]], in_browser: Sequence[Callable[[Visit], None]]) -> int:
+    """Tries the checks that the command line names, or all of them: first those that need no browser. Prints the closing line, and returns
+    the status."""
+    chosen = chosen_of([check.__name__ for check in (*alone, *in_browser)])
+    if chosen is None:
+        return 2
+    for check in alone:
+        if check.__name__ in chosen:
+            check()
+    shown = [check for check in in_browser if check.__name__ in chosen]
+    if shown:
+        visited(shown)
+    return closing()

@@ -27,6 +27,7 @@ class ActiveBanks:
     that of the label in its own page, and bank 1 in others. In one page at a time, another bank may be active later."""
 
     def __init__(self, code: Code, label: str) -> None:
+        """Finds the active banks at the start of the function at a label."""
         self.code = code
         self.page, self.number = code.labels[label] % ADDRESSES >> 12, code.labels[label] // ADDRESSES + 1
         self.start = {self.page: self.number}

@@ -150,6 +150,7 @@ def give_budgets(result: Result) -> None:
     know, start = result.knowledge, result.root.state
 
     def check(budget: Form, what: Callable[[int], str]) -> None:
+        """Raises an error if the number of steps that are left may be negative. `what` says it with the number of steps taken."""
         if claimed and not is_natural(budget):
             taken = claimed.count.constant - budget.get(None, 0)
             raise NotProved(claimed.line, f"`{claimed.text}`: {what(taken)}")

@@ -40,6 +40,7 @@ class Wrong(Exception):
     """An error in a claim: its source line, its column, and what was found and expected."""
 
     def __init__(self, line: int, column: int, why: str) -> None:
+        """Takes the source line, the column, and what was found and expected."""
         super().__init__(why)
         self.line, self.column, self.why = line, column, why
 

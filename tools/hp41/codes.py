@@ -16,6 +16,7 @@ class NotProved(Exception):
     """The reason why a function cannot be proved: the source line and what was found and expected."""
 
     def __init__(self, line: int, why: str) -> None:
+        """Takes the source line, and what was found and expected."""
         super().__init__(why)
         self.line, self.why = line, why
 
@@ -232,6 +233,7 @@ def form_of(one: Sum, now: State, before: State) -> Form:
 def negative_free(left: Sum, right: Sum) -> tuple[Sum, Sum]:
     """Returns both sides of a comparison without negative terms: these are moved to the other side."""
     def split(one: Sum, sign: int) -> Sum:
+        """Returns the part of a sum that has this sign, as a sum of positive terms."""
         return Sum(tuple((abs(many), atom) for many, atom in one.parts if many * sign > 0), max(one.constant * sign, 0))
 
     return split(left, 1).plus(split(right, -1)), split(right, 1).plus(split(left, -1))

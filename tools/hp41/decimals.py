@@ -15,6 +15,7 @@ class Decimals:
     """What is known of decimal digits: what was declared, and what follows for the registers that words have made."""
 
     def __init__(self, knowledge: Knowledge) -> None:
+        """Begins without decimal digits."""
         self.knowledge = knowledge
         self.declared: dict[str, list[tuple[int, int, str]]] = {}
         self.found: dict[tuple[str, int, int], str | None] = {}

@@ -21,6 +21,7 @@ class Execution:
     """Executes a function from a label."""
 
     def __init__(self, code: Code, label: str, execute: Callable[[str], Result | None], under_way: list[str]) -> None:
+        """Begins without nodes. `execute` returns the result of another function, and `under_way` are the labels that are being executed."""
         self.code, self.label, self.execute, self.under_way = code, label, execute, under_way
         self.contract = code.contracts[label]
         self.knowledge = Knowledge()

@@ -3,7 +3,7 @@
 Everything here is certain only as far as the words say it. A computed jump, a word for a peripheral, and data after a call of another
 ROM make it uncertain which words are executed; `Flow.is_uncertain` then says so."""
 import re
-from typing import Iterable, Iterator, NamedTuple, Optional, Sequence, Union
+from typing import Any, Iterable, Iterator, NamedTuple, Optional, Sequence, TypeVar, Union
 
 from .sources import Assembled
 
@@ -37,6 +37,13 @@ Target = Union[int, Node]
 Call = tuple[Node, Target]
 Return = tuple[Node, str, Optional[Node]]
 State = tuple[Node, str, str, Optional[Node]]
+# A state of any kind, which begins with its node.
+AnyState = TypeVar("AnyState", bound=tuple[Any, ...])
+
+
+def nodes_in(targets: Iterable[Target]) -> list[Node]:
+    """Returns the targets that are nodes, without the addresses of other ROMs."""
+    return [target for target in targets if not isinstance(target, int)]
 
 
 class Word(NamedTuple):
@@ -196,45 +203,44 @@ class Flow:
         if is_passed:
             yield Next("next", behind, [], word.leaves)
 
-    def reached(self, roots: Iterable[Node]) -> tuple[set[Node], set[Node]]:
-        """Returns all places of the banks that are executed from some nodes on, also in the routines that are called."""
-        seen: set[tuple[Node, str]] = set()
-        found: set[Node] = set()
-        rest = [(root, CLEAR) for root in roots]
+    def each_once(self, rest: list[AnyState]) -> Iterator[AnyState]:
+        """Yields the states of a list, each once and only if an instruction is at its node. While a state is used, those that follow it
+        are added to the list."""
+        seen: set[AnyState] = set()
         while rest:
             state = rest.pop()
-            node, carry = state
-            if state in seen or not self.is_code(node):
-                continue
-            seen.add(state)
-            found.update((node[0], node[1] + at) for at in range(self.word(node).size))
-            for what, into, targets, carry in self.steps(node, carry):
+            if state not in seen and self.is_code(state[0]):
+                seen.add(state)
+                yield state
+
+    def reached(self, roots: Iterable[Node]) -> tuple[set[Node], set[Node]]:
+        """Returns all places of the banks that are executed from some nodes on, also in the routines that are called."""
+        nodes: set[Node] = set()
+        rest = [(root, CLEAR) for root in roots]
+        for node, carry in self.each_once(rest):
+            nodes.add(node)
+            for what, into, targets, left in self.steps(node, carry):
                 if what == "call":
-                    rest += [(one, CLEAR) for one in targets if not isinstance(one, int)]
-                    rest.append((self.after_call(node, [one for one in targets if not isinstance(one, int)]), CLEAR))
+                    own = nodes_in(targets)
+                    rest += [(one, CLEAR) for one in own]
+                    rest.append((self.after_call(node, own), CLEAR))
                 elif into is not None:
-                    rest.append((into, carry))
-        return found, {node for node, _ in seen}
+                    rest.append((into, left))
+        return {(bank, place + at) for bank, place in nodes for at in range(self.word((bank, place)).size)}, nodes
 
     def routine(self, start: Node, returns: Optional[set[Node]] = None) -> Routine:
         """Returns what is executed from a node on. `returns` are the routines that are known to return; without it, all of them do."""
-        seen: set[tuple[Node, str]] = set()
         calls: list[Call] = []
         rest, can_return, is_tricky = [(start, CLEAR)], False, False
-        while rest:
-            state = rest.pop()
-            node, carry = state
-            if state in seen or not self.is_code(node):
-                continue
-            seen.add(state)
+        for node, carry in self.each_once(rest):
             is_tricky |= self.units[node[0]].words[node[1]] in RETURNS_CHANGED
-            for what, into, targets, carry in self.steps(node, carry):
+            for what, into, targets, left in self.steps(node, carry):
                 if what == "call":
                     calls += [(node, one) for one in targets]
                     if returns is None or any(isinstance(one, int) or one in returns for one in targets):
-                        rest.append((self.after_call(node, [one for one in targets if not isinstance(one, int)]), CLEAR))
+                        rest.append((self.after_call(node, nodes_in(targets)), CLEAR))
                 elif into is not None:
-                    rest.append((into, carry))
+                    rest.append((into, left))
                 can_return |= what in ("return", "leave", "computed") or what == "go" and into is None
         return Routine(list(dict.fromkeys(calls)), can_return, is_tricky)
 
@@ -247,7 +253,7 @@ class Flow:
             node = rest.pop()
             if node not in self.routines:
                 self.routines[node] = self.routine(node)
-                rest += [one for _, one in self.routines[node].calls if not isinstance(one, int)]
+                rest += nodes_in(target for _, target in self.routines[node].calls)
         return self.routines
 
     def deepest(self, node: Node, above: tuple[Node, ...] = ()) -> list[Call]:
@@ -303,33 +309,27 @@ class Flow:
         key = start, base
         if is_called and key in self.returned:
             return self.returned[key]
-        seen: set[State] = set()
         found: set[Return] = set()
         rest: list[State] = [(start, CLEAR, base, None)]
         self.returned[key] = set()
-        while rest:
-            state = rest.pop()
-            node, carry, base, since = state
-            if state in seen or not self.is_code(node):
-                continue
-            seen.add(state)
+        for node, carry, base, since in self.each_once(rest):
             self.modes.setdefault(node, set()).add(base)
             raw = self.units[node[0]].words[node[1]]
             base, since = (HEX, None) if raw == SET_HEX else (DECIMAL, node) if raw == SET_DECIMAL else (base, since)
             base = UNKNOWN if raw in RETURNS_CHANGED else base
-            for what, into, targets, carry in self.steps(node, carry):
+            for what, into, targets, left in self.steps(node, carry):
                 if what == "return":
                     found.add((node, base, since))
                 elif what == "call":
                     rest += self.after(node, targets, base, since)
                 elif into is not None:
-                    rest.append((into, carry, base, since))
+                    rest.append((into, left, base, since))
         self.returned[key] = found
         return found
 
     def after(self, node: Node, targets: list[Target], base: str, since: Optional[Node]) -> list[State]:
         """Returns the states after a call, by the bases in which the called routines return."""
-        own = [one for one in targets if not isinstance(one, int)]
+        own = nodes_in(targets)
         behind = self.after_call(node, own)
         if not own:
             return [(behind, CLEAR, UNKNOWN, None)]
@@ -344,27 +344,21 @@ class Flow:
 
     def may_set_pointer(self, targets: list[Target]) -> bool:
         """Returns whether one of the called routines may set the pointer: a routine of another ROM may."""
-        own = [one for one in targets if not isinstance(one, int)]
+        own = nodes_in(targets)
         return len(own) < len(targets) or any(SETS_POINTER.match(self.text(node)) for node in self.reached(own)[1])
 
     def without_pointer(self, start: Node) -> list[Node]:
         """Returns the instructions of a routine that use the pointer, although none before them on any path sets it."""
-        seen: set[tuple[Node, str, bool]] = set()
         found: dict[Node, set[bool]] = {}
         rest = [(start, CLEAR, False)]
-        while rest:
-            state = rest.pop()
-            node, carry, is_set = state
-            if state in seen or not self.is_code(node):
-                continue
-            seen.add(state)
+        for node, carry, is_set in self.each_once(rest):
             text = self.text(node)
             if USES_POINTER.match(text):
                 found.setdefault(node, set()).add(is_set)
             is_set |= bool(SETS_POINTER.match(text))
             for what, into, targets, left in self.steps(node, carry):
                 if what == "call":
-                    own = [one for one in targets if not isinstance(one, int)]
+                    own = nodes_in(targets)
                     rest += [(one, CLEAR, is_set) for one in own]
                     rest.append((self.after_call(node, own), CLEAR, is_set or self.may_set_pointer(targets)))
                 elif into is not None:

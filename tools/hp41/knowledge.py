@@ -29,6 +29,7 @@ class Knowledge:
     """The registers of a function, and the facts about their numbers."""
 
     def __init__(self) -> None:
+        """Begins without registers."""
         self.values: dict[str, Value] = {}
         self.rams: dict[str, Ram] = {}
         self.root: Node | None = None

@@ -116,6 +116,7 @@ def in_order(code: Code, report: Report, labels: set[str]) -> list[Result]:
     under_way: list[str] = []
 
     def execute(label: str) -> Result | None:
+        """Returns the result of a function, which is executed if it was not yet; None if this is not possible."""
         if label in found or label in failed or label not in labels:
             return found.get(label)
         under_way.append(label)

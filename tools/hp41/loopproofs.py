@@ -18,6 +18,7 @@ class LoopProof:
     """Writes the part of a proof that is about loops."""
 
     def __init__(self, proof: Proof) -> None:
+        """Writes about the loops of the function that a proof is about."""
         self.proof, self.result = proof, proof.result
         self.loops, self.is_exact = proof.result.loops, proof.result.is_exact
 

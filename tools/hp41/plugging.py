@@ -49,6 +49,7 @@ class Plugged:
     the function, and `shown` the commands that show which banks are active. A function that cannot be called has no entry."""
 
     def __init__(self, code: Code, label: str) -> None:
+        """Finds free places for the words that call the function at a label, and puts them there."""
         place = code.labels[label]
         self.address, self.number = place % ADDRESSES, place // ADDRESSES + 1
         self.text, self.shown, self.steps, self.entry = "", "", 0, self.address if self.number == 1 else None

@@ -17,6 +17,7 @@ class Proof:
     whose rounds are being written, and `after` what is true after the run that is being written."""
 
     def __init__(self, code: Code, result: Result) -> None:
+        """Begins without lines."""
         self.code, self.result = code, result
         self.rows: list[tuple[str, int, str]] = []
         self.words = ("Takes", "takes_step", "takes_none") if result.is_exact else ("Reaches", "by_step", "at_end")

@@ -86,6 +86,7 @@ class States:
     """States that meet the requirements of a contract, first those at the bounds of its numbers."""
 
     def __init__(self, contract: Contract, seed: int = 41) -> None:
+        """Reads the registers and the bounds of numbers in a contract. The seed decides the random states."""
         self.contract, self.random, self.selecting = contract, random.Random(seed), random.Random(seed)
         known = known_at_start(contract)
         self.fixed = {"MODE": BASES[known["base"]]}

@@ -45,6 +45,7 @@ class Step:
     """One step from a node: finds the next nodes, and the lemma that proves the step."""
 
     def __init__(self, run: Execution, node: Node, instruction: Instruction) -> None:
+        """Takes the execution to which the node belongs, and the instruction there."""
         self.run, self.node, self.instruction, self.state = run, node, instruction, node.state
         self.name, _, self.operand = instruction.text.rpartition(" ")
         self.next_pc = (node.state.pc + len(instruction.words)) % ADDRESSES
@@ -407,6 +408,7 @@ class Step:
         args = f"straight {self.state_text()} {self.node.whole} {condition} {self.at_next}"
 
         def taken(proof: str) -> tuple[str, State | None]:
+            """Returns the lemma and the state after the return, by the proof of its condition."""
             is_open, state = self.returning()
             return f"return_taken {args} ({proof}) {is_open}", state
 

@@ -157,15 +157,15 @@ def tall_steps(visit: Visit) -> None:
     visit.anew()
 
 
-# Whether a long block leaves room in its panel, scrolls by itself, and is followed by a visible note with its number of lines; whether the
-# title of the lesson is cut off in its head, and in the list of lessons.
+# Whether a long block leaves room in its panel, scrolls by itself, and is followed by a visible note with its number of lines; and whether
+# the title of the lesson and the page are not cut off. Then whether a title is not cut off in the list of lessons.
 BLOCK = """
 const pre = document.querySelector('#parts .next').firstElementChild;
 const panel = getComputedStyle(by('parts')).overflowY === 'visible' ? by('lesson') : by('parts');
 const [box, note] = [panel, pre.nextElementSibling].map((one) => one.getBoundingClientRect());
 const title = by('lesson').querySelector('h2');
 return [pre.clientHeight < 0.85 * panel.clientHeight, pre.scrollHeight > 3 * pre.clientHeight, note.bottom <= box.bottom,
-  pre.nextElementSibling.textContent, title.scrollWidth <= title.clientWidth];"""
+  pre.nextElementSibling.textContent, title.scrollWidth <= title.clientWidth && document.documentElement.scrollWidth <= innerWidth];"""
 TITLE = """
 const pen = document.createElement('canvas').getContext('2d');
 pen.font = getComputedStyle(by('lessons')).font;

@@ -207,11 +207,16 @@ function showModules(state) {
   const pages = `Pages ${plugged.join(", ")}${names.length ? `: ${names.join(", ")}` : ""}`;
   by("modules").textContent = state.pages.length ? pages : "No module is plugged.";
   const next = state.pos[0].split(" ")[1].replace("P", "");
-  const isNext = (place) => place === next && (listing.kind === "words") === state.pos[0].startsWith("Micro");
-  if (!isNew("listed", listing, next, present().breaks, isGone)) return;
+  // Another bank of the page than the one that is listed may be active: it has another instruction there.
+  const isNext = (place, text) => place === next && text === state.word && state.pos[0].startsWith("Micro");
+  const line = state.pos[0].split(" ")[1].startsWith("P") ? state.line[0] : null;
+  if (!isNew("listed", listing, next, line, state.word, present().breaks, isGone)) return;
   if (!listing) return fill("listed");
-  const rows = listing.kind === "lines" ? programLines("p", listing.rows, isNext(next) ? next : null) :
-    listing.rows.map(([at, label, words, text]) => wordLine([at, label, words, text], isNext(at)));
+  if (listing.kind === "lines" && listing.bank !== "1") {
+    return fill("listed", make("p", { class: "none" }, "Program lines are read in bank 1 only, whichever bank is active."));
+  }
+  const rows = listing.kind === "lines" ? programLines("p", listing.rows, line) :
+    listing.rows.map(([at, label, words, text]) => wordLine([at, label, words, text], isNext(at, text)));
   const broken = brokenLines("p", listing.broken);
   fill("listed", ...(rows.length || broken.length ? [...rows, ...broken] : [make("p", { class: "none" }, "This page has no keystroke programs.")]));
   return reveal(by("listed"), by("listed").querySelector(".next"));

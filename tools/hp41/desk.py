@@ -392,8 +392,8 @@ class Desk:
         at, text = views["line"]
         is_page = place[0] == "P"
         program = program_in_page(views["paged"], at) if is_page else program_at(held, at)
-        after = line_after(at, [(row[0], row[1]) for row in views["paged"]] if is_page else held, views["broken"], is_page)
-        around = Around(len(views["registers"]), program, [text for _, text in held], views["functions"], after=after)
+        behind = line_after(at, [(row[0], row[1]) for row in views["paged"]] if is_page else held, views["broken"], is_page)
+        around = Around(len(views["registers"]), program, [text for _, text in held], views["functions"], after=behind)
         one = of_line(text, views["numbers"], views["values"], views["alpha"][0], views["flags"][0], around)
         one.error()
         if one.unsure:

@@ -112,7 +112,8 @@ class Listed(NamedTuple):
 
 
 def listed(page: str, programs: list[Program]) -> Listed:
-    """Returns the lines of the programs in a page. The texts are those that the bench lists. The addresses are not, because memory has other
+    """Returns the lines of the programs in a page. The texts are those that the bench lists. The addresses are not, because memory
+    has other
     nulls between lines than the page."""
     lines: list[list[str]] = []
     for (start, data, *_), texts in zip(programs, texts_of([with_end(one.data) for one in programs])):
@@ -144,7 +145,8 @@ class Pages:
         return self.known[key]
 
     def lines(self, page: str, image: tuple[str, ...], place: Optional[int] = None) -> Listed:
-        """Returns the lines of the programs in a page. If the line at a place belongs to none of them, the lines from there on are added."""
+        """Returns the lines of the programs in a page. If the line at a place belongs to none of them, the lines from there on are
+        added."""
         found: Listed = self.kept((page, "lines", image), lambda: listed(page, programs_of(words_of(image))))
         at = None if place is None else first_line(words_of(image), place)
         if at is None or any(line[0] == f"{page}{at:03X}" for line in found.lines):

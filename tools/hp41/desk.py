@@ -46,6 +46,10 @@ NAME = re.compile(r'^(?:GTO|XEQ|LBL) "[^"]*_$')
 
 PAGES = "456789ABCDEF"
 FLAG_25 = 1 << 55 - 25
+
+# Commands that make steps; the refusals that an instruction can have, and that of a program line that is not supported.
+STEPPING = re.compile(rb"[ \t]*(run|step|trace)[ \t\r\n]")
+OF_WORDS, OF_LINES = re.compile("! (0[6-9]|1[0-2]) "), "! 13 "
 MOST_REGISTERS = 320
 VIEWS = ("cpu", "stack", "flags", "alpha", "display", "pos", "lines", "functions")
 WORDS_BEFORE, WORDS_BEHIND = 16, 32
@@ -293,6 +297,24 @@ class Desk:
             self.names.follow(lines_of(part.text), before, self.labels)
             self.plugs += 1
 
+    def name_refused(self, text: str) -> None:
+        """Notes what was refused of the last command. If a step was refused, its line or instruction is the next one, with this text."""
+        entry = self.log[-1] if self.log else Entry(b"")
+        refusal, (mode, place) = refusal_of(entry.reply) or "", self.views["pos"][0].split()
+        is_step = entry.key == "SST" or entry.key is None and STEPPING.match(entry.text + b"\n") is not None
+        if is_step and text and mode == "Micro" and OF_WORDS.match(refusal):
+            entry.refused = f"{text} at {place}"
+        elif is_step and text and mode != "Micro" and refusal.startswith(OF_LINES):
+            entry.refused = f"line {self.number_at(place)}, {text}, is not supported"
+        elif entry.key and len(entry.text.split()) > 2:
+            entry.refused = f"the key {entry.key}"
+
+    def number_at(self, place: str) -> str:
+        """Returns the number of the line at a position, or after null bytes there."""
+        held = ((line[:4], row[0]) for line, row in zip(self.views["lines"], self.views["coded"]))
+        paged = ((row[0], row[2]) for row in self.views["paged"])
+        return next((number for at, number in (paged if place[0] == "P" else held) if at >= place.removeprefix("P")), "")
+
     # The state of the bench.
 
     def look(self) -> State:
@@ -314,6 +336,7 @@ class Desk:
         views["paged"] = self.paged(place[1]) if place.startswith("P") else []
         self.views = views
         state = self.state()
+        self.name_refused(state["word"])
         self.history.add(state, self.place(views["made"]))
         return state
 

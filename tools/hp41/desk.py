@@ -388,6 +388,7 @@ class Desk:
         spells = NAME.search(display) is not None or "48" in self.views["flags"][0].split() and not PROMPT.fullmatch(display)
         return {**self.views, "shift": self.lights.shift, "program": self.lights.program,
                 "breaks": sorted([kind, place] for kind, place in self.breaks), "spells": spells,
+                "writable": sorted([page, bank] for page, bank in self.names.written if (page, bank) in self.names.known),
                 "label": self.labels.of(self.views["pos"][0].split()[1]) if self.views["listing"] else "",
                 "last": self.log[-1].told() if self.log else ["", []], "entries": len(self.log),
                 "doing": (self.doing() or b"").decode() if self.queue and self.queue[0].left else "", **self.explained()}

@@ -157,6 +157,43 @@ def tall_steps(visit: Visit) -> None:
     visit.anew()
 
 
+# Whether a long block leaves room in its panel, scrolls by itself, and is followed by a visible note with its number of lines; and whether
+# the title of the lesson and the page are not cut off. Then whether a title is not cut off in the list of lessons.
+BLOCK = """
+const pre = document.querySelector('#parts .next').firstElementChild;
+const panel = getComputedStyle(by('parts')).overflowY === 'visible' ? by('lesson') : by('parts');
+const [box, note] = [panel, pre.nextElementSibling].map((one) => one.getBoundingClientRect());
+const title = by('lesson').querySelector('h2');
+return [pre.clientHeight < 0.85 * panel.clientHeight, pre.scrollHeight > 3 * pre.clientHeight, note.bottom <= box.bottom,
+  pre.nextElementSibling.textContent, title.scrollWidth <= title.clientWidth && document.documentElement.scrollWidth <= innerWidth];"""
+TITLE = """
+const pen = document.createElement('canvas').getContext('2d');
+pen.font = getComputedStyle(by('lessons')).font;
+return pen.measureText(by('lessons').selectedOptions[0].textContent).width + 24 <= by('lessons').offsetWidth"""
+
+
+def long_blocks(visit: Visit) -> None:
+    """On the large page a long block of a lesson does not fill the panel, and titles are not cut off."""
+    browser = visit.browser
+    browser.run("return openLesson('bisection')")
+    sized(visit, 1280, 720)
+    browser.click("#large")
+    choose(visit, "panel", "lesson")
+    for width, height in ((1280, 720), (1366, 650), (1024, 650), (1920, 1080), (390, 844)):
+        sized(visit, width, height)
+        browser.run("scrollTo(0, 0); show()")
+        visit.row(f"a long block at {width} by {height}", BLOCK, [True, True, True, "60 lines: scroll to see all", True])
+    sized(visit, 1280, 720)
+    browser.run("openLesson('key-to-byte')")
+    visit.agree()
+    for width, height in ((1280, 720), (1366, 650), (1024, 650), (1920, 1080)):
+        sized(visit, width, height)
+        visit.row(f"a title in the list of lessons at {width} by {height}", TITLE, True)
+    browser.click("#large")
+    sized(visit, 1280, 900)
+    visit.anew()
+
+
 def flashes(visit: Visit) -> None:
     """Keys that were pressed do not flash again, and a screen reader says that ALPHA is empty."""
     browser = visit.browser

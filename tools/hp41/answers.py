@@ -342,7 +342,8 @@ class Answers:
         page, bank, kind = asked["page"], asked["bank"], asked["kind"]
         if page not in list(PAGES) or bank not in list("1234") or kind not in ("words", "lines"):
             raise ValueError((page, bank, kind))
-        return {"rows": self.desk.listed(page, bank, kind == "words")}
+        rows, broken = self.desk.listed(page, bank, kind == "words")
+        return {"rows": rows, "broken": broken}
 
     def causes_of(self, asked: Request) -> Reply:
         """Returns the usual causes for the refusal of an entry of the session."""

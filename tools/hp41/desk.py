@@ -11,20 +11,21 @@ from .alpha import PROBES, takes_letters, typed_keys
 from .benches import Bench
 from .beside import R00, Beside
 from .branches import Branch
-from .coded import coded
+from .coded import Typing, coded
 from .decks import LONGEST_DECK, MEMORY, NO_ANSWER, Failure, lines_of
 from .decks import text_of as text_of_line
 from .keyboard import KEYS
 from .explaining import is_carrying, of_line, of_word
-from .foreseen import Around, program_at
+from .foreseen import Around, program_at, program_in_page
 from .history import History, Place, State
 from .lessons import OpenLesson
 from .lights import AFTER, BEFORE, PROMPT, Lights, Seen
 from .matches import whole
 from .memory import MAIN_START, Memory
-from .paging import Pages
+from .paging import Listed, Pages
 from .parts import MOST_STEPS, NO_END, Entry, Part, command_of, parts_of, refusal_of
 from .plugged import Names
+from .positions import Position, broken_in, in_memory, in_page, line_after
 from .repeating import Renewal
 from .stubs import FLAGS_AT
 from .typed import Text
@@ -89,7 +90,7 @@ class Desk:
         self.lesson: Optional[OpenLesson] = None
         self.breaks: set[tuple[str, str]] = set()
         self.lights, self.labels, self.names = Lights(), Labels(), Names()
-        self.coded: tuple[list[str], bytes, bool, list[list[str]]] = ([], b"", False, [])
+        self.coded: tuple[list[str], list[str], bytes, bool, list[list[str]]] = ([], [], b"", False, [])
         # The last states, and how often pages were plugged or unplugged.
         self.history, self.plugs = History(), 0
         # The number of steps in a piece, the number of steps that were made, and how many of them were made before the last look.
@@ -331,9 +332,10 @@ class Desk:
         views["numbers"] = [text_of(line[2:]) for line in views["stack"]]
         views["pages"] = [page for page, listed in zip(PAGES, replies[len(VIEWS):]) if refusal_of(listed) is None]
         views["listing"] = self.listing(self.bench.ask_all(lists), place) if lists else []
-        views["coded"] = self.coded_lines(views["lines"], memory.program_bytes())
+        views["coded"] = self.coded_lines(views["lines"], views["functions"], memory.program_bytes())
         views["made"], self.seen, self.is_seen = self.made - self.seen, self.made, True
-        views["paged"] = self.paged(place[1]) if place.startswith("P") else []
+        at = self.position(mode, place, views["lines"], memory)
+        views["line"], views["broken"], views["paged"], self.why_no_line = at
         self.views = views
         state = self.state()
         self.name_refused(state["word"])
@@ -350,18 +352,23 @@ class Desk:
         self.history.skip(self.place(self.made - self.seen))
         self.seen = self.made
 
-    def coded_lines(self, lines: list[str], data: bytes) -> list[list[str]]:
+    def coded_lines(self, lines: list[str], functions: list[str], data: bytes) -> list[list[str]]:
         """Returns the number and the bytes of each line in memory, and in program mode the keys that type it. They are kept until lines,
-        bytes or the mode change."""
-        asked = lines, data, self.lights.program
-        if self.coded[:3] != asked:
-            self.coded = *asked, coded([(int(line[:4]), line[5:]) for line in lines], data, self.lights.program)
-        return self.coded[3]
+        functions of modules, bytes or the mode change."""
+        asked = lines, functions, data, self.lights.program
+        if self.coded[:4] != asked:
+            typing = Typing([line[5:] for line in lines], functions) if self.lights.program else None
+            self.coded = *asked, coded([(int(line[:4]), line[5:]) for line in lines], data, typing)
+        return self.coded[4]
 
-    def paged(self, page: str) -> list[list[str]]:
-        """Returns the lines of the programs in a page."""
-        image, = self.bench.ask_all([b"show image %s" % page.encode()])
-        return [] if refusal_of(image) else self.pages.lines(page, tuple(image))
+    def position(self, mode: str, place: str, lines: list[str], memory: Memory) -> Position:
+        """Returns what is at the position of the program; no line while a function in microcode runs."""
+        if mode == "Micro":
+            return Position([], broken_in(lines, memory.program_bytes()), [], "")
+        if not place.startswith("P"):
+            return in_memory(place, lines, memory)
+        image, = self.bench.ask_all([b"show image %s" % place[1].encode()])
+        return in_page(place, [] if refusal_of(image) else image, memory, self.pages)
 
     def lists_at(self, at: int) -> list[bytes]:
         """Returns the commands that list the words around an address. The words before it are listed from several start addresses,
@@ -403,11 +410,14 @@ class Desk:
             after = self.beside.after(words, views["cpu"]) if is_carrying(text) else None
             one = of_word(text, views["cpu"], after, around)
             return {"word": text, "next": one.sentence(), "asks": one.asks()}
+        if not views["line"]:
+            return {"word": "", "next": self.why_no_line, "asks": ""}
         held = [(line[:4], line[5:]) for line in views["lines"]]
-        lines, at = ([(at, text) for at, text, *_ in views["paged"]], place[1:]) if place[0] == "P" else (held, place)
-        # Null bytes before a line are skipped.
-        text = next((text for position, text in lines if position >= at), "")
-        around = Around(len(views["registers"]), program_at(lines, at), [text for _, text in held], views["functions"])
+        at, text = views["line"]
+        is_page = place[0] == "P"
+        program = program_in_page(views["paged"], at) if is_page else program_at(held, at)
+        behind = line_after(at, [(row[0], row[1]) for row in views["paged"]] if is_page else held, views["broken"], is_page)
+        around = Around(len(views["registers"]), program, [text for _, text in held], views["functions"], after=behind)
         one = of_line(text, views["numbers"], views["values"], views["alpha"][0], views["flags"][0], around)
         one.error()
         if one.unsure:
@@ -427,14 +437,14 @@ class Desk:
         replies = self.bench.ask_all([f"show image {page} b{bank}".encode() for page, bank in asked])
         return [(*one, self.names.of(*one)) for one, reply in zip(asked, replies) if refusal_of(reply) is None]
 
-    def listed(self, page: str, bank: str, is_words: bool) -> list[list[str]]:
+    def listed(self, page: str, bank: str, is_words: bool) -> Listed:
         """Returns the instructions in a bank of a page, or the lines of its programs, whether they run or not."""
         image, = self.bench.ask_all([f"show image {page} b{bank}".encode()])
         if refusal_of(image):
             raise Failure(f"page {page}, bank {bank}: {image[-1]}: plug a module there first")
         if not is_words:
             return self.pages.lines(page, tuple(image))
-        return [[place, self.labels.of(place), words, text] for place, words, text in self.pages.words(page, tuple(image))]
+        return Listed([[place, self.labels.of(place), words, text] for place, words, text in self.pages.words(page, tuple(image))], [])
 
     # Exports.
 

@@ -22,10 +22,12 @@ VALUE_COMMA = "\0"
 NO_FUNCTION = re.compile(r"[0-9.E+-]{2,}|[0-9.E]|NEG.*|[\">].*|LBL .*|\.?END\.?")
 # Where a sentence is cut if its step fails: what follows is what would happen afterwards.
 CUT = re.compile(r"; |, after lifting |\.$")
+# What is said of the line after a test or a loop.
+SKIPPED = re.compile("the next line is skipped")
 # The names of registers of the processor, and of those of programs, for whose next value a learner can be asked.
 ASKED = re.compile("[ABCMNGXYZT]|ST|RTN|ALPHA|LAST X|R[0-9]+")
-# How many flags there are.
-FLAGS = 56
+# How many flags there are, and the one that is set while the display shows ALPHA.
+FLAGS, ALPHA_FLAG = 56, "48"
 FIELDS = {"S&X": (2, 0), "ALL": (13, 0), "XS": (2, 2), "M": (12, 3), "MS": (13, 13)}
 
 
@@ -126,7 +128,8 @@ class Explained:
             return told if told.startswith(called.text) else f"Executes the function {called.text}: {told[0].lower()}{told[1:]}"
         error = self.error()
         if error is None:
-            return self.filled(self.row.sentence) + (" The result may be OUT OF RANGE." if self.unsure else "")
+            told = SKIPPED.sub(self.skips(), self.filled(self.row.sentence))
+            return told + (" The result may be OUT OF RANGE." if self.unsure else "")
         done = self.filled(CUT.split(self.row.sentence)[0])
         if self.is_word or error.message.endswith(")"):
             return f"{done}, but the step is refused as {error.message}: {error.cause}."
@@ -138,6 +141,15 @@ class Explained:
         """Returns a sentence of the table with its values. The commas between its parts are tidied, those of values are not."""
         text = PLACEHOLDER.sub(lambda one: self.going_on(one[1]) if one[0] in WITHIN and one[2] else self.part(one[1]), sentence)
         return re.sub(r",+(?=[,.;]|$)|(?<=names),", "", text).replace(VALUE_COMMA, ",")
+
+    def skips(self) -> str:
+        """Returns what a test or a loop does instead of executing the next line. `.END.` in memory, and bytes that are no line, cannot be
+        skipped."""
+        if self.around.after == ".END.":
+            return "the program continues with .END., which cannot be skipped"
+        if self.around.after == "":
+            return "the step is refused as BrokenProgram (14), because the bytes after this line are no line"
+        return "the next line is skipped"
 
     def going_on(self, name: str) -> str:
         """Returns what a placeholder stands for within a sentence: a value after a comma is followed by a comma."""
@@ -282,6 +294,16 @@ class Explained:
             return f"flag {operand}"
         is_set = operand in self.values.get("flags", "").split()
         return f"flag {operand}, which is {'set' if is_set else 'clear'}"
+
+    def part_shown(self) -> str:
+        """Returns what the display shows without a message, with its value."""
+        name = "ALPHA" if ALPHA_FLAG in self.values.get("flags", "").split() else "X"
+        return f"{name}{self.told(name)}"
+
+    def part_on(self) -> str:
+        """Returns which keys continue the program after a line that stops it. While ALPHA is on, R/S is refused."""
+        is_alpha = ALPHA_FLAG in self.values.get("flags", "").split()
+        return "the keys ALPHA and R/S continue with the next line" if is_alpha else "the key R/S continues with the next line"
 
     def told(self, name: str) -> str:
         """Returns the value of a register after a comma; nothing if it is not known."""

@@ -14,9 +14,11 @@ if TYPE_CHECKING:
 IND = "IND "
 # The operand of a line that names a register of the stack is one of these numbers if the line needs another kind of number.
 STACK_NUMBERS = {"T": 112, "Z": 113, "Y": 114, "X": 115, "L": 116}
-# A result can only be out of range if a value that it is made of has an exponent of this size, positive or negative.
+# A result can only be out of range if the exponent of a value that it is made of has at least this absolute value.
 LEAST_EXPONENT = 49
 MEMORY_END, END_OF_FUNCTION, FIRST_PAGE = 0x200, 0x00F0, 0x4000
+# After a line that begins from here on, the next line may be in the next page.
+LAST_LINES = "FF0"
 
 
 class Error(NamedTuple):
@@ -35,7 +37,8 @@ class Around(NamedTuple):
 
     `size` is the number of data registers, `program` has the lines of the program at the position and `lines` those of all programs in
     memory, `functions` are the lines of `show functions`, `pages` are the plugged pages, of which `writable` and `protected` are known to
-    have only such banks, and `top` is the address after the last register of memory."""
+    have only such banks, and `top` is the address after the last register of memory. `after` is the line that a test would skip; an empty
+    text if the bytes there are no line."""
     size: Optional[int] = None
     program: Optional[Sequence[str]] = None
     lines: Optional[Sequence[str]] = None
@@ -44,6 +47,7 @@ class Around(NamedTuple):
     writable: Sequence[str] = ()
     protected: Sequence[str] = ()
     top: Optional[int] = None
+    after: Optional[str] = None
 
 
 def number_in(value: str) -> Optional[Decimal]:
@@ -60,6 +64,17 @@ def program_at(lines: Sequence[tuple[str, str]], place: str) -> list[str]:
     end = next((at for at in ends if at >= place), None)
     begin = next((at for at in reversed(ends) if at < place), "")
     return [text for at, text in lines if at > begin and (end is None or at <= end)]
+
+
+def program_in_page(rows: Sequence[Sequence[str]], place: str) -> Optional[list[str]]:
+    """Returns the lines of a page among which a line at a position finds its local labels; None if they are not known. Each row has a
+    position, a text and the number of the line in its program. If the bytes after the line are no line, no label before it is found."""
+    first = max((at for at, row in enumerate(rows) if row[2] == "01" and row[0] <= place), default=0)
+    after = next((at for at, row in enumerate(rows) if at > first and row[2] == "01"), len(rows))
+    program = [row for row in rows[first:after]]
+    if program and program[-1][0] == place and program[-1][1] not in ("END", ".END."):
+        return [] if place[1:] < LAST_LINES else None
+    return [text for _, text, *_ in program]
 
 
 class Foreseen:

@@ -9,6 +9,9 @@ DIGITS = 14
 # The constant in register c.
 CONSTANT = "169"
 
+# The bit of the third byte of an END that makes it `.END.`.
+LAST_END = 0x20
+
 
 class Divided(NamedTuple):
     """What register c says: the address of the first statistics register and the constant, as digits, the curtain, the address of the
@@ -41,6 +44,12 @@ class Memory:
         c = self.digits[REGISTER_C]
         curtain, end = int(c[8:11], 16), int(c[11:], 16)
         return Divided(c[:3], c[5:8], curtain, end, c[5:8] == CONSTANT and MAIN_START <= end < curtain <= self.top)
+
+    def is_sound(self) -> bool:
+        """Returns whether program lines can be read: main memory can be divided, and its last register of programs ends with `.END.`."""
+        divided = self.divided()
+        end = bytes.fromhex(self.part(divided.end, divided.end + 1)[0][8:]) if divided.is_sound else b"\0\0\0"
+        return 0xC0 <= end[0] <= 0xCD and end[2] < 0xF0 and end[2] & LAST_END != 0
 
     def data_registers(self) -> list[str]:
         """Returns the digits of the data registers; none if the curtain is outside main memory."""

@@ -1,10 +1,11 @@
 """Lists the pages of modules, whether their functions run or not: the instructions of a bank, and the lines of its keystroke programs.
 
 A bench beside the session lists them, so that the session does not change."""
-from typing import Callable, Iterable
+from typing import Any, Callable, Iterable, NamedTuple, Optional
 
 from .coded import coded
 from .decks import Failure, answered, block, hexadecimal
+from .memory import LAST_END
 from .programs import loadable, pieces_of, whole_lines
 from .records import ends_of, lines_in
 
@@ -13,8 +14,8 @@ PAGE_SIZE = 4096
 # The first word of a table entry for a keystroke program, without the digit of its page.
 KEYSTROKES = 0x200
 
-# The bit of the third byte of an END that makes it an .END.
-LAST = 0x20
+# How many of the bytes that are no line are shown.
+MOST_SHOWN = 4
 
 # The bytes of a program with one label.
 NEXT = bytes.fromhex("02C0000D")
@@ -36,23 +37,45 @@ def starts_of(words: list[int]) -> list[int]:
     return sorted(found)
 
 
-def programs_of(words: list[int]) -> list[tuple[int, bytes]]:
-    """Returns the programs of a page: for each its place and its bytes. A program ends with its END, or before bytes that are no line."""
-    found, end = [], 0
-    for start in starts_of(words):
-        if start < end:
-            continue
-        data = bytes(word & 0xFF for word in words[start:])
+class Program(NamedTuple):
+    """A program in a page: its place, its bytes as far as they are lines, and the place of the bytes before which it ends because they are
+    no line, with these bytes; None and no bytes if there are none."""
+    start: int
+    data: bytes
+    broken: Optional[int]
+    rest: bytes
+
+
+def first_line(words: list[int], place: int) -> Optional[int]:
+    """Returns the place of the line at a place, before which there may be nulls; None if only nulls follow."""
+    return next((at for at in range(place, len(words)) if words[at] & 0xFF), None)
+
+
+def programs_of(words: list[int], place: Optional[int] = None) -> list[Program]:
+    """Returns the programs of a page, and the lines from a place on that belongs to none of them. A program ends with its END, or before
+    bytes that are no line, or at the end of the page. If it goes on into a later program, the lines of both are in the first one."""
+    starts = starts_of(words) + ([] if place is None else [place])
+    read = [bytes(word & 0xFF for word in words[start:]) for start in starts]
+    wholes = []
+    for data in read:
         ends = ends_of(data) or [end for _, end in lines_in(data)[-1:]]
-        data = data[:ends[0] if ends else 0]
-        found.append((start, data))
-        end = start + len(data)
-    return found
+        wholes.append(with_end(data[:ends[0] if ends else 0]))
+    found, taken = [], set[int]()
+    for start, data, whole, is_good in zip(starts, read, wholes, loadable(wholes)):
+        size = len(whole) if is_good else whole_lines(whole)
+        places = [at for at, _ in lines_in(data[:size])]
+        shared = next((at for at in places if start + at in taken), None)
+        taken.update(start + at for at in places)
+        broken = None if is_good or shared is not None else first_line(words, start + size)
+        if places[:1] != [shared] or broken is not None:
+            rest = b"" if broken is None else data[broken - start:]
+            found.append(Program(start, data[:size if shared is None else shared], broken, rest))
+    return sorted(found, key=lambda one: one.start)
 
 
 def with_end(data: bytes) -> bytes:
     """Returns the bytes of a program with an END in place of an .END. at their end, because `load` refuses an .END. before other lines."""
-    return data[:-1] + bytes([data[-1] & ~LAST]) if ends_of(data) else data
+    return data[:-1] + bytes([data[-1] & ~LAST_END]) if ends_of(data) else data
 
 
 def texts_of(programs: list[bytes]) -> list[list[str]]:
@@ -66,19 +89,39 @@ def texts_of(programs: list[bytes]) -> list[list[str]]:
     return found
 
 
-def listed(page: str, programs: list[tuple[int, bytes]]) -> list[list[str]]:
-    """Returns the lines of programs: the address, the text, the number and the bytes of each. The texts are those that the bench lists. The
-    addresses are not, because memory has other nulls between lines than the page."""
-    wholes = [with_end(data) for _, data in programs]
-    # Bytes that are no line end a program.
-    parts = [data if is_good else data[:whole_lines(data)] for data, is_good in zip(wholes, loadable(wholes))]
+def text_at(data: bytes) -> str:
+    """Returns the text of the line that some bytes begin with; an empty text if they begin with no line."""
+    lines = lines_in(data)
+    first = with_end(data[lines[0][0]:lines[0][1]]) if lines else b""
+    if not first or not loadable([first])[0]:
+        return ""
+    text = texts_of([first])[0][0]
+    return f".{text}." if text == "END" and data[lines[0][1] - 1] & LAST_END else text
+
+
+def shown_bytes(data: bytes) -> str:
+    """Returns the first of some bytes."""
+    return f"{data[:MOST_SHOWN].hex(' ').upper()}{' ..' if data[MOST_SHOWN:] else ''}"
+
+
+class Listed(NamedTuple):
+    """The lines of the programs in a page: the address, the text, the number and the bytes of each; and where a program ends before bytes
+    that are no line, the address of these bytes and the first of them."""
+    lines: list[list[str]]
+    broken: list[list[str]]
+
+
+def listed(page: str, programs: list[Program]) -> Listed:
+    """Returns the lines of the programs in a page. The texts are those that the bench lists. The addresses are not, because memory has other
+    nulls between lines than the page."""
     lines: list[list[str]] = []
-    for (start, data), part, texts in zip(programs, parts, texts_of(parts)):
-        texts = [f".{text}." if text == "END" and data[end - 1] & LAST else text for (_, end), text in zip(lines_in(part), texts)]
-        placed = [(at, text) for (at, _), text in zip(lines_in(part), texts)]
+    for (start, data, *_), texts in zip(programs, texts_of([with_end(one.data) for one in programs])):
+        texts = [f".{text}." if text == "END" and data[end - 1] & LAST_END else text for (_, end), text in zip(lines_in(data), texts)]
+        placed = [(at, text) for (at, _), text in zip(lines_in(data), texts)]
         lines += [[f"{page}{start + at:03X}", text, number, code]
                   for (at, text), (number, code, _) in zip(placed, coded(placed, data))]
-    return lines
+    broken = {f"{page}{one.broken:03X}": one.rest for one in programs if one.broken is not None}
+    return Listed(sorted(lines), [[address, shown_bytes(rest)] for address, rest in sorted(broken.items())])
 
 
 # What was listed: a page, what of it, and the lines of its image.
@@ -90,9 +133,9 @@ class Pages:
 
     def __init__(self) -> None:
         """Begins without listings."""
-        self.known: dict[Key, list[list[str]]] = {}
+        self.known: dict[Key, Any] = {}
 
-    def kept(self, key: Key, make: Callable[[], list[list[str]]]) -> list[list[str]]:
+    def kept(self, key: Key, make: Callable[[], Any]) -> Any:
         """Returns what was made for a key. A few are kept."""
         if key not in self.known:
             if len(self.known) >= 8:
@@ -100,13 +143,19 @@ class Pages:
             self.known[key] = make()
         return self.known[key]
 
-    def lines(self, page: str, image: tuple[str, ...]) -> list[list[str]]:
-        """Returns the lines of the programs in a page: the address, the text, the number and the bytes of each."""
-        return self.kept((page, "lines", image), lambda: listed(page, programs_of(words_of(image))))
+    def lines(self, page: str, image: tuple[str, ...], place: Optional[int] = None) -> Listed:
+        """Returns the lines of the programs in a page. If the line at a place belongs to none of them, the lines from there on are added."""
+        found: Listed = self.kept((page, "lines", image), lambda: listed(page, programs_of(words_of(image))))
+        at = None if place is None else first_line(words_of(image), place)
+        if at is None or any(line[0] == f"{page}{at:03X}" for line in found.lines):
+            return found
+        more: Listed = self.kept((page, f"lines from {at}", image), lambda: listed(page, programs_of(words_of(image), at)))
+        return more
 
     def words(self, page: str, image: tuple[str, ...]) -> list[list[str]]:
         """Returns the instructions in a bank of a page: the address, the words and the text of each."""
-        return self.kept((page, "words", image), lambda: self.instructions(page, image))
+        found: list[list[str]] = self.kept((page, "words", image), lambda: self.instructions(page, image))
+        return found
 
     @staticmethod
     def instructions(page: str, image: tuple[str, ...]) -> list[list[str]]:

@@ -17,6 +17,7 @@ function listLessons(groups) {
 /** Chooses the lesson that is open in the list. */
 function chooseOpen() {
   by("lessons").value = lesson?.name ?? "";
+  by("lessons").title = by("lessons").selectedOptions[0]?.textContent ?? "";
 }
 
 async function openLesson(name) {
@@ -65,6 +66,17 @@ function stepsMade(number, state) {
   return all && made ? [make("p", { class: "none" }, `${made} of ${all} steps were made`)] : [];
 }
 
+// How many lines of a block or a reply a lesson shows at a time.
+const LONG = 8;
+
+/** Returns a block or a reply of a lesson. A long one scrolls within its own box, so that the explanations around it stay in view. */
+function textIn(text, kind) {
+  const count = text.split("\n").length;
+  if (count <= LONG) return [make("pre", { class: kind }, text)];
+  return [make("pre", { class: `${kind} long`.trim(), tabindex: "0", role: "group", "aria-label": `${count} lines` }, text),
+    make("p", { class: "none" }, `${count} lines: scroll to see all`)];
+}
+
 /** Shows the lesson with its next command in a state. The buttons execute the next command in the last state. */
 function showLesson(state) {
   // The large page with its lesson would have an empty half without one.
@@ -81,10 +93,10 @@ function showLesson(state) {
     const reply = entry >= 0 && entry < sessionEnd(state) ? commandIn(state, entry).reply : [];
     const kinds = [!isCommand && "comment", isExecuted(number, state) && "done", number === current && "next"];
     return make("li", { class: kinds.filter(Boolean).join(" "), "aria-current": number === current ? "step" : null },
-      ...(isCommand ? [make("pre", {}, text.replace(/\n+$/, ""))] : []),
+      ...(isCommand ? textIn(text.replace(/\n+$/, ""), "") : []),
       ...paragraphs.map((words) => make("p", { class: /^\s/.test(words) ? "set-in" : "" }, words)),
       ...(number === current ? stepsMade(number, state) : []),
-      ...(reply.length ? [make("pre", { class: "reply" }, reply.join("\n"))] : []));
+      ...(reply.length ? textIn(reply.join("\n"), "reply") : []));
   }), ...(current < 0 ? [make("li", { class: "comment" }, make("p", {}, "This is the end of the lesson."))] : []));
   reveal(by("parts"), by("parts").querySelector(".next") || by("parts").lastElementChild);
   for (const id of ["next-step", "next-command", "next-all", "lesson-step"]) by(id).disabled = nextIn(present()) < 0 || isGone;

@@ -49,7 +49,7 @@ function show() {
 
 /** Shows what is executed next, and whether this is only when a program runs. */
 function showNext(state) {
-  const text = state.next ? `${state.word}: ${state.next}` : state.word || withoutModule(state);
+  const text = [state.word, state.next].filter(Boolean).join(": ") || withoutModule(state);
   const isWaiting = text && state.pos[0].startsWith("Idle");
   by("next").replaceChildren(...(isWaiting ? [make("span", { class: "none" }, "When the program runs: ")] : []), text);
 }
@@ -124,19 +124,25 @@ function programLines(kind, lines, next, hasKeys = false) {
 
 /** Returns the lines of a program in memory, or while the position is in a page, those of the programs in this page; and the next one. */
 function linesOf(state) {
-  const [mode, place] = state.pos[0].split(" ");
-  const lines = place.startsWith("P") ? state.paged : state.lines.map((text, at) => [text.slice(0, 4), text.slice(5), ...state.coded[at]]);
-  // Null bytes before a line are skipped.
-  return [lines, mode === "Micro" ? undefined : lines.find(([at]) => at >= place.replace("P", ""))];
+  const isInPage = state.pos[0].split(" ")[1].startsWith("P");
+  const lines = isInPage ? state.paged : state.lines.map((text, at) => [text.slice(0, 4), text.slice(5), ...state.coded[at]]);
+  return [lines, lines.find(([at]) => at === state.line[0])];
 }
+
+/** Returns notes on bytes that are no line, before which programs end. */
+const brokenLines = (kind, broken) => broken.map(([place, bytes]) => make("p", { class: "none" },
+  `At ${kind === "p" ? "P" : ""}${place} the bytes ${bytes} are no program line: the lines end there.`));
 
 /** Shows the lines in memory; while the position is in a page, those of the programs in this page. */
 function showProgram(state) {
   const isInPage = state.pos[0].split(" ")[1].startsWith("P");
   const [lines, line] = linesOf(state);
   const next = line?.[0] ?? null;
-  if (!isNew("program", isInPage, lines, next, present().breaks, isGone, state.program)) return;
-  fill("program", ...programLines(isInPage ? "p" : "l", lines, next, state.program));
+  if (!isNew("program", isInPage, lines, next, state.broken, lines.length ? "" : state.next, present().breaks, isGone, state.program)) return;
+  const kind = isInPage ? "p" : "l";
+  const why = state.pos[0].startsWith("Micro") ? "Memory has no line that can be read." : state.next;
+  const none = lines.length ? [] : [make("p", { class: "none" }, why)];
+  fill("program", ...programLines(kind, lines, next, state.program), ...brokenLines(kind, state.broken), ...none);
   reveal(by("program"), by("program").querySelector(".next"));
 }
 
@@ -152,8 +158,9 @@ function showReturns(state) {
   const held = { P: state.paged, "": state.lines.map((text) => [text.slice(0, 4), text.slice(5)]) };
   const name = (place) => {
     const [, page, at] = /^(P?)(.*)$/.exec(place);
-    // Null bytes before a line are skipped.
-    return `${place} ${held[page].find(([position]) => position >= at)?.[1] ?? ""}`.trim();
+    // Null bytes before a line are skipped. Only the lines of the page at the position are known.
+    const isThere = (position) => position >= at && (!page || position[0] === at[0]);
+    return `${place} ${held[page].find(([position]) => isThere(position))?.[1] ?? ""}`.trim();
   };
   by("returns").hidden = !found.length;
   if (isNew("returns", found.map(name))) {
@@ -186,7 +193,8 @@ async function listPage() {
   const [page, bank] = by("list-page").value.split(" b");
   const kind = by("list-kind").value;
   listedAt = told;
-  listing = page ? { page, bank, kind, rows: (await ask({ do: "list", page, bank, kind })).rows ?? [] } : null;
+  const { rows = [], broken = [] } = page ? await ask({ do: "list", page, bank, kind }) : {};
+  listing = page ? { page, bank, kind, rows, broken } : null;
   show();
 }
 
@@ -194,8 +202,8 @@ async function listPage() {
 const mayBeWritten = () => listing !== null && listedAt !== told && !isGone && !isChanging() &&
   present().writable.some(([page, bank]) => page === listing.page && bank === listing.bank);
 
-/** Returns the address of the line or instruction that is executed next, if it is one of those that are listed; null if it is not. No view
-    prints the active bank, so the listed bank must have the words that the bench lists around this address. */
+/** Returns the address of the line or instruction that is executed next, if it is one of those that are listed; null if it is not. No
+    view prints the active bank, so the listed bank must have the words that the bench lists around this address. */
 function listedNext(state) {
   const [mode, place] = state.pos[0].split(" ");
   if ((listing.kind === "words") !== (mode === "Micro")) return null;
@@ -225,9 +233,13 @@ function showModules(state) {
   const isNext = (place) => place === next;
   if (!isNew("listed", listing, next, present().breaks, isGone)) return;
   if (!listing) return fill("listed");
-  const rows = listing.kind === "lines" ? programLines("p", listing.rows, isNext(next) ? next : null) :
+  if (listing.kind === "lines" && listing.bank !== "1") {
+    return fill("listed", make("p", { class: "none" }, "Program lines are read in bank 1 only, whichever bank is active."));
+  }
+  const rows = listing.kind === "lines" ? programLines("p", listing.rows, next) :
     listing.rows.map(([at, label, words, text]) => wordLine([at, label, words, text], isNext(at)));
-  fill("listed", ...(rows.length ? rows : [make("p", { class: "none" }, "This page has no keystroke programs.")]));
+  const broken = brokenLines("p", listing.broken);
+  fill("listed", ...(rows.length || broken.length ? [...rows, ...broken] : [make("p", { class: "none" }, "This page has no keystroke programs.")]));
   return reveal(by("listed"), by("listed").querySelector(".next"));
 }
 

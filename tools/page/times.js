@@ -18,10 +18,8 @@ function changesOf(state, before) {
 function lineMade(state, before) {
   if (state.made !== 1) return null;
   const [mode, place] = before.pos[0].split(" ");
-  const paged = place.startsWith("P") && before.paged.find(([at]) => `P${at}` >= place);
-  if (paged) return `${mode} ${place} ${paged[1]}`;
-  const found = mode === "Micro" ? before.listing.find(([at]) => at === place) : before.lines.find((text) => text.slice(0, 4) >= place);
-  return found ? `${mode} ${place} ${mode === "Micro" ? found[2].slice(9) : found.slice(5)}` : null;
+  const found = mode === "Micro" ? before.listing.find(([at]) => at === place)?.[2].slice(9) : before.line[1];
+  return found ? `${mode} ${place} ${found}` : null;
 }
 
 /** Returns the command of a run that is executed in pieces, with the lines or words that were executed up to a state; null if there is

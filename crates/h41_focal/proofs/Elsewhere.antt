@@ -5,7 +5,8 @@ use Rattle.h41_codes.specs.declared.line.Line.{Line}
 use Rattle.h41_codes.specs.declared.line.Line.TheVariants as lines
 use Rattle.h41_focal.specs.Destinations.{Arrives, Destination, Halts, HasNoLabel, HasNoLine, Manner, Runs, Seeks, Stays, Stepped, Tells}
 use Rattle.h41_focal.specs.Destinations.{Typed}
-use Rattle.h41_focal.specs.private.Carrying.{TakesAs, manner_of}
+use Rattle.h41_focal.specs.private.Carrying.{TakesAs, TakesBriefly, manner_of}
+use Rattle.h41_focal.specs.BriefOutcomes.{CallingKeeps}
 use Rattle.h41_focal.specs.MachineCalls.{KeepsElsewhere}
 use Rattle.h41_focal.specs.LineStep.{AppliesTo, AppliesWith, CarriesOut, Ends, FailsIn, Left, TakesLine, answer_of_showing}
 use Rattle.h41_positions.specs.FocalState.{Machine}
@@ -13,6 +14,7 @@ use Rattle.h41_focal.specs.LineStep.{error_flag, left_by_fault, left_done, left_
 use Rattle.h41_positions.specs.FocalState.{at_line}
 use Rattle.h41_focal.specs.Outcomes.{Answer, is_elsewhere}
 use Rattle.h41_focal.specs.declared.origin.Origin.{Origin}
+use Rattle.h41_focal.specs.declared.outcome.BriefOutcome.{BriefOutcome}
 use Rattle.h41_focal.specs.declared.outcome.LineOutcome.{LineOutcome}
 use Rattle.h41_focal.specs.declared.refusal.FocalRefusal.{FocalRefusal}
 use Rattle.h41_focal.specs.declared.refusal.FocalRefusal.TheVariants.{NotInProfile}
@@ -151,3 +153,10 @@ pub kept_elsewhere : (pages : PageMap) (origin : Origin) (line : Line) (old new 
 kept_elsewhere pages origin line old new (Ok outcome) takes =
     λ elsewhere. elsewhere_keeps pages (manner_of origin) line old _ takes elsewhere
 kept_elsewhere pages origin line old new (Err refusal) takes = tt
+
+-- The same for a brief outcome.
+pub calling_keeps : (pages : PageMap) (origin : Origin) (line : Line) (old new : Machine) (result : Result BriefOutcome FocalRefusal)
+    → TakesBriefly pages origin line old new result → CallingKeeps old new result
+calling_keeps pages origin line old new (Ok brief) takes =
+    λ elsewhere. elsewhere_keeps pages (manner_of origin) line old _ takes elsewhere
+calling_keeps pages origin line old new (Err refusal) takes = tt

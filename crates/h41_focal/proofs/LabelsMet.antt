@@ -3,12 +3,9 @@ use Rattle.std.proofs.Common.{◌≡◌, ℕ, List, [], ◌∷◌, Some, None, O
 use Rattle.h41_codes.specs.declared.functions.Branch.{Branch}
 use Rattle.h41_codes.specs.declared.functions.Branch.TheVariants.{GoTo, Execute}
 use Rattle.h41_focal.specs.private.Arrivals.{GoesBackFrom, ReturnsFrom, answer_at, focal_at, from_of}
-use Rattle.h41_focal.specs.private.Carrying.{CarriesRow, FailsAs, LeavesCalling, manner_of}
-use Rattle.h41_focal.specs.BriefOutcomes.{briefly}
-use Rattle.h41_focal.specs.Outcomes as answers
+use Rattle.h41_focal.specs.private.Carrying.{CarriesRow, FailsAs}
 use Rattle.h41_focal.specs.Destinations as destinations
 use Rattle.h41_rows.specs.LineRows as lines
-use Rattle.h41_focal.specs.LineStep.{FailsIn}
 use Rattle.h41_positions.specs.FocalState.{Machine, at_halt}
 use Rattle.h41_focal.specs.private.Works.{row_of_work}
 use Rattle.h41_rows.specs.declared.fault.LineFault.TheVariants.{Nonexistent}
@@ -67,8 +64,7 @@ pub name_found :
     (pages : PageMap) (origin : Origin) (branch : Branch) (name : List ℕ) (named : ℕ) (machine : Machine) (byte : ℕ) (brief : BriefOutcome)
     → AnswersOf (λ lines. position_of (named_in name lines)) machine.memory 0 (Some byte)
     → brief ≡ answer_at origin branch
-    → LeavesCalling pages (answers.Seeks name) origin (lines.to_name branch name) named machine
-    (at_label origin branch (Memory byte) machine) brief
+    → CarriesRow pages origin (lines.to_name branch name) named machine (at_label origin branch (Memory byte) machine) (Ok brief)
 name_found pages (Program next) GoTo name named machine byte brief found answer =
     (Ok zeros, refl, (destinations.Arrives (Memory byte) machine.focal.returns, (Some byte, found, refl), rw answer refl))
 name_found pages (Program next) Execute name named machine byte brief found answer = (
@@ -89,8 +85,8 @@ name_found pages Typed Execute name named machine byte brief found answer =
 pub name_lost :
     (pages : PageMap) (origin : Origin) (name : List ℕ) (named : ℕ) (old new : Machine) (brief : BriefOutcome)
     → AnswersOf (λ lines. position_of (named_in name lines)) old.memory 0 None
-    → FailsIn (manner_of origin) old Nonexistent (Ok (briefly (answers.Seeks name) new brief))
-    → LeavesCalling pages (answers.Seeks name) origin (lines.to_name GoTo name) named old new brief
+    → FailsAs origin Nonexistent old new brief
+    → CarriesRow pages origin (lines.to_name GoTo name) named old new (Ok brief)
 name_lost pages (Program next) name named old new brief lost fails =
     (Ok zeros, refl, (destinations.HasNoLabel, (None, lost, refl), fails))
 name_lost pages Typed name named old new brief lost fails =
@@ -100,7 +96,7 @@ name_lost pages Typed name named old new brief lost fails =
 pub name_sought :
     (pages : PageMap) (origin : Origin) (name : List ℕ) (named : ℕ) (machine : Machine)
     → AnswersOf (λ lines. position_of (named_in name lines)) machine.memory 0 None
-    → LeavesCalling pages (answers.Seeks name) origin (lines.to_name Execute name) named machine machine briefs.Elsewhere
+    → CarriesRow pages origin (lines.to_name Execute name) named machine machine (Ok (briefs.Seeks name))
 name_sought pages (Program next) name named machine lost =
     (Ok zeros, refl, (destinations.Seeks name, (None, lost, refl), refl))
 name_sought pages Typed name named machine lost = (Ok zeros, refl, (destinations.Seeks name, (None, lost, refl), refl))

@@ -1,6 +1,6 @@
 -- A row whose line continues at the next one is applied, by what it computes, by memory after it, and by the position.
 use Rattle.std.proofs.Common.{◌≡◌, ℕ, List, Ok, Err, Result, refl, subst}
-use Rattle.h41_focal.specs.private.Carrying.{FailsAs, Leaves, on_to_next, manner_of, nowhere}
+use Rattle.h41_focal.specs.private.Carrying.{FailsAs, Leaves, on_to_next, manner_of}
 use Rattle.h41_focal.specs.BriefOutcomes.{brief_answer}
 use Rattle.h41_focal.specs.Destinations as destinations
 use Rattle.h41_focal.specs.LineStep.{Applies, Left, Works, answer_of_showing}
@@ -28,7 +28,7 @@ pub row_applied :
     (origin : Origin) (row : LineRow) (named : ℕ) (machine : Machine) (register : List ℕ) (brief : BriefOutcome)
     → row.goes ≡ rows.Next
     → Works machine.memory named row (Ok register)
-    → brief_answer nowhere (memory_after row named register machine.focal.lift machine.memory) brief
+    → brief_answer (memory_after row named register machine.focal.lift machine.memory) brief
     ≡ answer_of_showing machine.memory named row.shows row.ends
     → Leaves origin row named machine (applied_to origin row named register machine) brief
 row_applied (Program next) row named machine register brief goes works answers = λ pages.

@@ -1,25 +1,18 @@
 -- A row whose line continues at the next one is applied, by equations for memory and for the position.
-use Rattle.std.proofs.Common.{arith, ◌≡◌, ◌≢◌, ℕ, ◌≤◌, false, nat_eq, List, [], ◌∷◌, length, drop, slice_index, Some, Result, Ok, refl}
+use Rattle.std.proofs.Common.{arith, ◌≡◌, ◌≢◌, ℕ, ◌≤◌, false, nat_eq, List, [], ◌∷◌, length, drop, slice_index, Some, Ok, refl}
 use Rattle.std.proofs.lemmas.Bool.Decides.{nat_tests}
 use Rattle.h41_focal.proofs.RowApplied.{opened_row, row_applied}
-use Rattle.h41_focal.specs.private.Carrying.{Leaves, on_to_next, ending_of, nowhere}
-use Rattle.h41_focal.specs.BriefOutcomes.{brief_answer}
-use Rattle.h41_rows.specs.Computing.{WorksOn, value_of_two}
+use Rattle.h41_focal.specs.private.Carrying.{Leaves, on_to_next}
+use Rattle.h41_focal.specs.BriefOutcomes.{brief_answer, briefly}
 use Rattle.h41_rows.specs.LineRows.{text_row}
 use Rattle.h41_focal.specs.LineStep.{Works, answer_of_showing}
 use Rattle.h41_positions.specs.FocalState.{FocalState, Machine, machine_with}
-use Rattle.h41_rows.specs.Places.{Named, X}
 use Rattle.h41_rows.specs.RowEffects.{memory_after, with_alpha_change}
 use Rattle.h41_rows.specs.Rows.{LineRow, Appends, Becomes}
 use Rattle.h41_rows.specs.Rows as rows
-use Rattle.h41_focal.specs.private.Works.{register_use_row}
-use Rattle.h41_rows.specs.declared.fault.LineFault.{LineFault}
 use Rattle.h41_focal.specs.declared.origin.Origin.{Origin}
 use Rattle.h41_focal.specs.declared.outcome.BriefOutcome.{BriefOutcome}
 use Rattle.h41_focal.specs.declared.outcome.BriefOutcome.TheVariants as briefs
-use Rattle.h41_focal.specs.declared.uses.RegisterUse.TheVariants as registers
-use Rattle.h41_rows.specs.declared.values.ValueOfTwo.{ValueOfTwo}
-use Rattle.h41_rows.specs.declared.values.ValueOfTwo.TheVariants as twos
 use Rattle.h41_ram.specs.RegisterMap.{RegisterMap, zeros}
 
 -- A row with the register that it computes, given memory and the other state before and after.
@@ -29,25 +22,13 @@ pub row_done :
     → machine_with memory focal ≡ machine
     → row.goes ≡ rows.Next
     → Works memory named row (Ok register)
-    → brief_answer nowhere new brief ≡ answer_of_showing memory named row.shows row.ends
+    → brief_answer new brief ≡ answer_of_showing memory named row.shows row.ends
     → new ≡ memory_after row named register focal.lift memory
     → after ≡ on_to_next origin row.lift focal
     → Leaves origin row named machine (machine_with new after) brief
 row_done origin row named machine memory focal register brief new after opened goes works answers makes ends = λ pages.
-    opened_row pages origin row named machine memory focal (Ok (ending_of (machine_with new after) brief)) opened
+    opened_row pages origin row named machine memory focal (Ok (briefly (machine_with new after) brief)) opened
     (rw (makes, ends) (row_applied origin row named (machine_with memory focal) register brief goes works (rw makes at answers) pages))
-
--- Arithmetic in a register only needs the numbers of its value.
-pub works_in_register :
-    (value : ValueOfTwo) (memory : RegisterMap) (named : ℕ) (result : Result (List ℕ) LineFault)
-    → WorksOn memory named (value_of_two value Named X) result
-    → Works memory named (register_use_row (registers.Combine value)) result
-works_in_register twos.Sum memory named result works = works
-works_in_register twos.Difference memory named result works = works
-works_in_register twos.Product memory named result works = works
-works_in_register twos.Quotient memory named result works = works
-works_in_register twos.Remainder memory named result works = works
-works_in_register twos.Percentage memory named result works = works
 
 -- A text line changed ALPHA. A text without characters changes nothing.
 pub text_done :

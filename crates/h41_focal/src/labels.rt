@@ -55,7 +55,7 @@ pub fn to_label<const REGS: usize>(
 
 /// Executes `GTO` or `XEQ` with a name: moves to the last global label in memory with this name. If there is none,
 /// `GTO` fails with NONEXISTENT (the outcome is `Failed`, or `Done` if flag 25 was set), and the outcome of `XEQ` is
-/// `Elsewhere`: the caller searches for the name outside memory.
+/// `Seeks`: the caller searches for the name outside memory.
 pub fn to_name<const REGS: usize>(
     machine: &mut Machine<REGS>,
     origin: Origin,
@@ -76,7 +76,7 @@ pub fn to_name<const REGS: usize>(
             arrive(&mut machine.focal, origin, branch, label)
         }
         (None, Branch::GoTo) => fail(machine, origin, LineFault::Nonexistent),
-        (None, Branch::Execute) => BriefOutcome::Elsewhere,
+        (None, Branch::Execute) => BriefOutcome::Seeks(name),
     }
 }
 

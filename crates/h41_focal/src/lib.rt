@@ -4,7 +4,6 @@
 mod addresses;
 mod alpha_lines;
 mod arithmetic;
-mod called;
 mod calls;
 mod course;
 mod display_lines;

@@ -17,7 +17,6 @@ ghost use Rattle.h41_ram.specs.RegisterMap.{is_sound};
 ghost use Rattle.h41_rows.specs.RowMarks.{LeavesMark};
 
 use crate::alpha_lines::text_line;
-use crate::called::outcome_of;
 use crate::course::fail;
 use crate::functions::plain;
 use crate::labels::{go_back, to_label, to_name};
@@ -72,7 +71,7 @@ pub fn carry_out<const REGS: usize>(
     ensures left { LeavesMark machine.old.ram machine.new.ram }
 {
     let brief = carry_briefly(machine, pages, origin, line)?;
-    Ok(outcome_of(&machine.ram, line, brief))
+    Ok(brief.outcome(&machine.ram))
 }
 
 /// Executes a program line or a typed line, and returns its outcome without texts. NotInProfile (13) if the bench does
@@ -105,7 +104,7 @@ pub fn carry_briefly<const REGS: usize>(
         Line::WithOperand(function, operand) => with_operand(
             machine, pages, origin, *function, operand,
         ),
-        Line::Module(_, _) => Ok(BriefOutcome::Elsewhere),
+        Line::Module(number, entry) => Ok(BriefOutcome::Calls(*number, *entry)),
         Line::BranchIndirect(branch, register) => indirect(
             machine, pages, origin, *branch, *register,
         ),

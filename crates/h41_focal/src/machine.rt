@@ -1,8 +1,7 @@
 //! The machine: memory and the other state of keystroke programs as one value.
 
-ghost use Rattle.std.specs.Prelude.{◌≡◌, ◌≤◌, ℕ, false, true, [], None, Ok, Some, OnErr};
-ghost use Rattle.h41_focal.specs.BriefOutcomes.{StepsBriefly, end_told};
-ghost use Rattle.h41_focal.specs.declared.outcome.BriefOutcome.TheVariants.{Elsewhere};
+ghost use Rattle.std.specs.Prelude.{◌≡◌, ◌≤◌, ℕ, false, true, [], None, Some, OnErr};
+ghost use Rattle.h41_focal.specs.BriefOutcomes.{CallingKeeps, StepsBriefly, end_told};
 ghost use Rattle.h41_focal.specs.MachineCalls.{Enters, Fails, FailsTyped, KeepsElsewhere, Passes};
 ghost use Rattle.h41_focal.specs.MachineCalls.{Steps, Types};
 ghost use Rattle.h41_focal.specs.LabelSearches.{StepKeeps, TypingKeeps};
@@ -103,7 +102,7 @@ impl<const REGS: usize> Machine<REGS> {
 
     /// Executes the program line at the position as `step` does, and returns whether its outcome is `Done`. If not,
     /// `told` receives the outcome without texts, or the error, which is the same as in `step`. A line that calls
-    /// something outside program memory changes nothing; `step` then returns what it calls.
+    /// something outside program memory changes nothing.
     #[inline(always)]
     pub fn step_briefly(
         &mut self,
@@ -115,8 +114,8 @@ impl<const REGS: usize> Machine<REGS> {
             (end_told result told.new) }
         ensures unchanged { OnErr (end_told result told.new)
             (machine_of self.new ≡ machine_of self.old) }
-        ensures elsewhere { end_told result told.new ≡ Ok Elsewhere
-            → machine_of self.new ≡ machine_of self.old }
+        ensures elsewhere { CallingKeeps (machine_of self.old) (machine_of self.new)
+            (end_told result told.new) }
         ensures kept { StepKeeps pages.now None self.old self.new }
         ensures mark { KeepsMark (begun_ram self.old.ram) self.new.ram }
         ensures clear { self.new.ram.touched ≡ false }

@@ -1,9 +1,8 @@
 //! The outcome of an executed line: what the calculator shows, calls or does next.
 
-ghost use Rattle.std.specs.Prelude.{◌≡◌, ◌≢◌};
+ghost use Rattle.std.specs.Prelude.{◌≡◌};
 ghost use Rattle.h41_focal.specs.BriefOutcomes.{brief_answer, end_told};
-ghost use Rattle.h41_focal.specs.Outcomes.{Answer, answer_of};
-ghost use Rattle.h41_focal.specs.declared.outcome.BriefOutcome.TheVariants.{Elsewhere};
+ghost use Rattle.h41_focal.specs.Outcomes.{answer_of};
 
 use crate::refusal::FocalRefusal;
 use arrayvec::ArrayString;
@@ -42,8 +41,8 @@ pub enum LineOutcome {
     Failed(LineFault),
 }
 
-/// The outcome of an executed line without the texts that the display shows and without what the line calls. A running
-/// program needs no more for most lines; `LineOutcome` has the rest.
+/// The outcome of an executed line without the texts that the display shows, which `outcome` makes from memory. A
+/// running program needs no more for most lines.
 #[derive(Clone, Copy)]
 pub enum BriefOutcome {
     /// The line was executed, and a program continues.
@@ -64,8 +63,10 @@ pub enum BriefOutcome {
     Answered(bool),
     /// A typed `XEQ` moved the position to a program: the program runs.
     Runs,
-    /// A line calls a function or a name that is not in memory. Nothing was changed.
-    Elsewhere,
+    /// A line calls the function of a module with this XROM number and entry number. Nothing was changed.
+    Calls(ModuleNumber, EntryNumber),
+    /// A line calls what has this name, which is not a label in memory. Nothing was changed.
+    Seeks(Text<15>),
     /// The line has an error: the display shows it, and the program stops.
     Failed(LineFault),
 }
@@ -90,13 +91,10 @@ pub fn is_done(
 
 impl BriefOutcome {
     /// Returns the outcome of an executed line with the texts that the display shows, which are made from `ram`, memory
-    /// after the line. The outcome must not be `Elsewhere`, because only the line itself says what it calls (see
-    /// `outcome_of`).
+    /// after the line.
     #[inline(never)]
     pub fn outcome<const REGS: usize>(self, ram: &Ram<REGS>) -> LineOutcome
-        requires { self ≢ Elsewhere }
-        ensures { (called : Answer) → answer_of result
-            ≡ brief_answer called ram.now.registers self }
+        ensures { answer_of result ≡ brief_answer ram.now.registers self }
     {
         match self {
             BriefOutcome::Done => LineOutcome::Done,
@@ -110,7 +108,8 @@ impl BriefOutcome {
             BriefOutcome::Cleared => LineOutcome::Cleared,
             BriefOutcome::Answered(holds) => LineOutcome::Answered(holds),
             BriefOutcome::Runs => LineOutcome::Runs,
-            BriefOutcome::Elsewhere => unreachable!(),
+            BriefOutcome::Calls(number, entry) => LineOutcome::Calls(number, entry),
+            BriefOutcome::Seeks(name) => LineOutcome::Seeks(name),
             BriefOutcome::Failed(fault) => LineOutcome::Failed(fault),
         }
     }

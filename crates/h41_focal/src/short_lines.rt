@@ -103,7 +103,7 @@ pub fn carry_short<const REGS: usize>(
             with_operand(machine, pages, origin, function, &operand),
             told,
         ),
-        ShortLine::Module(_, _) => is_done(Ok(BriefOutcome::Elsewhere), told),
+        ShortLine::Module(number, entry) => is_done(Ok(BriefOutcome::Calls(number, entry)), told),
         ShortLine::BranchIndirect(branch, register) => is_done(
             indirect(machine, pages, origin, branch, register),
             told,

@@ -9,6 +9,7 @@ ghost use Rattle.h41_program.specs.ProgramBytes.{byte_count};
 ghost use Rattle.h41_ram.specs.RegisterMap.{is_sound};
 
 use h41_codes::laws::{byte_round_trip, first_bytes};
+use h41_codes::{Head, head_of};
 use h41_decimal::{Exponent, Sign, Ten};
 use h41_numbers::laws::plain_texts_are_typed;
 use h41_program::{ByteReader, final_position, position_by};
@@ -143,12 +144,12 @@ fn plain_digits<const REGS: usize>(
     let mut reader = ByteReader::at(ram, at);
     for position in at..last.min(at + NUMBER_AND_NEXT) {
         let byte = reader.read(ram, position);
-        if byte < 0x10 || byte > 0x1C {
+        let Head::Number = head_of(byte) else {
             if digits.count == 0 {
                 return None;
             }
             return Some((digits, position, byte));
-        }
+        };
         if byte > RADIX_MARK {
             return None;
         }

@@ -1,6 +1,6 @@
 //! The calculator: processor, memory, pages and keys, and whether a program or a function runs.
 
-ghost use Rattle.std.specs.Prelude.{◌≡◌, ◌≢◌, ◌≤◌, None, IfOk, IfErr, OnOk, OnErr, length};
+ghost use Rattle.std.specs.Prelude.{◌≡◌, ◌≤◌, None, IfOk, IfErr, OnOk, OnErr, length};
 ghost use Rattle.std.specs.Prelude.{is_ok, option_map};
 ghost use Rattle.std.specs.Result.{result_err};
 ghost use Rattle.h41_positions.specs.LabelledMachine as labelled;
@@ -20,16 +20,15 @@ ghost use Rattle.h41_xrom.specs.KeptLabels.{KeepsAfterProgram, KeepsAfterStep, K
 ghost use Rattle.h41_xrom.specs.KeyActions as keys;
 ghost use Rattle.h41_xrom.specs.LabelledCalculator.{cache_of, no_searches};
 ghost use Rattle.h41_xrom.specs.declared.lines.LineSource.TheVariants.{Program};
-ghost use Rattle.h41_xrom.specs.private.PrivateCalls.{Accepts, IsAccepted, after_effect, after_end};
-ghost use Rattle.h41_xrom.specs.private.PrivateCalls.{answered_briefly};
+ghost use Rattle.h41_xrom.specs.private.PrivateCalls.{Accepts, EndsBriefly, IsAccepted};
+ghost use Rattle.h41_xrom.specs.private.PrivateCalls.{StaysClear, after_effect, after_end};
 ghost use Rattle.h41_keys.specs.declared.input.TypedEntry.TheVariants as entries;
-ghost use Rattle.h41_focal.specs.Outcomes.{Answer, answer_of};
-ghost use Rattle.h41_focal.specs.declared.outcome.BriefOutcome.TheVariants.{Elsewhere};
+ghost use Rattle.h41_focal.specs.Outcomes.{answer_of};
 ghost use Rattle.h41_xrom.specs.declared.calculator.Mode.TheVariants.{Micro};
 ghost use Rattle.h41_xrom.specs.Programs.{Becomes, Loads, change_refusal, size_makes};
 
 use crate::acting::{KeyEffect, act};
-use crate::lines::{LineEnd, LineSource, carry_line};
+use crate::lines::{LineEnd, LineSource, call_out};
 use crate::messages::{fault_text, test_text};
 use crate::places::shown_place;
 use crate::refusal::CalculatorRefusal;
@@ -39,7 +38,6 @@ use h41_keys::{Action, Flags, Input, Key, TypedEntry, press};
 use h41_nut::{Cpu, Keys, WordRefusal, step_to_end};
 use h41_pages::{FIRST_ADDRESS, Pages, PlugRefusal, UnplugRefusal};
 use h41_positions::Position;
-use h41_positions::laws::positions_are_read;
 use h41_program::{load, set_size};
 use h41_ram::Ram;
 use h41_ram::flags::ALPHA_MODE;
@@ -312,33 +310,27 @@ impl<const REGS: usize> Calculator<REGS> {
             return Ok(());
         }
         match told {
-            Ok(brief) => match brief {
-                BriefOutcome::Elsewhere => {
-                    positions_are_read();
-                    self.call_by_line()
-                }
-                brief => {
-                    self.end_entry();
-                    self.answer_briefly(brief);
-                    Ok(())
-                }
-            },
+            Ok(brief) => self.end_briefly(brief),
             Err(refusal) => Err(refusal.into()),
         }
     }
 
-    /// Executes the program line at the position, including the functions of modules or the names that it calls, and
-    /// shows its result or starts a module's function. The errors are MemoryLost (15), BrokenProgram (14) and
-    /// NotInProfile (13). Nothing is changed then.
+    /// Ends the line at the position, after it was executed: executes what it calls outside memory, and shows its result
+    /// or starts a module's function. `brief` is the line's outcome without the texts that the display shows; they are
+    /// made from memory. The errors are MemoryLost (15), BrokenProgram (14) and NotInProfile (13). Nothing is changed
+    /// then.
     #[inline(never)]
-    fn call_by_line(&mut self) -> Result<(), CalculatorRefusal>
-        ensures refusal { RefusesLine self.old.state (result_err result) }
-        ensures change { OnOk result (StepsByLine self.old.state self.new.state) }
-        ensures unchanged { OnErr result (self.new.state ≡ self.old.state) }
-        ensures kept { KeepsAfterLine Program self.old.state.nut.pages (machine_of self.old.state)
-            self.old.cache self.new.cache }
+    fn end_briefly(&mut self, brief: BriefOutcome) -> Result<(), CalculatorRefusal>
+        ensures line { EndsBriefly brief self.old.state self.new.state (result_err result) }
+        ensures kept { StaysClear self.old.cache self.new.cache }
     {
-        match carry_line(&mut self.machine, &self.pages, &LineSource::Program) {
+        let outcome = brief.outcome(&self.machine.ram);
+        match call_out(
+            &mut self.machine,
+            &self.pages,
+            &LineSource::Program,
+            outcome,
+        ) {
             Ok(end) => {
                 self.end_entry();
                 self.end_line(end);
@@ -346,19 +338,6 @@ impl<const REGS: usize> Calculator<REGS> {
             }
             Err(refusal) => Err(refusal.into()),
         }
-    }
-
-    /// Shows the result of an executed line, and changes the mode if the line stops or starts a program. `brief` is the
-    /// line's outcome without the texts that the display shows; they are made from memory.
-    #[inline(never)]
-    fn answer_briefly(&mut self, brief: BriefOutcome)
-        requires { brief ≢ Elsewhere }
-        ensures state { (called : Answer)
-            → self.new.state ≡ answered_briefly called brief self.old.state }
-        ensures cache { self.new.cache ≡ self.old.cache }
-    {
-        let outcome = brief.outcome(&self.machine.ram);
-        self.answer(outcome);
     }
 
     /// Shows the result of a line that was executed, or starts the function in microcode that the line calls.

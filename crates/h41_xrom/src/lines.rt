@@ -8,8 +8,9 @@ ghost use Rattle.h41_xrom.specs.KeptLabels.{KeepsAfterLine};
 ghost use Rattle.h41_xrom.specs.LabelledCalculator.{cache_of};
 ghost use Rattle.h41_xrom.specs.Lines.{BeginsEntry, CallsEntry, CarriesFrom, CarriesLine};
 ghost use Rattle.h41_xrom.specs.Lines.{EntersFrom, Fails, FailsFrom, IsNamed, PassesFrom, Seeks};
-ghost use Rattle.h41_xrom.specs.private.PrivateCalls.{CarriesFunction, IsFunction, KeepsClear};
-ghost use Rattle.h41_xrom.specs.private.PrivateCalls.{ended_as};
+ghost use Rattle.h41_focal.specs.Outcomes.{answer_of};
+ghost use Rattle.h41_xrom.specs.private.PrivateCalls.{CallsOut, CarriesFunction, IsFunction};
+ghost use Rattle.h41_xrom.specs.private.PrivateCalls.{KeepsClear, ended_as};
 
 use h41_codes::{Function, Line};
 use h41_focal::laws::kept_answers_stay_right;
@@ -57,7 +58,28 @@ pub fn carry_line<const REGS: usize>(
         (cache_of machine.old) (cache_of machine.new) }
     ensures right { AreRight machine.new }
 {
-    match carry(machine, pages, source)? {
+    let outcome = carry(machine, pages, source)?;
+    call_out(machine, pages, source, outcome)
+}
+
+/// Executes what a line calls, given the outcome of the line itself, and returns how the line ends. What it calls is
+/// searched in the modules, then among the calculator's own functions; a line that calls nothing outside memory ends
+/// with its outcome. The errors are MemoryLost (15), BrokenProgram (14) and NotInProfile (13). Nothing is changed then.
+#[inline(always)]
+pub fn call_out<const REGS: usize>(
+    machine: &mut Machine<REGS>,
+    pages: &Pages,
+    source: &LineSource,
+    outcome: LineOutcome,
+) -> Result<LineEnd, FocalRefusal>
+    requires { AreRight machine.old }
+    ensures line { CallsOut source.now pages.now (machine_of machine.old) (answer_of outcome)
+        (ended_as (machine_of machine.new) result) }
+    ensures unchanged { OnErr result (machine_of machine.new ≡ machine_of machine.old) }
+    ensures kept { KeepsClear machine.old machine.new }
+    ensures right { AreRight machine.new }
+{
+    match outcome {
         LineOutcome::Calls(number, entry) => {
             call_entry(
                 machine,

@@ -1,5 +1,5 @@
 -- Definitions for the private functions that execute lines.
-use Rattle.std.specs.Prelude.{◌≡◌, ◌≤◌, ℕ, length, Some, Bool, true, false, List, [], MatchBool}
+use Rattle.std.specs.Prelude.{◌≡◌, ◌≤◌, ℕ, length, Some, Bool, true, false, List, MatchBool}
 use Rattle.std.specs.Prelude.{IsTrue, None, Result, Ok, Err}
 use Rattle.h41_codes.specs.declared.characters.Character.{Character}
 use Rattle.h41_codes.specs.declared.functions.Branch.{Branch}
@@ -16,14 +16,12 @@ use Rattle.h41_focal.specs.Destinations.{Manner}
 use Rattle.h41_focal.specs.Destinations as destinations
 use Rattle.h41_focal.specs.BriefOutcomes.{briefly, briefly_as}
 use Rattle.h41_focal.specs.MachineCalls.{carried_as}
-use Rattle.h41_focal.specs.LineStep.{Applies, FailsIn, Left, Stands}
+use Rattle.h41_focal.specs.LineStep.{Applies, FailsIn, Stands}
 use Rattle.h41_positions.specs.FocalState.{FocalState, Machine}
 use Rattle.h41_focal.specs.LineStep.{TakesLine, lift_behind}
 use Rattle.h41_positions.specs.FocalState.{at_position}
-use Rattle.h41_rows.specs.Operands.{Address, Count, DigitKind, FlagKind, Meant, Name, NoOperand}
-use Rattle.h41_rows.specs.Operands.{RegisterKind, meant_as, meant_of}
-use Rattle.h41_focal.specs.Outcomes.{Answer}
-use Rattle.h41_focal.specs.Outcomes as answers
+use Rattle.h41_rows.specs.Operands.{Address, Count, DigitKind, FlagKind, NoOperand, RegisterKind}
+use Rattle.h41_rows.specs.Operands.{meant_as}
 use Rattle.h41_rows.specs.Computing.{meant_by}
 use Rattle.h41_rows.specs.RowEffects.{lift_after, with_alpha_change}
 use Rattle.h41_rows.specs.Rows.{Appends, Becomes, Lift, LineRow}
@@ -70,49 +68,17 @@ abbrev pub behind_line : Line → Position → FocalState → FocalState
 behind_line line next focal =
     record (at_position next focal) { lift = lift_behind line focal.lift }
 
--- An answer for lines that call nothing outside memory. They do not use it.
-abbrev pub nowhere : Answer
-nowhere = answers.Seeks []
-
--- The name that an operand means. Other meanings have none.
-abbrev pub name_meant : Result Meant LineFault → List ℕ
-name_meant (Ok (Name name)) = name
-name_meant meant = []
-
--- What a line calls outside memory: a function of a module, or a name.
-abbrev pub called_by : RegisterMap → Line → Answer
-called_by memory (lines.Module number entry) = answers.Calls number entry
-called_by memory (lines.Named function name) = answers.Seeks name
-called_by memory (lines.BranchIndirect branch register) =
-    answers.Seeks (name_meant (meant_of memory (lines.BranchIndirect branch register)))
-called_by memory line = nowhere
-
--- The machine after a line that calls nothing outside memory, and its answer.
-abbrev pub ending_of : Machine → BriefOutcome → Left
-ending_of new brief = briefly nowhere new brief
-
--- The same, or the refusal.
-abbrev pub ended_as : Machine → Result BriefOutcome FocalRefusal → Result Left FocalRefusal
-ended_as new result = briefly_as nowhere new result
-
 -- A row was applied to a machine by a line that searches no position, whatever the pages contain.
 abbrev pub Leaves : Origin → LineRow → ℕ → (old new : Machine) → BriefOutcome → Type 0
 Leaves origin row named old new brief =
-    (pages : PageMap) → Applies pages (manner_of origin) row named old (Ok (ending_of new brief))
-
--- A row was applied by a line that may call something outside memory.
-abbrev pub LeavesCalling : PageMap → Answer → Origin → LineRow → ℕ → (old new : Machine)
-    → BriefOutcome
-    → Type 0
-LeavesCalling pages called origin row named old new brief =
-    Applies pages (manner_of origin) row named old (Ok (briefly called new brief))
+    (pages : PageMap) → Applies pages (manner_of origin) row named old (Ok (briefly new brief))
 
 -- A row was applied to a machine, or the line was refused.
 abbrev pub CarriesRow : PageMap → Origin → LineRow → ℕ → (old new : Machine)
     → Result BriefOutcome FocalRefusal
     → Type 0
 CarriesRow pages origin row named old new result =
-    Applies pages (manner_of origin) row named old (ended_as new result)
+    Applies pages (manner_of origin) row named old (briefly_as new result)
 
 -- The place at which execution continues after a test: at the next line if it is true, otherwise
 -- after it. A typed line does not move.
@@ -145,7 +111,7 @@ BriefCall = (old new : Machine) → Result BriefOutcome FocalRefusal → Type 0
 -- A line was executed, or refused, with a brief outcome.
 abbrev pub TakesBriefly : PageMap → Origin → Line → BriefCall
 TakesBriefly pages origin line old new result =
-    TakesLine pages (manner_of origin) line old (briefly_as (called_by old.memory line) new result)
+    TakesLine pages (manner_of origin) line old (briefly_as new result)
 
 -- A row was applied for the value of an operand that was found, or the line had its error.
 abbrev pub CarriesFound : {A : Type 0} → PageMap → Origin → (A → LineRow) → (A → ℕ)
@@ -154,7 +120,7 @@ abbrev pub CarriesFound : {A : Type 0} → PageMap → Origin → (A → LineRow
 CarriesFound pages origin row named (Ok found) old new result =
     CarriesRow pages origin (row found) (named found) old new result
 CarriesFound pages origin row named (Err fault) old new result =
-    FailsIn (manner_of origin) old fault (ended_as new result)
+    FailsIn (manner_of origin) old fault (briefly_as new result)
 
 -- A function with the register of an operand was executed.
 abbrev pub UsesAddress : PageMap → Origin → RegisterUse → Operand → (old new : Machine)
@@ -248,8 +214,7 @@ GoesToLabel pages origin branch label old new brief =
 abbrev pub GoesToName : PageMap → Origin → Branch → List ℕ → (old new : Machine) → BriefOutcome
     → Type 0
 GoesToName pages origin branch name old new brief =
-    (named : ℕ)
-    → LeavesCalling pages (answers.Seeks name) origin (to_name branch name) named old new brief
+    (named : ℕ) → CarriesRow pages origin (to_name branch name) named old new (Ok brief)
 
 -- A return was executed.
 abbrev pub GoesBack : PageMap → Origin → (old new : Machine) → BriefOutcome → Type 0
@@ -263,7 +228,7 @@ fault_outcome false fault = briefs.Failed fault
 -- A line had an error.
 abbrev pub FailsAs : Origin → LineFault → (old new : Machine) → BriefOutcome → Type 0
 FailsAs origin fault old new brief =
-    FailsIn (manner_of origin) old fault (Ok (ending_of new brief))
+    FailsIn (manner_of origin) old fault (Ok (briefly new brief))
 
 -- A line with a name was executed, or refused.
 abbrev pub TakesNamed : PageMap → Origin → NameFunction → List ℕ → BriefCall
@@ -296,8 +261,7 @@ abbrev pub GoesToTarget : PageMap → Origin → Branch → BranchTarget → (ol
     → Type 0
 GoesToTarget pages origin branch target old new brief =
     (named : ℕ)
-    → LeavesCalling pages (answers.Seeks (name_meant (Ok (meant_by target)))) origin
-    (to_meant branch (meant_by target)) named old new brief
+    → CarriesRow pages origin (to_meant branch (meant_by target)) named old new (Ok brief)
 
 -- A text line changed ALPHA.
 abbrev pub PutsText : List ℕ → RegisterMap → RegisterMap → Type 0

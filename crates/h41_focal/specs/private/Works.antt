@@ -1,20 +1,19 @@
--- Tables for the private functions that execute functions without and with an operand: each effect
--- has its row.
-use Rattle.std.specs.Prelude.{◌≡◌, ℕ, true, false, [], ◌∷◌, Some, pos}
+-- The rows of the effects of functions: each effect has the row of its function in the list of
+-- h41_rows.
+use Rattle.std.specs.Prelude.{◌≡◌, ℕ, false, [], ◌∷◌}
+use Rattle.h41_codes.specs.declared.functions.Function.{Function}
+use Rattle.h41_codes.specs.declared.functions.Function.TheVariants as functions
 use Rattle.h41_codes.specs.declared.functions.ParameterFunction.{ParameterFunction}
-use Rattle.h41_ram.specs.NamedFlags as flags_named
+use Rattle.h41_codes.specs.declared.functions.ParameterFunction.TheVariants as parameters
+use Rattle.h41_codes.specs.declared.line.Line.TheVariants.{Plain}
+use Rattle.h41_ram.specs.NamedFlags.{alpha_mode, grads, radians}
 use Rattle.h41_rows.specs.Computing.{condition_of, value_of_one, value_of_two}
-use Rattle.h41_rows.specs.Counters.{Up, Down}
-use Rattle.h41_rows.specs.FunctionRows.{angles, pi}
-use Rattle.h41_rows.specs.LineRows.{change, count_row, format, into_register, loop, recall}
-use Rattle.h41_rows.specs.LineRows.{register_row, store}
-use Rattle.h41_rows.specs.Operands.{DigitKind, FlagKind, LabelKind, RegisterKind, kind_of}
-use Rattle.h41_rows.specs.Places.{T, Z, Y, X, LastX, Named}
-use Rattle.h41_rows.specs.Rows.{LineRow, AlphaText, AppendsNamed, Becomes, Flag, LosesSix}
-use Rattle.h41_rows.specs.Rows.{NamedText}
-use Rattle.h41_rows.specs.Rows.{NoText, Off, Returns, SixCharacters, Stops, TurnsOff, lifting_row}
-use Rattle.h41_rows.specs.Rows.{silent_row, copy, compute, of_x, of_y_and_x, coming_in, test}
-use Rattle.h41_rows.specs.Values as values
+use Rattle.h41_rows.specs.FunctionRows.{angles}
+use Rattle.h41_rows.specs.LineRows.{change, count_row, format, into_register, register_row, row_of}
+use Rattle.h41_rows.specs.Operands.{DigitKind, FlagKind, LabelKind, NoOperand, RegisterKind}
+use Rattle.h41_rows.specs.Operands.{kind_of}
+use Rattle.h41_rows.specs.Places.{Y, X, Named}
+use Rattle.h41_rows.specs.Rows.{LineRow, Flag, lifting_row, silent_row, of_x, of_y_and_x, test}
 use Rattle.h41_focal.specs.declared.works.Movement.{Movement}
 use Rattle.h41_focal.specs.declared.works.Movement.TheVariants as moves
 use Rattle.h41_focal.specs.declared.works.AlphaWork.{AlphaWork}
@@ -32,83 +31,68 @@ use Rattle.h41_focal.specs.declared.uses.RegisterUse.TheVariants as registers
 use Rattle.h41_focal.specs.declared.uses.OperandUse.{OperandUse}
 use Rattle.h41_focal.specs.declared.uses.OperandUse.TheVariants as uses
 
+-- The row of a function without an operand.
+abbrev pub plain_row : Function → LineRow
+plain_row function = row_of (Plain function) NoOperand
+
 -- The row of a change of the stack.
 abbrev pub move_row : Movement → LineRow
-move_row moves.Exchange = record lifting_row { takes = copy X Y ∷ copy Y X ∷ [] }
-move_row moves.RollUp = record lifting_row
-    { takes = copy X T ∷ copy Y X ∷ copy Z Y ∷ copy T Z ∷ [] }
-move_row moves.RollDown = record lifting_row
-    { takes = copy X Y ∷ copy Y Z ∷ copy Z T ∷ copy T X ∷ [] }
-move_row moves.LastX = coming_in (copy X LastX)
-move_row moves.Enter = record lifting_row
-    { takes = copy T Z ∷ copy Z Y ∷ copy Y X ∷ []; lift = Off }
-move_row moves.Pi = record (coming_in (compute X)) { value = Some (values.Given (pos pi)) }
-move_row moves.ClearStack =
-    record lifting_row {
-      value = Some (values.Given (pos 0));
-      takes = compute T ∷ compute Z ∷ compute Y ∷ compute X ∷ [];
-    }
-move_row moves.ClearX =
-    record lifting_row { value = Some (values.Given (pos 0)); takes = compute X ∷ []; lift = Off }
+move_row moves.Exchange = plain_row functions.ExchangeXY
+move_row moves.RollUp = plain_row functions.RollUp
+move_row moves.RollDown = plain_row functions.RollDown
+move_row moves.LastX = plain_row functions.LastX
+move_row moves.Enter = plain_row functions.Enter
+move_row moves.Pi = plain_row functions.Pi
+move_row moves.ClearStack = plain_row functions.ClearStack
+move_row moves.ClearX = plain_row functions.ClearX
 
 -- The row of a change of ALPHA or of ALPHA mode.
 abbrev pub alpha_row : AlphaWork → LineRow
-alpha_row alphas.Clear = record lifting_row { alpha = Some (Becomes []) }
-alpha_row alphas.Shift = record lifting_row { alpha = Some LosesSix }
-alpha_row (alphas.Mode on) =
-    record lifting_row { flags = record { flag = flags_named.alpha_mode; on = on } ∷ [] }
+alpha_row alphas.Clear = plain_row functions.ClearAlpha
+alpha_row alphas.Shift = plain_row functions.ShiftAlpha
+alpha_row (alphas.Mode on) = record lifting_row { flags = change alpha_mode on ∷ [] }
 
 -- The row of a change of the display, or of a stop.
 abbrev pub display_row : DisplayWork → LineRow
-display_row displays.ViewAlpha = record lifting_row { shows = AlphaText }
-display_row displays.Clear = record lifting_row { shows = NoText }
-display_row displays.Prompt = record lifting_row { shows = AlphaText; ends = Stops }
-display_row displays.Stop = record silent_row { ends = Stops }
-display_row displays.TurnOff = record lifting_row { ends = TurnsOff }
+display_row displays.ViewAlpha = plain_row functions.ViewAlpha
+display_row displays.Clear = plain_row functions.ClearDisplay
+display_row displays.Prompt = plain_row functions.Prompt
+display_row displays.Stop = plain_row functions.Stop
+display_row displays.TurnOff = plain_row functions.TurnOff
 
 -- The row of each effect.
 abbrev pub row_of_work : FunctionWork → LineRow
 row_of_work (works.OfYAndX value) = of_y_and_x (value_of_two value Y X)
 row_of_work (works.OfX value) = of_x (value_of_one value X)
-row_of_work works.Square = of_x (values.Product X X)
-row_of_work works.Percent =
-    record lifting_row {
-      value = Some (values.Percentage Y X);
-      takes = compute X ∷ copy LastX X
-          ∷ [];
-    }
-row_of_work works.ChangeSign =
-    record lifting_row { value = Some (values.Negative X); takes = compute X ∷ [] }
+row_of_work works.Square = plain_row functions.Square
+row_of_work works.Percent = plain_row functions.Percent
+row_of_work works.ChangeSign = plain_row functions.ChangeSign
 row_of_work (works.Ask asked) = test (condition_of asked)
 row_of_work (works.Move movement) = move_row movement
 row_of_work (works.Alpha work) = alpha_row work
 row_of_work (works.Display work) = display_row work
-row_of_work (works.Angles grads radians) =
-    angles
-    (record { flag = flags_named.grads; on = grads })
-    (record { flag = flags_named.radians; on = radians })
-row_of_work works.ClearRegisters = record lifting_row { clears_data = true }
-row_of_work works.Return = record silent_row { goes = Returns }
+row_of_work (works.Angles in_grads in_radians) =
+    angles (change grads in_grads) (change radians in_radians)
+row_of_work works.ClearRegisters = plain_row functions.ClearRegisters
+row_of_work works.Return = plain_row functions.Return
 row_of_work works.Nothing = lifting_row
 
 -- The row of a function with a register.
 abbrev pub register_use_row : RegisterUse → LineRow
-register_use_row registers.Recall = recall
-register_use_row registers.Store = store
+register_use_row registers.Recall = register_row parameters.Recall
+register_use_row registers.Store = register_row parameters.Store
 register_use_row (registers.Combine value) = into_register (value_of_two value Named X)
-register_use_row registers.CountUp = loop Up
-register_use_row registers.CountDown = loop Down
-register_use_row registers.View = record lifting_row { shows = NamedText }
-register_use_row registers.StoreAlpha =
-    record lifting_row { takes = record { place = Named; source = SixCharacters } ∷ [] }
-register_use_row registers.RecallAlpha = record lifting_row { alpha = Some AppendsNamed }
-register_use_row registers.Exchange = record lifting_row
-    { takes = copy X Named ∷ copy Named X ∷ [] }
+register_use_row registers.CountUp = register_row parameters.IncrementSkip
+register_use_row registers.CountDown = register_row parameters.DecrementSkip
+register_use_row registers.View = register_row parameters.View
+register_use_row registers.StoreAlpha = register_row parameters.StoreAlpha
+register_use_row registers.RecallAlpha = register_row parameters.RecallAlpha
+register_use_row registers.Exchange = register_row parameters.Exchange
 
 -- The row of a function with a number of digits.
 abbrev pub digits_use_row : DigitsUse → ℕ → LineRow
 digits_use_row (digits.Format fixed engineering) n = format n fixed engineering
-digits_use_row digits.Tone n = lifting_row
+digits_use_row digits.Tone n = count_row parameters.Tone n
 
 -- The row of a function with a flag.
 abbrev pub flag_use_row : FlagUse → ℕ → LineRow

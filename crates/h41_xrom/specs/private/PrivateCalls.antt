@@ -28,10 +28,11 @@ use Rattle.h41_program.specs.ProgramLines.{AnswersOf}
 use Rattle.h41_program.specs.Searches.{named_in, position_of}
 use Rattle.h41_program.specs.declared.refusal.ProgramRefusal.{ProgramRefusal}
 use Rattle.h41_ram.specs.RegisterMap.{RegisterMap, alpha_of, is_sound}
-use Rattle.h41_xrom.specs.Calculator.{CalculatorState, after_answer, with_function}
+use Rattle.h41_xrom.specs.Calculator.{CalculatorState, after_answer, after_line, machine_of}
+use Rattle.h41_xrom.specs.Calculator.{not_typing, with_function}
 use Rattle.h41_xrom.specs.KeyActions as spec
-use Rattle.h41_xrom.specs.LabelledCalculator.{cache_of}
-use Rattle.h41_xrom.specs.Lines.{Answers, Begins, CarriesFrom, Ended}
+use Rattle.h41_xrom.specs.LabelledCalculator.{CacheState, cache_of}
+use Rattle.h41_xrom.specs.Lines.{Answers, Begins, CarriesFrom, Ended, GoesOn, of_line}
 use Rattle.h41_xrom.specs.Programs.{Becomes}
 use Rattle.h41_xrom.specs.declared.acting.KeyEffect.{KeyEffect}
 use Rattle.h41_xrom.specs.declared.acting.KeyEffect.TheVariants as effects
@@ -40,6 +41,7 @@ use Rattle.h41_xrom.specs.declared.calculator.Mode.TheVariants as modes
 use Rattle.h41_xrom.specs.declared.lines.LineEnd.{LineEnd}
 use Rattle.h41_xrom.specs.declared.lines.LineEnd.TheVariants as ends
 use Rattle.h41_xrom.specs.declared.lines.LineSource.{LineSource}
+use Rattle.h41_xrom.specs.declared.lines.LineSource.TheVariants as sources
 use Rattle.h41_xrom.specs.declared.refusal.CalculatorRefusal.{CalculatorRefusal}
 use Rattle.h41_xrom.specs.declared.refusal.CalculatorRefusal.TheVariants.{Program}
 
@@ -61,8 +63,12 @@ CarriesFunction source pages function machine left =
 
 -- A line that calls something outside program memory makes no search: if the dirty flag is clear,
 -- the label cache stays.
+abbrev pub StaysClear : (before after : CacheState) → Type 0
+StaysClear before after = before.touched ≡ false → after ≡ before
+
+-- The same for a machine.
 abbrev pub KeepsClear : (old new : LabelledMachine) → Type 0
-KeepsClear old new = old.ram.touched ≡ false → cache_of new ≡ cache_of old
+KeepsClear old new = StaysClear (cache_of old) (cache_of new)
 
 -- The function of a line without an operand.
 abbrev pub IsFunction : Line → Option Function → Type 0
@@ -126,9 +132,24 @@ after_effect (effects.Line end) s = after_end end s
 after_effect effects.Stops s = record s { mode = modes.Idle }
 after_effect effects.Starts s = record s { mode = modes.Run }
 
--- The calculator after a line whose texts are still to be made from memory.
-abbrev pub answered_briefly : Answer → BriefOutcome → CalculatorState → CalculatorState
-answered_briefly called brief s = after_answer (brief_answer called s.nut.ram brief) s
+-- What a line calls is executed, after the line itself left a machine and an answer.
+abbrev pub CallsOut : LineSource → PageMap → Machine → Answer → Result Ended FocalRefusal → Type 0
+CallsOut source pages machine answer ended =
+    GoesOn source pages machine (record { machine = machine; answer = answer }) answer ended
+
+-- The calculator after the end of a line, or its refusal.
+abbrev pub EndsAs : Result Ended FocalRefusal → (s t : CalculatorState) → Option CalculatorRefusal
+    → Type 0
+EndsAs (Ok ended) s t refusal = (t ≡ after_line (not_typing s) ended) × (refusal ≡ None)
+EndsAs (Err why) s t refusal = (t ≡ s) × (refusal ≡ Some (of_line why))
+
+-- The line at the position ends, after it was executed with a brief outcome: what it calls is
+-- executed.
+abbrev pub EndsBriefly : BriefOutcome → (s t : CalculatorState) → Option CalculatorRefusal → Type 0
+EndsBriefly brief s t refusal =
+    (ended : Result Ended FocalRefusal)
+    × CallsOut sources.Program s.nut.pages (machine_of s) (brief_answer s.nut.ram brief) ended
+    × EndsAs ended s t refusal
 
 -- A key that has a meaning is performed, or refused.
 abbrev pub Accepts : Key → Input → Action → CalculatorState → CalculatorState

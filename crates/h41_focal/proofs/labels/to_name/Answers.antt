@@ -1,16 +1,14 @@
-use Rattle.std.proofs.Common.{◌≡◌, ap, None, Some, subst, sym, ◌∙◌}
+use Rattle.std.proofs.Common.{◌≡◌, ap, None, Ok, Some, subst, sym, ◌∙◌}
 use Rattle.h41_codes.specs.declared.functions.Branch.TheVariants.{Execute}
 use Rattle.h41_focal.specs.declared.outcome.BriefOutcome.TheVariants as briefs
 use Rattle.h41_positions.specs.LabelledMachine.{LabelledMachine, machine_of}
-use Rattle.h41_focal.proofs.Briefly.{failure_calling}
 use Rattle.h41_focal.proofs.RowApplied.{opened_row}
-use Rattle.h41_focal.specs.private.Carrying.{FailsAs, LeavesCalling}
+use Rattle.h41_focal.specs.private.Carrying.{CarriesRow, FailsAs}
 use Rattle.h41_positions.specs.FocalState.{Machine, machine_with}
 use Rattle.h41_labels.specs.KeptAnswers.{KeepsSearch}
 use Rattle.h41_labels.specs.declared.search.Search.TheVariants.{Global}
 use Rattle.h41_program.specs.ProgramLines.{AnswersOf}
 use Rattle.h41_program.specs.Searches.{named_in, position_of}
-use Rattle.h41_focal.specs.Outcomes.{Seeks}
 use Rattle.h41_rows.specs.LineRows.{to_name}
 use Rattle.h41_rows.specs.declared.fault.LineFault.TheVariants.{Nonexistent}
 use Rattle.h41_focal.proofs.LabelsMet.{name_found, name_lost, name_sought}
@@ -41,10 +39,8 @@ returns-in-None-GoTo-clause-done g c = λ pages named.
     (name_lost pages c.args.origin c.args.name named _ _ _
     (subst (λ (machine : Machine). AnswersOf (λ lines. position_of (named_in c.args.name lines)) machine.memory 0 None)
     (ap machine_of c.machine.view_is) lost)
-    (failure_calling (Seeks c.args.name) c.args.origin Nonexistent (machine_of c.args.machine.now)
-    (machine_of c.fail.new.machine) c.fail.result
     (subst (λ (machine : Machine). FailsAs c.args.origin Nonexistent machine (machine_of c.fail.new.machine) c.fail.result) same
-    c.fail.ensures.done)))
+    c.fail.ensures.done))
 
 pub returns-in-None-GoTo-clause-kept : goal.returns-in-None-GoTo-clause-kept
 returns-in-None-GoTo-clause-kept g c =
@@ -59,8 +55,8 @@ returns-in-None-Execute-clause-done g c = λ pages named.
     let lost = rw c.in-None-Execute.is-0 at found in
     rw (c.in-None-Execute.is-1, c.global.ensures.state)
     (subst
-    (λ (machine : Machine). LeavesCalling pages (Seeks c.args.name) c.args.origin (to_name Execute c.args.name) named
-    (machine_of c.args.machine.now) machine briefs.Elsewhere)
+    (λ (machine : Machine). CarriesRow pages c.args.origin (to_name Execute c.args.name) named
+    (machine_of c.args.machine.now) machine (Ok (briefs.Seeks c.args.name)))
     (sym (ap machine_of c.machine.view_is))
     (name_sought pages c.args.origin c.args.name named (machine_of c.args.machine.now)
     (subst (λ (machine : Machine). AnswersOf (λ lines. position_of (named_in c.args.name lines)) machine.memory 0 None)

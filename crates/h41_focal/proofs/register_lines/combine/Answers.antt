@@ -1,7 +1,9 @@
 use Rattle.std.proofs.Common.{ap, refl}
 use Rattle.h41_positions.specs.LabelledMachine.{machine_of}
 use Rattle.h41_focal.proofs.RowApplied.{row_failed}
-use Rattle.h41_focal.proofs.RowDone.{row_done, works_in_register}
+use Rattle.h41_focal.proofs.RowDone.{row_done}
+use Rattle.h41_focal.proofs.ValueComputed.{value_computed}
+use Rattle.h41_rows.specs.Computing.{value_of_two}
 use Rattle.h41_rows.specs.Places.{Named, X}
 use Rattle.h41_focal.specs.private.Works.{register_use_row}
 use Rattle.h41_focal.specs.declared.uses.RegisterUse.TheVariants as registers
@@ -14,7 +16,8 @@ returns-in-Ok-clause-done g c =
     row_done _ (register_use_row (registers.Combine c.args.value)) c.args.address _
     _ _ c.in-Ok.register briefs.Done _ _ (ap machine_of c.machine.view_is) refl
     (let worked = c.compute_of_two.ensures c.machine.inside.ram.registers c.args.address Named X refl refl refl in
-    works_in_register c.args.value _ c.args.address _ (rw c.in-Ok.is at worked))
+    value_computed _ c.args.address (register_use_row (registers.Combine c.args.value)) (value_of_two c.args.value Named X) _ refl refl
+    (rw c.in-Ok.is at worked))
     refl (ap (λ (ram : RamState). ram.registers) c.write.ensures.written) c.go_on_lifting.ensures.state
 
 pub returns-in-Err-clause-done : goal.returns-in-Err-clause-done
@@ -22,7 +25,8 @@ returns-in-Err-clause-done g c =
     row_failed _ (register_use_row (registers.Combine c.args.value)) c.args.address _ _ _ _ c.in-Err.fault _
     (ap machine_of c.machine.view_is)
     (let worked = c.compute_of_two.ensures c.machine.inside.ram.registers c.args.address Named X refl refl refl in
-    works_in_register c.args.value _ c.args.address _ (rw c.in-Err.is at worked))
+    value_computed _ c.args.address (register_use_row (registers.Combine c.args.value)) (value_of_two c.args.value Named X) _ refl refl
+    (rw c.in-Err.is at worked))
     c.fail.ensures.done
 
 pub fail-requires : goal.fail-requires

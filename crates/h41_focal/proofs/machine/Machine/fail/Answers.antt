@@ -14,8 +14,7 @@ returns-in_err-next-clause-line g c =
 pub returns-clause-line : goal.returns-clause-line
 returns-clause-line g c =
     rw (same_left (machine_of c.fail.new.machine) c.fail.result c.outcome.result
-    (λ called. c.outcome.ensures called ∙ ap (λ (of : Machine). brief_answer called of.memory c.fail.result)
-    (ap machine_of c.self.view_is)))
+    (c.outcome.ensures ∙ ap (λ (of : Machine). brief_answer of.memory c.fail.result) (ap machine_of c.self.view_is)))
     (Ok (c.in_ok-next.field-0-0, c.in_ok-next.next), c.in_ok-next.ensures, c.fail.ensures.done)
 
 pub fail-requires : goal.fail-requires

@@ -10,8 +10,7 @@ pub returns-clause-line : goal.returns-clause-line
 returns-clause-line g c =
     let sound : is_sound c.args.self.now.ram.registers ≡ true = search rules in
     rw (same_left (machine_of c.fail.new.machine) c.fail.result c.outcome.result
-    (λ called. c.outcome.ensures called ∙ ap (λ (of : Machine). brief_answer called of.memory c.fail.result)
-    (ap machine_of c.self-2.view_is)))
+    (c.outcome.ensures ∙ ap (λ (of : Machine). brief_answer of.memory c.fail.result) (ap machine_of c.self-2.view_is)))
     (rw sound c.fail.ensures.done)
 
 pub fail-requires : goal.fail-requires

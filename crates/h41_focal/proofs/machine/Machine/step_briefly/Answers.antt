@@ -1,25 +1,19 @@
 use Rattle.std.proofs.Common.{Ok}
 use Rattle.h41_codes.specs.ShortLines.{line_of}
-use Rattle.h41_focal.proofs.Briefly.{call_changes_nothing, calls_elsewhere}
+use Rattle.h41_focal.proofs.Elsewhere.{calling_keeps}
 use Rattle.h41_focal.proofs.machine.Machine.step_briefly.Goals as goal
 use Rattle.h41_focal.specs.BriefOutcomes.{end_told}
 use Rattle.h41_positions.specs.LabelledMachine.{machine_of}
-use Rattle.h41_focal.specs.private.Carrying.{called_by}
 use Rattle.h41_focal.specs.declared.origin.Origin.TheVariants.{Program}
 
 pub returns-in-Some-clause-line : goal.returns-in-Some-clause-line
 returns-in-Some-clause-line g c =
-    let line = line_of c.in-Some.line in
-    let memory = c.args.self.now.ram.registers in (
-      called_by memory line,
-      calls_elsewhere memory line,
-      (Ok (line, c.in-Some.next), c.in-Some.ensures.some, c.carry_short.ensures.taken),
-    )
+    (Ok (line_of c.in-Some.line, c.in-Some.next), c.in-Some.ensures.some, c.carry_short.ensures.taken)
 
 pub returns-in-Some-clause-elsewhere : goal.returns-in-Some-clause-elsewhere
-returns-in-Some-clause-elsewhere g c = λ elsewhere.
-    call_changes_nothing c.args.pages.now (Program c.in-Some.next) (line_of c.in-Some.line) (machine_of c.args.self.now)
-    (machine_of c.carry_short.new.machine) (end_told c.carry_short.result c.carry_short.new.told) c.carry_short.ensures.taken elsewhere
+returns-in-Some-clause-elsewhere g c =
+    calling_keeps c.args.pages.now (Program c.in-Some.next) (line_of c.in-Some.line) (machine_of c.args.self.now)
+    (machine_of c.carry_short.new.machine) (end_told c.carry_short.result c.carry_short.new.told) c.carry_short.ensures.taken
 
 pub returns-in-Some-clause-right : goal.returns-in-Some-clause-right
 returns-in-Some-clause-right g c =

@@ -1,12 +1,11 @@
-use Rattle.std.proofs.Common.{◌≡◌, ap, subst, sym, Ok, None, rules, ◌∙◌}
+use Rattle.std.proofs.Common.{ap, subst, sym, Ok, None, rules, ◌∙◌}
 use Rattle.h41_codes.specs.declared.line.Line.TheVariants.{Number}
-use Rattle.h41_focal.specs.BriefOutcomes.{StepsBriefly}
+use Rattle.h41_focal.specs.BriefOutcomes.{CallingKeeps, StepsBriefly}
 use Rattle.h41_positions.specs.LabelledMachine.{LabelledMachine, machine_of}
 use Rattle.h41_focal.specs.LineStep.{Stands}
 use Rattle.h41_positions.specs.FocalState.{Machine}
-use Rattle.h41_focal.proofs.Briefly.{call_changes_nothing, calls_elsewhere}
+use Rattle.h41_focal.proofs.Elsewhere.{calling_keeps}
 use Rattle.h41_focal.proofs.machine.Machine.step_long.Goals as goal
-use Rattle.h41_focal.specs.private.Carrying.{called_by}
 use Rattle.h41_focal.specs.declared.origin.Origin.TheVariants.{Program}
 
 pub returns-in-Some : goal.returns-in-Some
@@ -20,20 +19,17 @@ returns-in-Some g c =
           subst (λ (machine : Machine). StepsBriefly c.args.pages.now machine (machine_of c.number_line.new.machine)
           (Ok c.number_line.result))
           (ap machine_of begun.ensures.begun) (
-            called_by begun.new.self.ram.registers (Number found.0),
-            calls_elsewhere begun.new.self.ram.registers (Number found.0),
-            (
-              Ok (Number found.0, c.in-Some.next),
-              subst (λ (machine : Machine). Stands c.args.pages.now machine (Ok (Number found.0, c.in-Some.next)))
-                  (sym (ap machine_of begun.ensures.begun)) found.1,
-              done,
-            ),
+            Ok (Number found.0, c.in-Some.next),
+            subst (λ (machine : Machine). Stands c.args.pages.now machine (Ok (Number found.0, c.in-Some.next)))
+                (sym (ap machine_of begun.ensures.begun)) found.1,
+            done,
           );
       unchanged = tt;
-      elsewhere = λ elsewhere.
-          subst (λ (machine : Machine). machine_of c.number_line.new.machine ≡ machine) (ap machine_of begun.ensures.begun)
-          (call_changes_nothing c.args.pages.now (Program c.in-Some.next) (Number found.0) (machine_of begun.new.self)
-          (machine_of c.number_line.new.machine) (Ok c.number_line.result) done elsewhere);
+      elsewhere =
+          subst (λ (machine : Machine). CallingKeeps machine (machine_of c.number_line.new.machine) (Ok c.number_line.result))
+          (ap machine_of begun.ensures.begun)
+          (calling_keeps c.args.pages.now (Program c.in-Some.next) (Number found.0) (machine_of begun.new.self)
+          (machine_of c.number_line.new.machine) (Ok c.number_line.result) done);
       kept = (
         Ok (Number found.0, c.in-Some.next),
         found.1,

@@ -1,13 +1,12 @@
-use Rattle.std.proofs.Common.{◌≡◌, ap, subst, Ok, Err, None, refl}
+use Rattle.std.proofs.Common.{ap, subst, Ok, Err, None, refl}
 use Rattle.std.proofs.lemmas.Result.{err_from_is_err_and}
-use Rattle.h41_focal.specs.BriefOutcomes.{StepsBriefly}
+use Rattle.h41_focal.specs.BriefOutcomes.{CallingKeeps, StepsBriefly}
 use Rattle.h41_positions.specs.LabelledMachine.{machine_of}
 use Rattle.h41_focal.specs.LineStep.{StepsLine}
 use Rattle.h41_positions.specs.FocalState.{Machine}
 use Rattle.h41_focal.proofs.Begun.{refuses, takes}
-use Rattle.h41_focal.proofs.Briefly.{call_changes_nothing, calls_elsewhere}
+use Rattle.h41_focal.proofs.Elsewhere.{calling_keeps}
 use Rattle.h41_focal.proofs.machine.Machine.step_whole.Goals as goal
-use Rattle.h41_focal.specs.private.Carrying.{called_by, nowhere}
 use Rattle.h41_focal.specs.declared.origin.Origin.TheVariants.{Program}
 
 pub returns-in_err-line : goal.returns-in_err-line
@@ -16,15 +15,12 @@ returns-in_err-line g c =
     let refuses = refuses c.args.pages.now None c.args.self.now c.begin.new.self _ c.begin.ensures.begun c.in_err-line.ensures in
     rw (refused.1, refused.2)
     (record {
-      line = (
-        nowhere,
-        refl,
-        subst (λ (machine : Machine). StepsLine c.args.pages.now None machine (Err c.in_err-line.field-0.0))
-            (ap machine_of c.begin.ensures.begun)
-            (Err c.in_err-line.field-0.0, c.in_err-line.ensures, refl),
-      );
+      line =
+          subst (λ (machine : Machine). StepsLine c.args.pages.now None machine (Err c.in_err-line.field-0.0))
+          (ap machine_of c.begin.ensures.begun)
+          (Err c.in_err-line.field-0.0, c.in_err-line.ensures, refl);
       unchanged = refuses.unchanged;
-      elsewhere = λ elsewhere. absurd (cc elsewhere);
+      elsewhere = tt;
       kept = refuses.kept;
       mark = refuses.mark;
       clear = refuses.clear;
@@ -41,16 +37,14 @@ returns g c =
       line =
           subst (λ (machine : Machine). StepsBriefly c.args.pages.now machine (machine_of c.carry_briefly.new.machine)
           c.carry_briefly.result)
-          (ap machine_of c.begin.ensures.begun) (
-            called_by c.begin.new.self.ram.registers c.in_ok-line.line,
-            calls_elsewhere c.begin.new.self.ram.registers c.in_ok-line.line,
-            (Ok (c.in_ok-line.line, c.in_ok-line.next), c.in_ok-line.ensures, c.carry_briefly.ensures.taken),
-          );
+          (ap machine_of c.begin.ensures.begun)
+          (Ok (c.in_ok-line.line, c.in_ok-line.next), c.in_ok-line.ensures, c.carry_briefly.ensures.taken);
       unchanged = takes.unchanged;
-      elsewhere = λ elsewhere.
-          subst (λ (machine : Machine). machine_of c.carry_briefly.new.machine ≡ machine) (ap machine_of c.begin.ensures.begun)
-          (call_changes_nothing c.args.pages.now (Program c.in_ok-line.next) c.in_ok-line.line (machine_of c.begin.new.self)
-          (machine_of c.carry_briefly.new.machine) c.carry_briefly.result c.carry_briefly.ensures.taken elsewhere);
+      elsewhere =
+          subst (λ (machine : Machine). CallingKeeps machine (machine_of c.carry_briefly.new.machine) c.carry_briefly.result)
+          (ap machine_of c.begin.ensures.begun)
+          (calling_keeps c.args.pages.now (Program c.in_ok-line.next) c.in_ok-line.line (machine_of c.begin.new.self)
+          (machine_of c.carry_briefly.new.machine) c.carry_briefly.result c.carry_briefly.ensures.taken);
       kept = takes.kept;
       mark = takes.mark;
       clear = takes.clear;

@@ -128,7 +128,7 @@ class Explained:
             return told if told.startswith(called.text) else f"Executes the function {called.text}: {told[0].lower()}{told[1:]}"
         error = self.error()
         if error is None:
-            told = SKIPPED.sub(self.skips(), self.filled(self.row.sentence))
+            told = self.filled(SKIPPED.sub(self.skips(), self.row.sentence))
             return told + (" The result may be OUT OF RANGE." if self.unsure else "")
         done = self.filled(CUT.split(self.row.sentence)[0])
         if self.is_word or error.message.endswith(")"):

@@ -123,7 +123,7 @@ class Page:
 
     def replies(self) -> list[str]:
         """All that the session's commands have printed."""
-        return [line for _, _, reply, _ in self.ask(do="stop")["entries"] for line in reply]
+        return [line for _, _, reply, *_ in self.ask(do="stop")["entries"] for line in reply]
 
     def end(self) -> int:
         """Ends it, by a signal as Ctrl-C gives it."""

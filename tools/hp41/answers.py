@@ -135,7 +135,7 @@ class Answers:
         doing = desk.doing()
         answer = {"version": self.number, "session": desk.number, "states": desk.history.told(known), "plugs": desk.plugs,
                   "doing": doing.decode("latin-1") if doing else None,
-                  "entries": [[number, *entry.told(), entry.is_repeated] for number, entry in enumerate(desk.log[since:], since)],
+                  "entries": [[number, *entry.told(), entry.is_repeated, entry.refused] for number, entry in enumerate(desk.log[since:], since)],
                   "waits": len(desk.queue), "ended": self.ended, "lesson": self.lesson_told(is_known),
                   "branches": self.branches.told()}
         if self.brought:

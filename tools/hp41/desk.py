@@ -47,6 +47,10 @@ NAME = re.compile(r'^(?:GTO|XEQ|LBL) "[^"]*_$')
 
 PAGES = "456789ABCDEF"
 FLAG_25 = 1 << 55 - 25
+
+# Commands that make steps; the refusals that an instruction can have, and that of a program line that is not supported.
+STEPPING = re.compile(rb"[ \t]*(run|step|trace)[ \t\r\n]")
+OF_WORDS, OF_LINES = re.compile("! (0[6-9]|1[0-2]) "), "! 13 "
 MOST_REGISTERS = 320
 VIEWS = ("cpu", "stack", "flags", "alpha", "display", "pos", "lines", "functions")
 WORDS_BEFORE, WORDS_BEHIND = 16, 32
@@ -294,6 +298,24 @@ class Desk:
             self.names.follow(lines_of(part.text), before, self.labels)
             self.plugs += 1
 
+    def name_refused(self, text: str) -> None:
+        """Notes what was refused of the last command. If a step was refused, its line or instruction is the next one, with this text."""
+        entry = self.log[-1] if self.log else Entry(b"")
+        refusal, (mode, place) = refusal_of(entry.reply) or "", self.views["pos"][0].split()
+        is_step = entry.key == "SST" or entry.key is None and STEPPING.match(entry.text + b"\n") is not None
+        if is_step and text and mode == "Micro" and OF_WORDS.match(refusal):
+            entry.refused = f"{text} at {place}"
+        elif is_step and text and mode != "Micro" and refusal.startswith(OF_LINES):
+            entry.refused = f"line {self.number_at(place)}, {text}, is not supported"
+        elif entry.key and len(entry.text.split()) > 2:
+            entry.refused = f"the key {entry.key}"
+
+    def number_at(self, place: str) -> str:
+        """Returns the number of the line at a position, or after null bytes there."""
+        held = ((line[:4], row[0]) for line, row in zip(self.views["lines"], self.views["coded"]))
+        paged = ((row[0], row[2]) for row in self.views["paged"])
+        return next((number for at, number in (paged if place[0] == "P" else held) if at >= place.removeprefix("P")), "")
+
     # The state of the bench.
 
     def look(self) -> State:
@@ -316,6 +338,7 @@ class Desk:
         views["line"], views["broken"], views["paged"], self.why_no_line = at
         self.views = views
         state = self.state()
+        self.name_refused(state["word"])
         self.history.add(state, self.place(views["made"]))
         return state
 
@@ -372,6 +395,7 @@ class Desk:
         spells = NAME.search(display) is not None or "48" in self.views["flags"][0].split() and not PROMPT.fullmatch(display)
         return {**self.views, "shift": self.lights.shift, "program": self.lights.program,
                 "breaks": sorted([kind, place] for kind, place in self.breaks), "spells": spells,
+                "writable": sorted([page, bank] for page, bank in self.names.written if (page, bank) in self.names.known),
                 "label": self.labels.of(self.views["pos"][0].split()[1]) if self.views["listing"] else "",
                 "last": self.log[-1].told() if self.log else ["", []], "entries": len(self.log),
                 "doing": (self.doing() or b"").decode() if self.queue and self.queue[0].left else "", **self.explained()}

@@ -13,7 +13,11 @@ TABLE = os.path.join(TOOLS, "explanations")
 # What the letters in patterns stand for.
 LETTERS = {"F": "(?P<F>@R|S&X|R<|ALL|P-Q|XS|MS|M)", "N": "[0-9]+", "H": "[0-9A-F]+",
            "R": "(?P<R>(?:IND )?(?:[0-9]{2,3}|[TZYXLMNOPQa-eA-J]|append|[0-9]))"}
-PLACEHOLDER = re.compile(r"\{([^}]*)\}")
+PLACEHOLDER = re.compile(r"\{([^}]*)\}(?=( ?))")
+# The placeholders that stand for a value after a comma, or end with one.
+WITHIN = ("{value}", "{indirect}", "{flag}")
+# A comma of a value, while a sentence is filled in.
+VALUE_COMMA = "\0"
 # A text that a name of a function cannot be.
 NO_FUNCTION = re.compile(r"[0-9.E+-]{2,}|[0-9.E]|NEG.*|[\">].*|LBL .*|\.?END\.?")
 # Where a sentence is cut if its step fails: what follows is what would happen afterwards.
@@ -64,6 +68,11 @@ def is_function(name: str) -> bool:
     """Returns whether the calculator itself has a function of a name, without an operand."""
     _, found = row_of(name, "lines")
     return found is not None and not found.re.groups and not NO_FUNCTION.fullmatch(name)
+
+
+def kept(value: str) -> str:
+    """Returns a value for a sentence that is being filled in, so that its commas are kept."""
+    return value.replace(",", VALUE_COMMA)
 
 
 class Explained:
@@ -119,7 +128,7 @@ class Explained:
             return told if told.startswith(called.text) else f"Executes the function {called.text}: {told[0].lower()}{told[1:]}"
         error = self.error()
         if error is None:
-            told = SKIPPED.sub(self.skips(), self.filled(self.row.sentence))
+            told = self.filled(SKIPPED.sub(self.skips(), self.row.sentence))
             return told + (" The result may be OUT OF RANGE." if self.unsure else "")
         done = self.filled(CUT.split(self.row.sentence)[0])
         if self.is_word or error.message.endswith(")"):
@@ -129,9 +138,9 @@ class Explained:
         return f"{done}: {error.message}, because {error.cause}{ignored if is_ignored else ''}."
 
     def filled(self, sentence: str) -> str:
-        """Returns a sentence of the table with its values."""
-        text = re.sub(r"\{(value|indirect|flag)\}(?= )", lambda one: self.going_on(one[1]), sentence)
-        return re.sub(r",+(?=[,.;]|$)|(?<=names),", "", PLACEHOLDER.sub(lambda one: self.part(one[1]), text))
+        """Returns a sentence of the table with its values. The commas between its parts are tidied, those of values are not."""
+        text = PLACEHOLDER.sub(lambda one: self.going_on(one[1]) if one[0] in WITHIN and one[2] else self.part(one[1]), sentence)
+        return re.sub(r",+(?=[,.;]|$)|(?<=names),", "", text).replace(VALUE_COMMA, ",")
 
     def skips(self) -> str:
         """Returns what a test or a loop does instead of executing the next line. `.END.` in memory, and bytes that are no line, cannot be
@@ -162,8 +171,8 @@ class Explained:
         if special:
             return special()
         if name in ("0", "text"):
-            return self.text if name == "text" else "0"
-        return self.value(name)
+            return kept(self.text) if name == "text" else "0"
+        return kept(self.value(name))
 
     def group(self, which: Union[int, str]) -> str:
         """Returns the text of a group of the pattern; an empty text if the table has no row."""
@@ -268,7 +277,7 @@ class Explained:
         """Returns the operand as it is written, or what names it."""
         operand = self.found.groupdict().get("R") if self.found else None
         if operand is None:
-            return self.text.partition(" ")[2]
+            return kept(self.text.partition(" ")[2])
         return f"of the number in {self.going_on('indirect')}" if operand.startswith("IND ") else operand
 
     def part_indirect(self) -> str:
@@ -299,7 +308,7 @@ class Explained:
     def told(self, name: str) -> str:
         """Returns the value of a register after a comma; nothing if it is not known."""
         value = self.values.get(name)
-        return f", {value}" if value is not None else ""
+        return f", {kept(value)}" if value is not None else ""
 
     def part_selects(self) -> str:
         """Returns that no register of memory has the address in C, if none has it."""

@@ -109,6 +109,8 @@ class Entry:
         self.number = -1
         self.reply: list[str] = []
         self.key: Optional[str] = None
+        # What was refused of the command: a program line, an instruction, or one of several keys; an empty text if this is the command.
+        self.refused = ""
         # How many lines were dropped. They were between the first FIRST_LINES lines and the others.
         self.dropped = 0
 

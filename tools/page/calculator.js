@@ -110,7 +110,9 @@ function take(answer) {
   if (answer.keys) drawKeys(answer.keys);
   if (answer.lesson) lesson = { ...lesson, ...answer.lesson };
   if (answer.lessons) listLessons(answer.lessons);
-  for (const [number, bytes, reply, isRepeated] of answer.entries) entries[number] = { bytes, text: textOf(bytes), reply, isRepeated };
+  for (const [number, bytes, reply, isRepeated, refused] of answer.entries) {
+    entries[number] = { bytes, text: textOf(bytes), reply, isRepeated, refused };
+  }
   remember(answer.states);
   if (answer.version !== told) {
     [shown, goal] = [null, null];
@@ -209,19 +211,10 @@ function tell(text, isNote = false, ...more) {
 
 const isRefused = ({ text, reply }) => (reply.at(-1) ?? "").startsWith("! ") && !/^\s*show\s+(alpha|display)\s*$/.test(text);
 
-// Commands that execute lines or instructions. They may be those of a button or a key.
-const EXECUTING = /^\s*(?:run|step|trace|key(?:\s+\S+)*\s+SST)\b/;
-
-/** Returns what was refused of an entry: its command, and before it the line or instruction that the command has executed. A refused one
-    remains the next one. */
-function refusedOf({ text, reply }, at) {
+/** Returns what was refused of an entry: its command, and before it the line, the instruction or the key that was refused. */
+function refusedOf({ text, refused }) {
   const words = text.split("\n")[0];
-  const state = EXECUTING.test(words) && past.filter((one) => one.entries === at + 1).at(-1);
-  if (!state?.word) return words;
-  const [mode, place] = state.pos[0].split(" ");
-  if (mode === "Micro") return `${state.word} at ${place} (${words})`;
-  const [, line] = linesOf(state);
-  return line && reply.at(-1).startsWith("! 13 ") ? `line ${line[2]}, ${state.word}, is not supported (${words})` : words;
+  return refused ? `${refused} (${words})` : words;
 }
 
 /** Returns the refused commands that the last action executed, each with its number. The refusals of those that are repeated were shown
@@ -233,7 +226,7 @@ function tellRefusals() {
   const refused = refusedNow();
   if (!refused.length) return tellStop();
   const [entry, at] = refused.length > 1 ? refused[0] : refused.at(-1);
-  const words = refusedOf(entry, at);
+  const words = refusedOf(entry);
   const count = refused.length > 1 ? `${refused.length} commands were refused, the first is command ${at + 1}: ` : "";
   const later = refused.length === 1 && at < entries.length - 1 && !waits ? `command ${at + 1} was refused: ` : "";
   const why = reasons[at] ? `: ${reasons[at]}` : "";

@@ -185,15 +185,36 @@ async function findReturns(number) {
 
 let listing = null;         // the page that is listed: its page, its bank, how it is listed, and its rows
 let plugsKnown = -1;        // for which number of plugs the plugged banks are listed
+let listedAt = -1;          // the number of the change after which the page was listed
 let pageNames = {};         // the names of the pages: those of their files, or of their first labels
 
 /** Lists the page that is chosen in the panel. */
 async function listPage() {
   const [page, bank] = by("list-page").value.split(" b");
   const kind = by("list-kind").value;
+  listedAt = told;
   const { rows = [], broken = [] } = page ? await ask({ do: "list", page, bank, kind }) : {};
   listing = page ? { page, bank, kind, rows, broken } : null;
   show();
+}
+
+/** Returns whether instructions may have written to the bank since it was listed. */
+const mayBeWritten = () => listing !== null && listedAt !== told && !isGone && !isChanging() &&
+  present().writable.some(([page, bank]) => page === listing.page && bank === listing.bank);
+
+/** Returns the address of the line or instruction that is executed next, if it is one of those that are listed; null if it is not. No
+    view prints the active bank, so the listed bank must have the words that the bench lists around this address. */
+function listedNext(state) {
+  const [mode, place] = state.pos[0].split(" ");
+  if ((listing.kind === "words") !== (mode === "Micro")) return null;
+  if (mode === "Micro") {
+    const held = new Map(listing.rows.map(([at, , words]) => [at, words]));
+    const isSame = ([at, , text]) => !held.has(at) || held.get(at).startsWith(text.slice(0, 9).trim());
+    return held.has(place) && state.listing.every(isSame) ? place : null;
+  }
+  // Programs run in bank 1.
+  const line = place.startsWith("P") && listing.bank === "1" && linesOf(state)[1];
+  return line && listing.rows.some(([at, text]) => at === line[0] && text === line[1]) ? line[0] : null;
 }
 
 /** Shows the page that is listed, whether it runs or not, and what the pages contain. */
@@ -201,22 +222,22 @@ function showModules(state) {
   if (plugsKnown !== plugs && !isGone) {
     plugsKnown = plugs;
     act(findPages);
+  } else if (mayBeWritten()) {
+    act(listPage);
   }
   const names = state.functions.map((text) => text.replace(/^XROM /, ""));
   const plugged = state.pages.map((page) => pageNames[page] ? `${page} (${pageNames[page]})` : page);
   const pages = `Pages ${plugged.join(", ")}${names.length ? `: ${names.join(", ")}` : ""}`;
   by("modules").textContent = state.pages.length ? pages : "No module is plugged.";
-  const next = state.pos[0].split(" ")[1].replace("P", "");
-  // Another bank of the page than the one that is listed may be active: it has another instruction there.
-  const isNext = (place, text) => place === next && text === state.word && state.pos[0].startsWith("Micro");
-  const line = state.pos[0].split(" ")[1].startsWith("P") ? state.line[0] : null;
-  if (!isNew("listed", listing, next, line, state.word, present().breaks, isGone)) return;
+  const next = listing && listedNext(state);
+  const isNext = (place) => place === next;
+  if (!isNew("listed", listing, next, present().breaks, isGone)) return;
   if (!listing) return fill("listed");
   if (listing.kind === "lines" && listing.bank !== "1") {
     return fill("listed", make("p", { class: "none" }, "Program lines are read in bank 1 only, whichever bank is active."));
   }
-  const rows = listing.kind === "lines" ? programLines("p", listing.rows, line) :
-    listing.rows.map(([at, label, words, text]) => wordLine([at, label, words, text], isNext(at, text)));
+  const rows = listing.kind === "lines" ? programLines("p", listing.rows, next) :
+    listing.rows.map(([at, label, words, text]) => wordLine([at, label, words, text], isNext(at)));
   const broken = brokenLines("p", listing.broken);
   fill("listed", ...(rows.length || broken.length ? [...rows, ...broken] : [make("p", { class: "none" }, "This page has no keystroke programs.")]));
   return reveal(by("listed"), by("listed").querySelector(".next"));

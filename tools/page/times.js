@@ -37,6 +37,9 @@ function ledTo(state, before) {
   return lineMade(state, before) ?? (reply.length === 1 && !head.startsWith("show") ? `${head}: ${reply[0]}` : head);
 }
 
+/** Returns the first of some changes, and how many more there are. */
+const fewOf = (changes) => [...changes.slice(0, 6), ...(changes.length > 6 ? [`and ${changes.length - 6} more`] : [])];
+
 function showTrace() {
   const at = shown ?? lastNumber();
   const [begin, end] = heldAround(at);
@@ -45,7 +48,7 @@ function showTrace() {
   for (let number = first; number <= Math.min(end, first + MOST_TRACED - 1); number++) {
     const [one, before] = [stateAt(number), stateAt(number - 1)];
     const button = make("button", { type: "button", class: "step", "aria-current": number === at ? "step" : null, "data-at": number },
-      make("code", {}, ledTo(one, before)), ...changesOf(one, before).slice(0, 6).map((text) => make("span", { class: "change" }, text)));
+      make("code", {}, ledTo(one, before)), ...fewOf(changesOf(one, before)).map((text) => make("span", { class: "change" }, text)));
     button.addEventListener("click", () => begun(() => goTo(() => number)));
     rows.push(make("li", { class: number === at ? "next" : "" }, button));
   }

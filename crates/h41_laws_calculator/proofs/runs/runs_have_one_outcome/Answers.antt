@@ -17,5 +17,6 @@ returns-clause-run c limit s leads =
 pub returns-clause-trace : goal.returns-clause-trace
 returns-clause-trace c count s leads =
     let of = stepped c.step_has_one_outcome.ensures.refusal c.step_has_one_outcome.ensures.state count s leads in
-    one_of_traces c.steps_are_traced.ensures.described c.steps_are_traced.ensures.traced c.traces_are_determined.ensures count s of.t of.refusal
+    one_of_traces c.steps_are_traced.ensures.described c.steps_are_traced.ensures.traced c.traces_are_determined.ensures count s of.t
+    of.refusal
     of.steps

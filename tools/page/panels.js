@@ -149,15 +149,9 @@ function showReturns(state) {
   const number = shown ?? lastNumber();
   const isFound = returns.session === session && returns.number === number;
   const found = (isFound && returns.found) || [];
-  const held = { P: state.paged, "": state.lines.map((text) => [text.slice(0, 4), text.slice(5)]) };
-  const name = (place) => {
-    const [, page, at] = /^(P?)(.*)$/.exec(place);
-    // Null bytes before a line are skipped.
-    return `${place} ${held[page].find(([position]) => position >= at)?.[1] ?? ""}`.trim();
-  };
   by("returns").hidden = !found.length;
-  if (isNew("returns", found.map(name))) {
-    fill("returns", "RTN returns to ", ...found.flatMap((place, at) => [at ? ", then to " : "", make("code", {}, name(place))]));
+  if (isNew("returns", found)) {
+    fill("returns", "RTN returns to ", ...found.flatMap((one, at) => [at ? ", then to " : "", make("code", {}, one.join(" ").trim())]));
   }
   clearTimeout(searching);
   if (isFound || isGone || isChanging() || state.pos[0].startsWith("Micro") || linesOf(state)[0].length < 2) return;

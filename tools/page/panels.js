@@ -143,19 +143,27 @@ function showProgram(state) {
 let returns = {};           // the state whose return addresses were asked for: its session and its number, and the addresses
 let searching = null;       // what asks for them
 
+/** Returns whether the return addresses of a state are shown: not while a function in microcode runs, nor if no program is in memory. */
+const hasReturns = (state) => !state.pos[0].startsWith("Micro") && (state.pos[0].split(" ")[1].startsWith("P") || linesOf(state)[0].length > 1);
+
 /** Shows to which lines the program returns. They are asked for when the page has shown a state for a moment, because a second bench must
-    execute the session again. A function in microcode, and an empty program memory, are not asked about. */
+    execute the session again. Until it has answered, the page says that they are read. */
 function showReturns(state) {
   const number = shown ?? lastNumber();
   const isFound = returns.session === session && returns.number === number;
-  const found = (isFound && returns.found) || [];
-  by("returns").hidden = !found.length;
-  if (isNew("returns", found)) {
-    fill("returns", "RTN returns to ", ...found.flatMap((one, at) => [at ? ", then to " : "", make("code", {}, one.join(" ").trim())]));
-  }
+  by("returns").hidden = !hasReturns(state) || isGone && !isFound;
+  if (isNew("returns", isFound, isFound && returns.found, isChanging())) fill("returns", ...returnsTold(isFound));
   clearTimeout(searching);
-  if (isFound || isGone || isChanging() || state.pos[0].startsWith("Micro") || linesOf(state)[0].length < 2) return;
+  if (isFound || isGone || isChanging() || !hasReturns(state)) return;
   searching = setTimeout(() => findReturns(number).catch(() => {}), 150);
+}
+
+/** Returns what is said of the return addresses. */
+function returnsTold(isFound) {
+  if (!isFound) return [`Return addresses: ${isChanging() ? "they are read when the run stops" : "reading …"}`];
+  if (!returns.found) return ["Return addresses: they cannot be read"];
+  if (!returns.found.length) return ["No return address"];
+  return ["RTN returns to ", ...returns.found.flatMap((one, at) => [at ? ", then to " : "", make("code", {}, one.join(" ").trim())])];
 }
 
 async function findReturns(number) {

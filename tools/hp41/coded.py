@@ -4,7 +4,7 @@ from typing import Iterable, Iterator, Union
 
 from .decks import answered
 from .records import length_at
-from .typed import NoKeys, line_keys
+from .typed import NoKeys, is_number, line_keys
 
 # Bytes of which each is a digit, a sign, a point or an exponent of a number.
 NUMBER = re.compile(rb"[\x10-\x1c]+")
@@ -49,6 +49,18 @@ def keys_of(texts: Iterable[str]) -> dict[str, str]:
     return {text: known[text] for text in wanted}
 
 
+# What ends a number that is being typed, and changes nothing.
+END_OF_NUMBER = "ALPHA ALPHA"
+
+
+def apart(texts: list[str], found: list[list[str]]) -> list[list[str]]:
+    """Returns the lines with keys that type each of them directly after the one before it: digits, and CHS, would change a number there."""
+    for before, text, row in zip(texts, texts[1:], found[1:]):
+        if row[2] and is_number(before) and (is_number(text) or text == "CHS"):
+            row[2] = f"{END_OF_NUMBER} {row[2]}"
+    return found
+
+
 def coded(lines: list[tuple[int, str]], data: bytes, has_keys: bool = False) -> list[list[str]]:
     """Returns for each line its number, its bytes and its keys, which are empty texts without `has_keys`. `lines` are pairs of a place in
     `data` and a text."""
@@ -61,4 +73,4 @@ def coded(lines: list[tuple[int, str]], data: bytes, has_keys: bool = False) -> 
         found.append([f"{number:02}", bytes_at(data, place, end).hex(" ").upper(), keys.get(text, "")])
         if text in ENDS:
             number = 0
-    return found
+    return apart([text for _, text in lines], found)

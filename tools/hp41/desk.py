@@ -362,9 +362,11 @@ class Desk:
     def state(self) -> State:
         """Returns the state for the page."""
         display = self.views["display"][0]
-        spells = NAME.search(display) is not None or "48" in self.views["flags"][0].split() and not PROMPT.fullmatch(display)
+        flags, is_name = self.views["flags"][0], NAME.search(display) is not None
+        spells = is_name or "48" in flags.split() and not PROMPT.fullmatch(display)
         return {**self.views, "shift": self.lights.shift, "program": self.lights.program,
                 "breaks": sorted([kind, place] for kind, place in self.breaks), "spells": spells,
+                "keys_if": self.lights.keys_if(display, flags, is_name),
                 "label": self.labels.of(self.views["pos"][0].split()[1]) if self.views["listing"] else "",
                 "last": self.log[-1].told() if self.log else ["", []], "entries": len(self.log),
                 "doing": (self.doing() or b"").decode() if self.queue and self.queue[0].left else "", **self.explained()}

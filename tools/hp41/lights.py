@@ -44,6 +44,12 @@ class Lights:
         """Begins with both off."""
         self.shift = self.program = False
 
+    def keys_if(self, display: str, flags: str, is_name: bool) -> str:
+        """Returns in which state the keys of program lines type them, if this is not so now. `is_name` is whether a name is being typed."""
+        needs = {"after the prompt": is_name or PROMPT.fullmatch(display) is not None, "with ALPHA off": "48" in flags.split(),
+                 "with SHIFT off": self.shift}
+        return " and ".join(text for text, is_needed in needs.items() if is_needed)
+
     def press(self, name: str, before: Seen, after: Seen) -> None:
         """Reads the state after an accepted key. While something runs, keys have no effect on it."""
         if not before.is_idle:

@@ -115,11 +115,11 @@ function showBreakpoints() {
 }
 
 /** Returns the lines of a program: the breakpoint, the number that program mode shows, the position, the text and the bytes of each. In
-    program mode the keys that type the line follow. `kind` is l for memory and p for a page. */
-function programLines(kind, lines, next, hasKeys = false) {
+    program mode the keys that type the line follow, after the state that they need. `kind` is l for memory and p for a page. */
+function programLines(kind, lines, next, keysIf = "", hasKeys = false) {
   return lines.map(([place, text, number, bytes, keys]) => stopping(kind, place, place === next, make("span", { class: "count" }, number),
     make("span", { class: "place" }, kind === "p" ? `P${place}` : place), make("code", {}, text), make("span", { class: "bytes" }, bytes),
-    ...(hasKeys && keys ? [make("span", { class: "typing" }, `keys ${keys}`)] : [])));
+    ...(hasKeys && keys ? [make("span", { class: "typing" }, `${keysIf && `${keysIf}: `}keys ${keys}`)] : [])));
 }
 
 /** Returns the lines of a program in memory, or while the position is in a page, those of the programs in this page; and the next one. */
@@ -135,8 +135,8 @@ function showProgram(state) {
   const isInPage = state.pos[0].split(" ")[1].startsWith("P");
   const [lines, line] = linesOf(state);
   const next = line?.[0] ?? null;
-  if (!isNew("program", isInPage, lines, next, present().breaks, isGone, state.program)) return;
-  fill("program", ...programLines(isInPage ? "p" : "l", lines, next, state.program));
+  if (!isNew("program", isInPage, lines, next, present().breaks, isGone, state.program, state.keys_if)) return;
+  fill("program", ...programLines(isInPage ? "p" : "l", lines, next, state.keys_if, state.program));
   reveal(by("program"), by("program").querySelector(".next"));
 }
 

@@ -156,7 +156,7 @@ function showReturns(state) {
   if (isNew("returns", isFound, isFound && returns.found, isChanging())) fill("returns", ...returnsTold(isFound));
   clearTimeout(searching);
   if (isFound || isGone || isChanging() || !hasReturns(state)) return;
-  searching = setTimeout(() => findReturns(number).catch(() => {}), 150);
+  searching = setTimeout(() => findReturns(number), 150);
 }
 
 /** Returns what is said of the return addresses. */
@@ -171,7 +171,7 @@ async function findReturns(number) {
   const of = session;
   const isShown = () => of === session && number === (shown ?? lastNumber()) && !isChanging() && !isGone;
   while (isShown()) {
-    const answer = await ask({ do: "returns", state: number, of });
+    const answer = await ask({ do: "returns", state: number, of }).catch(() => ({ returns: null }));
     if (answer.done === false) continue;
     returns = { session: of, number, found: answer.returns };
     if (isShown()) showReturns(looked()[0]);

@@ -4,7 +4,7 @@ from typing import Iterable, Iterator, Optional, Sequence, Union
 
 from .decks import answered
 from .records import length_at
-from .typed import LONGEST_NAME, NoKeys, line_keys, text_keys
+from .typed import LONGEST_NAME, NoKeys, is_number, line_keys, text_keys
 
 # Bytes of which each is a digit, a sign, a point or an exponent of a number.
 NUMBER = re.compile(rb"[\x10-\x1c]+")
@@ -53,6 +53,18 @@ def keys_of(texts: Iterable[str]) -> dict[str, str]:
             continue
     known.update((text, " ".join(keys)) for (text, keys), lines in zip(tried.items(), inserted(tried.values())) if lines == [text])
     return {text: known[text] for text in wanted}
+
+
+# What ends a number that is being typed, and changes nothing.
+END_OF_NUMBER = "ALPHA ALPHA"
+
+
+def apart(texts: list[str], found: list[list[str]]) -> list[list[str]]:
+    """Returns the lines with keys that type each of them directly after the one before it: digits, and CHS, would change a number there."""
+    for before, text, row in zip(texts, texts[1:], found[1:]):
+        if row[2] and is_number(before) and (is_number(text) or text == "CHS"):
+            row[2] = f"{END_OF_NUMBER} {row[2]}"
+    return found
 
 
 def keys_by_name(name: str) -> str:
@@ -105,4 +117,4 @@ def coded(lines: list[tuple[int, str]], data: bytes, typing: Optional[Typing] = 
             number = 0
     if typing and [text for _, text in lines[-2:]] == list(ENDS) and lines[2:] and lines[-3][1] not in ENDS:
         found[-2][2] = KEYS_OF_END
-    return found
+    return apart([text for _, text in lines], found)

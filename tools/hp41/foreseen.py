@@ -7,6 +7,7 @@ from decimal import Decimal, InvalidOperation
 from typing import TYPE_CHECKING, NamedTuple, Optional, Sequence
 
 from .memory import MAIN_START, STATUS
+from .values import MOST_DIGITS
 
 if TYPE_CHECKING:
     from .explaining import Explained
@@ -30,6 +31,12 @@ class Error(NamedTuple):
 def register(operand: str) -> str:
     """Returns the name of a register of an operand."""
     return {"L": "LAST X"}.get(operand, operand) if not operand.isdigit() else f"R{operand}"
+
+
+def shortly(number: int) -> str:
+    """Returns a number with at least two digits for a sentence. Of more than ten digits it has the first and the last ones."""
+    digits = f"{number:02}"
+    return digits if len(digits) <= MOST_DIGITS else f"{digits[:3]}…{digits[-3:]} ({len(digits)} digits)"
 
 
 class Around(NamedTuple):
@@ -104,13 +111,14 @@ class Foreseen:
         """Returns the error for an operand that is above the greatest one; `what` is what it numbers."""
         if number is None or number <= most:
             return None
-        cause = f"{self.operand} means {number} here, which is" if self.operand in STACK_NUMBERS else f"{what}{number} is"
+        named = str(number) if number < 10 else shortly(number)
+        cause = f"{self.operand} means {named} here, which is" if self.operand in STACK_NUMBERS else f"{what}{named} is"
         return Error(message, f"{cause} above {most}")
 
     def absent(self, number: int) -> Optional[Error]:
         """Returns the error for a data register that does not exist."""
         size = self.around.size
-        return Error("NONEXISTENT", f"there is no R{number:02} with SIZE {size}") if size is not None and number >= size else None
+        return Error("NONEXISTENT", f"there is no R{shortly(number)} with SIZE {size}") if size is not None and number >= size else None
 
     def meant(self) -> tuple[Optional[int], Optional[Error]]:
         """Returns the number that the operand means, and the error of finding it by IND."""
@@ -196,7 +204,7 @@ class Foreseen:
                 return Error("ALPHA DATA", f"{name} contains neither a number nor a text")
             number = number_in(value)
             if number is not None and abs(number) >= 100:
-                return Error("NONEXISTENT", f"label {int(abs(number))} is above 99")
+                return Error("NONEXISTENT", f"label {shortly(int(abs(number)))} is above 99")
             label = value if number is None else f"{int(abs(number)):02}"
         if label.startswith('"'):
             return self.unnamed(label)

@@ -37,12 +37,28 @@ class Seen(NamedTuple):
         return is_x or "48" in self.flags.split() and self.display == self.alpha
 
 
+def is_display_off(seen: Seen, pressed: bool, before: str, lines: list[str]) -> bool:
+    """Returns whether an empty display is off, which no view of the bench prints. It may also show an empty ALPHA, or an empty text in X.
+    Each accepted key turns the display on.
+
+    `pressed` is whether a key was accepted since the last step, `before` is the line before the position, and `lines` are the texts of
+    all lines."""
+    is_text = text_of(seen.x[2:]) == '""' or not seen.alpha and ("48" in seen.flags.split() or "AVIEW" in lines)
+    return not is_text or seen.is_idle and before == "OFF" and not pressed
+
+
 class Lights:
     """SHIFT and program mode, as they are after the last key."""
 
     def __init__(self) -> None:
         """Begins with both off."""
         self.shift = self.program = False
+
+    def keys_if(self, display: str, flags: str, is_name: bool) -> str:
+        """Returns in which state the keys of program lines type them, if this is not so now. `is_name` is whether a name is being typed."""
+        needs = {"after the prompt": is_name or PROMPT.fullmatch(display) is not None, "with ALPHA off": "48" in flags.split(),
+                 "with SHIFT off": self.shift}
+        return " and ".join(text for text, is_needed in needs.items() if is_needed)
 
     def press(self, name: str, before: Seen, after: Seen) -> None:
         """Reads the state after an accepted key. While something runs, keys have no effect on it."""

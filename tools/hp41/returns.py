@@ -5,15 +5,17 @@ return address, and `show pos` prints it."""
 from __future__ import annotations
 
 import time
-from typing import TYPE_CHECKING, Iterator, Optional
+from typing import TYPE_CHECKING, Iterable, Iterator, Optional
 
 from .memory import Memory
-from .parts import MOST_STEPS
+from .paging import words_of
+from .parts import MOST_STEPS, refusal_of
 from .repeating import Repeat, is_over
 from .stubs import LDI, RAM_SLCT, WRIT_DATA, Stub, constant, stub_of_words
 
 if TYPE_CHECKING:
     from .desk import Desk
+    from .history import State
 
 # How many return addresses a program has at most.
 MOST = 6
@@ -41,6 +43,13 @@ def writing(memory: Memory) -> Stub:
     return stub._replace(steps=stub.steps + max(count - 1, 0) * (len(loop) - 1))
 
 
+def text_at(lines: Iterable[tuple[int, str]], data: bytes, place: int) -> str:
+    """Returns the text of the line that is executed from a place on: the line there, or the next one after null bytes; an empty text if
+    there is none. `lines` are pairs of a place in `data` and a text."""
+    at, text = next(((at, text) for at, text in lines if at >= place), (0, ""))
+    return text if not any(data[place:at]) else ""
+
+
 class Returns:
     """A search for the return addresses in a state of a session."""
 
@@ -48,7 +57,8 @@ class Returns:
         """`source` is the desk of the session, and `number` that of the state."""
         self.key = source.number, number
         self.repeat: Optional[Repeat] = None
-        self.found: Optional[list[str]] = None
+        self.pages = source.pages
+        self.found: Optional[list[tuple[str, str]]] = None
         self.work: Iterator[None] = iter(())
         if source.made <= MOST_AGAIN:
             self.repeat = Repeat(source, source.another())
@@ -63,13 +73,33 @@ class Returns:
             self.close()
         return True
 
-    def addresses(self, desk: Desk) -> Optional[list[str]]:
-        """Returns the positions of the lines to which the program returns, the next one first; None if they cannot be found."""
+    def addresses(self, desk: Desk) -> Optional[list[tuple[str, str]]]:
+        """Returns the positions and the texts of the lines to which the program returns, the next one first; None if they cannot be
+        found."""
         state = desk.look()
-        mode, plugged = state["pos"][0].split()[0], state["pages"]
         memory = Memory(state["memory"], desk.top)
-        if mode == "Micro" or not memory.divided().is_sound:
+        if state["pos"][0].startswith("Micro") or not memory.divided().is_sound:
             return None
+        # What the pages contain is read before it is overwritten.
+        images = dict(zip(state["pages"], desk.bench.ask_all([f"show image {page}".encode() for page in state["pages"]])))
+        places = self.positions(desk, state, memory)
+        held = [(int(line[:4]), line[5:]) for line in state["lines"]]
+        return None if places is None else [
+            (place, self.paged(place[1:], images) if place[0] == "P" else text_at(held, memory.program_bytes(), int(place))) for place in places]
+
+    def paged(self, address: str, images: dict[str, list[str]]) -> str:
+        """Returns the text of the line at an address of a page; an empty text if no line of the page's programs is there."""
+        image = images.get(address[0], [])
+        if not image or refusal_of(image):
+            return ""
+        found = self.pages.lines(address[0], tuple(image), int(address[1:], 16))
+        lines = [(int(at[1:], 16), text) for at, text, *_ in found.lines]
+        return text_at(lines, bytes(word & 0xFF for word in words_of(image)), int(address[1:], 16))
+
+    @staticmethod
+    def positions(desk: Desk, state: State, memory: Memory) -> Optional[list[str]]:
+        """Returns the positions to which the program returns, the next one first; None if they cannot be found."""
+        mode, plugged = state["pos"][0].split()[0], state["pages"]
         stub, page = writing(memory), next((page for page in "456789ABCDEF" if page not in plugged), "4")
         rows = "\n".join([" ".join([RTN_WORD] * 32)] * 128)
         commands = [*(["key R/S"] if mode == "Run" else []), *([f"unplug {page}"] if page in plugged else []),

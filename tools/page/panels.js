@@ -115,11 +115,11 @@ function showBreakpoints() {
 }
 
 /** Returns the lines of a program: the breakpoint, the number that program mode shows, the position, the text and the bytes of each. In
-    program mode the keys that type the line follow. `kind` is l for memory and p for a page. */
-function programLines(kind, lines, next, hasKeys = false) {
+    program mode the keys that type the line follow, after the state that they need. `kind` is l for memory and p for a page. */
+function programLines(kind, lines, next, keysIf = "", hasKeys = false) {
   return lines.map(([place, text, number, bytes, keys]) => stopping(kind, place, place === next, make("span", { class: "count" }, number),
     make("span", { class: "place" }, kind === "p" ? `P${place}` : place), make("code", {}, text), make("span", { class: "bytes" }, bytes),
-    ...(hasKeys && keys ? [make("span", { class: "typing" }, `keys ${keys}`)] : [])));
+    ...(hasKeys && keys ? [make("span", { class: "typing" }, `${keysIf && `${keysIf}: `}keys ${keys}`)] : [])));
 }
 
 /** Returns the lines of a program in memory, or while the position is in a page, those of the programs in this page; and the next one. */
@@ -138,44 +138,47 @@ function showProgram(state) {
   const isInPage = state.pos[0].split(" ")[1].startsWith("P");
   const [lines, line] = linesOf(state);
   const next = line?.[0] ?? null;
-  if (!isNew("program", isInPage, lines, next, state.broken, lines.length ? "" : state.next, present().breaks, isGone, state.program)) return;
+  if (!isNew("program", isInPage, lines, next, state.broken, lines.length ? "" : state.next, present().breaks, isGone, state.program,
+             state.keys_if)) return;
   const kind = isInPage ? "p" : "l";
   const why = state.pos[0].startsWith("Micro") ? "Memory has no line that can be read." : state.next;
   const none = lines.length ? [] : [make("p", { class: "none" }, why)];
-  fill("program", ...programLines(kind, lines, next, state.program), ...brokenLines(kind, state.broken), ...none);
+  fill("program", ...programLines(kind, lines, next, state.keys_if, state.program), ...brokenLines(kind, state.broken), ...none);
   reveal(by("program"), by("program").querySelector(".next"));
 }
 
 let returns = {};           // the state whose return addresses were asked for: its session and its number, and the addresses
 let searching = null;       // what asks for them
 
+/** Returns whether the return addresses of a state are shown: not while a function in microcode runs, nor if no program is in memory. */
+const hasReturns = (state) => !state.pos[0].startsWith("Micro") &&
+  (state.pos[0].split(" ")[1].startsWith("P") || linesOf(state)[0].length > 1);
+
 /** Shows to which lines the program returns. They are asked for when the page has shown a state for a moment, because a second bench must
-    execute the session again. A function in microcode, and an empty program memory, are not asked about. */
+    execute the session again. Until it has answered, the page says that they are read. */
 function showReturns(state) {
   const number = shown ?? lastNumber();
   const isFound = returns.session === session && returns.number === number;
-  const found = (isFound && returns.found) || [];
-  const held = { P: state.paged, "": state.lines.map((text) => [text.slice(0, 4), text.slice(5)]) };
-  const name = (place) => {
-    const [, page, at] = /^(P?)(.*)$/.exec(place);
-    // Null bytes before a line are skipped. Only the lines of the page at the position are known.
-    const isThere = (position) => position >= at && (!page || position[0] === at[0]);
-    return `${place} ${held[page].find(([position]) => isThere(position))?.[1] ?? ""}`.trim();
-  };
-  by("returns").hidden = !found.length;
-  if (isNew("returns", found.map(name))) {
-    fill("returns", "RTN returns to ", ...found.flatMap((place, at) => [at ? ", then to " : "", make("code", {}, name(place))]));
-  }
+  by("returns").hidden = !hasReturns(state) || isGone && !isFound;
+  if (isNew("returns", isFound, isFound && returns.found, isChanging())) fill("returns", ...returnsTold(isFound));
   clearTimeout(searching);
-  if (isFound || isGone || isChanging() || state.pos[0].startsWith("Micro") || linesOf(state)[0].length < 2) return;
-  searching = setTimeout(() => findReturns(number).catch(() => {}), 150);
+  if (isFound || isGone || isChanging() || !hasReturns(state)) return;
+  searching = setTimeout(() => findReturns(number), 150);
+}
+
+/** Returns what is said of the return addresses. */
+function returnsTold(isFound) {
+  if (!isFound) return [`Return addresses: ${isChanging() ? "they are read when the run stops" : "reading …"}`];
+  if (!returns.found) return ["Return addresses: they cannot be read"];
+  if (!returns.found.length) return ["No return address"];
+  return ["RTN returns to ", ...returns.found.flatMap((one, at) => [at ? ", then to " : "", make("code", {}, one.join(" ").trim())])];
 }
 
 async function findReturns(number) {
   const of = session;
   const isShown = () => of === session && number === (shown ?? lastNumber()) && !isChanging() && !isGone;
   while (isShown()) {
-    const answer = await ask({ do: "returns", state: number, of });
+    const answer = await ask({ do: "returns", state: number, of }).catch(() => ({ returns: null }));
     if (answer.done === false) continue;
     returns = { session: of, number, found: answer.returns };
     if (isShown()) showReturns(looked()[0]);

@@ -49,7 +49,7 @@ PAGES = "456789ABCDEF"
 FLAG_25 = 1 << 55 - 25
 
 # Commands that make steps; the refusals that an instruction can have, and that of a program line that is not supported.
-STEPPING = re.compile(rb"[ \t]*(run|step|trace)[ \t\r\n]")
+STEPPING = re.compile(rb"[ \t]*(?:run|step|trace)\s")
 OF_WORDS, OF_LINES = re.compile("! (0[6-9]|1[0-2]) "), "! 13 "
 MOST_REGISTERS = 320
 VIEWS = ("cpu", "stack", "flags", "alpha", "display", "pos", "lines", "functions")

@@ -2,7 +2,7 @@
 from __future__ import annotations
 
 import re
-from dataclasses import dataclass, field
+from dataclasses import dataclass, field, replace
 from decimal import Decimal
 
 from .claims import CONDITIONS, END, Token, WordReader, Wrong, check_spelling
@@ -28,14 +28,29 @@ NO_LOOP = {"invariant": "invariant", "decreases": "decreases"}
 
 @dataclass(frozen=True)
 class Term:
-    """A value: `old` and the name of a register before the program; `number` and the text of a number; `zero`; or an operation with its
-    terms, named as the calculator's function."""
+    """A value: `old` and the name of a register before the program; `now` and that of a register at the place of the claim; `number` and
+    the text of a number; `zero`; an operation with its terms, named as the calculator's function; `left`, the content of a register that a
+    subroutine or an earlier round has left, with the name of a variable, and its value if that is known; or `whole`, a whole number with
+    the name of a variable. `origin` says in words what an unknown content is."""
     op: str
     args: tuple[Term, ...] = ()
     name: str = ""
+    origin: str = ""
+
+    def plain(self) -> Term:
+        """Returns the value, without the registers in which subroutines and rounds have left its parts."""
+        if self.op == "left" and self.args:
+            return self.args[0].plain()
+        return replace(self, args=tuple(one.plain() for one in self.args)) if self.args else self
 
     def text(self) -> str:
         """Returns the term as a claim has it."""
+        if self.op == "left":
+            return self.args[0].text() if self.args else self.origin
+        if self.op == "whole":
+            return self.origin
+        if self.op == "now":
+            return self.name
         if self.op == "old":
             return f"old {self.name}"
         if self.op in ("number", "zero"):
@@ -72,6 +87,10 @@ class Condition:
     left: Term
     right: Term
     is_true: bool = True
+
+    def plain(self) -> Condition:
+        """Returns the condition of the values, if it is one of numbers. A comparison with `=` is one of registers."""
+        return self if self.relation == "=" else replace(self, left=self.left.plain(), right=self.right.plain())
 
 
 def condition_of(left: Term, relation: str, right: Term) -> Condition:

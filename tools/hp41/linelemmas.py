@@ -22,7 +22,7 @@ TESTS = {"X<Y?": ("rows.Below (rows.In X) (rows.In Y)", "comparable", "tells_bel
          "X=0?": ("rows.Same (rows.In X) rows.Nought", "", ""), "X=Y?": ("rows.Same (rows.In X) (rows.In Y)", "", ""),
          "X#0?": ("rows.Differ (rows.In X) rows.Nought", "", ""), "X#Y?": ("rows.Differ (rows.In X) (rows.In Y)", "", "")}
 
-PROOF_USED = """use Rattle.std.proofs.Common.{refl, sym, ap, ◌∙◌, ◌≤◌, Some, subst, arith, inl, inr, length, Bool, Err, Result}
+PROOF_USED = """use Rattle.std.proofs.Common.{refl, sym, ap, ◌∙◌, ◌+◌, ◌++◌, None, Some, subst, arith, inl, inr, Err, Result}
 use Rattle.std.specs.Prelude.{not}
 use Rattle.h41_decimal.specs.Laws.{DecimalIsItsNearest}
 use Rattle.h41_decimal.specs.declared.fault.DecimalFault.{DecimalFault}
@@ -30,7 +30,9 @@ use Rattle.h41_decimal.specs.declared.fault.DecimalFault.TheVariants.{Data, Rang
 use Rattle.h41_decimal.specs.declared.ten.Ten.TheVariants.{Zero}
 use Rattle.h41_laws_words.specs.DecimalAnswers.{DecimalHasOneRegister, FractionHasOneNearest, QuotientHasOneNearest}
 use Rattle.h41_laws_words.specs.DecimalAnswers.{RegisterHoldsDecimal}
+use Rattle.h41_focal.specs.Destinations.{with_return}
 use Rattle.h41_positions.specs.declared.position.Position.{Position}
+use Rattle.h41_program.specs.Edits.{lines_of}
 use Rattle.h41_program.specs.ProgramBytes.{final_position, program_bytes}
 use Rattle.h41_program.specs.ProgramLaws.{OneList, ReadIsDetermined}
 use Rattle.h41_program.specs.ProgramLines.{Reads}
@@ -42,12 +44,16 @@ use Rattle.h41_rows.specs.Rows as rows
 use Rattle.h41_rows.specs.Values.{IsRegisterOf}
 use Rattle.h41_rows.specs.Values as values
 use Rattle.h41_reasoning_lines.specs.ProgramStates.{with_content}
+use Rattle.h41_reasoning_lines.proofs.Calls.{becomes, call_then, calls_local, calls_named, content_there, kept_but, lines_there, memory_there}
+use Rattle.h41_reasoning_lines.proofs.Calls.{name_there, one_return_more, part_of, program_there, rest_lines, same_stack, size_there}
+use Rattle.h41_reasoning_lines.proofs.Calls.{sound_there}
 use Rattle.h41_reasoning_lines.proofs.Computing.{added, comparable, comparable_turned, comparable_x, divided, made_absolute, made_negative}
 use Rattle.h41_reasoning_lines.proofs.Computing.{multiplied, number_there, squared, subtracted, tells_above, tells_at_most, tells_below}
 use Rattle.h41_reasoning_lines.proofs.Computing.{tells_negative, tells_not_positive, tells_positive}
 use Rattle.h41_reasoning_lines.proofs.Errors.{difference_is_out, never_data, no_quotient, product_is_out, quotient_is_out}
 use Rattle.h41_reasoning_lines.proofs.Errors.{square_is_out, sum_is_out}
-use Rattle.h41_reasoning_lines.proofs.Labels.{found_onward, label_after, label_here, no_end, none_late, position_next}
+use Rattle.h41_reasoning_lines.proofs.Labels.{found_back, found_onward, label_after, label_at_end, label_here, no_end, none_late}
+use Rattle.h41_reasoning_lines.proofs.Labels.{position_next}
 use Rattle.h41_reasoning_lines.proofs.Listed.{IsListed, in_turn_to_end}
 use Rattle.h41_reasoning_lines.proofs.ProgramStates.{begins, other_content}
 use Rattle.h41_reasoning_lines.proofs.ProgramSteps.{changes_sign, clear_there, clears_x, ends_back, enters, enters_number, exchanges, fails}

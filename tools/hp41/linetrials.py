@@ -22,6 +22,8 @@ FEW = ("0", "1", "-1", "2", "3", "10", "0.5", "-2.5", "9999999999", "1E-99", "9.
 TEXT = "10000000004142"
 # The name under which a state says that stack lift is off. Then X is 0, because CLX has turned it off.
 OFF = "off"
+# The name of the label that is put before a local label.
+TRIED = "TRYING"
 SIZES = Sizes(MEMORY, SIZE)
 
 
@@ -98,7 +100,12 @@ class LineTrials:
 
     def __init__(self, program: Program, data: bytes) -> None:
         """Takes a program and the bytes of its file."""
-        self.program, self.data, self.random = program, data, random.Random(SEED)
+        self.program, self.random = program, random.Random(SEED)
+        # A local label is called by a label with a name before it.
+        self.label = TRIED if program.shown != program.label else program.label
+        first = program.lines[0].place
+        named = bytes([0xC0, 0, 0xF1 + len(TRIED), 0]) + TRIED.encode() if self.label == TRIED else b""
+        self.data = data[:first] + named + data[first:]
         names = {part.name for _, value, _ in program.equations for part in value.parts() if part.op == "old"}
         self.names = sorted({*STACK, *names, *(f"R{number:02}" for number in program.used), *program.contract.numbers})
 
@@ -141,7 +148,7 @@ class LineTrials:
     def outcomes(self, states: list[dict[str, str]]) -> list[Outcome]:
         """Returns what the program leaves from some states."""
         views = "".join(f"show ram {self.address(name):03x}\n" for name in self.names)
-        called = [f'XEQ "{self.program.label}"'.encode(), b"STOP"]
+        called = [f'XEQ "{self.label}"'.encode(), b"STOP"]
         deck = b""
         for state in states:
             driver = [b"CLX", *called] if OFF in state else called

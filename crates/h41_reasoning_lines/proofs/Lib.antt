@@ -14,4 +14,5 @@ pub mod DataRegisters
 pub mod ProgramStates
 pub mod ProgramSteps
 pub mod Errors
+pub mod Calls
 pub mod SignedDecimals

@@ -2,10 +2,11 @@
 from __future__ import annotations
 
 LAWS = "(itself : DecimalIsItsNearest) (registers : DecimalHasOneRegister) (decimals : RegisterHoldsDecimal) (lists : OneList)\n" \
-       "    (fractions : FractionHasOneNearest) (quotients : QuotientHasOneNearest) (one_reading : ReadIsDetermined)"
-LAW_NAMES = "itself registers decimals lists fractions quotients one_reading"
+       "    (fractions : FractionHasOneNearest) (quotients : QuotientHasOneNearest) (one_reading : ReadIsDetermined)\n" \
+       "    (determined : RegisterIsDetermined)"
+LAW_NAMES = "itself registers decimals lists fractions quotients one_reading determined"
 LAW_TYPES = ("DecimalIsItsNearest → DecimalHasOneRegister → RegisterHoldsDecimal → OneList → FractionHasOneNearest → "
-             "QuotientHasOneNearest → ReadIsDetermined")
+             "QuotientHasOneNearest → ReadIsDetermined → RegisterIsDetermined")
 
 # For each function its row, the lemma of its result, and the lemma of a result that is out of range.
 TWO = {"+": ("values.Sum Y X", "added", "sum_is_out"), "-": ("values.Difference Y X", "subtracted", "difference_is_out"),
@@ -22,9 +23,9 @@ TESTS = {"X<Y?": ("rows.Below (rows.In X) (rows.In Y)", "comparable", "tells_bel
          "X=0?": ("rows.Same (rows.In X) rows.Nought", "", ""), "X=Y?": ("rows.Same (rows.In X) (rows.In Y)", "", ""),
          "X#0?": ("rows.Differ (rows.In X) rows.Nought", "", ""), "X#Y?": ("rows.Differ (rows.In X) (rows.In Y)", "", "")}
 
-PROOF_USED = """use Rattle.std.proofs.Common.{refl, sym, ap, ◌∙◌, ◌+◌, ◌++◌, None, Some, subst, arith, inl, inr, Err, Result}
+PROOF_USED = """use Rattle.std.proofs.Common.{refl, sym, ap, ◌∙◌, ◌+◌, ◌++◌, None, Some, subst, arith, inl, inr, Err, Result, zero, suc}
 use Rattle.std.specs.Prelude.{not}
-use Rattle.h41_decimal.specs.Laws.{DecimalIsItsNearest}
+use Rattle.h41_decimal.specs.Laws.{DecimalIsItsNearest, RegisterIsDetermined}
 use Rattle.h41_decimal.specs.declared.fault.DecimalFault.{DecimalFault}
 use Rattle.h41_decimal.specs.declared.fault.DecimalFault.TheVariants.{Data, Range}
 use Rattle.h41_decimal.specs.declared.ten.Ten.TheVariants.{Zero}
@@ -41,12 +42,11 @@ use Rattle.h41_program.specs.declared.listed_line.ListedLine.{ListedLine}
 use Rattle.h41_ram.specs.RegisterMap.{RegisterMap}
 use Rattle.h41_rows.specs.Places.{X, Y}
 use Rattle.h41_rows.specs.Rows as rows
-use Rattle.h41_rows.specs.Values.{IsRegisterOf}
 use Rattle.h41_rows.specs.Values as values
 use Rattle.h41_reasoning_lines.specs.ProgramStates.{with_content}
 use Rattle.h41_reasoning_lines.proofs.Calls.{becomes, call_then, calls_local, calls_named, content_there, kept_but, lines_there, memory_there}
 use Rattle.h41_reasoning_lines.proofs.Calls.{name_there, one_return_more, part_of, program_there, rest_lines, same_stack, size_there}
-use Rattle.h41_reasoning_lines.proofs.Calls.{sound_there}
+use Rattle.h41_reasoning_lines.proofs.Calls.{recontented, sound_there}
 use Rattle.h41_reasoning_lines.proofs.Computing.{added, comparable, comparable_turned, comparable_x, divided, made_absolute, made_negative}
 use Rattle.h41_reasoning_lines.proofs.Computing.{multiplied, number_there, squared, subtracted, tells_above, tells_at_most, tells_below}
 use Rattle.h41_reasoning_lines.proofs.Computing.{tells_negative, tells_not_positive, tells_positive}
@@ -62,13 +62,37 @@ use Rattle.h41_reasoning_lines.proofs.ProgramSteps.{passes_global, passes_label,
 use Rattle.h41_reasoning_lines.proofs.ProgramSteps.{goes_to, stores, tests_false, tests_true, works_on_one, works_on_two}
 use Rattle.h41_reasoning_lines.proofs.Rounds.{by_last, line_then, more_lines_suffice}
 use Rattle.h41_reasoning_lines.proofs.SignedDecimals.{absolute, negative}
-use Rattle.h41_reasoning_lines.proofs.Stepping.{before_line, own_place}
+use Rattle.h41_reasoning_lines.proofs.Stepping.{after_line, before_line, own_place}
+use Rattle.h41_reasoning_lines.proofs.Wholes.{whole_ten}
+use Rattle.h41_reasoning_lines.proofs.WholeSteps.{difference_whole, is_some, is_zero, le_false, le_true, lt_false, lt_true, sum_whole}
+use Rattle.h41_reasoning_lines.proofs.WholeSteps.{typed_whole}
+use Rattle.std.proofs.lemmas.Bool.{cases_lt}
 """
 
 HELPERS = """register_of : DecimalHasOneRegister → (number : Ten) → (register : List ℕ) × IsRegisterOf (units number) register
 register_of registers number =
     let found = registers number in
     (found.answer, record { valid = found.right.valid; holds = found.right.holds })
+
+-- A whole number, as the calculator writes it.
+record WholeIn (n : ℕ) : Type 0 where
+  ten : Ten
+  units_is : units ten ≡ pos (n * one)
+  register : List ℕ
+  of_ten : IsRegisterOf (units ten) register
+  is : IsRegisterOf (pos (n * one)) register
+
+whole_in : DecimalHasOneRegister → (n : ℕ) → n < 10 ^ 10 → WholeIn n
+whole_in registers n small =
+    let ten = whole_ten n small in
+    let found = register_of registers ten.0 in
+    record {
+      ten = ten.0;
+      units_is = ten.1;
+      register = found.0;
+      of_ten = found.1;
+      is = subst (λ (z : ℤ). IsRegisterOf z found.0) ten.1 found.1;
+    }
 
 -- What is both true and false.
 clash : (truth : Bool) → truth ≡ true → truth ≡ false → ⊥

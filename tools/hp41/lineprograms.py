@@ -9,7 +9,7 @@ from .claims import Wrong
 from .codes import NotProved
 from .decks import Failure, block, bytes_of, ended, hexadecimal, refused, run, shown
 from .functions import Functions
-from .lineclaims import LISTED, OPPOSITE, Condition, LineContract, contract_before, keyword_of, plain
+from .lineclaims import LISTED, OPPOSITE, Condition, LineContract, LoopContract, contract_before, keyword_of, plain
 from .linesteps import Call, Point
 from .linetheorems import Program
 from .lineterms import LABEL, LOCAL, ProgramLine
@@ -135,10 +135,20 @@ class Finder:
         """Reads the claims."""
         self.lines = source.lines
         self.claims: dict[int, tuple[int, str, LineContract]] = {}
+        self.loops: dict[int, LoopContract] = {}
         for at, text, contract in contracts_in(source):
             first = next(place for place, line in enumerate(source.lines)
                          if line.text == text and place not in self.claims and (source.path != source.claims or line.number == at + 1))
-            self.claims[first] = (at + 1, text, contract)
+            if contract.has_own and contract.loop.decreases:
+                raise Wrong(contract.loop.line, 1, f"found claims about a loop and others before `{text}`, expected the label of the loop on "
+                            "a line of its own, for example LBL 01 after it")
+            if contract.has_own:
+                self.claims[first] = (at + 1, text, contract)
+            elif LABEL.fullmatch(text):
+                raise Wrong(contract.line, 1, f"found claims about a loop before `{text}`, expected them before a local label, to which GTO "
+                            "leads back, for example LBL 01")
+            else:
+                self.loops[first] = contract.loop
         self.known: dict[int, Program] = {}
         self.running: list[int] = []
 
@@ -149,7 +159,9 @@ class Finder:
             text, contract = self.claims[first][1:]
             is_start = not first or self.lines[first - 1].text == "END"
             name = text[5:-1] if LABEL.fullmatch(text) else self.local_name(first)
-            self.known[first] = Program(name, self.lines[first:], contract, is_start, lambda at: self.called(first, first + at))
+            end = next((place for place in range(first, len(self.lines)) if self.lines[place].text == "END"), len(self.lines))
+            loops = {place - first: loop for place, loop in self.loops.items() if first < place < end}
+            self.known[first] = Program(name, self.lines[first:], contract, is_start, lambda at: self.called(first, first + at), loops)
             self.running.pop()
         return self.known[first]
 
@@ -200,20 +212,18 @@ class Mismatch(NamedTuple):
 def mismatches(program: Program) -> list[Mismatch]:
     """Returns the claims that do not follow from the values that the lines compute, with the state that is reached."""
     found: dict[str, Mismatch] = {}
-    points = [program.walk.start]
-    while points:
-        point = points.pop()
-        points += reversed(point.after)
+    for point in program.walk.points():
         if point.kind != "end":
             continue
         for one, value, condition in program.equations:
             reached = point.state.register(one.register)
-            if reached.plain() != value and not excluded(point, condition):
+            is_whole = None not in (program.walk.nat(reached), program.walk.nat(value))
+            if reached.plain() != value and not is_whole and not excluded(point, condition):
                 found.setdefault(one.text, Mismatch(one.line, one.text, f"at {program.lines[point.at].text}, line {point.at + 1} from the "
                                                     f"label on, {one.register} contains {plain(reached.text())}{path_of(point)}"))
-    if program.contract.most and program.contract.most[0] < program.most:
-        _, text, line = program.contract.most
-        found[text] = Mismatch(line, text, f"the program takes up to {program.most} lines")
+    most = program.contract.most
+    if most and (program.most.parts or most[0] < program.most.constant):
+        found[most[1]] = Mismatch(most[2], most[1], f"the program takes up to {program.most} lines")
     return list(found.values())
 
 

@@ -3,6 +3,7 @@ from __future__ import annotations
 
 from .lineclaims import Condition, Term
 from .linecalls import CallProof
+from .lineloops import WholeProof
 from .linelemmas import HELPERS, LAW_NAMES, LAW_TYPES, LAWS, PROOF_USED, SIMPLE, TESTS, TWO
 from .linesearches import Searches
 from .linesteps import EXACT, PLACES, Fact, Point, State
@@ -22,6 +23,7 @@ class ProgramProof:
         self.bound: dict[str, str] = {}
         self.parts: list[str] = []
         self.rows: list[tuple[str, int, str]] = []
+        self.whole_part = WholeProof(self)
         self.define(program.walk.start)
 
     # Values.
@@ -49,7 +51,7 @@ class ProgramProof:
     def holds(self, term: Term) -> str:
         """Returns the proof that the register contains the number of a value, as an argument."""
         if term.op in ("old", "left"):
-            return f"in_{term.name.lower()}"
+            return f"is_{term.name.lower()}.holds" if self.program.walk.nat(term) is not None else f"in_{term.name.lower()}"
         known = f"(register_of registers {self.decimal(term)}).1.holds"
         return f"({known} ∙ ap (λ (z : ℤ). Number z) {self.signed(term)}.1)" if term.op in EXACT else known
 
@@ -87,12 +89,27 @@ class ProgramProof:
             elif fact.condition:
                 found += f"(t{at} : {self.truth(fact.condition)} ≡ {'true' if fact.condition.is_true else 'false'}) → "
             elif fact.left:
-                name, value = fact.left.name, fact.left.args
-                found += f"({name} : List ℕ) → "
-                found += f"(in_{name} : holding_of {name} ≡ Number {self.program.amount(value[0])}) → " if value else ""
+                found += self.given_left(fact.left)
+            elif fact.relation:
+                found += f"(t{at} : {' '.join(fact.relation)}) → "
+            elif fact.loop:
+                number = fact.loop.number
+                found += f"(left_{number} : ℕ) → (again_{number} : Again_{number} left_{number}) → "
+                found += f"(counted_{number} : left_{number} ≡ {fact.loop.measure}) → "
             else:
                 found += f"({fact.switch} : Bool) → "
         return found
+
+    def given_left(self, left: Term) -> str:
+        """Returns what is known of a register, as arguments of a statement."""
+        name, value = left.name, left.args
+        number = self.program.walk.nat(value[0]) if value else None
+        if number is not None:
+            own = f"({number} : ℕ) → " if value[0].op == "whole" else ""
+            return (f"{own}({name} : List ℕ) → (is_{name} : IsRegisterOf (pos ({number} * one)) {name}) → "
+                    f"(small_{name} : {number} < 10 ^ 10) → ")
+        known = f"(in_{name} : holding_of {name} ≡ Number {self.program.amount(value[0])}) → " if value else ""
+        return f"({name} : List ℕ) → {known}"
 
     def names(self, facts: tuple[Fact, ...]) -> str:
         """Returns the names of the facts."""
@@ -103,7 +120,13 @@ class ProgramProof:
         if fact.result:
             return f"{self.program.result(fact.result)} is_{self.program.result(fact.result)}"
         if fact.left:
-            return f"{fact.left.name} in_{fact.left.name}" if fact.left.args else fact.left.name
+            value, name = fact.left.args, fact.left.name
+            if value and self.program.walk.nat(value[0]) is not None:
+                own = f"{value[0].name} " if value[0].op == "whole" else ""
+                return f"{own}{name} is_{name} small_{name}"
+            return f"{name} in_{name}" if value else name
+        if fact.loop:
+            return f"left_{fact.loop.number} again_{fact.loop.number} counted_{fact.loop.number}"
         return fact.switch or f"t{at}"
 
     # Places.
@@ -141,11 +164,33 @@ class ProgramProof:
         self.parts.append(text)
         self.rows += [("", self.program.lines[point.at].number, "")] * (text.count("\n") + 1)
 
+    def put_rows(self, point: Point, rows: list[tuple[str, int, str]]) -> None:
+        """Adds statements that belong to a program line, except for lines that belong to a claim: each has its text, and the line and the
+        text of its claim."""
+        self.parts.append("\n".join(row for row, _, _ in rows))
+        self.rows += [("", line or self.program.lines[point.at].number, claim) for _, line, claim in rows]
+
+    def define_exact(self, point: Point) -> None:
+        """Writes the statement of a line whose result is a whole number."""
+        self.whole_part.exact(point)
+
+    def define_compare(self, point: Point) -> None:
+        """Writes the statement of a test that compares whole numbers."""
+        self.whole_part.compare(point)
+
+    def define_enter(self, point: Point) -> None:
+        """Writes the statement of the place at which a loop begins."""
+        self.whole_part.enter(point)
+
+    def define_again(self, point: Point) -> None:
+        """Writes the statement of the end of a round."""
+        self.whole_part.again(point)
+
     def go_on(self, point: Point, after: Point, step: str, facts: str) -> str:
         """Returns the proof that a line continues, and that the program leaves what it should from there."""
         rest = f"(line_then pages {after.most} _ _ After done.step ({after.name} {facts} done.memory done.has))"
-        if after.most + 1 < point.most:
-            rest = f"(more_lines_suffice pages {after.most + 1} {point.most} _ After (omega arith) {rest})"
+        if after.most.more(1) != point.most:
+            rest = f"(more_lines_suffice pages {after.most.more(1)} {point.most} _ After (omega arith) {rest})"
         return f"let done = {step} in {rest}"
 
     def define_line(self, point: Point) -> None:
@@ -312,11 +357,11 @@ class ProgramProof:
         self.parts[-1] += "\n    })" if program.contract.errors else "\n    }"
         self.rows.append(("", program.lines[point.at].number, ""))
 
-    def unchanged(self, state: State) -> str:
-        """Returns the proof that the other data registers are as before."""
+    def unchanged(self, state: State, others: str = "other_") -> str:
+        """Returns the proof that the other data registers are as before. `others` begins the names of what says that they are others."""
         found, steps = "(data_in old)", []
         for number, value in state.written:
-            steps.append(f"other_content {found} {number} {self.register(value)} n other_{number}")
+            steps.append(f"other_content {found} {number} {self.register(value)} n {others}{number}")
             found = f"(with_content {found} {number} {self.register(value)})"
         return " ∙ ".join(reversed(steps)) or "refl"
 
@@ -330,7 +375,12 @@ class ProgramProof:
             both = f"if_so t{known}" if condition.is_true else f"t{known} if_so"
             return f"λ if_so. absurd (clash {self.truth(condition)} {both})"
         results = "".join(f"{self.program.result(term)}, is_{self.program.result(term)}, " for term in new_results(self.program, value))
-        proof = "refl" if value.op == "old" else self.holds(point.state.register(one.register))
+        if self.program.walk.nat(value) is not None:
+            reached = point.state.register(one.register)
+            proof = ("refl" if value == reached else self.whole_part.same_register(point, one.register, value) if value.op == "old" else
+                     self.whole_part.claim(point, one.register, value))
+        else:
+            proof = "refl" if value.op == "old" else self.holds(point.state.register(one.register))
         return f"{'λ if_so. ' if condition else ''}{f'({results}{proof})' if results else proof}"
 
     # The file.
@@ -376,12 +426,7 @@ class ProgramProof:
 
     def facts(self) -> list[tuple[str, str]]:
         """Returns the requirements on numbers, with their names in the proof."""
-        program = self.program
-        return [*((f"in_{name.lower()}", f"holding_of {program.register(Term('old', (), name), 'old')} ≡ Number of_{name.lower()}")
-                  for name in program.contract.numbers),
-                *((f"is_{program.number(text)}", f"IsNumberOf {characters_of(text)} {program.number(text)}") for text in program.numbers),
-                *((f"is_{program.result(term)}", program.nearest(term, f"(Ok {program.result(term)})"))
-                  for term in program.walk.required)]
+        return self.program.about_numbers("old")
 
     def whole(self) -> str:
         """Returns the proof of the theorem from the statement of the first line."""

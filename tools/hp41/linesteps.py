@@ -2,13 +2,13 @@
 from __future__ import annotations
 
 import re
-from dataclasses import dataclass, replace
+from dataclasses import dataclass, field, replace
 from decimal import Decimal
 from typing import TYPE_CHECKING, Callable, NamedTuple
 
 from .claims import Wrong
 from .codes import NotProved
-from .lineclaims import ZERO, Condition, LineContract, Term, condition_of, old, plain
+from .lineclaims import ZERO, Condition, LineContract, LoopContract, Relation, Term, condition_of, old, plain
 from .lineterms import CALL, CALL_NAMED, GO_TO, NUMBER, REGISTER, TEST, ProgramLine, term_of
 
 if TYPE_CHECKING:
@@ -67,12 +67,14 @@ START = State(old("T"), old("Z"), old("Y"), old("X"), old("L"))
 
 
 class Fact(NamedTuple):
-    """What is known on a path: the result of an operation, whether a condition is true, what a subroutine has left in a register, or the
-    name of the variable that says whether stack lift is on."""
+    """What is known on a path: the result of an operation, whether a condition is true, what a subroutine or a line has left in a register,
+    the name of the variable that says whether stack lift is on, a comparison of natural numbers, or that a round of a loop has begun."""
     result: Term | None = None
     condition: Condition | None = None
     left: Term | None = None
     switch: str = ""
+    relation: tuple[str, str, str] | None = None
+    loop: Loop | None = None
 
 
 class Call(NamedTuple):
@@ -81,20 +83,79 @@ class Call(NamedTuple):
     place: int | None
 
 
+@dataclass(frozen=True)
+class Count:
+    """A number of lines: a constant, and multiples of natural numbers of the definitions."""
+    constant: int
+    parts: tuple[tuple[int, str], ...] = ()
+
+    def __str__(self) -> str:
+        """Returns the number as the definitions have it."""
+        found = " + ".join([*(f"{many} * {one}" for many, one in self.parts), str(self.constant)])
+        return f"({found})" if self.parts else found
+
+    def more(self, lines: int | Count) -> Count:
+        """Returns the number with more lines."""
+        other = lines if isinstance(lines, Count) else Count(lines)
+        return Count(self.constant + other.constant, (*self.parts, *other.parts))
+
+
+@dataclass(eq=False)
+class Loop:
+    """A loop: its number, the place of its label, its claims, the state at its label, what is known there of the registers, and whether
+    stack lift is on. `relations` are its comparisons there, `measure` is what falls, and `start` is the point at the label."""
+    number: int
+    place: int
+    contract: LoopContract
+    state: State
+    facts: tuple[Fact, ...]
+    is_on: bool
+    relations: list[tuple[str, str, str, Relation]] = field(default_factory=list)
+    measure: str = ""
+    start: Point | None = None
+
+    def round(self) -> int:
+        """Returns the greatest number of lines of a round that another one follows."""
+        return self.start.ways.get("again", 0) if self.start else 0
+
+    def rest(self) -> int:
+        """Returns the number of lines in addition to those of the rounds."""
+        return max(self.round(), self.start.ways.get("", 0) if self.start else 0)
+
+
 @dataclass
 class Point:
     """A line that is reached, with the state before it and what is known. `kind` says what happens: `line`, `lift` (it depends on stack
-    lift), `test`, `outcome` (the result may be out of range), `call` or `end`. `after` has the points after it, and `most` the greatest number of
-    lines from it on."""
+    lift), `test`, `outcome` (the result may be out of range), `call` or `end`; with whole numbers also `exact`, `compare`, and at the label of
+    a loop `enter` and `again`. `after` has the points after it. `ways` has the greatest number of lines up to the end of the program or to
+    the label of the loop, and `again` to the label of the loop in which the point is. `entered` is the loop that begins here."""
     name: str
     at: int
     state: State
     facts: tuple[Fact, ...]
     kind: str
     after: list[Point]
-    most: int = 1
     result: Term | None = None
     condition: Condition | None = None
+    ways: dict[str, int] = field(default_factory=dict)
+    loop: Loop | None = None
+    entered: tuple[Loop, str] | None = None
+
+    def entries(self) -> list[tuple[int, Loop, str]]:
+        """Returns the loops that follow, with the greatest number of lines before them, and what falls there."""
+        if self.entered:
+            return [(0, *self.entered)]
+        return [(lines + (0 if self.kind == "lift" else 1), loop, measure) for one in self.after for lines, loop, measure in one.entries()]
+
+    @property
+    def most(self) -> Count:
+        """Returns the greatest number of lines from the point on."""
+        if self.loop:
+            left = self.ways["again"] + self.loop.rest() - self.loop.round() if "again" in self.ways else 0
+            return Count(max(self.ways.get("", 0), left), ((self.loop.round(), f"left_{self.loop.number}"),))
+        entries = self.entries()
+        parts = tuple(dict.fromkeys((loop.round(), measure) for _, loop, measure in entries))
+        return Count(max([self.ways.get("", 0), *(lines + loop.rest() for lines, loop, _ in entries)]), parts)
 
 
 def test_of(text: str, state: State) -> Condition:
@@ -132,6 +193,8 @@ class Walk:
         # The places to which GTO leads, and the subroutines that XEQ calls, by the places of the lines.
         self.jumps: dict[int, int] = {}
         self.calls: dict[int, Call] = {}
+        # The loops, by the places of their labels.
+        self.loops: dict[int, Loop] = {}
         self.required: list[Term] = []
         self.last = 0
         for term, line in contract.in_range:
@@ -151,10 +214,15 @@ class Walk:
 
     def points(self) -> list[Point]:
         """Returns all points that are reached."""
-        found = [self.start]
+        found = [self.start, *(loop.start for loop in self.loops.values() if loop.start)]
         for point in found:
             found += point.after
         return found
+
+    def all_written(self) -> list[int]:
+        """Returns the data registers that lines of the program write."""
+        end = next((place for place, line in enumerate(self.lines) if line.text == "END"), len(self.lines))
+        return registers_in([line for line in self.lines[:end] if line.text.startswith("STO")])
 
     def tests(self) -> set[Condition]:
         """Returns the conditions of all tests that are reached."""
@@ -180,14 +248,16 @@ class Walk:
         self.check(at)
         made = Point(f"p{self.count}", at, state, facts, "line", [])
         self.follow(made, self.lines[at].text)
-        made.most = 1 if made.kind == "end" else max(self.most_from(made, one) for one in made.after)
+        made.ways = {"": 1} if made.kind == "end" else {}
+        own = 0 if made.kind == "lift" else 1 + self.calls[at].program.most.constant if made.kind == "call" else 1
+        for one in made.after:
+            for way, lines in one.ways.items():
+                made.ways[way] = max(made.ways.get(way, 0), lines + own)
         return made
 
-    def most_from(self, before: Point, after: Point) -> int:
-        """Returns the greatest number of lines from a point on, if the program continues at another one."""
-        if before.kind == "call":
-            return after.most + 1 + self.calls[before.at].program.most
-        return after.most if before.kind == "lift" else after.most + 1
+    def nat(self, term: Term) -> str | None:
+        """Returns a value as a natural number of the definitions; None if whole numbers are not followed."""
+        return None
 
     def check(self, at: int) -> None:
         """Checks that a line is supported."""

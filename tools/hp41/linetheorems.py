@@ -6,9 +6,10 @@ from dataclasses import replace
 from typing import Callable
 
 from .claims import Wrong
-from .lineclaims import Condition, Equation, LineContract, Term, plain
-from .linesteps import EXACT, PLACES, Call, Walk, registers_in
+from .lineclaims import Condition, Equation, LineContract, LoopContract, Term, old, plain
+from .linesteps import EXACT, PLACES, Call, Count, Walk, registers_in
 from .lineterms import LOCAL, NUMBER, TRUTH, ProgramLine, characters_of, kinds_of, term_of, unknowns_of, values_of
+from .linewholes import WholeWalk
 from .statements import CRATE
 
 # The calculator keeps this many return addresses.
@@ -16,7 +17,7 @@ RETURNS = 6
 
 FAULTS = {"OUT OF RANGE": "OutOfRange", "DATA ERROR": "DataError"}
 
-USED = """use Rattle.std.specs.Prelude.{◌≡◌, ℕ, ◌<◌, ◌≤◌, ◌⊎◌, Bool, true, false, List, [], ◌∷◌, Ok, codes, bytes_eq, length}
+USED = """use Rattle.std.specs.Prelude.{◌≡◌, ℕ, ◌+◌, ◌-◌, ◌*◌, ◌^◌, ◌<◌, ◌≤◌, ◌⊎◌, Bool, true, false, List, [], ◌∷◌, Ok, codes, bytes_eq, length}
 use Rattle.std.specs.Prelude.{ℤ, pos, neg_ℤ, ◌+ℤ◌, ◌-ℤ◌, ◌*ℤ◌, int_le, int_lt, unsigned_abs}
 use Rattle.h41_codes.specs.declared.characters.Character.TheVariants as characters
 use Rattle.h41_codes.specs.declared.functions.Branch.TheVariants.{Execute}
@@ -38,6 +39,7 @@ use Rattle.h41_positions.specs.declared.position.Position.TheVariants.{Memory}
 use Rattle.h41_ram.specs.NamedFlags.{error_ignore, range_ignore}
 use Rattle.h41_ram.specs.NamedRegisters.{size_of}
 use Rattle.h41_ram.specs.RegisterMap.{IsMemory, flag_of, is_sound, zeros}
+use Rattle.h41_rows.specs.Values.{IsRegisterOf}
 use Rattle.h41_rows.specs.declared.fault.LineFault.TheVariants.{DataError, OutOfRange}
 use Rattle.h41_reasoning_lines.specs.LineRuns.{HasFailed, HasReturned, Leaves}
 use Rattle.h41_reasoning_lines.specs.ProgramLines.{FindsName, HasProgram, IsProgram, bytes_of_lines}
@@ -51,10 +53,12 @@ class Program:
     whose label is local has the name of the label and of its place."""
 
     def __init__(self, label: str, lines: list[ProgramLine], contract: LineContract, is_start: bool = True,
-                 called: Callable[[int], Call] | None = None) -> None:
-        """Follows the paths. `is_start` says whether the label is the first line of a program, and `called` finds the subroutine that the
-        XEQ at a place calls."""
-        self.label, self.contract, self.walk = label, contract, Walk(lines, contract, is_start, called)
+                 called: Callable[[int], Call] | None = None, loops: dict[int, LoopContract] | None = None) -> None:
+        """Follows the paths. `is_start` says whether the label is the first line of a program, `called` finds the subroutine that the
+        XEQ at a place calls, and `loops` has the claims about loops, by the places of their labels."""
+        self.label, self.contract = label, contract
+        self.is_whole = bool(contract.wholes or loops)
+        self.walk = WholeWalk(lines, contract, is_start, called, loops or {}) if self.is_whole else Walk(lines, contract, is_start, called)
         self.lines = lines[:self.walk.last + 1]
         self.shown = lines[0].text if LOCAL.fullmatch(lines[0].text) else label
         self.name = re.sub(r"\W", "_", label, flags=re.A)
@@ -65,7 +69,8 @@ class Program:
         for call in self.walk.calls.values():
             for one in [*call.program.subs, *([call.program] if call.place is None else [])]:
                 self.subs += [one] if one.name not in [known.name for known in self.subs] else []
-        self.numbers = sorted({*(line.text for line in self.lines if NUMBER.fullmatch(line.text)),
+        self.numbers = sorted({*(line.text for line in self.lines
+                                 if NUMBER.fullmatch(line.text) and self.walk.nat(Term("number", (), line.text)) is None),
                                *(text for one in callees for text in one.numbers)})
         self.results: list[Term] = list(self.walk.required)
         self.equations = [(one, self.walk.resolved(one.value), self.condition(one)) for one in contract.equations]
@@ -91,7 +96,7 @@ class Program:
         return found
 
     @property
-    def most(self) -> int:
+    def most(self) -> Count:
         """Returns the greatest number of lines."""
         return self.walk.start.most
 
@@ -108,11 +113,15 @@ class Program:
 
     def variables(self) -> list[tuple[str, str]]:
         """Returns the variables of the theorem that the claims name, with their types."""
-        return [*((f"of_{name.lower()}", "ℤ") for name in self.contract.numbers), *((self.number(text), "Ten") for text in self.numbers),
+        return [*((f"of_{name.lower()}", "ℤ") for name in self.contract.numbers),
+                *((f"whole_{name.lower()}", "ℕ") for name in self.contract.wholes), *((self.number(text), "Ten") for text in self.numbers),
                 *((self.result(term), "Ten") for term in self.walk.required)]
 
     def amount(self, term: Term) -> str:
         """Returns the number of a value, as an argument."""
+        number = self.walk.nat(term)
+        if number is not None:
+            return f"(pos ({number} * one))"
         if term.op == "old":
             return f"of_{term.name.lower()}"
         if term.op == "left":
@@ -187,6 +196,21 @@ class Program:
         lines = f"({self.name}_lines {' '.join(unknowns)})" if unknowns else f"{self.name}_lines"
         return f"{'IsProgram' if self.needs_start else 'HasProgram'} {memory} {at} {lines}"
 
+    def about_numbers(self, memory: str) -> list[tuple[str, str]]:
+        """Returns the requirements on numbers, with their names in the proof."""
+        rows = [(f"in_{name.lower()}", f"holding_of {self.register(old(name), memory)} ≡ Number of_{name.lower()}")
+                for name in self.contract.numbers]
+        for name in self.contract.wholes:
+            one = name.lower()
+            rows += [(f"small_{one}", f"whole_{one} < 10 ^ 10"),
+                     (f"is_{one}", f"IsRegisterOf (pos (whole_{one} * one)) {self.register(old(name), memory)}")]
+        rows += [(f"is_{self.number(text)}", f"IsNumberOf {characters_of(text)} {self.number(text)}") for text in self.numbers]
+        rows += [(f"is_{self.result(term)}", self.nearest(term, f"(Ok {self.result(term)})")) for term in self.walk.required]
+        if isinstance(self.walk, WholeWalk):
+            rows += [(f"given_{at}", " ".join(self.walk.compared(one, self.walk.begin_state)))
+                     for at, one in enumerate(self.contract.relations, 1)]
+        return rows
+
     def about_calls(self, memory: str, returns: str) -> list[tuple[str, str]]:
         """Returns the requirements of the calls, with their names in the proof."""
         if not self.walk.calls:
@@ -231,7 +255,8 @@ def names_in(term: Term, register: str) -> list[str]:
 
 def new_results(program: Program, term: Term) -> list[Term]:
     """Returns the operations in a term whose results are no variables of the theorem."""
-    return [part for part in term.parts() if part.args and part.op not in EXACT and part not in program.walk.required]
+    return [part for part in term.parts() if part.args and part.op not in EXACT and part not in program.walk.required
+            and program.walk.nat(part) is None]
 
 
 def claim_text(program: Program, at: int) -> str:
@@ -241,6 +266,9 @@ def claim_text(program: Program, at: int) -> str:
     given = f"{program.truth(condition, 's.memory')} ≡ {'true' if condition.is_true else 'false'} → " if condition else ""
     if value.op == "old":
         return f"{given}{place} ≡ {program.register(value, 's.memory')}"
+    number = program.walk.nat(value)
+    if number is not None:
+        return f"{given}IsRegisterOf (pos ({number} * one)) ({place})"
     results = "".join(f"({program.result(term)} : Ten) × {program.nearest(term, f'(Ok {program.result(term)})')} × "
                       for term in new_results(program, value))
     place = f"({place})" if " " in place else place
@@ -278,10 +306,7 @@ def requirements(program: Program) -> list[str]:
         rows.append(f"{max(program.used)} < size_of s.memory")
     if program.contract.errors:
         rows += ["flag_of s.memory range_ignore ≡ false", "flag_of s.memory error_ignore ≡ false"]
-    for name in program.contract.numbers:
-        rows.append(f"holding_of {program.register(Term('old', (), name), 's.memory')} ≡ Number of_{name.lower()}")
-    rows += [f"IsNumberOf {characters_of(text)} {program.number(text)}" for text in program.numbers]
-    rows += [program.nearest(term, f"(Ok {program.result(term)})") for term in program.walk.required]
+    rows += [row for _, row in program.about_numbers("s.memory")]
     return [*rows, *(row for _, row in program.about_calls("s.memory", "s.focal.returns"))]
 
 

@@ -4,7 +4,6 @@ pub mod GreatestCommonDivisor
 pub mod Counters
 pub mod SumOfRegisters
 pub mod ExactSums
-pub mod Scales
 pub mod Bisection
 pub mod HalvingRange
 pub mod Bounds

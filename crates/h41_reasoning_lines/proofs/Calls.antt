@@ -75,6 +75,18 @@ rebuilt s u next Property back =
     back.no_line_00
     ∙ ap (λ (r : List Position). before_line u.memory next false r u.focal.lift) back.returns
 
+-- Memory is described by other data registers with the same contents.
+pub recontented : (old : RegisterMap) (stack : Stack) (contents others : ℕ → List ℕ) (memory : RegisterMap)
+    → HasBecome old stack contents memory → ((n : ℕ) → contents n ≡ others n) → HasBecome old stack others memory
+recontented old stack contents others memory is same = record {
+  stack_is = is.stack_is;
+  data_are = λ n inside. is.data_are n inside ∙ same n;
+  status_is = is.status_is;
+  sixteen = is.sixteen;
+  size_is = is.size_is;
+  rest_is = is.rest_is;
+}
+
 -- The lines after a line are a part of a program.
 module _ (memory : RegisterMap) (sound : is_sound memory ≡ true) where
   pub rest_lines : (at : ℕ) (listed : List ListedLine) (line : Line) (more : List Line) (here : IsListed memory at listed line)

@@ -5,7 +5,9 @@ pub mod Stepping
 pub mod Subroutines
 pub mod Computing
 pub mod Ranges
+pub mod Scales
 pub mod Wholes
+pub mod WholeSteps
 pub mod Labels
 pub mod Programs
 pub mod Loads

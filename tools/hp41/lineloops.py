@@ -183,8 +183,6 @@ class WholeProof:
 
     def comparisons(self, point: Point, loop: Loop, known: str) -> list[tuple[str, int, str]]:
         """Returns lines that prove the comparisons of a loop at a state, each with its line and its text."""
-        line = f"at {self.program.lines[point.at].text} of {loop.contract.line}"
-        del line
         found = []
         for at, (_, _, _, one) in enumerate(loop.relations, 1):
             left, sign, right = self.walk.compared(one, point.state)
@@ -194,7 +192,7 @@ class WholeProof:
     def enter(self, point: Point) -> None:
         """Writes the statement of the place at which a loop begins."""
         assert point.entered
-        loop, measure = point.entered
+        loop, measure, _ = point.entered
         self.loop(loop)
         proof, names, known = self.proof, self.proof.names(point.facts), self.known(point.facts)
         arguments = self.arguments(loop, point.state, known)

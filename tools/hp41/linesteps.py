@@ -139,13 +139,15 @@ class Point:
     condition: Condition | None = None
     ways: dict[str, int] = field(default_factory=dict)
     loop: Loop | None = None
-    entered: tuple[Loop, str] | None = None
+    entered: tuple[Loop, str, Term] | None = None
 
-    def entries(self) -> list[tuple[int, Loop, str]]:
-        """Returns the loops that follow, with the greatest number of lines before them, and what falls there."""
+    def entries(self) -> list[tuple[int, Loop, str, Term]]:
+        """Returns the loops that follow, with the greatest number of lines before them, and what falls there, as the definitions have it
+        and as a term."""
         if self.entered:
             return [(0, *self.entered)]
-        return [(lines + (0 if self.kind == "lift" else 1), loop, measure) for one in self.after for lines, loop, measure in one.entries()]
+        own = 0 if self.kind == "lift" else 1
+        return [(lines + own, loop, measure, term) for one in self.after for lines, loop, measure, term in one.entries()]
 
     @property
     def most(self) -> Count:
@@ -154,8 +156,8 @@ class Point:
             left = self.ways["again"] + self.loop.rest() - self.loop.round() if "again" in self.ways else 0
             return Count(max(self.ways.get("", 0), left), ((self.loop.round(), f"left_{self.loop.number}"),))
         entries = self.entries()
-        parts = tuple(dict.fromkeys((loop.round(), measure) for _, loop, measure in entries))
-        return Count(max([self.ways.get("", 0), *(lines + loop.rest() for lines, loop, _ in entries)]), parts)
+        parts = tuple(dict.fromkeys((loop.round(), measure) for _, loop, measure, _ in entries))
+        return Count(max([self.ways.get("", 0), *(lines + loop.rest() for lines, loop, _, _ in entries)]), parts)
 
 
 def test_of(text: str, state: State) -> Condition:

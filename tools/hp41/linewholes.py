@@ -168,7 +168,14 @@ class WholeWalk(Walk):
                                 "put a line before it that turns stack lift on, for example RCL")
         loop = self.loops[at]
         self.last = max(self.last, at)
-        return Point(name, at, state, facts, "enter", [], ways={"": 0}, entered=(loop, self.measure(loop, state)))
+        return Point(name, at, state, facts, "enter", [], ways={"": 0},
+                     entered=(loop, self.measure(loop, state), self.falling(loop, state)))
+
+    @staticmethod
+    def falling(loop: Loop, state: State) -> Term:
+        """Returns the number that the rounds of a loop make smaller, at a state, as a term."""
+        assert loop.contract.decreases
+        return at_state(loop.contract.decreases, state)
 
     def check_round(self, at: int, state: State) -> None:
         """Checks that registers contain at the label of a loop what its claims say."""

@@ -94,6 +94,14 @@ whole_in registers n small =
       is = subst (λ (z : ℤ). IsRegisterOf z found.0) ten.1 found.1;
     }
 
+-- The rounds of a loop end, because a number falls.
+by_rounds : (Round : ℕ → Type 0) → ((left : ℕ) → ((fewer : ℕ) → fewer < left → Round fewer) → Round left) → (left : ℕ) → Round left
+by_rounds Round round left = from (suc left) left (omega arith)
+  where
+    from : (bound left : ℕ) → left < bound → Round left
+    from zero left less = absurd (omega (arith, less))
+    from (suc bound) left less = round left (λ (fewer : ℕ) under. from bound fewer (omega (arith, less, under)))
+
 -- What is both true and false.
 clash : (truth : Bool) → truth ≡ true → truth ≡ false → ⊥
 clash truth is_so is_not = let never : true ≡ false = sym is_so ∙ is_not in cc

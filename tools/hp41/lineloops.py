@@ -139,11 +139,9 @@ class WholeProof:
         proof.define(loop.start)
         names = proof.names(loop.start.facts[:-1])
         proof.put(loop.start, "\n".join([
-            f"loop_{number} : (bound left : ℕ) → left < bound → Round_{number} left",
-            f"loop_{number} zero left less = absurd (omega (arith, less))",
-            f"loop_{number} (suc bound) left less {names} counted memory has =",
-            f"    {loop.start.name} {names} left (λ (fewer : ℕ) under. loop_{number} bound fewer (omega (arith, less, under))) counted "
-            "memory has"]))
+            f"loop_{number} : (left : ℕ) → Round_{number} left",
+            f"loop_{number} = by_rounds Round_{number} (λ (left : ℕ) again {names} counted memory has. {loop.start.name} {names} left again "
+            "counted memory has)"]))
 
     def arguments(self, loop: Loop, state: State, known: str) -> str:
         """Returns what a round begins with, at a state, as arguments. What its comparisons need has been named before."""
@@ -199,7 +197,7 @@ class WholeProof:
         proof.put_rows(point, [
             (f"{point.name} : {proof.given(point.facts)}{proof.leaves(point)}", 0, ""), (f"{point.name} {names} memory has =", 0, ""),
             *self.comparisons(point, loop, known),
-            (f"    loop_{loop.number} ({measure} + 1) {measure} (omega arith) {arguments} refl memory {self.restated(loop, point.state)}",
+            (f"    loop_{loop.number} {measure} {arguments} refl memory {self.restated(loop, point.state)}",
              0, "")])
 
     def again(self, point: Point) -> None:

@@ -189,8 +189,9 @@ class ProgramProof:
     def go_on(self, point: Point, after: Point, step: str, facts: str) -> str:
         """Returns the proof that a line continues, and that the program leaves what it should from there."""
         rest = f"(line_then pages {after.most} _ _ After done.step ({after.name} {facts} done.memory done.has))"
-        if after.most.more(1) != point.most:
-            rest = f"(more_lines_suffice pages {after.most.more(1)} {point.most} _ After (omega arith) {rest})"
+        if after.most.parts or after.most.more(1) != point.most:
+            known = f"(1 + {after.most})" if after.most.parts else str(after.most.more(1))
+            rest = f"(more_lines_suffice pages {known} {point.most} _ After (omega arith) {rest})"
         return f"let done = {step} in {rest}"
 
     def define_line(self, point: Point) -> None:
@@ -346,15 +347,16 @@ class ProgramProof:
         fields = ["returned = back.returned;", f"stack = {stack};", f"contents = {contents};",
                   f"becomes = subst (λ (m : RegisterMap). HasBecome old {stack} {contents} m) (sym back.memory) has;",
                   f"others = λ {others}. {self.unchanged(state)};", *(["lift = back.lift;"] if program.walk.leaves_lift() else [])]
+        more = f"more_lines_suffice pages 1 {point.most} _ After (omega arith)\n    (" if point.most.parts else ""
         head = (f"{point.name} : {self.given(point.facts)}{self.leaves(point)}\n{point.name} {names} memory has =\n"
-                f"    let back = {back} in\n    by_last pages _ back.left After back.step\n    "
+                f"    let back = {back} in\n    {more}by_last pages _ back.left After back.step\n    "
                 f"{'(inl ' if program.contract.errors else ''}record {{")
         self.put(point, "\n".join([head, *(f"      {one}" for one in fields)]))
         for at in range(len(program.equations)):
             self.parts[-1] += f"\n      claim_{at + 1} = {self.claim(point, at)};"
             one = program.equations[at][0]
             self.rows.append(("", one.line, one.text))
-        self.parts[-1] += "\n    })" if program.contract.errors else "\n    }"
+        self.parts[-1] += "\n    }" + ")" * (bool(program.contract.errors) + bool(more))
         self.rows.append(("", program.lines[point.at].number, ""))
 
     def unchanged(self, state: State, others: str = "other_") -> str:

@@ -25,7 +25,10 @@ MOST_POINTS = 400
 # What to write in place of a line that is not supported.
 BRANCH = re.compile("(GTO|XEQ) ")
 LOOP = re.compile("(ISG|DSE) ")
-NO_LOOP = "loops are not supported: write the proof by hand, see A theorem of your own in docs/PROVE-YOUR-MODULE.md"
+NO_COUNTER = ("ISG and DSE are not supported: count in X with - and a test such as X>0?, or write the proof by hand, see A theorem of your own "
+              "in docs/PROVE-YOUR-MODULE.md")
+NO_LOOP = ("this line leads back, and nothing says that the loop ends: put comments `invariant` and `decreases` before the label, see Loops of "
+           "programs in docs/PROVE-YOUR-MODULE.md")
 NO_BRANCH = ("only GTO 00 to GTO 14, XEQ 00 to XEQ 14 and XEQ with a name are supported: prove the lines up to it, or write the proof by "
              "hand, see A theorem of your own in docs/PROVE-YOUR-MODULE.md")
 NO_START = ("the label with the claims is not the first line of its program, so it is not known where this line leads: put END before "
@@ -243,9 +246,10 @@ class Walk:
         """Returns the point at a line."""
         self.count += 1
         if self.count > MOST_POINTS:
-            raise self.fail(at, f"there are more than {MOST_POINTS} points on the paths through the tests: prove a shorter program")
+            raise self.fail(at, f"the tests before this line make too many paths: {MOST_POINTS} lines on all paths together are possible. Turn a part of "
+                                "the program into a subroutine with its own claims")
         if at >= len(self.lines):
-            raise self.fail(at, "the lines end here without RTN or END: add one of them")
+            raise self.fail(at, "no line follows, and the program does not return: add RTN or END after this line")
         self.last = max(self.last, at)
         self.check(at)
         made = Point(f"p{self.count}", at, state, facts, "line", [])
@@ -267,7 +271,7 @@ class Walk:
         if BRANCH.match(text) and not any(form.fullmatch(text) for form in (GO_TO, CALL, CALL_NAMED)):
             raise self.fail(at, NO_BRANCH)
         if LOOP.match(text):
-            raise self.fail(at, NO_LOOP)
+            raise self.fail(at, NO_COUNTER)
         if term_of(text, at) is None:
             raise self.fail(at, "this line is not supported: see the supported lines in docs/PROVE-YOUR-MODULE.md")
 
@@ -321,7 +325,7 @@ class Walk:
                 self.need_number(made.at, side)
         after = replace(made.state, lift=True)
         if made.at + 1 >= len(self.lines):
-            raise self.fail(made.at, "this test is the last line: there is no line that it could skip")
+            raise self.fail(made.at, "this test is the last line, so it has no line to skip: add lines after it, for example RTN and RTN")
         if term_of(self.lines[made.at + 1].text, 0) is None:
             self.check(made.at + 1)
         self.last = max(self.last, made.at + 1)
@@ -338,10 +342,11 @@ class Walk:
             made.kind = "outcome"
             facts = (*facts, Fact(result.plain()))
             if "OUT OF RANGE" not in self.contract.errors:
-                raise self.fail(made.at, f"the result may be out of range: require `{asked(result)} is in range`, or claim "
-                                         "`or OUT OF RANGE`")
+                raise self.fail(made.at, f"the result may be out of range: add `{asked(result)} is in range` to `requires`, or "
+                                         "`or OUT OF RANGE` to `ensures`")
             if result.op == "/" and "DATA ERROR" not in self.contract.errors:
-                raise self.fail(made.at, f"the divisor may be zero: require `{asked(result)} is in range`, or claim `or DATA ERROR`")
+                raise self.fail(made.at, f"the divisor may be zero: add `{asked(result)} is in range` to `requires`, or `or DATA ERROR` "
+                                         "to `ensures`")
         if result.op == "CHS":
             after = replace(made.state, x=result, lift=True)
         elif len(result.args) == 1:
@@ -371,6 +376,9 @@ class Walk:
     def check_call(self, made: Point, callee: Program) -> None:
         """Checks that the requirements of a subroutine are met."""
         contract, name = callee.contract, callee.shown
+        if callee.is_whole:
+            raise self.fail(made.at, f"{name} has claims about whole numbers or loops, and calls of such a label are not supported: write the "
+                                     "proof by hand, see A theorem of your own in docs/PROVE-YOUR-MODULE.md")
         if contract.errors:
             raise self.fail(made.at, f"{name} may stop with {contract.errors[0]}: require there what excludes the error, and remove "
                                      f"`or {contract.errors[0]}`, because only a subroutine that always returns can be called")
@@ -396,9 +404,9 @@ class Walk:
     def need_number(self, at: int, term: Term) -> None:
         """Checks that a value is known to be a number."""
         if term.op == "left" and not term.args:
-            raise self.fail(at, f"it is not known that {term.text()} is a number (ALPHA DATA otherwise): claim there which number it is")
+            raise self.fail(at, f"{term.text()} may be a text, and then this line stops with ALPHA DATA: add to its claims which number it is")
         if term.op == "old" and term.name not in self.contract.numbers:
-            raise self.fail(at, f"it is not known that {term.text()} is a number (ALPHA DATA otherwise): require `{term.name} is a number`")
+            raise self.fail(at, f"{term.text()} may be a text, and then this line stops with ALPHA DATA: add `{term.name} is a number` to `requires`")
 
 
 def into(term: Term, state: State) -> Term:

@@ -7,7 +7,7 @@ from typing import Callable
 
 from .claims import Wrong
 from .lineclaims import Condition, Equation, LineContract, LoopContract, Term, old, plain
-from .linesteps import EXACT, PLACES, Call, Count, Walk, registers_in
+from .linesteps import EXACT, PLACES, Call, Count, Walk, asked, registers_in
 from .lineterms import LOCAL, NUMBER, TRUTH, ProgramLine, characters_of, kinds_of, term_of, unknowns_of, values_of
 from .linewholes import WholeWalk
 from .statements import CRATE
@@ -87,12 +87,12 @@ class Program:
         tests = self.walk.tests()
         found = next((each for each in (same, turned) if replace(each, is_true=True) in tests), None)
         if found is None:
-            raise Wrong(one.line, 1, f"`{one.text}`: no test of the program makes this comparison, expected one that a test makes, or a "
-                        "claim without `if`")
+            raise Wrong(one.line, 1, f"`{one.text}`: no test of the program compares these two values: after `if`, write what a test "
+                        "compares, for example `old X > old Y` for X>Y?, or omit `if`")
         for each in (left, right):
             if any(part.args and part.op not in EXACT and part not in self.walk.required for part in each.parts()):
-                raise Wrong(one.line, 1, f"`{one.text}`: the result of {plain(each.text())} may be out of range: require that it is in "
-                            "range")
+                raise Wrong(one.line, 1, f"`{one.text}`: the result of {plain(each.text())} may be out of range: add `{asked(each)} is "
+                            "in range` to `requires`")
         return found
 
     @property

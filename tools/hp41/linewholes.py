@@ -7,8 +7,8 @@ from typing import Callable
 
 from .claims import Wrong
 from .codes import NotProved
-from .lineclaims import ZERO, Condition, LineContract, LoopContract, Relation, Term, old
-from .linesteps import PLACES, START, Call, Count, Fact, Loop, Point, State, Walk, value_of
+from .lineclaims import ZERO, Condition, LineContract, LoopContract, Relation, Term
+from .linesteps import NO_START, PLACES, START, Call, Count, Fact, Loop, Point, State, Walk, value_of
 from .lineterms import NUMBER, ProgramLine, term_of
 
 # The first whole number that is too great.
@@ -135,11 +135,19 @@ class WholeWalk(Walk):
             fact = Fact(relation=(first, "<", second) if less else (second, "≤", first))
             made.after.append(self.point(made.at + (1 if is_next else 2), replace(made.state, lift=True), (*made.facts, fact)))
 
+    def call(self, made: Point) -> None:
+        """Raises NotProved."""
+        raise self.fail(made.at, "calls in a program with claims about whole numbers or loops are not supported: put the lines of the "
+                                 "subroutine in place of XEQ, or write the proof by hand, see A theorem of your own in "
+                                 "docs/PROVE-YOUR-MODULE.md")
+
     def target(self, at: int, text: str) -> int:
         """Returns the place of the label to which GTO leads. Only the label of a loop can be before the line."""
         backward = next((place for place in self.claimed if self.lines[place].text == f"LBL {text[4:]}" and place < at), None)
         first = next((place for place in range(len(self.lines)) if self.lines[place].text == f"LBL {text[4:]}"), None)
         end = next((place for place in range(at, len(self.lines)) if self.lines[place].text == "END"), None)
+        if not self.is_start:
+            raise self.fail(at, NO_START)
         onward = any(self.lines[place].text == f"LBL {text[4:]}" for place in range(at, end or len(self.lines)))
         if backward is None or backward != first or onward:
             return super().target(at, text)

@@ -38,7 +38,8 @@ class CallProof:
     def values(self) -> list[str]:
         """Returns the values of the variables of the subroutine's theorem."""
         program, callee = self.proof.program, self.callee
-        return [*(program.amount(self.point.state.register(name)) for name in callee.contract.numbers), *map(program.number, callee.numbers),
+        return [*(program.amount(self.point.state.register(name)) for name in callee.contract.numbers),
+                *map(program.number, callee.numbers),
                 *(program.result(into(term, self.point.state)) for term in callee.walk.required)]
 
     def there(self, name: str) -> str:
@@ -66,7 +67,8 @@ class CallProof:
         found += [f"is_{program.result(into(term, self.point.state))}" for term in callee.walk.required]
         if callee.walk.calls:
             most = 6 - program.depth
-            found.append(f"(let more = one_return_more returns (Memory l{self.point.at}.next) {most} few (omega arith) in omega (arith, more))")
+            more = f"one_return_more returns (Memory l{self.point.at}.next) {most} few (omega arith)"
+            found.append(f"(let more = {more} in omega (arith, more))")
             for one in callee.subs:
                 found += [self.lines_of(one.name, one.needs_start, list(map(one.as_sub, one.unknowns()))),
                           f'(name_there {self.base} (codes "{one.label}") at_{one.name.lower()} finds_{one.name.lower()})']
@@ -124,7 +126,8 @@ class CallProof:
         state = self.after.state
         before = self.proof.contents(stack_part(state, len(self.point.state.written) + count - 1))
         content = self.proof.register(state.written[len(self.point.state.written) + count - 1][1])
-        return (f"kept_but got.contents {before} {number} {content} n {self.same(f'R{number:02}')} (λ not_{number}. {self.kept(count - 1)})")
+        same = self.same(f"R{number:02}")
+        return f"kept_but got.contents {before} {number} {content} n {same} (λ not_{number}. {self.kept(count - 1)})"
 
     def facts(self) -> str:
         """Returns what is known after the subroutine, as arguments."""
@@ -164,6 +167,6 @@ class CallProof:
         numbers, truths = callee.parts()
         theorem = " ".join([f"of_{callee.name.lower()}.proved {LAW_NAMES} pages {called} count {self.target()}",
                             *(given[name] for name in [*numbers, *truths]), values, *self.requirements()])
-        return (f"call_then {self.base} {self.place} {callee.most} {after.most} {self.target()}\n    ({callee.name}_After {called} {values}) "
-                f"After\n    ({self.step()}) (omega (arith, few)) (λ left is. is.returned)\n    ({theorem})\n    "
+        return (f"call_then {self.base} {self.place} {callee.most} {after.most} {self.target()}\n    ({callee.name}_After {called} "
+                f"{values}) After\n    ({self.step()}) (omega (arith, few)) (λ left is. is.returned)\n    ({theorem})\n    "
                 f"(λ after on got. {goes_on})")

@@ -5,7 +5,7 @@ import re
 from dataclasses import dataclass, field, replace
 from decimal import Decimal
 
-from .claims import CONDITIONS, END, Token, WordReader, Wrong, check_spelling
+from .claims import CONDITIONS, END, Token, WordReader, check_spelling
 
 # The registers of the stack, and data registers such as R05.
 STACK = ("X", "Y", "Z", "T", "L")

@@ -44,7 +44,8 @@ use Rattle.h41_rows.specs.Places.{X, Y}
 use Rattle.h41_rows.specs.Rows as rows
 use Rattle.h41_rows.specs.Values as values
 use Rattle.h41_reasoning_lines.specs.ProgramStates.{with_content}
-use Rattle.h41_reasoning_lines.proofs.Calls.{becomes, call_then, calls_local, calls_named, content_there, kept_but, lines_there, memory_there}
+use Rattle.h41_reasoning_lines.proofs.Calls.{becomes, call_then, calls_local, calls_named, content_there, kept_but, lines_there}
+use Rattle.h41_reasoning_lines.proofs.Calls.{memory_there}
 use Rattle.h41_reasoning_lines.proofs.Calls.{name_there, one_return_more, part_of, program_there, rest_lines, same_stack, size_there}
 use Rattle.h41_reasoning_lines.proofs.Calls.{recontented, sound_there}
 use Rattle.h41_reasoning_lines.proofs.Computing.{added, comparable, comparable_turned, comparable_x, divided, made_absolute, made_negative}

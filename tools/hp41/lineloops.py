@@ -5,7 +5,7 @@ from __future__ import annotations
 from typing import TYPE_CHECKING
 
 from .lineclaims import Term
-from .linesteps import PLACES, Count, Fact, Loop, Point, State
+from .linesteps import Count, Fact, Loop, Point, State
 from .lineterms import NUMBER, PLAIN, characters_of
 
 if TYPE_CHECKING:
@@ -84,9 +84,9 @@ class WholeProof:
         value, lemma, exact, order = {"+": ("values.Sum Y X", "added", "sum_whole", ""),
                                       "-": ("values.Difference Y X", "subtracted", "difference_whole", "order ")}[point.result.op]
         left, right = state.y, state.x
-        return (f"works_on_two {common} {lift} functions.{PLAIN[text]} ({value}) found.register refl {stands} ({lemma} {proof.stack(state)} "
-                f"memory {self.program.amount(left)} {self.program.amount(right)} {proof.holds(left)} {proof.holds(right)} found.ten "
-                f"found.register found.of_ten ({exact} itself {self.nat(left)} {self.nat(right)} found.ten {order}found.units_is))")
+        return (f"works_on_two {common} {lift} functions.{PLAIN[text]} ({value}) found.register refl {stands} ({lemma} "
+                f"{proof.stack(state)} memory {self.program.amount(left)} {self.program.amount(right)} {proof.holds(left)} "
+                f"{proof.holds(right)} found.ten found.register found.of_ten ({exact} itself {self.nat(left)} {self.nat(right)} found.ten {order}found.units_is))")
 
     def compare(self, point: Point) -> None:
         """Writes the statement of a test that compares whole numbers: both ways."""
@@ -135,13 +135,14 @@ class WholeProof:
         proof, number = self.proof, loop.number
         rows = self.rows_of(loop)
         proof.put(loop.start, "\n".join(["abbrev " + rows[0], *rows[1:]]))
-        proof.put(loop.start, f"abbrev Again_{number} : ℕ → Type 0\nAgain_{number} left = (fewer : ℕ) → fewer < left → Round_{number} fewer")
+        proof.put(loop.start, f"abbrev Again_{number} : ℕ → Type 0\n"
+                              f"Again_{number} left = (fewer : ℕ) → fewer < left → Round_{number} fewer")
         proof.define(loop.start)
         names = proof.names(loop.start.facts[:-1])
         proof.put(loop.start, "\n".join([
             f"loop_{number} : (left : ℕ) → Round_{number} left",
-            f"loop_{number} = by_rounds Round_{number} (λ (left : ℕ) again {names} counted memory has. {loop.start.name} {names} left again "
-            "counted memory has)"]))
+            f"loop_{number} = by_rounds Round_{number} (λ (left : ℕ) again {names} counted memory has. {loop.start.name} {names} left "
+            "again counted memory has)"]))
 
     def arguments(self, loop: Loop, state: State, known: str) -> str:
         """Returns what a round begins with, at a state, as arguments. What its comparisons need has been named before."""

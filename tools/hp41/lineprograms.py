@@ -140,13 +140,13 @@ class Finder:
             first = next(place for place, line in enumerate(source.lines)
                          if line.text == text and place not in self.claims and (source.path != source.claims or line.number == at + 1))
             if contract.has_own and contract.loop.decreases:
-                raise Wrong(contract.loop.line, 1, f"found claims about a loop and others before `{text}`, expected the label of the loop on "
-                            "a line of its own, for example LBL 01 after it")
+                raise Wrong(contract.loop.line, 1, f"found claims about a loop and others before `{text}`, expected the label of the loop "
+                            "on a line of its own, for example LBL 01 after it")
             if contract.has_own:
                 self.claims[first] = (at + 1, text, contract)
             elif LABEL.fullmatch(text):
-                raise Wrong(contract.line, 1, f"found claims about a loop before `{text}`, expected them before a local label, to which GTO "
-                            "leads back, for example LBL 01")
+                raise Wrong(contract.line, 1, f"found claims about a loop before `{text}`, expected them before a local label, to which "
+                            "GTO leads back, for example LBL 01")
             else:
                 self.loops[first] = contract.loop
         self.known: dict[int, Program] = {}
@@ -182,8 +182,8 @@ class Finder:
         else:
             found = places[-1] if places else None
         if found is None:
-            raise NotProved(line.number, f"`{line.text}`: found no {label} in the {'program' if LOCAL.fullmatch(label) else 'file'}: put the "
-                                         "lines of the subroutine there")
+            place = "program" if LOCAL.fullmatch(label) else "file"
+            raise NotProved(line.number, f"`{line.text}`: found no {label} in the {place}: put the lines of the subroutine there")
         if found not in self.claims:
             raise NotProved(line.number, f"`{line.text}`: {label} has no claims: write comments before it that say what it requires and "
                                          "leaves")

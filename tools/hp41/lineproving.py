@@ -44,8 +44,8 @@ def try_programs(report: ProgramReport, programs: list[tuple[int, Program]]) -> 
         known = {one.claim for one in found}
         others = [one for one in mismatches(program) if one.claim not in known and "returns" not in known]
         for mismatch in others:
-            report.bad(mismatch.line, mismatch.claim, f"not proved: {mismatch.why}. It may be true: it is not false from any of the {count} states that "
-                       "the bench tried")
+            report.bad(mismatch.line, mismatch.claim, f"not proved: {mismatch.why}. It may be true: it is not false from any of the "
+                       f"{count} states that the bench tried")
         if not found and not others:
             tried[program.name] = count
     return tried
@@ -82,7 +82,8 @@ def prove_programs(report: ProgramReport, programs: list[tuple[int, Program]], t
             report.tell(line, f"{program.shown}: proved for every state that meets its requirements: {count} {claims}, "
                         f"within {program.most} {lines}; the bench tried {tried[program.name]} states")
         elif not verdict.faults:
-            report.bad(line, "", f"{program.shown}: not proved, and the prover does not say why: with --keep FOLDER, the proof is in FOLDER/proofs")
+            report.bad(line, "", f"{program.shown}: not proved, and the prover does not say why: with --keep FOLDER, the proof is in "
+                                 "FOLDER/proofs")
 
 
 def read(options: Namespace) -> tuple[Source, list[tuple[int, Program]]]:

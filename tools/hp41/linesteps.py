@@ -25,10 +25,10 @@ MOST_POINTS = 400
 # What to write in place of a line that is not supported.
 BRANCH = re.compile("(GTO|XEQ) ")
 LOOP = re.compile("(ISG|DSE) ")
-NO_COUNTER = ("ISG and DSE are not supported: count in X with - and a test such as X>0?, or write the proof by hand, see A theorem of your own "
-              "in docs/PROVE-YOUR-MODULE.md")
-NO_LOOP = ("this line leads back, and nothing says that the loop ends: put comments `invariant` and `decreases` before the label, see Loops of "
-           "programs in docs/PROVE-YOUR-MODULE.md")
+NO_COUNTER = ("ISG and DSE are not supported: count in X with - and a test such as X>0?, or write the proof by hand, see A theorem of your "
+              "own in docs/PROVE-YOUR-MODULE.md")
+NO_LOOP = ("this line leads back, and nothing says that the loop ends: put comments `invariant` and `decreases` before the label, see "
+           "Loops of programs in docs/PROVE-YOUR-MODULE.md")
 NO_BRANCH = ("only GTO 00 to GTO 14, XEQ 00 to XEQ 14 and XEQ with a name are supported: prove the lines up to it, or write the proof by "
              "hand, see A theorem of your own in docs/PROVE-YOUR-MODULE.md")
 NO_START = ("the label with the claims is not the first line of its program, so it is not known where this line leads: put END before "
@@ -129,8 +129,8 @@ class Loop:
 @dataclass
 class Point:
     """A line that is reached, with the state before it and what is known. `kind` says what happens: `line`, `lift` (it depends on stack
-    lift), `test`, `outcome` (the result may be out of range), `call` or `end`; with whole numbers also `exact`, `compare`, and at the label of
-    a loop `enter` and `again`. `after` has the points after it. `ways` has the greatest number of lines up to the end of the program or to
+    lift), `test`, `outcome` (the result may be out of range), `call` or `end`; with whole numbers also `exact`, `compare`, and at the
+    label of a loop `enter` and `again`. `after` has the points after it. `ways` has the greatest number of lines up to the end of the program or to
     the label of the loop, and `again` to the label of the loop in which the point is. `entered` is the loop that begins here."""
     name: str
     at: int
@@ -246,8 +246,8 @@ class Walk:
         """Returns the point at a line."""
         self.count += 1
         if self.count > MOST_POINTS:
-            raise self.fail(at, f"the tests before this line make too many paths: {MOST_POINTS} lines on all paths together are possible. Turn a part of "
-                                "the program into a subroutine with its own claims")
+            raise self.fail(at, f"the tests before this line make too many paths: {MOST_POINTS} lines on all paths together are possible. "
+                                "Turn a part of the program into a subroutine with its own claims")
         if at >= len(self.lines):
             raise self.fail(at, "no line follows, and the program does not return: add RTN or END after this line")
         self.last = max(self.last, at)
@@ -377,19 +377,19 @@ class Walk:
         """Checks that the requirements of a subroutine are met."""
         contract, name = callee.contract, callee.shown
         if callee.is_whole:
-            raise self.fail(made.at, f"{name} has claims about whole numbers or loops, and calls of such a label are not supported: write the "
-                                     "proof by hand, see A theorem of your own in docs/PROVE-YOUR-MODULE.md")
+            raise self.fail(made.at, f"{name} has claims about whole numbers or loops, and calls of such a label are not supported: write "
+                                     "the proof by hand, see A theorem of your own in docs/PROVE-YOUR-MODULE.md")
         if contract.errors:
             raise self.fail(made.at, f"{name} may stop with {contract.errors[0]}: require there what excludes the error, and remove "
                                      f"`or {contract.errors[0]}`, because only a subroutine that always returns can be called")
         if contract.is_lift_on and not made.state.lift:
-            raise self.fail(made.at, f"{name} requires that stack lift is on, which is not known here: remove this requirement, or put a line "
-                                     "before XEQ that turns stack lift on, for example RCL")
+            raise self.fail(made.at, f"{name} requires that stack lift is on, which is not known here: remove this requirement, or put a "
+                                     "line before XEQ that turns stack lift on, for example RCL")
         for register in contract.numbers:
             term = made.state.register(register)
             if not self.is_number(term):
-                raise self.fail(made.at, f"{name} requires that {register} is a number, but {register} contains {plain(term.text())}, of which "
-                                         "this is not known")
+                raise self.fail(made.at, f"{name} requires that {register} is a number, but {register} contains {plain(term.text())}, of "
+                                         "which this is not known")
         for term in callee.walk.required:
             here = into(term, made.state)
             if not self.is_in_range(here, made.facts):
@@ -404,9 +404,11 @@ class Walk:
     def need_number(self, at: int, term: Term) -> None:
         """Checks that a value is known to be a number."""
         if term.op == "left" and not term.args:
-            raise self.fail(at, f"{term.text()} may be a text, and then this line stops with ALPHA DATA: add to its claims which number it is")
+            raise self.fail(at, f"{term.text()} may be a text, and then this line stops with ALPHA DATA: add to the claims there which "
+                                "number it is")
         if term.op == "old" and term.name not in self.contract.numbers:
-            raise self.fail(at, f"{term.text()} may be a text, and then this line stops with ALPHA DATA: add `{term.name} is a number` to `requires`")
+            raise self.fail(at, f"{term.text()} may be a text, and then this line stops with ALPHA DATA: add `{term.name} is a number` "
+                                "to `requires`")
 
 
 def into(term: Term, state: State) -> Term:

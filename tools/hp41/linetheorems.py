@@ -17,7 +17,8 @@ RETURNS = 6
 
 FAULTS = {"OUT OF RANGE": "OutOfRange", "DATA ERROR": "DataError"}
 
-USED = """use Rattle.std.specs.Prelude.{◌≡◌, ℕ, ◌+◌, ◌-◌, ◌*◌, ◌^◌, ◌<◌, ◌≤◌, ◌⊎◌, Bool, true, false, List, [], ◌∷◌, Ok, codes, bytes_eq, length}
+USED = """use Rattle.std.specs.Prelude.{◌≡◌, ℕ, ◌+◌, ◌-◌, ◌*◌, ◌^◌, ◌<◌, ◌≤◌, ◌⊎◌, Bool, true, false, List, [], ◌∷◌, Ok}
+use Rattle.std.specs.Prelude.{codes, bytes_eq, length}
 use Rattle.std.specs.Prelude.{ℤ, pos, neg_ℤ, ◌+ℤ◌, ◌-ℤ◌, ◌*ℤ◌, int_le, int_lt, unsigned_abs}
 use Rattle.h41_codes.specs.declared.characters.Character.TheVariants as characters
 use Rattle.h41_codes.specs.declared.functions.Branch.TheVariants.{Execute}
@@ -62,19 +63,21 @@ class Program:
         self.lines = lines[:self.walk.last + 1]
         self.shown = lines[0].text if LOCAL.fullmatch(lines[0].text) else label
         self.name = re.sub(r"\W", "_", label, flags=re.A)
-        callees = [call.program for call in self.walk.calls.values()]
-        self.depth = 1 + max((one.depth for one in callees), default=-1)
+        callees: list[Program] = [call.program for call in self.walk.calls.values()]
+        self.depth: int = 1 + max((one.depth for one in callees), default=-1)
         # The programs with a name that are called, each after those that it calls.
         self.subs: list[Program] = []
         for call in self.walk.calls.values():
             for one in [*call.program.subs, *([call.program] if call.place is None else [])]:
                 self.subs += [one] if one.name not in [known.name for known in self.subs] else []
-        self.numbers = sorted({*(line.text for line in self.lines
+        self.numbers: list[str] = sorted({*(line.text for line in self.lines
                                  if NUMBER.fullmatch(line.text) and self.walk.nat(Term("number", (), line.text)) is None),
                                *(text for one in callees for text in one.numbers)})
         self.results: list[Term] = list(self.walk.required)
-        self.equations = [(one, self.walk.resolved(one.value), self.condition(one)) for one in contract.equations]
-        self.used = [*registers_in(self.lines), *(int(name[1:]) for one in contract.equations for name in names_in(one.value, one.register)),
+        self.equations: list[tuple[Equation, Term, Condition | None]] = [
+            (one, self.walk.resolved(one.value), self.condition(one)) for one in contract.equations]
+        self.used: list[int] = [*registers_in(self.lines),
+                     *(int(name[1:]) for one in contract.equations for name in names_in(one.value, one.register)),
                      *(number for one in callees for number in one.used)]
 
     def condition(self, one: Equation) -> Condition | None:
@@ -162,7 +165,7 @@ class Program:
         return sorted((name for at, line in enumerate(self.lines) for name in unknowns_of(line.text, at)), key=is_truth)
 
     def of_subs(self) -> list[str]:
-        """Returns the names of the positions of the programs that are called, and of the links, distances and status bits of their lines."""
+        """Returns the names of the positions of the programs that are called, and of the parts of their lines."""
         return sorted((name for one in self.subs for name in (f"at_{one.name.lower()}", *map(one.as_sub, one.unknowns()))), key=is_truth)
 
     def variables_of_lines(self) -> list[str]:

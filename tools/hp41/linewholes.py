@@ -8,8 +8,8 @@ from typing import Callable
 from .claims import Wrong
 from .codes import NotProved
 from .lineclaims import ZERO, Condition, LineContract, LoopContract, Relation, Term
-from .linesteps import NO_START, PLACES, START, Call, Count, Fact, Loop, Point, State, Walk, value_of
-from .lineterms import NUMBER, ProgramLine, term_of
+from .linesteps import NO_START, PLACES, START, Call, Fact, Loop, Point, State, Walk, value_of
+from .lineterms import ProgramLine, term_of
 
 # The first whole number that is too great.
 BOUND = 10 ** 10
@@ -224,13 +224,15 @@ class WholeWalk(Walk):
 
     def at_label(self, at: int, is_on: bool) -> tuple[State, list[Fact]]:
         """Returns the state at the label of a loop, and what is known of its registers."""
-        contract, facts, number = self.claimed[at], [], self.count
+        contract, number = self.claimed[at], self.count
+        facts: list[Fact] = []
 
         def content(name: str) -> Term:
             """Returns what is in a register."""
             if name in contract.kept:
                 return contract.kept[name][0]
-            value = (Term("whole", (), f"k_{name.lower()}_{number}", f"{name} at {self.lines[at].text}"),) if name in contract.wholes else ()
+            one = Term("whole", (), f"k_{name.lower()}_{number}", f"{name} at {self.lines[at].text}")
+            value = (one,) if name in contract.wholes else ()
             found = Term("left", value, f"{name.lower()}_{number}", f"what {name} contains at {self.lines[at].text}")
             facts.append(Fact(left=found))
             return found

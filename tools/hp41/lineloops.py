@@ -7,6 +7,7 @@ from typing import TYPE_CHECKING
 from .lineclaims import Term
 from .linesteps import Count, Fact, Loop, Point, State
 from .lineterms import NUMBER, PLAIN, characters_of
+from .linewholes import WholeWalk
 
 if TYPE_CHECKING:
     from .lineproofs import ProgramProof
@@ -24,6 +25,11 @@ class WholeProof:
         """Takes the proof of the program."""
         self.proof, self.program, self.walk = proof, proof.program, proof.program.walk
         self.done: set[int] = set()
+
+    def whole_walk(self) -> WholeWalk:
+        """Returns the paths of a program with a loop."""
+        assert isinstance(self.walk, WholeWalk)
+        return self.walk
 
     def nat(self, term: Term) -> str:
         """Returns a whole number as a natural number of the definitions."""
@@ -144,8 +150,8 @@ class WholeProof:
             f"loop_{number} = by_rounds Round_{number} (λ (left : ℕ) again {names} counted memory has. {loop.start.name} {names} left "
             "again counted memory has)"]))
 
-    def arguments(self, loop: Loop, state: State, known: str) -> str:
-        """Returns what a round begins with, at a state, as arguments. What its comparisons need has been named before."""
+    def arguments(self, loop: Loop, state: State) -> str:
+        """Returns what a round begins with, at a state, as arguments. Its comparisons have been named before."""
         found = []
         for fact in loop.facts:
             if fact.switch:
@@ -184,7 +190,7 @@ class WholeProof:
         """Returns lines that prove the comparisons of a loop at a state, each with its line and its text."""
         found = []
         for at, (_, _, _, one) in enumerate(loop.relations, 1):
-            left, sign, right = self.walk.compared(one, point.state)
+            left, sign, right = self.whole_walk().compared(one, point.state)
             found.append((f"    let kept_{at} : {left} {sign} {right} = omega {known} in", one.line, one.text))
         return found
 
@@ -194,7 +200,7 @@ class WholeProof:
         loop, measure, _ = point.entered
         self.loop(loop)
         proof, names, known = self.proof, self.proof.names(point.facts), self.known(point.facts)
-        arguments = self.arguments(loop, point.state, known)
+        arguments = self.arguments(loop, point.state)
         proof.put_rows(point, [
             (f"{point.name} : {proof.given(point.facts)}{proof.leaves(point)}", 0, ""), (f"{point.name} {names} memory has =", 0, ""),
             *self.comparisons(point, loop, known),
@@ -206,8 +212,8 @@ class WholeProof:
         loop = point.loop
         assert loop
         proof, names, known = self.proof, self.proof.names(point.facts), self.known(point.facts)
-        measure, number = self.walk.measure(loop, point.state), loop.number
-        arguments = self.arguments(loop, point.state, known)
+        measure, number = self.whole_walk().measure(loop, point.state), loop.number
+        arguments = self.arguments(loop, point.state)
         most = Count(loop.rest(), ((loop.round(), measure),))
         contract = loop.contract
         proof.put_rows(point, [

@@ -78,7 +78,7 @@ def prove_programs(report: ProgramReport, programs: list[tuple[int, Program]], t
     for line, program in chosen:
         if function_of(program).removeprefix("of_") in verdict.proved:
             count = len(program.equations)
-            claims, lines = f"claim{'' if count == 1 else 's'}", f"line{'' if program.most == 1 else 's'}"
+            claims, lines = f"claim{'' if count == 1 else 's'}", f"line{'' if str(program.most) == '1' else 's'}"
             report.tell(line, f"{program.shown}: proved for every state that meets its requirements: {count} {claims}, "
                         f"within {program.most} {lines}; the bench tried {tried[program.name]} states")
         elif not verdict.faults:

@@ -67,7 +67,8 @@ class WholeWalk(Walk):
         here = at_state(term, state)
         found = self.nat(here, BOUND ** 10)
         if found is None:
-            raise Wrong(relation.line, 1, f"`{relation.text}`: {here.text()} is not known to be a whole number: claim it, for example "
+            unknown = next((one for one in here.parts() if self.nat(one, BOUND ** 10) is None), here)
+            raise Wrong(relation.line, 1, f"`{relation.text}`: {unknown.text()} is not known to be a whole number: claim it, for example "
                         "`X is a whole number`")
         return found
 

@@ -51,6 +51,7 @@ use Rattle.h41_reasoning_lines.proofs.Calls.{recontented, sound_there}
 use Rattle.h41_reasoning_lines.proofs.Computing.{added, comparable, comparable_turned, comparable_x, divided, made_absolute, made_negative}
 use Rattle.h41_reasoning_lines.proofs.Computing.{multiplied, number_there, squared, subtracted, tells_above, tells_at_most, tells_below}
 use Rattle.h41_reasoning_lines.proofs.Computing.{tells_negative, tells_not_positive, tells_positive}
+use Rattle.h41_reasoning_lines.proofs.Counting.{counts_down, counts_to_zero}
 use Rattle.h41_reasoning_lines.proofs.Errors.{difference_is_out, never_data, no_quotient, product_is_out, quotient_is_out}
 use Rattle.h41_reasoning_lines.proofs.Errors.{square_is_out, sum_is_out}
 use Rattle.h41_reasoning_lines.proofs.Labels.{found_back, found_onward, label_after, label_at_end, label_here, no_end, none_late}

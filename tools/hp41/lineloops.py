@@ -92,7 +92,8 @@ class WholeProof:
         left, right = state.y, state.x
         return (f"works_on_two {common} {lift} functions.{PLAIN[text]} ({value}) found.register refl {stands} ({lemma} "
                 f"{proof.stack(state)} memory {self.program.amount(left)} {self.program.amount(right)} {proof.holds(left)} "
-                f"{proof.holds(right)} found.ten found.register found.of_ten ({exact} itself {self.nat(left)} {self.nat(right)} found.ten {order}found.units_is))")
+                f"{proof.holds(right)} found.ten found.register found.of_ten ({exact} itself {self.nat(left)} {self.nat(right)} "
+                f"found.ten {order}found.units_is))")
 
     def compare(self, point: Point) -> None:
         """Writes the statement of a test that compares whole numbers: both ways."""
@@ -107,6 +108,22 @@ class WholeProof:
             truth = self.truth(point, text, way == "inl", first, second)
             step = proof.test_step(point, text, truth, after.at == point.at + 1)
             rows.append(f"      | {way} which ↦ {proof.go_on(point, after, step, f'{names} which')}")
+        proof.put(point, "\n".join([*rows, "    ]"]))
+
+    def count(self, point: Point) -> None:
+        """Writes the statement of DSE: both ways."""
+        proof, names, known = self.proof, self.proof.names(point.facts), self.known(point.facts)
+        register = int(self.program.lines[point.at].text[4:])
+        value = point.state.register(f"R{register:02}")
+        number = self.nat(value)
+        rows = [f"{point.name} : {proof.given(point.facts)}{proof.leaves(point)}", f"{point.name} {names} memory has =",
+                f"    let some : 0 < {number} = omega {known} in", f"    let small : ({number} - 1) < 10 ^ 10 = omega {known} in",
+                f"    let found = whole_in registers ({number} - 1) small in", f"    elim (cases_lt 0 ({number} - 1)) ["]
+        given = (f"itself {proof.common(point)} {proof.lift(point.state)} {register} {number} (omega arith) (omega (arith, inside)) "
+                 f"l{point.at}.stands some {proof.holds(value)} found.ten found.register found.units_is found.of_ten which")
+        skipped = f"_ l{point.at + 1}.next l{point.at + 1}.stands"
+        for after, way, step in zip(point.after, ("inl", "inr"), (f"counts_down {given}", f"counts_to_zero {given} {skipped}")):
+            rows.append(f"      | {way} which ↦ {proof.go_on(point, after, step, f'{names} found.register found.is small which')}")
         proof.put(point, "\n".join([*rows, "    ]"]))
 
     def truth(self, point: Point, text: str, is_less: bool, first: str, second: str) -> str:

@@ -223,7 +223,7 @@ def mismatches(program: Program) -> list[Mismatch]:
                                                     f"label on, {one.register} contains {plain(reached.text())}{path_of(point)}"))
     most = program.contract.most
     if most and (program.most.parts or most[0] < program.most.constant):
-        found[most[1]] = Mismatch(most[2], most[1], f"the program takes up to {program.most} lines")
+        found[most[1]] = Mismatch(most[2], most[1], f"the program takes up to {program.most.shown()} lines")
     return list(found.values())
 
 

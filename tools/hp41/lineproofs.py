@@ -178,6 +178,10 @@ class ProgramProof:
         """Writes the statement of a test that compares whole numbers."""
         self.whole_part.compare(point)
 
+    def define_count(self, point: Point) -> None:
+        """Writes the statement of DSE."""
+        self.whole_part.count(point)
+
     def define_enter(self, point: Point) -> None:
         """Writes the statement of the place at which a loop begins."""
         self.whole_part.enter(point)

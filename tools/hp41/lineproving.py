@@ -80,7 +80,7 @@ def prove_programs(report: ProgramReport, programs: list[tuple[int, Program]], t
             count = len(program.equations)
             claims, lines = f"claim{'' if count == 1 else 's'}", f"line{'' if str(program.most) == '1' else 's'}"
             report.tell(line, f"{program.shown}: proved for every state that meets its requirements: {count} {claims}, "
-                        f"within {program.most} {lines}; the bench tried {tried[program.name]} states")
+                        f"within {program.most.shown()} {lines}; the bench tried {tried[program.name]} states")
         elif not verdict.faults:
             report.bad(line, "", f"{program.shown}: not proved, and the prover does not say why: with --keep FOLDER, the proof is in "
                                  "FOLDER/proofs")

@@ -9,7 +9,7 @@ from typing import TYPE_CHECKING, Callable, NamedTuple
 from .claims import Wrong
 from .codes import NotProved
 from .lineclaims import ZERO, Condition, LineContract, LoopContract, Relation, Term, condition_of, old, plain
-from .lineterms import CALL, CALL_NAMED, GO_TO, NUMBER, REGISTER, TEST, ProgramLine, term_of
+from .lineterms import CALL, CALL_NAMED, COUNT, GO_TO, NUMBER, REGISTER, TEST, ProgramLine, term_of
 
 if TYPE_CHECKING:
     from .linetheorems import Program
@@ -25,8 +25,8 @@ MOST_POINTS = 400
 # What to write in place of a line that is not supported.
 BRANCH = re.compile("(GTO|XEQ) ")
 LOOP = re.compile("(ISG|DSE) ")
-NO_COUNTER = ("ISG and DSE are not supported: count in X with - and a test such as X>0?, or write the proof by hand, see A theorem of your "
-              "own in docs/PROVE-YOUR-MODULE.md")
+NO_COUNTER = ("only DSE 00 to DSE 15 of a register that is claimed to contain a whole number are supported: count down with it, or "
+              "write the proof by hand, see A theorem of your own in docs/PROVE-YOUR-MODULE.md")
 NO_LOOP = ("this line leads back, and nothing says that the loop ends: put comments `invariant` and `decreases` before the label, see "
            "Loops of programs in docs/PROVE-YOUR-MODULE.md")
 NO_BRANCH = ("only GTO 00 to GTO 14, XEQ 00 to XEQ 14 and XEQ with a name are supported: prove the lines up to it, or write the proof by "
@@ -97,6 +97,11 @@ class Count:
         found = " + ".join([*(f"{many} * {one}" for many, one in self.parts), str(self.constant)])
         return f"({found})" if self.parts else found
 
+    def shown(self) -> str:
+        """Returns the number in words for a reader, with the registers before the program."""
+        text = str(self).removeprefix("(").removesuffix(")") if self.parts else str(self)
+        return re.sub(r"whole_(\w+)", lambda found: found[1].upper(), text)
+
     def more(self, lines: int | Count) -> Count:
         """Returns the number with more lines."""
         other = lines if isinstance(lines, Count) else Count(lines)
@@ -129,9 +134,10 @@ class Loop:
 @dataclass
 class Point:
     """A line that is reached, with the state before it and what is known. `kind` says what happens: `line`, `lift` (it depends on stack
-    lift), `test`, `outcome` (the result may be out of range), `call` or `end`; with whole numbers also `exact`, `compare`, and at the
-    label of a loop `enter` and `again`. `after` has the points after it. `ways` has the greatest number of lines up to the end of the program or to
-    the label of the loop, and `again` to the label of the loop in which the point is. `entered` is the loop that begins here."""
+    lift), `test`, `outcome` (the result may be out of range), `call` or `end`; with whole numbers also `exact`, `compare`, `count`, and at
+    the label of a loop `enter` and `again`. `after` has the points after it. `ways` has the greatest number of lines up to the end of the
+    program or to the label of the loop, and `again` to the label of the loop in which the point is. `entered` is the loop that begins
+    here."""
     name: str
     at: int
     state: State
@@ -227,7 +233,7 @@ class Walk:
     def all_written(self) -> list[int]:
         """Returns the data registers that lines of the program write."""
         end = next((place for place, line in enumerate(self.lines) if line.text == "END"), len(self.lines))
-        return registers_in([line for line in self.lines[:end] if line.text.startswith("STO")])
+        return registers_in([line for line in self.lines[:end] if line.text.startswith(("STO", "DSE"))])
 
     def tests(self) -> set[Condition]:
         """Returns the conditions of all tests that are reached."""
@@ -270,10 +276,14 @@ class Walk:
         text = self.lines[at].text
         if BRANCH.match(text) and not any(form.fullmatch(text) for form in (GO_TO, CALL, CALL_NAMED)):
             raise self.fail(at, NO_BRANCH)
-        if LOOP.match(text):
+        if LOOP.match(text) and not self.can_count(text):
             raise self.fail(at, NO_COUNTER)
         if term_of(text, at) is None:
             raise self.fail(at, "this line is not supported: see the supported lines in docs/PROVE-YOUR-MODULE.md")
+
+    def can_count(self, text: str) -> bool:
+        """Returns whether ISG or DSE is supported."""
+        return False
 
     def follow(self, made: Point, text: str) -> None:
         """Adds the points after a point."""
@@ -460,5 +470,5 @@ def value_of(text: str) -> Decimal | None:
 
 def registers_in(lines: list[ProgramLine]) -> list[int]:
     """Returns the data registers that lines name."""
-    found = (REGISTER.fullmatch(line.text) for line in lines)
-    return sorted({int(one[2]) for one in found if one})
+    found = (REGISTER.fullmatch(line.text) or COUNT.fullmatch(line.text) for line in lines)
+    return sorted({int(one[one.re.groups]) for one in found if one})

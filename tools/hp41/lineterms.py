@@ -18,6 +18,7 @@ GO_TO = re.compile("GTO (0[0-9]|1[0-4])")
 CALL = re.compile("XEQ (0[0-9]|1[0-4])")
 CALL_NAMED = re.compile(r'XEQ "([ !#-\[\]-~]*)"')
 REGISTER = re.compile("(RCL|STO) (0[0-9]|1[0-5])")
+COUNT = re.compile("DSE (0[0-9]|1[0-5])")
 NUMBER = re.compile("(?!-$)[-0-9.E]+")
 TEST = re.compile(r"X(?:<|>|<=|=|#)[Y0]\?")
 LABEL = re.compile('LBL ".*"')
@@ -54,6 +55,9 @@ def term_of(text: str, index: int) -> str | None:
         return f"lines.ShortGoTo {int(text[4:])} distance_{index}"
     if CALL.fullmatch(text):
         return f"lines.BranchTo Execute distance_{index} backwards_{index} {int(text[4:])}"
+    counted = COUNT.fullmatch(text)
+    if counted:
+        return f"lines.WithOperand DecrementSkip (Direct {int(counted[1])})"
     called = CALL_NAMED.fullmatch(text)
     if called:
         return f'lines.Named ExecuteName (codes "{called[1]}")'

@@ -24,9 +24,11 @@ use Rattle.h41_codes.specs.declared.characters.Character.TheVariants as characte
 use Rattle.h41_codes.specs.declared.functions.Branch.TheVariants.{Execute}
 use Rattle.h41_codes.specs.declared.functions.Function.TheVariants as functions
 use Rattle.h41_codes.specs.declared.functions.NameFunction.TheVariants.{ExecuteName}
+use Rattle.h41_codes.specs.declared.functions.ParameterFunction.TheVariants.{DecrementSkip}
 use Rattle.h41_codes.specs.declared.functions.RegisterFunction.TheVariants.{RecallRegister, StoreRegister}
 use Rattle.h41_codes.specs.declared.line.Line.{Line}
 use Rattle.h41_codes.specs.declared.line.Line.TheVariants as lines
+use Rattle.h41_codes.specs.declared.line.Operand.TheVariants.{Direct}
 use Rattle.h41_decimal.specs.Holding.{Number, holding_of}
 use Rattle.h41_decimal.specs.NearestDecimal.{Nearest}
 use Rattle.h41_decimal.specs.Operations.{NearestQuotient}
@@ -242,7 +244,7 @@ class Program:
 
     def written(self) -> list[int]:
         """Returns the data registers that lines write, and the programs that they call."""
-        own = registers_in([line for at, line in enumerate(self.lines) if line.text.startswith("STO")])
+        own = registers_in([line for line in self.lines if line.text.startswith(("STO", "DSE"))])
         return sorted({*own, *(number for call in self.walk.calls.values() for number in call.program.written())})
 
 

@@ -9,7 +9,7 @@ from .claims import Wrong
 from .codes import NotProved
 from .lineclaims import ZERO, Condition, LineContract, LoopContract, Relation, Term
 from .linesteps import NO_START, PLACES, START, Call, Fact, Loop, Point, State, Walk, value_of
-from .lineterms import ProgramLine, term_of
+from .lineterms import COUNT, ProgramLine, term_of
 
 # The first whole number that is too great.
 BOUND = 10 ** 10
@@ -98,12 +98,40 @@ class WholeWalk(Walk):
 
     def follow(self, made: Point, text: str) -> None:
         """Adds the points after a point."""
-        if text == "CLX":
+        if COUNT.fullmatch(text):
+            self.count_down(made, int(text[4:]))
+        elif text == "CLX":
             new = self.fresh(ZERO)
             made.kind = "exact"
             made.after = [self.point(made.at + 1, replace(made.state, x=new, lift=False), (*made.facts, Fact(left=new)))]
         else:
             super().follow(made, text)
+
+    def can_count(self, text: str) -> bool:
+        """Returns whether ISG or DSE is supported."""
+        return bool(COUNT.fullmatch(text))
+
+    def count_down(self, made: Point, register: int) -> None:
+        """Adds the points after DSE: at the next line if the counter is not zero, otherwise after it."""
+        value = made.state.register(f"R{register:02}")
+        if self.nat(value) is None:
+            raise self.fail(made.at, f"R{register:02} contains {value.text()}, which is not known to be a whole number: add "
+                                     f"`R{register:02} is a whole number` to `requires`, and to `invariant` if the line is in a loop")
+        self.need_next(made.at)
+        new = self.fresh(Term("-", (value, Term("number", (), "1"))))
+        number, made.kind = self.nat(new), "count"
+        assert number is not None
+        after = replace(made.state, lift=True, written=(*made.state.written, (register, new)))
+        for place, relation in ((made.at + 1, ("0", "<", number)), (made.at + 2, (number, "≤", "0"))):
+            made.after.append(self.point(place, after, (*made.facts, Fact(left=new), Fact(relation=relation))))
+
+    def need_next(self, at: int) -> None:
+        """Checks that there is a line that a test or DSE could skip."""
+        if at + 1 >= len(self.lines):
+            raise self.fail(at, "this line is the last one, so it has no line to skip: add lines after it, for example RTN and RTN")
+        if term_of(self.lines[at + 1].text, 0) is None:
+            self.check(at + 1)
+        self.last = max(self.last, at + 1)
 
     def compute(self, made: Point, result: Term) -> None:
         """Adds the points after a function."""
@@ -121,11 +149,7 @@ class WholeWalk(Walk):
         if left is None or right is None or condition.relation == "=" and text[-2] == "Y":
             super().test(made, condition)
             return
-        if made.at + 1 >= len(self.lines):
-            raise self.fail(made.at, "this test is the last line: there is no line that it could skip")
-        if term_of(self.lines[made.at + 1].text, 0) is None:
-            self.check(made.at + 1)
-        self.last = max(self.last, made.at + 1)
+        self.need_next(made.at)
         made.kind = "compare"
         # Whether the first number is less than the second one.
         first, second, is_less = ((left, right, True) if condition.relation == "<" else (right, left, False) if condition.relation == "<="

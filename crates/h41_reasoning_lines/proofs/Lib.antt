@@ -8,6 +8,7 @@ pub mod Ranges
 pub mod Scales
 pub mod Wholes
 pub mod WholeSteps
+pub mod Counters
 pub mod Labels
 pub mod Programs
 pub mod Loads
@@ -17,4 +18,5 @@ pub mod ProgramStates
 pub mod ProgramSteps
 pub mod Errors
 pub mod Calls
+pub mod Counting
 pub mod SignedDecimals

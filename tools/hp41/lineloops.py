@@ -119,7 +119,7 @@ class WholeProof:
         rows = [f"{point.name} : {proof.given(point.facts)}{proof.leaves(point)}", f"{point.name} {names} memory has =",
                 f"    let some : 0 < {number} = omega {known} in", f"    let small : ({number} - 1) < 10 ^ 10 = omega {known} in",
                 f"    let found = whole_in registers ({number} - 1) small in", f"    elim (cases_lt 0 ({number} - 1)) ["]
-        given = (f"itself {proof.common(point)} {proof.lift(point.state)} {register} {number} (omega arith) (omega (arith, inside)) "
+        given = (f"itself {proof.common(point)} {proof.lift(point.state)} {register} {number} (omega arith) refl (omega (arith, inside)) "
                  f"l{point.at}.stands some {proof.holds(value)} found.ten found.register found.units_is found.of_ten which")
         skipped = f"_ l{point.at + 1}.next l{point.at + 1}.stands"
         for after, way, step in zip(point.after, ("inl", "inr"), (f"counts_down {given}", f"counts_to_zero {given} {skipped}")):

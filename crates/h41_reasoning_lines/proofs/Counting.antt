@@ -20,6 +20,7 @@ use Rattle.h41_rows.specs.Counters.{Down, goes_on, number_after}
 use Rattle.h41_rows.specs.LineRows.{loop}
 use Rattle.h41_rows.specs.Operands.{address_of}
 use Rattle.h41_rows.specs.Places.{Named}
+use Rattle.h41_rows.specs.Profile.{is_parameter_left_out}
 use Rattle.h41_rows.specs.RowEffects.{holds_in}
 use Rattle.h41_rows.specs.Rows as rows
 use Rattle.h41_rows.specs.Values.{IsRegisterOf}
@@ -43,7 +44,7 @@ ends_at left none = grind (arith, common_steps)
 module _ (itself : DecimalIsItsNearest) (pages : PageMap) (old : RegisterMap) (sixteen : length old.status ≡ 16)
     (sound : is_sound old ≡ true) (stack : Stack) (contents : ℕ → List ℕ) (memory : RegisterMap)
     (is : HasBecome old stack contents memory) (at next : ℕ) (zero : Bool) (returns : List Position) (lift : Bool)
-    (n number : ℕ) (small : n < 100) (inside : n < size_of old)
+    (n number : ℕ) (small : n < 100) (supported : is_parameter_left_out n ≡ false) (inside : n < size_of old)
     (line : IsLineAt old at (WithOperand DecrementSkip (Direct n)) next) (some : 0 < number)
     (holds : holding_of (contents n) ≡ Number (whole number)) (ten : Ten) (register : List ℕ)
     (ten_is : units ten ≡ whole (number - 1)) (is_register : IsRegisterOf (units ten) register) where
@@ -86,7 +87,7 @@ module _ (itself : DecimalIsItsNearest) (pages : PageMap) (old : RegisterMap) (s
       → Reaches pages old (before_line memory at zero returns lift) stack (with_content contents n register) next returns true
   counts_down more =
       by_register pages old sixteen sound stack contents memory is at next zero returns lift n register inside next true
-      (counts_on pages same at next zero returns lift place register DecrementSkip (Direct n) Down refl refl refl means
+      (counts_on pages same at next zero returns lift place register DecrementSkip (Direct n) Down refl refl supported means
       (there _ at next line) works (tells ∙ goes_from (number - 1) more))
 
   -- The next line is skipped.
@@ -94,5 +95,5 @@ module _ (itself : DecimalIsItsNearest) (pages : PageMap) (old : RegisterMap) (s
       → Reaches pages old (before_line memory at zero returns lift) stack (with_content contents n register) after returns true
   counts_to_zero none skipped after other =
       by_register pages old sixteen sound stack contents memory is at next zero returns lift n register inside after true
-      (counts_out pages same at next zero returns lift place register DecrementSkip (Direct n) Down refl refl refl means
+      (counts_out pages same at next zero returns lift place register DecrementSkip (Direct n) Down refl refl supported means
       (there _ at next line) works skipped after (there skipped next after other) (tells ∙ ends_at (number - 1) none))

@@ -199,6 +199,11 @@ def programs_in(source: Source) -> list[tuple[int, Program]]:
         finder.program(first)
     if not finder.known:
         raise Failure(f"{source.claims}: found no claims, expected a comment before a label, for example `; ensures X = old Y`")
+    reached = {first + place for first, program in finder.known.items() for place in program.walk.loops}
+    for place, loop in finder.loops.items():
+        if place not in reached:
+            raise Wrong(loop.line, 1, f"found claims about a loop before `{source.lines[place].text}`, which no program with claims "
+                        "reaches: put claims before the label of its program, for example `; ensures X = old Y`")
     return [(finder.claims[first][0], program) for first, program in finder.known.items()]
 
 

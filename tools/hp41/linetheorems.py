@@ -91,6 +91,9 @@ class Program:
         turned = Condition({"<": "<=", "<=": "<"}.get(same.relation, ""), right, left, not same.is_true)
         tests = self.walk.tests()
         found = next((each for each in (same, turned) if replace(each, is_true=True) in tests), None)
+        if found is None and self.is_whole:
+            raise Wrong(one.line, 1, f"`{one.text}`: `if` is not supported for whole numbers: omit it, or prove the two cases as "
+                        "two programs")
         if found is None:
             raise Wrong(one.line, 1, f"`{one.text}`: no test of the program compares these two values: after `if`, write what a test "
                         "compares, for example `old X > old Y` for X>Y?, or omit `if`")

@@ -19,9 +19,9 @@ use Rattle.h41_program.specs.ProgramLines.{Reads}
 use Rattle.h41_program.specs.Searches.{AnswersLocal, named_in, position_of}
 use Rattle.h41_program.specs.declared.listed_line.ListedLine.{ListedLine}
 use Rattle.h41_program.proofs.Depends as depends
-use Rattle.h41_ram.specs.NamedRegisters.{data_address, size_of}
+use Rattle.h41_ram.specs.NamedRegisters.{size_of}
 use Rattle.h41_ram.specs.RamState.{SameProgram}
-use Rattle.h41_ram.specs.RegisterMap.{IsMemory, RegisterMap, curtain_of, is_sound, register_at}
+use Rattle.h41_ram.specs.RegisterMap.{IsMemory, RegisterMap, is_sound, register_at}
 use Rattle.h41_reasoning_lines.specs.LineRuns.{Continues, HasReturned, Leaves}
 use Rattle.h41_reasoning_lines.specs.ProgramLines.{FindsName, HasProgram, IsProgram}
 use Rattle.h41_reasoning_lines.specs.ProgramStates.{HasBecome, data_in, with_content}

@@ -16,7 +16,7 @@ use Rattle.h41_pages.specs.PageMap.{PageMap}
 use Rattle.h41_positions.specs.declared.position.Position.{Position}
 use Rattle.h41_ram.specs.NamedRegisters.{data_address, size_of}
 use Rattle.h41_ram.specs.RegisterMap.{RegisterMap, is_sound, register_at}
-use Rattle.h41_rows.specs.Counters.{Down, goes_on, number_after}
+use Rattle.h41_rows.specs.Counters.{Down}
 use Rattle.h41_rows.specs.LineRows.{loop}
 use Rattle.h41_rows.specs.Operands.{address_of}
 use Rattle.h41_rows.specs.Places.{Named}
